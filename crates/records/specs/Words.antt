@@ -1,0 +1,31 @@
+-- Bytes, words and records (document 01, "The sheet"): a record is 12 bytes, six words of 16 bits, low byte first. Past the
+-- end of the bytes a byte reads as 0. Record 0 is the header.
+use Prim.Native.Nat.{ℕ, _+_, _*_, _/_}
+use mathlib.Core.List.{List}
+use lib.ListN.{length, getD}
+
+-- the number of whole records
+unfoldable pub count : List ℕ → ℕ
+count s = length s / 12
+
+-- word k of record r: 0 is the kind, 1 next, 2 to 5 the words a, b, c, d
+unfoldable pub word : List ℕ → ℕ → ℕ → ℕ
+word s r k = getD s (12 * r + 2 * k) 0 + 256 * getD s (12 * r + 2 * k + 1) 0
+
+abbrev pub kindWord : List ℕ → ℕ → ℕ
+kindWord s r = word s r 0
+
+abbrev pub next : List ℕ → ℕ → ℕ
+next s r = word s r 1
+
+abbrev pub wordA : List ℕ → ℕ → ℕ
+wordA s r = word s r 2
+
+abbrev pub wordB : List ℕ → ℕ → ℕ
+wordB s r = word s r 3
+
+abbrev pub wordC : List ℕ → ℕ → ℕ
+wordC s r = word s r 4
+
+abbrev pub wordD : List ℕ → ℕ → ℕ
+wordD s r = word s r 5

@@ -1,0 +1,29 @@
+-- A sheet whose records say what the table asks: what holds where codes 1 to 3 do not apply, and codes 4 and 5. The laws on
+-- types, chains and trees rest on these alone.
+use Prim.Native.Nat.{ℕ, _≤_, _<_}
+use mathlib.Core.Path.{_≡_}
+use mathlib.Core.Bool.{true, false}
+use mathlib.Core.List.{List}
+use Rattle.picoella.specs.Types.{leaves}
+use Rattle.records.specs.Words.{count, wordA, wordB}
+use Rattle.records.specs.Kinds.{header, typeOf, pair, isHeader}
+use Rattle.records.specs.Says.{kindAt, wellSaid}
+use Rattle.records.specs.Namings.{namings, exactlyOnce}
+use Rattle.records.specs.TypeRecords.{typeAt, pairBelow}
+
+-- codes 1 to 3
+pub record Written (s : List ℕ) : Type 0 where
+  pub some : 0 < count s
+  pub few : count s ≤ 4096
+  pub headed : kindAt s 0 ≡ header
+  pub said : (r : ℕ) → r < count s → wellSaid s r ≡ true
+  pub others : (r : ℕ) → 0 < r → r < count s → isHeader (kindAt s r) ≡ false
+
+-- code 4
+abbrev pub NamedOnce : List ℕ → Type 0
+NamedOnce s = (r : ℕ) → 0 < r → r < count s → exactlyOnce (namings s r) ≡ true
+
+-- code 5
+pub record TypesFit (s : List ℕ) : Type 0 where
+  pub unique : (r : ℕ) → r < count s → kindAt s r ≡ typeOf pair → pairBelow s (wordA s r) (wordB s r) r ≡ 0
+  pub small : (r : ℕ) → r < count s → kindAt s r ≡ typeOf pair → leaves (typeAt s r) ≤ 64

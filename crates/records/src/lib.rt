@@ -1,0 +1,1 @@
+// Reading a sheet: words, kinds, sorts, and what each word of a record asks.

@@ -1,0 +1,76 @@
+-- The verdict on a byte string (document 01, the table under "The run", codes 0 to 7): the lowest code that applies, with its
+-- place; and the numbers that stand for a verdict.
+use Prim.Native.Nat.{ℕ, _+_, _*_, _^_}
+use mathlib.Core.Bool.{Bool, true, false}
+use mathlib.Core.List.{List, [], _∷_}
+use mathlib.Core.Option.{Option, none, some}
+use Rattle.records.specs.Words.{count, wordA}
+use Rattle.records.specs.Trees.{circuit}
+use Rattle.typing.specs.Lowest.{lowest}
+use Rattle.typing.specs.Rules.{wrongLength, wrongHeader, wrongRecord, wrongNaming, wrongType, tooDeep}
+use Rattle.typing.specs.Judgements.{judgements, typeOf, firstFailing}
+use Rattle.typing.specs.declared.Verdict.{Verdict}
+use Rattle.typing.specs.declared.Verdict.the-variants.{
+  Accepted,
+  WrongLength,
+  WrongHeader,
+  WrongRecord,
+  WrongNaming,
+  WrongType,
+  TooDeep,
+  IllTyped,
+}
+
+-- document 01's number and place for each case
+abbrev pub code : Verdict → ℕ
+code (Accepted t) = 0
+code WrongLength = 1
+code WrongHeader = 2
+code (WrongRecord r) = 3
+code (WrongNaming r) = 4
+code (WrongType r) = 5
+code (TooDeep r) = 6
+code (IllTyped r) = 7
+
+abbrev pub place : Verdict → ℕ
+place (Accepted t) = t
+place WrongLength = 0
+place WrongHeader = 0
+place (WrongRecord r) = r
+place (WrongNaming r) = r
+place (WrongType r) = r
+place (TooDeep r) = r
+place (IllTyped r) = r
+
+-- both in one number of 64 bits
+abbrev pub packed : Verdict → ℕ
+packed v = code v * 2 ^ 32 + place v
+
+-- a test or a search that refuses, or else what comes after it
+abbrev pub unless : Bool → Verdict → Verdict → Verdict
+unless true v w = v
+unless false v w = w
+
+abbrev pub refusing : Option ℕ → (ℕ → Verdict) → Verdict → Verdict
+refusing (some r) f v = f r
+refusing none f v = v
+
+-- the context of the whole circuit: the input alone, of the type in the header's word a
+abbrev pub inputs : List ℕ → List ℕ
+inputs s = wordA s 0 ∷ []
+
+-- by the type rules
+unfoldable pub byTypes : List ℕ → Verdict
+byTypes s =
+    refusing (firstFailing s (judgements s (inputs s) (circuit s))) IllTyped
+    (Accepted (typeOf s (inputs s) (circuit s)))
+
+-- by the rules on records, the lowest record first
+unfoldable pub byRecords : List ℕ → Verdict
+byRecords s =
+    refusing (lowest (wrongRecord s) (count s)) WrongRecord
+    (refusing (lowest (wrongNaming s) (count s)) WrongNaming
+    (refusing (lowest (wrongType s) (count s)) WrongType (refusing (lowest (tooDeep s) (count s)) TooDeep (byTypes s))))
+
+unfoldable pub verdict : List ℕ → Verdict
+verdict s = unless (wrongLength s) WrongLength (unless (wrongHeader s) WrongHeader (byRecords s))
