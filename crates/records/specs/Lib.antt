@@ -1,6 +1,7 @@
 -- What the bytes of a sheet say: words, the table of kinds, what each word asks, namings, types, chains, and the circuit as a
 -- tree of records, decoded to an expression of picoELLA.
 pub mod Words
+pub mod Sized
 pub mod Kinds
 pub mod Says
 pub mod Namings

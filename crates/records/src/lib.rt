@@ -1,1 +1,50 @@
-// Reading a sheet: words, kinds, sorts, and what each word of a record asks.
+// Reading a sheet: words, kinds, sorts, and whether a word is what the table asks.
+ghost use mathlib.Core.Path.{_≡_};
+ghost use mathlib.Core.Bool.{_&&_, not};
+ghost use Prim.Native.Nat.{ℕ, _+_, _*_, _<_};
+ghost use lib.Dec.{eqb, ltb};
+ghost use Rattle.records.specs.Words.{count, word};
+ghost use Rattle.records.specs.Sized.{Sized};
+ghost use Rattle.records.specs.Kinds.{Ask, sortNumber, askNumber, sortOf, kindOf, askOf, isFlat};
+ghost use Rattle.records.specs.Says.{sortAt, kindAt, meets, meetsAt, wellSaid};
+
+// For each kind's number below 65: the number of its sort, then what its words next, a, b, c and d ask.
+const TABLE: [u8; 390] = [0, 9, 9, 9, 9, 9, 1, 34, 1, 35, 8, 0, 0, 9, 9, 9, 9, 9, 0, 9, 9, 9, 9, 9, 0, 9, 9, 9, 9, 9, 0, 9, 9, 9, 9, 9, 0, 9, 9, 9, 9, 9, 0, 9, 9, 9, 9, 9, 0, 9, 9, 9, 9, 9, 0, 9, 9, 9, 9, 9, 0, 9, 9, 9, 9, 9, 0, 9, 9, 9, 9, 9, 0, 9, 9, 9, 9, 9, 0, 9, 9, 9, 9, 9, 0, 9, 9, 9, 9, 9, 0, 9, 9, 9, 9, 9, 2, 18, 5, 0, 0, 0, 2, 18, 2, 2, 0, 0, 0, 9, 9, 9, 9, 9, 0, 9, 9, 9, 9, 9, 0, 9, 9, 9, 9, 9, 0, 9, 9, 9, 9, 9, 0, 9, 9, 9, 9, 9, 0, 9, 9, 9, 9, 9, 0, 9, 9, 9, 9, 9, 0, 9, 9, 9, 9, 9, 0, 9, 9, 9, 9, 9, 0, 9, 9, 9, 9, 9, 0, 9, 9, 9, 9, 9, 0, 9, 9, 9, 9, 9, 0, 9, 9, 9, 9, 9, 0, 9, 9, 9, 9, 9, 3, 0, 2, 37, 0, 0, 3, 0, 7, 0, 0, 0, 3, 0, 35, 35, 0, 0, 3, 0, 35, 0, 0, 0, 3, 0, 35, 0, 0, 0, 3, 0, 35, 35, 0, 0, 3, 0, 2, 35, 35, 0, 3, 0, 35, 35, 35, 36, 3, 0, 2, 37, 35, 0, 0, 9, 9, 9, 9, 9, 0, 9, 9, 9, 9, 9, 0, 9, 9, 9, 9, 9, 0, 9, 9, 9, 9, 9, 0, 9, 9, 9, 9, 9, 0, 9, 9, 9, 9, 9, 0, 9, 9, 9, 9, 9, 4, 20, 2, 0, 0, 0, 4, 20, 3, 4, 0, 0, 4, 20, 36, 36, 0, 0, 0, 9, 9, 9, 9, 9, 0, 9, 9, 9, 9, 9, 0, 9, 9, 9, 9, 9, 0, 9, 9, 9, 9, 9, 0, 9, 9, 9, 9, 9, 0, 9, 9, 9, 9, 9, 0, 9, 9, 9, 9, 9, 0, 9, 9, 9, 9, 9, 0, 9, 9, 9, 9, 9, 0, 9, 9, 9, 9, 9, 0, 9, 9, 9, 9, 9, 0, 9, 9, 9, 9, 9, 0, 9, 9, 9, 9, 9, 5, 21, 6, 0, 0, 0];
+
+fn wide(x: u8) -> usize
+    ensures { λ r. ⌜ (r ≡ x) × (r < 256) ⌝ }
+{
+    x as usize
+}
+
+// Word k of a record: 0 is the kind, 1 next, 2 to 5 the words a, b, c, d.
+pub fn word(sheet: &[u8], n: usize, rec: usize, k: usize) -> usize
+    requires { ⌜ Sized (now sheet) n × (rec < n) × (k < 6) ⌝ }
+    ensures { λ r. ⌜ (r ≡ word (now (sheet .entry)) rec k) × (r < 65536) ⌝ }
+{
+    let at = 12 * rec + 2 * k;
+    wide(sheet[at]) + 256 * wide(sheet[at + 1])
+}
+
+// The number of the sort of a kind.
+pub fn sort_number(kind: usize) -> usize
+    ensures { λ r. ⌜ r ≡ sortNumber (sortOf (kindOf kind)) ⌝ }
+{
+    if kind < 65 {
+        wide(TABLE[6 * kind])
+    } else {
+        0
+    }
+}
+
+// The number of what word k asks of a kind.
+pub fn ask_number(kind: usize, k: usize) -> usize
+    requires { ⌜ (0 < k) × (k < 6) ⌝ }
+    ensures { λ r. ⌜ r ≡ askNumber (askOf kind k) ⌝ }
+{
+    if kind < 65 {
+        wide(TABLE[6 * kind + k])
+    } else {
+        9
+    }
+}

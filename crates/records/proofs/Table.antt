@@ -1,0 +1,106 @@
+-- The code's table holds, for each kind's number below 65, the number of its sort and of what each of its words asks: one test
+-- that antt computes over the whole table, and the law that turns it into the fact at each entry. From 65 on a kind is
+-- unknown. Assumes nothing.
+use mathlib.Core.Path.{_≡_, refl, sym, _∙_, ap, subst}
+use mathlib.Core.Bool.{Bool, true, false, _&&_, cond}
+use mathlib.Core.List.{List, [], _∷_}
+use Prim.Native.Nat.{ℕ, zero, suc, _+_, _*_, _/_, _%_, _≤_, _<_}
+use native.Mathlib.Nat.{add-zero, zero-add, add-suc, suc-add, le-of-suc-le-suc, not-suc-le-zero}
+use native.Mathlib.Omega.{arith}
+use borrow.Author.Tests.{ne-eqb}
+use lib.Dec.{T, eqb, eqb→eq}
+use lib.ListN.{length, getD}
+use Rattle.records.specs.Kinds.{sortNumber, askNumber, sortOf, kindOf, askOf, rowOf, Row, row, unknown, never, kindIn, asksIn, zeroed}
+
+both-left : (a b : Bool) → T (a && b) → T a
+both-left true b t = tt
+both-left false b t = t
+
+both-right : (a b : Bool) → T (a && b) → T b
+both-right true b t = t
+both-right false b t = absurd t
+
+-- the test passes at each entry of the list and its place, counted from i
+abbrev every : (ℕ → ℕ → Bool) → ℕ → List ℕ → Bool
+every f i [] = true
+every f i (x ∷ xs) = f i x && every f (suc i) xs
+
+from : (f : ℕ → ℕ → Bool) (xs : List ℕ) (i : ℕ) → T (every f i xs) → (k : ℕ) → k < length xs → T (f (i + k) (getD xs k 0))
+from f [] i t k h = absurd (not-suc-le-zero h)
+from f (x ∷ xs) i t zero h = subst (λ (m : ℕ). T (f m x)) (sym (add-zero i)) (both-left (f i x) (every f (suc i) xs) t)
+from f (x ∷ xs) i t (suc k) h =
+    subst (λ (m : ℕ). T (f m (getD xs k 0))) (suc-add i k ∙ sym (add-suc i k))
+    (from f xs (suc i) (both-right (f i x) (every f (suc i) xs) t) k (le-of-suc-le-suc h))
+
+at : (f : ℕ → ℕ → Bool) (xs : List ℕ) → T (every f 0 xs) → (k : ℕ) → k < length xs → T (f k (getD xs k 0))
+at f xs t k h = subst (λ (m : ℕ). T (f m (getD xs k 0))) (zero-add k) (from f xs 0 t k h)
+
+abbrev pub entries : List ℕ
+entries =
+    0 ∷ 9 ∷ 9 ∷ 9 ∷ 9 ∷ 9 ∷ 1 ∷ 34 ∷ 1 ∷ 35 ∷ 8 ∷ 0 ∷ 0 ∷ 9 ∷ 9 ∷ 9 ∷ 9 ∷ 9 ∷ 0 ∷ 9 ∷ 9 ∷ 9 ∷ 9 ∷ 9 ∷ 0 ∷ 9 ∷ 9 ∷ 9 ∷ 9 ∷ 9 ∷ 0 ∷ 9 ∷ 9 ∷ 9 ∷ 9 ∷ 9 ∷ 0 ∷ 9 ∷ 9 ∷ 9 ∷ 9 ∷ 9 ∷ 0 ∷ 9 ∷ 9 ∷ 9 ∷ 9 ∷ 9 ∷ 0 ∷ 9 ∷ 9 ∷ 9 ∷ 9 ∷ 9 ∷ 0 ∷ 9 ∷ 9 ∷ 9 ∷ 9 ∷ 9 ∷ 0 ∷ 9 ∷ 9 ∷ 9 ∷ 9 ∷ 9 ∷ 0 ∷ 9 ∷ 9 ∷ 9 ∷ 9 ∷ 9 ∷ 0 ∷ 9 ∷ 9 ∷ 9 ∷ 9 ∷ 9 ∷ 0 ∷ 9 ∷ 9 ∷ 9 ∷ 9 ∷ 9 ∷ 0 ∷ 9 ∷ 9 ∷ 9 ∷ 9 ∷ 9 ∷ 0 ∷ 9 ∷ 9 ∷ 9 ∷ 9 ∷ 9 ∷ 2 ∷ 18 ∷ 5 ∷ 0 ∷ 0 ∷ 0 ∷ 2 ∷ 18 ∷ 2 ∷ 2 ∷ 0 ∷ 0 ∷ 0 ∷ 9 ∷ 9 ∷ 9 ∷ 9 ∷ 9 ∷ 0 ∷ 9 ∷ 9 ∷ 9 ∷ 9 ∷ 9 ∷ 0 ∷ 9 ∷ 9 ∷ 9 ∷ 9 ∷ 9 ∷ 0 ∷ 9 ∷ 9 ∷ 9 ∷ 9 ∷ 9 ∷ 0 ∷ 9 ∷ 9 ∷ 9 ∷ 9 ∷ 9 ∷ 0 ∷ 9 ∷ 9 ∷ 9 ∷ 9 ∷ 9 ∷ 0 ∷ 9 ∷ 9 ∷ 9 ∷ 9 ∷ 9 ∷ 0 ∷ 9 ∷ 9 ∷ 9 ∷ 9 ∷ 9 ∷ 0 ∷ 9 ∷ 9 ∷ 9 ∷ 9 ∷ 9 ∷ 0 ∷ 9 ∷ 9 ∷ 9 ∷ 9 ∷ 9 ∷ 0 ∷ 9 ∷ 9 ∷ 9 ∷ 9 ∷ 9 ∷ 0 ∷ 9 ∷ 9 ∷ 9 ∷ 9 ∷ 9 ∷ 0 ∷ 9 ∷ 9 ∷ 9 ∷ 9 ∷ 9 ∷ 0 ∷ 9 ∷ 9 ∷ 9 ∷ 9 ∷ 9 ∷ 3 ∷ 0 ∷ 2 ∷ 37 ∷ 0 ∷ 0 ∷ 3 ∷ 0 ∷ 7 ∷ 0 ∷ 0 ∷ 0 ∷ 3 ∷ 0 ∷ 35 ∷ 35 ∷ 0 ∷ 0 ∷ 3 ∷ 0 ∷ 35 ∷ 0 ∷ 0 ∷ 0 ∷ 3 ∷ 0 ∷ 35 ∷ 0 ∷ 0 ∷ 0 ∷ 3 ∷ 0 ∷ 35 ∷ 35 ∷ 0 ∷ 0 ∷ 3 ∷ 0 ∷ 2 ∷ 35 ∷ 35 ∷ 0 ∷ 3 ∷ 0 ∷ 35 ∷ 35 ∷ 35 ∷ 36 ∷ 3 ∷ 0 ∷ 2 ∷ 37 ∷ 35 ∷ 0 ∷ 0 ∷ 9 ∷ 9 ∷ 9 ∷ 9 ∷ 9 ∷ 0 ∷ 9 ∷ 9 ∷ 9 ∷ 9 ∷ 9 ∷ 0 ∷ 9 ∷ 9 ∷ 9 ∷ 9 ∷ 9 ∷ 0 ∷ 9 ∷ 9 ∷ 9 ∷ 9 ∷ 9 ∷ 0 ∷ 9 ∷ 9 ∷ 9 ∷ 9 ∷ 9 ∷ 0 ∷ 9 ∷ 9 ∷ 9 ∷ 9 ∷ 9 ∷ 0 ∷ 9 ∷ 9 ∷ 9 ∷ 9 ∷ 9 ∷ 4 ∷ 20 ∷ 2 ∷ 0 ∷ 0 ∷ 0 ∷ 4 ∷ 20 ∷ 3 ∷ 4 ∷ 0 ∷ 0 ∷ 4 ∷ 20 ∷ 36 ∷ 36 ∷ 0 ∷ 0 ∷ 0 ∷ 9 ∷ 9 ∷ 9 ∷ 9 ∷ 9 ∷ 0 ∷ 9 ∷ 9 ∷ 9 ∷ 9 ∷ 9 ∷ 0 ∷ 9 ∷ 9 ∷ 9 ∷ 9 ∷ 9 ∷ 0 ∷ 9 ∷ 9 ∷ 9 ∷ 9 ∷ 9 ∷ 0 ∷ 9 ∷ 9 ∷ 9 ∷ 9 ∷ 9 ∷ 0 ∷ 9 ∷ 9 ∷ 9 ∷ 9 ∷ 9 ∷ 0 ∷ 9 ∷ 9 ∷ 9 ∷ 9 ∷ 9 ∷ 0 ∷ 9 ∷ 9 ∷ 9 ∷ 9 ∷ 9 ∷ 0 ∷ 9 ∷ 9 ∷ 9 ∷ 9 ∷ 9 ∷ 0 ∷ 9 ∷ 9 ∷ 9 ∷ 9 ∷ 9 ∷ 0 ∷ 9 ∷ 9 ∷ 9 ∷ 9 ∷ 9 ∷ 0 ∷ 9 ∷ 9 ∷ 9 ∷ 9 ∷ 9 ∷ 0 ∷ 9 ∷ 9 ∷ 9 ∷ 9 ∷ 9 ∷ 5 ∷ 21 ∷ 6 ∷ 0 ∷ 0 ∷ 0 ∷ []
+
+-- what stands at place i: the sort of kind i / 6 at its first place, then what its words ask
+unfoldable pub entry : ℕ → ℕ → ℕ
+entry kind zero = sortNumber (sortOf (kindOf kind))
+entry kind (suc k) = askNumber (askOf kind (suc k))
+
+right : ℕ → ℕ → Bool
+right i x = eqb x (entry (i / 6) (i % 6))
+
+pub entries-right : (kind k : ℕ) → kind < 65 → k < 6 → getD entries (6 * kind + k) 0 ≡ entry kind k
+unfolding right entry kindOf askOf rowOf
+entries-right kind k h l =
+    let i : ℕ = 6 * kind + k in
+    let q : (6 * kind + k) / 6 ≡ kind = omega arith in
+    let m : (6 * kind + k) % 6 ≡ k = omega arith in
+    subst (λ (x : ℕ). getD entries (6 * kind + k) 0 ≡ entry x k) q
+    (subst (λ (x : ℕ). getD entries (6 * kind + k) 0 ≡ entry ((6 * kind + k) / 6) x) m
+    (eqb→eq _ _ (at right entries tt (6 * kind + k) (omega arith))))
+
+-- no row has a number from 65 on
+pub unknown-above : (n : ℕ) → 65 ≤ n → rowOf n ≡ row n unknown never never never never never
+unfolding rowOf
+unknown-above n h =
+    simp
+    (ne-eqb 1 n (omega arith),
+    ne-eqb 16 n (omega arith),
+    ne-eqb 17 n (omega arith),
+    ne-eqb 32 n (omega arith),
+    ne-eqb 33 n (omega arith),
+    ne-eqb 34 n (omega arith),
+    ne-eqb 35 n (omega arith),
+    ne-eqb 36 n (omega arith),
+    ne-eqb 37 n (omega arith),
+    ne-eqb 38 n (omega arith),
+    ne-eqb 39 n (omega arith),
+    ne-eqb 40 n (omega arith),
+    ne-eqb 48 n (omega arith),
+    ne-eqb 49 n (omega arith),
+    ne-eqb 50 n (omega arith),
+    ne-eqb 64 n (omega arith))
+
+pub entry-ask : (kind k : ℕ) → 0 < k → entry kind k ≡ askNumber (askOf kind k)
+unfolding entry
+entry-ask kind zero h = absurd (not-suc-le-zero h)
+entry-ask kind (suc k) h = refl
+
+pub sort-below : (kind : ℕ) → kind < 65 → getD entries (6 * kind) 0 ≡ sortNumber (sortOf (kindOf kind))
+unfolding entry
+sort-below kind h = subst (λ (x : ℕ). getD entries x 0 ≡ entry kind 0) (add-zero (6 * kind)) (entries-right kind 0 h (omega arith))
+
+pub sort-above : (kind : ℕ) → 65 ≤ kind → sortNumber (sortOf (kindOf kind)) ≡ 0
+unfolding kindOf
+sort-above kind h = rw (unknown-above kind h)
+
+six : (k : ℕ) → 0 < k → k < 6 → askNumber (getD (asksIn (row 65 unknown never never never never never)) k zeroed) ≡ 9
+six zero h l = absurd (not-suc-le-zero h)
+six (suc zero) h l = refl
+six (suc (suc zero)) h l = refl
+six (suc (suc (suc zero))) h l = refl
+six (suc (suc (suc (suc zero)))) h l = refl
+six (suc (suc (suc (suc (suc zero))))) h l = refl
+six (suc (suc (suc (suc (suc (suc k)))))) h l = absurd (omega arith)
+
+pub ask-above : (kind k : ℕ) → 65 ≤ kind → 0 < k → k < 6 → askNumber (askOf kind k) ≡ 9
+unfolding askOf
+ask-above kind k h p l = rw (unknown-above kind h) (six k p l)
