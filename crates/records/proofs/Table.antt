@@ -2,15 +2,16 @@
 -- that antt computes over the whole table, and the law that turns it into the fact at each entry. From 65 on a kind is
 -- unknown. Assumes nothing.
 use mathlib.Core.Path.{_≡_, refl, sym, _∙_, ap, subst}
-use mathlib.Core.Bool.{Bool, true, false, _&&_, cond}
+use mathlib.Core.Bool.{Bool, true, false, _&&_, Bool·beq}
 use mathlib.Core.List.{List, [], _∷_}
 use Prim.Native.Nat.{ℕ, zero, suc, _+_, _*_, _/_, _%_, _≤_, _<_}
 use native.Mathlib.Nat.{add-zero, zero-add, add-suc, suc-add, le-of-suc-le-suc, not-suc-le-zero}
 use native.Mathlib.Omega.{arith}
+use native.Mathlib.Decide.{decLt}
 use borrow.Author.Tests.{ne-eqb}
 use lib.Dec.{T, eqb, eqb→eq}
 use lib.ListN.{length, getD}
-use Rattle.records.specs.Kinds.{sortNumber, askNumber, sortOf, kindOf, askOf, rowOf, Row, row, unknown, never, kindIn, asksIn, zeroed}
+use Rattle.records.specs.Kinds.{sortNumber, askNumber, sortOf, kindOf, askOf, rowOf, Row, row, unknown, never, kindIn, asksIn, zeroed, Kind, isFlat, isPair, isHeader}
 
 both-left : (a b : Bool) → T (a && b) → T a
 both-left true b t = tt
@@ -92,15 +93,58 @@ pub sort-above : (kind : ℕ) → 65 ≤ kind → sortNumber (sortOf (kindOf kin
 unfolding kindOf
 sort-above kind h = rw (unknown-above kind h)
 
-six : (k : ℕ) → 0 < k → k < 6 → askNumber (getD (asksIn (row 65 unknown never never never never never)) k zeroed) ≡ 9
-six zero h l = absurd (not-suc-le-zero h)
-six (suc zero) h l = refl
-six (suc (suc zero)) h l = refl
-six (suc (suc (suc zero))) h l = refl
-six (suc (suc (suc (suc zero)))) h l = refl
-six (suc (suc (suc (suc (suc zero))))) h l = refl
-six (suc (suc (suc (suc (suc (suc k)))))) h l = absurd (omega arith)
+unknown-asks : (k : ℕ) → 0 < k → k < 6 → askNumber (getD (asksIn (row 65 unknown never never never never never)) k zeroed) ≡ 9
+unknown-asks zero h l = absurd (not-suc-le-zero h)
+unknown-asks (suc zero) h l = refl
+unknown-asks (suc (suc zero)) h l = refl
+unknown-asks (suc (suc (suc zero))) h l = refl
+unknown-asks (suc (suc (suc (suc zero)))) h l = refl
+unknown-asks (suc (suc (suc (suc (suc zero))))) h l = refl
+unknown-asks (suc (suc (suc (suc (suc (suc k)))))) h l = absurd (omega arith)
 
 pub ask-above : (kind k : ℕ) → 65 ≤ kind → 0 < k → k < 6 → askNumber (askOf kind k) ≡ 9
 unfolding askOf
-ask-above kind k h p l = rw (unknown-above kind h) (six k p l)
+ask-above kind k h p l = rw (unknown-above kind h) (unknown-asks k p l)
+
+-- A test of kinds that passes at one number alone: computed at the numbers below 65.
+abbrev pub below : (ℕ → Bool) → ℕ → Bool
+below f zero = true
+below f (suc n) = f n && below f n
+
+below-at : (f : ℕ → Bool) (n : ℕ) → T (below f n) → (k : ℕ) → k < n → T (f k)
+below-at f zero t k h = absurd (not-suc-le-zero h)
+below-at f (suc n) t k h = go (below-at f n (both-right (f n) (below f n) t) k) (decLt k n)
+  where
+    go : (k < n → T (f k)) → Dec (k < n) → T (f k)
+    go lower (yes l) = lower l
+    go lower (no l) = let e : n ≡ k = omega arith in subst (λ (x : ℕ). T (f x)) e (both-left (f n) (below f n) t)
+
+beq→eq : (a b : Bool) → T (Bool·beq a b) → a ≡ b
+beq→eq true true t = refl
+beq→eq true false t = absurd t
+beq→eq false true t = absurd t
+beq→eq false false t = refl
+
+module _ (f : Kind → Bool) (m : ℕ) (none : f unknown ≡ false) (small : m < 65) where
+  abbrev kind-test : ℕ → Bool
+  kind-test k = Bool·beq (f (kindOf k)) (eqb k m)
+
+  pub only-kind : T (below kind-test 65) → (k : ℕ) → f (kindOf k) ≡ eqb k m
+  unfolding kindOf
+  only-kind t k = go (decLt k 65)
+    where
+      go : Dec (k < 65) → f (kindOf k) ≡ eqb k m
+      go (yes h) = beq→eq _ _ (below-at kind-test 65 t k h)
+      go (no h) = rw (unknown-above k (omega arith), ne-eqb k m (omega arith)) none
+
+pub flat-number : (k : ℕ) → isFlat (kindOf k) ≡ eqb k 16
+unfolding kindOf
+flat-number = only-kind isFlat 16 refl (omega arith) tt
+
+pub pair-number : (k : ℕ) → isPair (kindOf k) ≡ eqb k 17
+unfolding kindOf
+pair-number = only-kind isPair 17 refl (omega arith) tt
+
+pub header-number : (k : ℕ) → isHeader (kindOf k) ≡ eqb k 1
+unfolding kindOf
+header-number = only-kind isHeader 1 refl (omega arith) tt

@@ -5,8 +5,8 @@ ghost use Prim.Native.Nat.{ℕ, _+_, _*_, _<_};
 ghost use lib.Dec.{eqb, ltb};
 ghost use Rattle.records.specs.Words.{count, word};
 ghost use Rattle.records.specs.Sized.{Sized};
-ghost use Rattle.records.specs.Kinds.{Ask, sortNumber, askNumber, sortOf, kindOf, askOf, isFlat};
-ghost use Rattle.records.specs.Says.{sortAt, kindAt, meets, meetsAt, wellSaid};
+ghost use Rattle.records.specs.Kinds.{Sort, Ask, lowerType, lowerFlat, constructorOf, sortNumber, askNumber, sortOf, kindOf, askOf, isFlat};
+ghost use Rattle.records.specs.Says.{sortAt, kindAt, higher, meets, meetsAt, wellSaid};
 
 // For each kind's number below 65: the number of its sort, then what its words next, a, b, c and d ask.
 const TABLE: [u8; 390] = [0, 9, 9, 9, 9, 9, 1, 34, 1, 35, 8, 0, 0, 9, 9, 9, 9, 9, 0, 9, 9, 9, 9, 9, 0, 9, 9, 9, 9, 9, 0, 9, 9, 9, 9, 9, 0, 9, 9, 9, 9, 9, 0, 9, 9, 9, 9, 9, 0, 9, 9, 9, 9, 9, 0, 9, 9, 9, 9, 9, 0, 9, 9, 9, 9, 9, 0, 9, 9, 9, 9, 9, 0, 9, 9, 9, 9, 9, 0, 9, 9, 9, 9, 9, 0, 9, 9, 9, 9, 9, 0, 9, 9, 9, 9, 9, 2, 18, 5, 0, 0, 0, 2, 18, 2, 2, 0, 0, 0, 9, 9, 9, 9, 9, 0, 9, 9, 9, 9, 9, 0, 9, 9, 9, 9, 9, 0, 9, 9, 9, 9, 9, 0, 9, 9, 9, 9, 9, 0, 9, 9, 9, 9, 9, 0, 9, 9, 9, 9, 9, 0, 9, 9, 9, 9, 9, 0, 9, 9, 9, 9, 9, 0, 9, 9, 9, 9, 9, 0, 9, 9, 9, 9, 9, 0, 9, 9, 9, 9, 9, 0, 9, 9, 9, 9, 9, 0, 9, 9, 9, 9, 9, 3, 0, 2, 37, 0, 0, 3, 0, 7, 0, 0, 0, 3, 0, 35, 35, 0, 0, 3, 0, 35, 0, 0, 0, 3, 0, 35, 0, 0, 0, 3, 0, 35, 35, 0, 0, 3, 0, 2, 35, 35, 0, 3, 0, 35, 35, 35, 36, 3, 0, 2, 37, 35, 0, 0, 9, 9, 9, 9, 9, 0, 9, 9, 9, 9, 9, 0, 9, 9, 9, 9, 9, 0, 9, 9, 9, 9, 9, 0, 9, 9, 9, 9, 9, 0, 9, 9, 9, 9, 9, 0, 9, 9, 9, 9, 9, 4, 20, 2, 0, 0, 0, 4, 20, 3, 4, 0, 0, 4, 20, 36, 36, 0, 0, 0, 9, 9, 9, 9, 9, 0, 9, 9, 9, 9, 9, 0, 9, 9, 9, 9, 9, 0, 9, 9, 9, 9, 9, 0, 9, 9, 9, 9, 9, 0, 9, 9, 9, 9, 9, 0, 9, 9, 9, 9, 9, 0, 9, 9, 9, 9, 9, 0, 9, 9, 9, 9, 9, 0, 9, 9, 9, 9, 9, 0, 9, 9, 9, 9, 9, 0, 9, 9, 9, 9, 9, 0, 9, 9, 9, 9, 9, 5, 21, 6, 0, 0, 0];
@@ -47,4 +47,55 @@ pub fn ask_number(kind: usize, k: usize) -> usize
     } else {
         9
     }
+}
+
+// Whether w is a record above rec, of the sort that has this number.
+fn higher(sheet: &[u8], n: usize, rec: usize, sort: usize, w: usize) -> bool
+    requires { ⌜ Sized (now sheet) n ⌝ }
+    ensures { λ r. ⌜ ((σ : Sort) → sortNumber σ ≡ sort → r ≡ higher (now (sheet .entry)) rec σ w) ⌝ }
+{
+    if w <= rec {
+        return false;
+    }
+    if n <= w {
+        return false;
+    }
+    sort_number(word(sheet, n, w, 0)) == sort
+}
+
+// Whether w is a type record below rec.
+fn lower_type(sheet: &[u8], n: usize, rec: usize, w: usize) -> bool
+    requires { ⌜ Sized (now sheet) n × (rec < n) ⌝ }
+    ensures { λ r. ⌜ r ≡ meets (now (sheet .entry)) rec lowerType w ⌝ }
+{
+    if rec <= w {
+        return false;
+    }
+    sort_number(word(sheet, n, w, 0)) == 2
+}
+
+// Whether w is a flat type's record below rec.
+fn lower_flat(sheet: &[u8], n: usize, rec: usize, w: usize) -> bool
+    requires { ⌜ Sized (now sheet) n × (rec < n) ⌝ }
+    ensures { λ r. ⌜ r ≡ meets (now (sheet .entry)) rec lowerFlat w ⌝ }
+{
+    if rec <= w {
+        return false;
+    }
+    word(sheet, n, w, 0) == 16
+}
+
+// Whether w is a constructor of the flat type in word a of rec.
+fn constructor_of(sheet: &[u8], n: usize, rec: usize, w: usize) -> bool
+    requires { ⌜ Sized (now sheet) n × (rec < n) ⌝ }
+    ensures { λ r. ⌜ r ≡ meets (now (sheet .entry)) rec constructorOf w ⌝ }
+{
+    if w == 0 {
+        return false;
+    }
+    let a = word(sheet, n, rec, 2);
+    if n <= a {
+        return false;
+    }
+    w <= word(sheet, n, a, 2)
 }
