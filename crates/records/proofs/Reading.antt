@@ -33,7 +33,7 @@ use Rattle.records.specs.Kinds.{
   sortNumber,
   askNumber,
   sortOf,
-  kindOf
+  kindOf,
 }
 use Rattle.records.specs.Says.{higher, meets}
 use Rattle.records.proofs.Table.{flat-number}
@@ -43,13 +43,13 @@ module _ (s : List ℕ) (n : ℕ) (sized : Sized s n) where
   higher-past r w σ h = let e = sized .counted in simp (le-ltb w (count s) (omega arith), and-false)
 
   pub higher-sort : (r w k q sort : ℕ) (σ : Sort) → r < w → w < n → k ≡ word s w 0 → q ≡ sortNumber (sortOf (kindOf k))
-    → sortNumber σ ≡ sort → eqb q sort ≡ higher s r σ w
+      → sortNumber σ ≡ sort → eqb q sort ≡ higher s r σ w
   higher-sort r w k q sort σ h l ek eq eσ =
       let e = sized .counted in
       rw (lt-ltb r w h, lt-ltb w (count s) (omega arith), eq, ek, eσ)
 
   pub lower-type-sort : (r w k q : ℕ) → w < r → k ≡ word s w 0 → q ≡ sortNumber (sortOf (kindOf k))
-    → eqb q 2 ≡ meets s r lowerType w
+      → eqb q 2 ≡ meets s r lowerType w
   lower-type-sort r w k q h ek eq = rw (lt-ltb w r h, eq, ek)
 
   pub lower-flat-kind : (r w k : ℕ) → w < r → k ≡ word s w 0 → eqb k 16 ≡ meets s r lowerFlat w
@@ -60,9 +60,10 @@ module _ (s : List ℕ) (n : ℕ) (sized : Sized s n) where
   unfolding word
   word-past a k h =
       let e = sized .whole in
-      rw
-      (List·getD-eq-default s 0 {n = 12 * a + 2 * k} (omega arith),
-      List·getD-eq-default s 0 {n = 12 * a + 2 * k + 1} (omega arith))
+      rw (
+        List·getD-eq-default s 0 {n = 12 * a + 2 * k} (omega arith),
+        List·getD-eq-default s 0 {n = 12 * a + 2 * k + 1} (omega arith),
+      )
 
   pub constructor-past : (r w a : ℕ) → (w ≡ 0 → ⊥) → a ≡ word s r 2 → n ≤ a → false ≡ meets s r constructorOf w
   constructor-past r w a h e l =

@@ -62,23 +62,24 @@ entries-right kind k h l =
 pub unknown-above : (n : ℕ) → 65 ≤ n → rowOf n ≡ row n unknown never never never never never
 unfolding rowOf
 unknown-above n h =
-    simp
-    (ne-eqb 1 n (omega arith),
-    ne-eqb 16 n (omega arith),
-    ne-eqb 17 n (omega arith),
-    ne-eqb 32 n (omega arith),
-    ne-eqb 33 n (omega arith),
-    ne-eqb 34 n (omega arith),
-    ne-eqb 35 n (omega arith),
-    ne-eqb 36 n (omega arith),
-    ne-eqb 37 n (omega arith),
-    ne-eqb 38 n (omega arith),
-    ne-eqb 39 n (omega arith),
-    ne-eqb 40 n (omega arith),
-    ne-eqb 48 n (omega arith),
-    ne-eqb 49 n (omega arith),
-    ne-eqb 50 n (omega arith),
-    ne-eqb 64 n (omega arith))
+    simp (
+      ne-eqb 1 n (omega arith),
+      ne-eqb 16 n (omega arith),
+      ne-eqb 17 n (omega arith),
+      ne-eqb 32 n (omega arith),
+      ne-eqb 33 n (omega arith),
+      ne-eqb 34 n (omega arith),
+      ne-eqb 35 n (omega arith),
+      ne-eqb 36 n (omega arith),
+      ne-eqb 37 n (omega arith),
+      ne-eqb 38 n (omega arith),
+      ne-eqb 39 n (omega arith),
+      ne-eqb 40 n (omega arith),
+      ne-eqb 48 n (omega arith),
+      ne-eqb 49 n (omega arith),
+      ne-eqb 50 n (omega arith),
+      ne-eqb 64 n (omega arith),
+    )
 
 pub entry-ask : (kind k : ℕ) → 0 < k → entry kind k ≡ askNumber (askOf kind k)
 unfolding entry

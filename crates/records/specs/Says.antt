@@ -3,7 +3,7 @@
 -- zero, has a higher number than the record naming it. A named record is of the sort its word asks for; a number at or past
 -- the count names no record."
 use Prim.Native.Nat.{ℕ}
-use mathlib.Core.Bool.{Bool, true, false, not, _&&_, _||_}
+use mathlib.Core.Bool.{Bool, true, false, cond, _&&_, _||_}
 use mathlib.Core.List.{List}
 use lib.Dec.{eqb, ltb, leb}
 use Rattle.records.specs.Words.{word, count, kindWord, wordA}
@@ -69,3 +69,8 @@ meetsAt s r k = meets s r (askAt s r k) (word s r k)
 -- every word of record r is what the table asks
 unfoldable pub wellSaid : List ℕ → ℕ → Bool
 wellSaid s r = meetsAt s r 1 && (meetsAt s r 2 && (meetsAt s r 3 && (meetsAt s r 4 && meetsAt s r 5)))
+
+-- what the asks counted, byte, free and total ask of a number, by the ask's number
+abbrev pub boundedBy : ℕ → ℕ → ℕ → Bool
+boundedBy n ask w =
+    cond (eqb ask 5) (ltb 0 w && leb w 255) (cond (eqb ask 6) (leb w 255) (cond (eqb ask 8) (eqb w n) (eqb ask 7)))

@@ -6,10 +6,401 @@ ghost use lib.Dec.{eqb, ltb};
 ghost use Rattle.records.specs.Words.{count, word};
 ghost use Rattle.records.specs.Sized.{Sized};
 ghost use Rattle.records.specs.Kinds.{Sort, Ask, lowerType, lowerFlat, constructorOf, sortNumber, askNumber, sortOf, kindOf, askOf, isFlat};
-ghost use Rattle.records.specs.Says.{sortAt, kindAt, higher, meets, meetsAt, wellSaid};
+ghost use Rattle.records.specs.Says.{higher, meets, meetsAt, wellSaid, boundedBy};
 
 // For each kind's number below 65: the number of its sort, then what its words next, a, b, c and d ask.
-const TABLE: [u8; 390] = [0, 9, 9, 9, 9, 9, 1, 34, 1, 35, 8, 0, 0, 9, 9, 9, 9, 9, 0, 9, 9, 9, 9, 9, 0, 9, 9, 9, 9, 9, 0, 9, 9, 9, 9, 9, 0, 9, 9, 9, 9, 9, 0, 9, 9, 9, 9, 9, 0, 9, 9, 9, 9, 9, 0, 9, 9, 9, 9, 9, 0, 9, 9, 9, 9, 9, 0, 9, 9, 9, 9, 9, 0, 9, 9, 9, 9, 9, 0, 9, 9, 9, 9, 9, 0, 9, 9, 9, 9, 9, 0, 9, 9, 9, 9, 9, 2, 18, 5, 0, 0, 0, 2, 18, 2, 2, 0, 0, 0, 9, 9, 9, 9, 9, 0, 9, 9, 9, 9, 9, 0, 9, 9, 9, 9, 9, 0, 9, 9, 9, 9, 9, 0, 9, 9, 9, 9, 9, 0, 9, 9, 9, 9, 9, 0, 9, 9, 9, 9, 9, 0, 9, 9, 9, 9, 9, 0, 9, 9, 9, 9, 9, 0, 9, 9, 9, 9, 9, 0, 9, 9, 9, 9, 9, 0, 9, 9, 9, 9, 9, 0, 9, 9, 9, 9, 9, 0, 9, 9, 9, 9, 9, 3, 0, 2, 37, 0, 0, 3, 0, 7, 0, 0, 0, 3, 0, 35, 35, 0, 0, 3, 0, 35, 0, 0, 0, 3, 0, 35, 0, 0, 0, 3, 0, 35, 35, 0, 0, 3, 0, 2, 35, 35, 0, 3, 0, 35, 35, 35, 36, 3, 0, 2, 37, 35, 0, 0, 9, 9, 9, 9, 9, 0, 9, 9, 9, 9, 9, 0, 9, 9, 9, 9, 9, 0, 9, 9, 9, 9, 9, 0, 9, 9, 9, 9, 9, 0, 9, 9, 9, 9, 9, 0, 9, 9, 9, 9, 9, 4, 20, 2, 0, 0, 0, 4, 20, 3, 4, 0, 0, 4, 20, 36, 36, 0, 0, 0, 9, 9, 9, 9, 9, 0, 9, 9, 9, 9, 9, 0, 9, 9, 9, 9, 9, 0, 9, 9, 9, 9, 9, 0, 9, 9, 9, 9, 9, 0, 9, 9, 9, 9, 9, 0, 9, 9, 9, 9, 9, 0, 9, 9, 9, 9, 9, 0, 9, 9, 9, 9, 9, 0, 9, 9, 9, 9, 9, 0, 9, 9, 9, 9, 9, 0, 9, 9, 9, 9, 9, 0, 9, 9, 9, 9, 9, 5, 21, 6, 0, 0, 0];
+const TABLE: [u8; 390] = [
+    0,
+    9,
+    9,
+    9,
+    9,
+    9,
+    1,
+    34,
+    1,
+    35,
+    8,
+    0,
+    0,
+    9,
+    9,
+    9,
+    9,
+    9,
+    0,
+    9,
+    9,
+    9,
+    9,
+    9,
+    0,
+    9,
+    9,
+    9,
+    9,
+    9,
+    0,
+    9,
+    9,
+    9,
+    9,
+    9,
+    0,
+    9,
+    9,
+    9,
+    9,
+    9,
+    0,
+    9,
+    9,
+    9,
+    9,
+    9,
+    0,
+    9,
+    9,
+    9,
+    9,
+    9,
+    0,
+    9,
+    9,
+    9,
+    9,
+    9,
+    0,
+    9,
+    9,
+    9,
+    9,
+    9,
+    0,
+    9,
+    9,
+    9,
+    9,
+    9,
+    0,
+    9,
+    9,
+    9,
+    9,
+    9,
+    0,
+    9,
+    9,
+    9,
+    9,
+    9,
+    0,
+    9,
+    9,
+    9,
+    9,
+    9,
+    0,
+    9,
+    9,
+    9,
+    9,
+    9,
+    2,
+    18,
+    5,
+    0,
+    0,
+    0,
+    2,
+    18,
+    2,
+    2,
+    0,
+    0,
+    0,
+    9,
+    9,
+    9,
+    9,
+    9,
+    0,
+    9,
+    9,
+    9,
+    9,
+    9,
+    0,
+    9,
+    9,
+    9,
+    9,
+    9,
+    0,
+    9,
+    9,
+    9,
+    9,
+    9,
+    0,
+    9,
+    9,
+    9,
+    9,
+    9,
+    0,
+    9,
+    9,
+    9,
+    9,
+    9,
+    0,
+    9,
+    9,
+    9,
+    9,
+    9,
+    0,
+    9,
+    9,
+    9,
+    9,
+    9,
+    0,
+    9,
+    9,
+    9,
+    9,
+    9,
+    0,
+    9,
+    9,
+    9,
+    9,
+    9,
+    0,
+    9,
+    9,
+    9,
+    9,
+    9,
+    0,
+    9,
+    9,
+    9,
+    9,
+    9,
+    0,
+    9,
+    9,
+    9,
+    9,
+    9,
+    0,
+    9,
+    9,
+    9,
+    9,
+    9,
+    3,
+    0,
+    2,
+    37,
+    0,
+    0,
+    3,
+    0,
+    7,
+    0,
+    0,
+    0,
+    3,
+    0,
+    35,
+    35,
+    0,
+    0,
+    3,
+    0,
+    35,
+    0,
+    0,
+    0,
+    3,
+    0,
+    35,
+    0,
+    0,
+    0,
+    3,
+    0,
+    35,
+    35,
+    0,
+    0,
+    3,
+    0,
+    2,
+    35,
+    35,
+    0,
+    3,
+    0,
+    35,
+    35,
+    35,
+    36,
+    3,
+    0,
+    2,
+    37,
+    35,
+    0,
+    0,
+    9,
+    9,
+    9,
+    9,
+    9,
+    0,
+    9,
+    9,
+    9,
+    9,
+    9,
+    0,
+    9,
+    9,
+    9,
+    9,
+    9,
+    0,
+    9,
+    9,
+    9,
+    9,
+    9,
+    0,
+    9,
+    9,
+    9,
+    9,
+    9,
+    0,
+    9,
+    9,
+    9,
+    9,
+    9,
+    0,
+    9,
+    9,
+    9,
+    9,
+    9,
+    4,
+    20,
+    2,
+    0,
+    0,
+    0,
+    4,
+    20,
+    3,
+    4,
+    0,
+    0,
+    4,
+    20,
+    36,
+    36,
+    0,
+    0,
+    0,
+    9,
+    9,
+    9,
+    9,
+    9,
+    0,
+    9,
+    9,
+    9,
+    9,
+    9,
+    0,
+    9,
+    9,
+    9,
+    9,
+    9,
+    0,
+    9,
+    9,
+    9,
+    9,
+    9,
+    0,
+    9,
+    9,
+    9,
+    9,
+    9,
+    0,
+    9,
+    9,
+    9,
+    9,
+    9,
+    0,
+    9,
+    9,
+    9,
+    9,
+    9,
+    0,
+    9,
+    9,
+    9,
+    9,
+    9,
+    0,
+    9,
+    9,
+    9,
+    9,
+    9,
+    0,
+    9,
+    9,
+    9,
+    9,
+    9,
+    0,
+    9,
+    9,
+    9,
+    9,
+    9,
+    0,
+    9,
+    9,
+    9,
+    9,
+    9,
+    0,
+    9,
+    9,
+    9,
+    9,
+    9,
+    5,
+    21,
+    6,
+    0,
+    0,
+    0,
+];
 
 fn wide(x: u8) -> usize
     ensures { λ r. ⌜ (r ≡ x) × (r < 256) ⌝ }
@@ -30,11 +421,7 @@ pub fn word(sheet: &[u8], n: usize, rec: usize, k: usize) -> usize
 pub fn sort_number(kind: usize) -> usize
     ensures { λ r. ⌜ r ≡ sortNumber (sortOf (kindOf kind)) ⌝ }
 {
-    if kind < 65 {
-        wide(TABLE[6 * kind])
-    } else {
-        0
-    }
+    if kind < 65 { wide(TABLE[6 * kind]) } else { 0 }
 }
 
 // The number of what word k asks of a kind.
@@ -98,4 +485,92 @@ fn constructor_of(sheet: &[u8], n: usize, rec: usize, w: usize) -> bool
         return false;
     }
     w <= word(sheet, n, a, 2)
+}
+
+// Whether w is what an ask below 16 asks that names no record.
+fn plain(sheet: &[u8], n: usize, rec: usize, ask: usize, w: usize) -> bool
+    requires { ⌜ Sized (now sheet) n × (rec < n) × (ask < 16) ⌝ }
+    ensures { λ r. ⌜ ((x : Ask) → askNumber x ≡ ask → r ≡ meets (now (sheet .entry)) rec x w) ⌝ }
+{
+    if ask == 0 {
+        return w == 0;
+    }
+    if ask == 1 {
+        return higher(sheet, n, 0, 2, w);
+    }
+    if ask == 2 {
+        return lower_type(sheet, n, rec, w);
+    }
+    if ask == 3 {
+        return lower_flat(sheet, n, rec, w);
+    }
+    if ask == 4 {
+        return constructor_of(sheet, n, rec, w);
+    }
+    bounded(n, ask, w)
+}
+
+// Whether w is what an ask above 4 asks of the number alone.
+fn bounded(n: usize, ask: usize, w: usize) -> bool
+    ensures { λ r. ⌜ r ≡ boundedBy n ask w ⌝ }
+{
+    if ask == 5 {
+        if w == 0 {
+            return false;
+        }
+        return w <= 255;
+    }
+    if ask == 6 {
+        return w <= 255;
+    }
+    if ask == 8 {
+        return w == n;
+    }
+    ask == 7
+}
+
+// Whether w is what is asked of a word of rec.
+fn meets(sheet: &[u8], n: usize, rec: usize, ask: usize, w: usize) -> bool
+    requires { ⌜ Sized (now sheet) n × (rec < n) ⌝ }
+    ensures { λ r. ⌜ ((x : Ask) → askNumber x ≡ ask → r ≡ meets (now (sheet .entry)) rec x w) ⌝ }
+{
+    if ask < 16 {
+        return plain(sheet, n, rec, ask, w);
+    }
+    if ask < 32 {
+        if w == 0 {
+            return true;
+        }
+        return higher(sheet, n, rec, ask - 16, w);
+    }
+    higher(sheet, n, rec, ask - 32, w)
+}
+
+// Whether word k of rec is what the table asks.
+pub fn meets_at(sheet: &[u8], n: usize, rec: usize, k: usize) -> bool
+    requires { ⌜ Sized (now sheet) n × (rec < n) × (0 < k) × (k < 6) ⌝ }
+    ensures { λ r. ⌜ r ≡ meetsAt (now (sheet .entry)) rec k ⌝ }
+{
+    let kind = word(sheet, n, rec, 0);
+    meets(sheet, n, rec, ask_number(kind, k), word(sheet, n, rec, k))
+}
+
+// Whether every word of rec is what the table asks.
+pub fn well_said(sheet: &[u8], n: usize, rec: usize) -> bool
+    requires { ⌜ Sized (now sheet) n × (rec < n) ⌝ }
+    ensures { λ r. ⌜ r ≡ wellSaid (now (sheet .entry)) rec ⌝ }
+{
+    if !meets_at(sheet, n, rec, 1) {
+        return false;
+    }
+    if !meets_at(sheet, n, rec, 2) {
+        return false;
+    }
+    if !meets_at(sheet, n, rec, 3) {
+        return false;
+    }
+    if !meets_at(sheet, n, rec, 4) {
+        return false;
+    }
+    meets_at(sheet, n, rec, 5)
 }

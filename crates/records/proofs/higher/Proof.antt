@@ -5,6 +5,7 @@ use borrow.Author.Tests.{le-ltb, lt-ltb, le-leb, lt-leb, eq-eqb, ne-eqb}
 use native.Mathlib.Omega.{arith}
 use mathlib.Core.Path.{_≡_, refl, _∙_, sym, ap, subst}
 use Rattle.records.proofs.Reading.{higher-past, higher-sort}
+
 -- Each test that fails makes one part of the conjunction false; the last is the sort's. Assumes nothing.
 -- Each test that fails makes one part of the conjunction false; the last is the sort's. Assumes nothing.
 

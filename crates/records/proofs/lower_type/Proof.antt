@@ -6,6 +6,7 @@ use borrow.Author.Tests.{le-ltb, lt-ltb, le-leb, lt-leb, eq-eqb, ne-eqb}
 use native.Mathlib.Omega.{arith}
 use mathlib.Core.Path.{_≡_, refl, _∙_, sym, ap, subst}
 use Rattle.records.proofs.Reading.{lower-type-sort}
+
 -- The sort is that of the record. Assumes nothing.
 
 returns : tie.Need-returns
