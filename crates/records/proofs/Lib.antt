@@ -2,3 +2,7 @@
 pub mod Table
 pub mod Reading
 pub mod AskNumbers
+pub mod Tests
+pub mod Asked
+pub mod Types
+pub mod Pairs

@@ -1,7 +1,3 @@
--- The check of document 01: the rules of codes 1 to 7 and the verdict on a byte string.
-pub mod Lowest
-pub mod Depth
-pub mod Rules
+-- The check of document 01: the type rules and the verdict on a byte string.
 pub mod Judgements
-pub mod Passes
 pub mod Verdict

@@ -5,8 +5,8 @@ use mathlib.Core.List.{List}
 use mathlib.Core.Option.{none}
 use Prim.Native.Nat.{ℕ}
 use Rattle.records.specs.Words.{count}
-use Rattle.typing.specs.Lowest.{lowest}
-use Rattle.typing.specs.Rules.{wrongLength, wrongHeader, wrongRecord, wrongNaming, wrongType, tooDeep}
+use Rattle.layout.specs.Lowest.{lowest}
+use Rattle.layout.specs.Rules.{wrongLength, wrongHeader, wrongRecord, wrongNaming, wrongType, tooDeep}
 
 pub record Passes (s : List ℕ) : Type 0 where
   pub length : wrongLength s ≡ false

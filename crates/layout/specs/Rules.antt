@@ -10,7 +10,7 @@ use Rattle.records.specs.Kinds.{sameSort, sortOf, expressions, isPair, isHeader
 use Rattle.records.specs.Says.{kindAt, sortAt, wellSaid}
 use Rattle.records.specs.Namings.{namings, exactlyOnce}
 use Rattle.records.specs.TypeRecords.{typeAt, pairBelow}
-use Rattle.typing.specs.Depth.{depth, nesting}
+use Rattle.layout.specs.Depth.{depth, nesting}
 
 -- 1: length under 12, over 49,152 or no multiple of 12
 unfoldable pub wrongLength : List ℕ → Bool

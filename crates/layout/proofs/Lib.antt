@@ -1,0 +1,4 @@
+-- Laws that belong to no one function.
+pub mod Lowest
+pub mod WrongRecords
+pub mod Namers

@@ -1,0 +1,302 @@
+-- In a sheet whose records say what the table asks, each word has what it asks for: a part is a higher record of its sort, a
+-- type word a lower type record, and so on. What a word asks is settled by the record's kind: the kind has one row of the
+-- table, as each row's kind has that row's number. A record's sort says which kinds it may have.
+-- Assumes nothing.
+use Prim.Native.Nat.{ℕ, zero, suc, _≤_, _<_}
+use mathlib.Core.Bool.{Bool, true, false, cond, _&&_, _||_}
+use mathlib.Core.List.{List, [], _∷_}
+use mathlib.Core.Path.{_≡_, refl, sym, ap, _∙_}
+use native.Mathlib.Omega.{arith}
+use lib.ListN.{getD}
+use lib.Dec.{eqb, ltb, leb}
+use borrow.Author.Tests.{ltb-true, leb-true, eqb-true, ne-eqb}
+use Rattle.records.specs.Words.{word, count, kindWord, wordA}
+use Rattle.records.specs.Kinds.{
+  Sort,
+  headers,
+  types,
+  expressions,
+  patterns,
+  leafs,
+  none,
+  TypeKind,
+  flat,
+  pair,
+  ExpressionKind,
+  constant,
+  name,
+  tuple,
+  first,
+  second,
+  letIn,
+  feedback,
+  ifMatches,
+  delay,
+  PatternKind,
+  whole,
+  constructor,
+  parts,
+  Kind,
+  header,
+  typeOf,
+  expression,
+  pattern,
+  leaf,
+  unknown,
+  sortOf,
+  sortNumber,
+  sameSort,
+  isFlat,
+  isPair,
+  isHeader,
+  Ask,
+  zeroed,
+  nextOf,
+  part,
+  inputType,
+  lowerType,
+  lowerFlat,
+  constructorOf,
+  counted,
+  byte,
+  free,
+  total,
+  never,
+  Row,
+  row,
+  table,
+  numberIn,
+  kindIn,
+  asksIn,
+  lookUp,
+  rowOf,
+  kindOf,
+  askOf,
+}
+use Rattle.records.specs.Says.{kindAt, sortAt, askAt, higher, meets, meetsAt, wellSaid}
+use Rattle.records.specs.Written.{Written}
+use Rattle.records.proofs.Tests.{never-both, both-left, both-right}
+
+-- a kind's number in the table; 0 is no kind's
+abbrev numberOf : Kind → ℕ
+numberOf header = 1
+numberOf (typeOf flat) = 16
+numberOf (typeOf pair) = 17
+numberOf (expression constant) = 32
+numberOf (expression name) = 33
+numberOf (expression tuple) = 34
+numberOf (expression first) = 35
+numberOf (expression second) = 36
+numberOf (expression letIn) = 37
+numberOf (expression feedback) = 38
+numberOf (expression ifMatches) = 39
+numberOf (expression delay) = 40
+numberOf (pattern whole) = 48
+numberOf (pattern constructor) = 49
+numberOf (pattern parts) = 50
+numberOf leaf = 64
+numberOf unknown = 0
+
+-- what word j of a record of this kind asks
+unfoldable pub askOfKind : Kind → ℕ → Ask
+unfolding askOf
+askOfKind k j = askOf (numberOf k) j
+
+abbrev All : (Row → Type 0) → List Row → Type 0
+All P [] = Unit {0}
+All P (x ∷ xs) = P x × All P xs
+
+pick : (P : Row → Type 0) (b : Bool) (x y : Row) → P x → P y → P (cond b x y)
+pick P true x y p q = p
+pick P false x y p q = q
+
+-- what each row has, and the row of an unknown number, has the row that is looked up
+looked-up : (P : Row → Type 0) (xs : List Row) (n : ℕ) → All P xs → P (row n unknown never never never never never) → P (lookUp xs n)
+looked-up P [] n all rest = rest
+looked-up P (x ∷ xs) n all rest =
+    pick P (eqb (numberIn x) n) x (lookUp xs n) (all .0) (looked-up P xs n (all .1) rest)
+
+asks-by-kind : (n : ℕ) → asksIn (rowOf n) ≡ asksIn (rowOf (numberOf (kindIn (rowOf n))))
+unfolding rowOf
+asks-by-kind n =
+    looked-up (λ x. asksIn x ≡ asksIn (rowOf (numberOf (kindIn x)))) table n
+    (refl, (refl, (refl, (refl, (refl, (refl, (refl, (refl, (refl, (refl, (refl, (refl, (refl, (refl, (refl, (refl, tt)))))))))))))))) refl
+
+ask-by-number : (n j : ℕ) → askOf n j ≡ askOfKind (kindOf n) j
+unfolding askOf kindOf askOfKind
+ask-by-number n j = ap (λ asks. getD asks j zeroed) (asks-by-kind n)
+
+-- the kind of a record settles what its words ask
+pub ask-by-kind : (s : List ℕ) (r j : ℕ) (k : Kind) → kindAt s r ≡ k → askAt s r j ≡ askOfKind k j
+ask-by-kind s r j k e = ask-by-number (kindWord s r) j ∙ ap (λ k. askOfKind k j) e
+
+-- what passes at each of the words 1 to 5 passes at any of them
+any-of-five : (p : ℕ → Bool) → (p 1 && (p 2 && (p 3 && (p 4 && p 5)))) ≡ true → (k : ℕ) → 0 < k → k < 6 → p k ≡ true
+any-of-five p t zero low high = absurd (omega arith)
+any-of-five p t (suc zero) low high = both-left (p 1) (p 2 && (p 3 && (p 4 && p 5))) t
+any-of-five p t (suc (suc k)) low high = from-two (both-right (p 1) (p 2 && (p 3 && (p 4 && p 5))) t) k high
+  where
+    from-four : (p 4 && p 5) ≡ true → (k : ℕ) → suc (suc (suc (suc k))) < 6 → p (suc (suc (suc (suc k)))) ≡ true
+    from-four t zero high = both-left (p 4) (p 5) t
+    from-four t (suc zero) high = both-right (p 4) (p 5) t
+    from-four t (suc (suc k)) high = absurd (omega arith)
+
+    from-two : (p 2 && (p 3 && (p 4 && p 5))) ≡ true → (k : ℕ) → suc (suc k) < 6 → p (suc (suc k)) ≡ true
+    from-two t zero high = both-left (p 2) (p 3 && (p 4 && p 5)) t
+    from-two t (suc zero) high = both-left (p 3) (p 4 && p 5) (both-right (p 2) (p 3 && (p 4 && p 5)) t)
+    from-two t (suc (suc k)) high =
+        from-four (both-right (p 3) (p 4 && p 5) (both-right (p 2) (p 3 && (p 4 && p 5)) t)) k high
+
+-- each word of a record is what it asks
+pub meets-at : {s : List ℕ} → Written s → (r k : ℕ) → r < count s → 0 < k → k < 6 → meetsAt s r k ≡ true
+unfolding wellSaid
+meets-at {s} w r k h low high = any-of-five (meetsAt s r) (w .said r h) k low high
+
+-- what it is to be as asked, in words
+abbrev pub Means : List ℕ → ℕ → Ask → ℕ → Type 0
+Means s r zeroed w = w ≡ 0
+Means s r (nextOf σ) w = 0 < w → (r < w) × (w < count s) × (sortAt s w ≡ σ)
+Means s r (part σ) w = (r < w) × (w < count s) × (sortAt s w ≡ σ)
+Means s r inputType w = (0 < w) × (w < count s) × (sortAt s w ≡ types)
+Means s r lowerType w = (w < r) × (sortAt s w ≡ types)
+Means s r lowerFlat w = (w < r) × (kindAt s w ≡ typeOf flat)
+Means s r constructorOf w = (0 < w) × (w ≤ wordA s (wordA s r))
+Means s r counted w = (0 < w) × (w ≤ 255)
+Means s r byte w = w ≤ 255
+Means s r free w = Unit {0}
+Means s r total w = w ≡ count s
+Means s r never w = ⊥
+
+sortWith : ℕ → Sort
+sortWith zero = none
+sortWith (suc zero) = headers
+sortWith (suc (suc zero)) = types
+sortWith (suc (suc (suc zero))) = expressions
+sortWith (suc (suc (suc (suc zero)))) = patterns
+sortWith (suc (suc (suc (suc (suc n))))) = leafs
+
+sort-with-number : (σ : Sort) → sortWith (sortNumber σ) ≡ σ
+unfolding sortWith
+sort-with-number none = refl
+sort-with-number headers = refl
+sort-with-number types = refl
+sort-with-number expressions = refl
+sort-with-number patterns = refl
+sort-with-number leafs = refl
+
+pub same-sort : (σ τ : Sort) → sameSort σ τ ≡ true → σ ≡ τ
+same-sort σ τ e = sym (sort-with-number σ) ∙ ap sortWith (eqb-true (sortNumber σ) (sortNumber τ) e) ∙ sort-with-number τ
+
+pub is-flat : (k : Kind) → isFlat k ≡ true → k ≡ typeOf flat
+is-flat (typeOf flat) e = refl
+is-flat (typeOf pair) e = cc
+is-flat header e = cc
+is-flat (expression k) e = cc
+is-flat (pattern k) e = cc
+is-flat leaf e = cc
+is-flat unknown e = cc
+
+pub is-pair : (k : Kind) → isPair k ≡ true → k ≡ typeOf pair
+is-pair (typeOf pair) e = refl
+is-pair (typeOf flat) e = cc
+is-pair header e = cc
+is-pair (expression k) e = cc
+is-pair (pattern k) e = cc
+is-pair leaf e = cc
+is-pair unknown e = cc
+
+pub is-header : (k : Kind) → isHeader k ≡ true → k ≡ header
+is-header header e = refl
+is-header (typeOf k) e = cc
+is-header (expression k) e = cc
+is-header (pattern k) e = cc
+is-header leaf e = cc
+is-header unknown e = cc
+
+pub higher-is : (s : List ℕ) (r : ℕ) (σ : Sort) (w : ℕ) → higher s r σ w ≡ true → (r < w) × (w < count s) × (sortAt s w ≡ σ)
+higher-is s r σ w e =
+    let f = both-right (ltb r w) (ltb w (count s) && sameSort (sortAt s w) σ) e in (
+      ltb-true r w (both-left (ltb r w) (ltb w (count s) && sameSort (sortAt s w) σ) e),
+      ltb-true w (count s) (both-left (ltb w (count s)) (sameSort (sortAt s w) σ) f),
+      same-sort (sortAt s w) σ (both-right (ltb w (count s)) (sameSort (sortAt s w) σ) f),
+    )
+
+next-is : (s : List ℕ) (r : ℕ) (σ : Sort) (w : ℕ) → (eqb w 0 || higher s r σ w) ≡ true → Means s r (nextOf σ) w
+next-is s r σ w e = λ h. higher-is s r σ w (go (eqb w 0) (ne-eqb w 0 (λ z. omega arith)) e)
+  where
+    go : (b : Bool) → b ≡ false → (b || higher s r σ w) ≡ true → higher s r σ w ≡ true
+    go b f e = rw f at e
+
+-- what meets an ask is as asked
+pub means : (s : List ℕ) (r : ℕ) (a : Ask) (w : ℕ) → meets s r a w ≡ true → Means s r a w
+means s r zeroed w e = eqb-true w 0 e
+means s r (nextOf σ) w e = next-is s r σ w e
+means s r (part σ) w e = higher-is s r σ w e
+means s r inputType w e = higher-is s 0 types w e
+means s r lowerType w e = (
+  ltb-true w r (both-left (ltb w r) (sameSort (sortAt s w) types) e),
+  same-sort (sortAt s w) types (both-right (ltb w r) (sameSort (sortAt s w) types) e),
+)
+means s r lowerFlat w e = (
+  ltb-true w r (both-left (ltb w r) (isFlat (kindAt s w)) e),
+  is-flat (kindAt s w) (both-right (ltb w r) (isFlat (kindAt s w)) e),
+)
+means s r constructorOf w e = (
+  ltb-true 0 w (both-left (ltb 0 w) (leb w (wordA s (wordA s r))) e),
+  leb-true w (wordA s (wordA s r)) (both-right (ltb 0 w) (leb w (wordA s (wordA s r))) e),
+)
+means s r counted w e =
+    (ltb-true 0 w (both-left (ltb 0 w) (leb w 255) e), leb-true w 255 (both-right (ltb 0 w) (leb w 255) e))
+means s r byte w e = leb-true w 255 e
+means s r free w e = tt
+means s r total w e = eqb-true w (count s) e
+means s r never w e = absurd (never-both false e refl)
+
+-- word j, from 1 to 5, of a record is as asked
+pub as-asked :
+    {s : List ℕ} → Written s → (r j : ℕ) (a : Ask) → r < count s → 0 < j → j < 6 → askAt s r j ≡ a → Means s r a (word s r j)
+as-asked {s} w r j a h low high e = rw e at (means s r (askAt s r j) (word s r j) (meets-at w r j h low high))
+
+-- the same where the kind is known; at a kind and a word `askOfKind` computes
+pub as-kind-asks :
+    {s : List ℕ} → Written s → (r : ℕ) (k : Kind) → r < count s → kindAt s r ≡ k → (j : ℕ) → (ltb 0 j && ltb j 6) ≡ true
+    → Means s r (askOfKind k j) (word s r j)
+as-kind-asks {s} w r k h e j t =
+    as-asked w r j (askOfKind k j) h (ltb-true 0 j (both-left (ltb 0 j) (ltb j 6) t)) (ltb-true j 6 (both-right (ltb 0 j) (ltb j 6) t))
+    (ask-by-kind s r j k e)
+
+-- a word that names a part of a record of this kind
+pub part-of-kind :
+    {s : List ℕ} → Written s → (r : ℕ) (k : Kind) (σ : Sort) → r < count s → kindAt s r ≡ k → (j : ℕ) → (ltb 0 j && ltb j 6) ≡ true
+    → askOfKind k j ≡ part σ → (r < word s r j) × (word s r j < count s) × (sortAt s (word s r j) ≡ σ)
+part-of-kind {s} w r k σ h e j t a = rw a at (as-kind-asks w r k h e j t)
+
+-- a next that is not zero
+pub next-of-kind : {s : List ℕ} → Written s → (r : ℕ) (k : Kind) (σ : Sort) → r < count s → kindAt s r ≡ k → askOfKind k 1 ≡ nextOf σ
+    → 0 < word s r 1 → (r < word s r 1) × (word s r 1 < count s) × (sortAt s (word s r 1) ≡ σ)
+next-of-kind {s} w r k σ h e a = rw a at (as-kind-asks w r k h e 1 refl)
+
+-- a sort says which kinds a record may have
+abbrev pub OfSort : Sort → Kind → Type 0
+OfSort headers k = k ≡ header
+OfSort types k = (t : TypeKind) × (k ≡ typeOf t)
+OfSort expressions k = (e : ExpressionKind) × (k ≡ expression e)
+OfSort patterns k = (p : PatternKind) × (k ≡ pattern p)
+OfSort leafs k = k ≡ leaf
+OfSort none k = k ≡ unknown
+
+of-sort : (k : Kind) → OfSort (sortOf k) k
+of-sort header = refl
+of-sort (typeOf t) = (t, refl)
+of-sort (expression e) = (e, refl)
+of-sort (pattern p) = (p, refl)
+of-sort leaf = refl
+of-sort unknown = refl
+
+pub kind-of-sort : (σ : Sort) (k : Kind) → sortOf k ≡ σ → OfSort σ k
+kind-of-sort σ k e = rw e at (of-sort k)
+
+-- a record that is no header is not record 0
+pub past-header : {s : List ℕ} → Written s → (r : ℕ) → isHeader (kindAt s r) ≡ false → 0 < r
+past-header {s} w zero e = absurd (never-both (isHeader (kindAt s 0)) (rw (w .headed)) e)
+past-header {s} w (suc r) e = omega arith
