@@ -1,4 +1,6 @@
 -- Laws that belong to no one function.
+pub mod Depths
 pub mod Lowest
-pub mod WrongRecords
 pub mod Namers
+pub mod Passes
+pub mod WrongRecords

@@ -7,7 +7,7 @@ use native.Mathlib.Omega.{arith}
 use borrow.Author.Tests.{eq-eqb, ne-eqb, lt-ltb}
 use Rattle.records.specs.Words.{word}
 use Rattle.records.specs.Says.{wellSaid}
-use Rattle.records.proofs.Table.{header-number}
+use Rattle.records.proofs.CodeTable.{header-number}
 use Rattle.layout.specs.Rules.{wrongHeader, wrongRecord}
 
 module _ (s : List ℕ) (k : ℕ) (said : Bool) where

@@ -1,134 +1,19 @@
 -- In a sheet whose records say what the table asks, each word has what it asks for: a part is a higher record of its sort, a
--- type word a lower type record, and so on. What a word asks is settled by the record's kind: the kind has one row of the
--- table, as each row's kind has that row's number. A record's sort says which kinds it may have.
+-- type word a lower type record, and so on: by the cases of what is asked.
 -- Assumes nothing.
 use Prim.Native.Nat.{ℕ, zero, suc, _≤_, _<_}
-use mathlib.Core.Bool.{Bool, true, false, cond, _&&_, _||_}
-use mathlib.Core.List.{List, [], _∷_}
-use mathlib.Core.Path.{_≡_, refl, sym, ap, _∙_}
+use mathlib.Core.Bool.{Bool, true, false, _&&_, _||_}
+use mathlib.Core.List.{List}
+use mathlib.Core.Path.{_≡_, refl}
 use native.Mathlib.Omega.{arith}
-use lib.ListN.{getD}
 use lib.Dec.{eqb, ltb, leb}
 use borrow.Author.Tests.{ltb-true, leb-true, eqb-true, ne-eqb}
-use Rattle.records.specs.Words.{word, count, kindWord, wordA}
-use Rattle.records.specs.Kinds.{
-  Sort,
-  headers,
-  types,
-  expressions,
-  patterns,
-  leafs,
-  none,
-  TypeKind,
-  flat,
-  pair,
-  ExpressionKind,
-  constant,
-  name,
-  tuple,
-  first,
-  second,
-  letIn,
-  feedback,
-  ifMatches,
-  delay,
-  PatternKind,
-  whole,
-  constructor,
-  parts,
-  Kind,
-  header,
-  typeOf,
-  expression,
-  pattern,
-  leaf,
-  unknown,
-  sortOf,
-  sortNumber,
-  sameSort,
-  isFlat,
-  isPair,
-  isHeader,
-  Ask,
-  zeroed,
-  nextOf,
-  part,
-  inputType,
-  lowerType,
-  lowerFlat,
-  constructorOf,
-  counted,
-  byte,
-  free,
-  total,
-  never,
-  Row,
-  row,
-  table,
-  numberIn,
-  kindIn,
-  asksIn,
-  lookUp,
-  rowOf,
-  kindOf,
-  askOf,
-}
+use Rattle.records.specs.Words.{word, count, wordA}
+use Rattle.records.specs.Kinds.{Sort, types, flat, Kind, header, typeOf, sameSort, isFlat, isHeader, Ask, zeroed, nextOf, part, inputType, lowerType, lowerFlat, constructorOf, counted, byte, free, total, never}
 use Rattle.records.specs.Says.{kindAt, sortAt, askAt, higher, meets, meetsAt, wellSaid}
 use Rattle.records.specs.Written.{Written}
 use Rattle.records.proofs.Tests.{never-both, both-left, both-right}
-
--- a kind's number in the table; 0 is no kind's
-abbrev numberOf : Kind → ℕ
-numberOf header = 1
-numberOf (typeOf flat) = 16
-numberOf (typeOf pair) = 17
-numberOf (expression constant) = 32
-numberOf (expression name) = 33
-numberOf (expression tuple) = 34
-numberOf (expression first) = 35
-numberOf (expression second) = 36
-numberOf (expression letIn) = 37
-numberOf (expression feedback) = 38
-numberOf (expression ifMatches) = 39
-numberOf (expression delay) = 40
-numberOf (pattern whole) = 48
-numberOf (pattern constructor) = 49
-numberOf (pattern parts) = 50
-numberOf leaf = 64
-numberOf unknown = 0
-
--- what word j of a record of this kind asks
-unfoldable pub askOfKind : Kind → ℕ → Ask
-unfolding askOf
-askOfKind k j = askOf (numberOf k) j
-
-abbrev All : (Row → Type 0) → List Row → Type 0
-All P [] = Unit {0}
-All P (x ∷ xs) = P x × All P xs
-
-pick : (P : Row → Type 0) (b : Bool) (x y : Row) → P x → P y → P (cond b x y)
-pick P true x y p q = p
-pick P false x y p q = q
-
--- what each row has, and the row of an unknown number, has the row that is looked up
-looked-up : (P : Row → Type 0) (xs : List Row) (n : ℕ) → All P xs → P (row n unknown never never never never never) → P (lookUp xs n)
-looked-up P [] n all rest = rest
-looked-up P (x ∷ xs) n all rest =
-    pick P (eqb (numberIn x) n) x (lookUp xs n) (all .0) (looked-up P xs n (all .1) rest)
-
-asks-by-kind : (n : ℕ) → asksIn (rowOf n) ≡ asksIn (rowOf (numberOf (kindIn (rowOf n))))
-unfolding rowOf
-asks-by-kind n =
-    looked-up (λ x. asksIn x ≡ asksIn (rowOf (numberOf (kindIn x)))) table n
-    (refl, (refl, (refl, (refl, (refl, (refl, (refl, (refl, (refl, (refl, (refl, (refl, (refl, (refl, (refl, (refl, tt)))))))))))))))) refl
-
-ask-by-number : (n j : ℕ) → askOf n j ≡ askOfKind (kindOf n) j
-unfolding askOf kindOf askOfKind
-ask-by-number n j = ap (λ asks. getD asks j zeroed) (asks-by-kind n)
-
--- the kind of a record settles what its words ask
-pub ask-by-kind : (s : List ℕ) (r j : ℕ) (k : Kind) → kindAt s r ≡ k → askAt s r j ≡ askOfKind k j
-ask-by-kind s r j k e = ask-by-number (kindWord s r) j ∙ ap (λ k. askOfKind k j) e
+use Rattle.records.proofs.Table.{askOfKind, ask-by-kind, same-sort, is-flat}
 
 -- what passes at each of the words 1 to 5 passes at any of them
 any-of-five : (p : ℕ → Bool) → (p 1 && (p 2 && (p 3 && (p 4 && p 5)))) ≡ true → (k : ℕ) → 0 < k → k < 6 → p k ≡ true
@@ -166,52 +51,6 @@ Means s r byte w = w ≤ 255
 Means s r free w = Unit {0}
 Means s r total w = w ≡ count s
 Means s r never w = ⊥
-
-sortWith : ℕ → Sort
-sortWith zero = none
-sortWith (suc zero) = headers
-sortWith (suc (suc zero)) = types
-sortWith (suc (suc (suc zero))) = expressions
-sortWith (suc (suc (suc (suc zero)))) = patterns
-sortWith (suc (suc (suc (suc (suc n))))) = leafs
-
-sort-with-number : (σ : Sort) → sortWith (sortNumber σ) ≡ σ
-unfolding sortWith
-sort-with-number none = refl
-sort-with-number headers = refl
-sort-with-number types = refl
-sort-with-number expressions = refl
-sort-with-number patterns = refl
-sort-with-number leafs = refl
-
-pub same-sort : (σ τ : Sort) → sameSort σ τ ≡ true → σ ≡ τ
-same-sort σ τ e = sym (sort-with-number σ) ∙ ap sortWith (eqb-true (sortNumber σ) (sortNumber τ) e) ∙ sort-with-number τ
-
-pub is-flat : (k : Kind) → isFlat k ≡ true → k ≡ typeOf flat
-is-flat (typeOf flat) e = refl
-is-flat (typeOf pair) e = cc
-is-flat header e = cc
-is-flat (expression k) e = cc
-is-flat (pattern k) e = cc
-is-flat leaf e = cc
-is-flat unknown e = cc
-
-pub is-pair : (k : Kind) → isPair k ≡ true → k ≡ typeOf pair
-is-pair (typeOf pair) e = refl
-is-pair (typeOf flat) e = cc
-is-pair header e = cc
-is-pair (expression k) e = cc
-is-pair (pattern k) e = cc
-is-pair leaf e = cc
-is-pair unknown e = cc
-
-pub is-header : (k : Kind) → isHeader k ≡ true → k ≡ header
-is-header header e = refl
-is-header (typeOf k) e = cc
-is-header (expression k) e = cc
-is-header (pattern k) e = cc
-is-header leaf e = cc
-is-header unknown e = cc
 
 pub higher-is : (s : List ℕ) (r : ℕ) (σ : Sort) (w : ℕ) → higher s r σ w ≡ true → (r < w) × (w < count s) × (sortAt s w ≡ σ)
 higher-is s r σ w e =
@@ -275,26 +114,6 @@ part-of-kind {s} w r k σ h e j t a = rw a at (as-kind-asks w r k h e j t)
 pub next-of-kind : {s : List ℕ} → Written s → (r : ℕ) (k : Kind) (σ : Sort) → r < count s → kindAt s r ≡ k → askOfKind k 1 ≡ nextOf σ
     → 0 < word s r 1 → (r < word s r 1) × (word s r 1 < count s) × (sortAt s (word s r 1) ≡ σ)
 next-of-kind {s} w r k σ h e a = rw a at (as-kind-asks w r k h e 1 refl)
-
--- a sort says which kinds a record may have
-abbrev pub OfSort : Sort → Kind → Type 0
-OfSort headers k = k ≡ header
-OfSort types k = (t : TypeKind) × (k ≡ typeOf t)
-OfSort expressions k = (e : ExpressionKind) × (k ≡ expression e)
-OfSort patterns k = (p : PatternKind) × (k ≡ pattern p)
-OfSort leafs k = k ≡ leaf
-OfSort none k = k ≡ unknown
-
-of-sort : (k : Kind) → OfSort (sortOf k) k
-of-sort header = refl
-of-sort (typeOf t) = (t, refl)
-of-sort (expression e) = (e, refl)
-of-sort (pattern p) = (p, refl)
-of-sort leaf = refl
-of-sort unknown = refl
-
-pub kind-of-sort : (σ : Sort) (k : Kind) → sortOf k ≡ σ → OfSort σ k
-kind-of-sort σ k e = rw e at (of-sort k)
 
 -- a record that is no header is not record 0
 pub past-header : {s : List ℕ} → Written s → (r : ℕ) → isHeader (kindAt s r) ≡ false → 0 < r

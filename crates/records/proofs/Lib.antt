@@ -1,8 +1,12 @@
 -- Laws that belong to no one function.
-pub mod Table
-pub mod Reading
 pub mod AskNumbers
-pub mod Tests
 pub mod Asked
-pub mod Types
+pub mod CodeTable
+pub mod Decoding
+pub mod Namings
 pub mod Pairs
+pub mod Reading
+pub mod Table
+pub mod Tests
+pub mod Trees
+pub mod Types

@@ -16,7 +16,8 @@ use Rattle.records.specs.Says.{kindAt}
 use Rattle.records.specs.TypeRecords.{isPairOf, pairBelow, pairOf}
 use Rattle.records.specs.Written.{Written, TypesFit}
 use Rattle.records.proofs.Tests.{never-both, both, both-left, both-right}
-use Rattle.records.proofs.Asked.{is-pair, past-header}
+use Rattle.records.proofs.Table.{is-pair}
+use Rattle.records.proofs.Asked.{past-header}
 
 -- what a record number found below n says, 0 standing for none
 abbrev Found : (ℕ → Bool) → ℕ → ℕ → Type 0

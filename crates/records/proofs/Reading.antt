@@ -36,7 +36,7 @@ use Rattle.records.specs.Kinds.{
   kindOf,
 }
 use Rattle.records.specs.Says.{higher, meets}
-use Rattle.records.proofs.Table.{flat-number}
+use Rattle.records.proofs.CodeTable.{flat-number}
 
 module _ (s : List ℕ) (n : ℕ) (sized : Sized s n) where
   pub higher-past : (r w : ℕ) (σ : Sort) → n ≤ w → false ≡ higher s r σ w

@@ -1,151 +1,133 @@
--- The code's table holds, for each kind's number below 65, the number of its sort and of what each of its words asks: one test
--- that antt computes over the whole table, and the law that turns it into the fact at each entry. From 65 on a kind is
--- unknown. Assumes nothing.
-use mathlib.Core.Path.{_≡_, refl, sym, _∙_, ap, subst}
-use mathlib.Core.Bool.{Bool, true, false, _&&_, Bool·beq}
+-- What a word asks is settled by the record's kind: the kind has one row of the table, as each row's kind has that row's
+-- number. Sorts that are compared equal are equal, and a sort says which kinds a record may have. By the cases of the table,
+-- the kinds and the sorts.
+-- Assumes nothing.
+use Prim.Native.Nat.{ℕ, zero, suc}
+use mathlib.Core.Bool.{Bool, true, false, cond}
 use mathlib.Core.List.{List, [], _∷_}
-use Prim.Native.Nat.{ℕ, zero, suc, _+_, _*_, _/_, _%_, _≤_, _<_}
-use native.Mathlib.Nat.{add-zero, zero-add, add-suc, suc-add, le-of-suc-le-suc, not-suc-le-zero}
-use native.Mathlib.Omega.{arith}
-use native.Mathlib.Decide.{decLt}
-use borrow.Author.Tests.{ne-eqb}
-use lib.Dec.{T, eqb, eqb→eq}
-use lib.ListN.{length, getD}
-use Rattle.records.specs.Kinds.{sortNumber, askNumber, sortOf, kindOf, askOf, rowOf, Row, row, unknown, never, kindIn, asksIn, zeroed, Kind, isFlat, isPair, isHeader}
+use mathlib.Core.Path.{_≡_, refl, sym, ap, _∙_}
+use lib.ListN.{getD}
+use lib.Dec.{eqb}
+use borrow.Author.Tests.{eqb-true}
+use Rattle.records.specs.Words.{word, kindWord}
+use Rattle.records.specs.Kinds.{Sort, headers, types, expressions, patterns, leafs, none, TypeKind, flat, pair, ExpressionKind, constant, name, tuple, first, second, letIn, feedback, ifMatches, delay, PatternKind, whole, constructor, parts, Kind, header, typeOf, expression, pattern, leaf, unknown, sortOf, sortNumber, sameSort, isFlat, isPair, isHeader, Ask, zeroed, never, Row, row, table, numberIn, kindIn, asksIn, lookUp, rowOf, kindOf, askOf}
+use Rattle.records.specs.Says.{kindAt, askAt}
 
-both-left : (a b : Bool) → T (a && b) → T a
-both-left true b t = tt
-both-left false b t = t
+-- a kind's number in the table; 0 is no kind's
+abbrev numberOf : Kind → ℕ
+numberOf header = 1
+numberOf (typeOf flat) = 16
+numberOf (typeOf pair) = 17
+numberOf (expression constant) = 32
+numberOf (expression name) = 33
+numberOf (expression tuple) = 34
+numberOf (expression first) = 35
+numberOf (expression second) = 36
+numberOf (expression letIn) = 37
+numberOf (expression feedback) = 38
+numberOf (expression ifMatches) = 39
+numberOf (expression delay) = 40
+numberOf (pattern whole) = 48
+numberOf (pattern constructor) = 49
+numberOf (pattern parts) = 50
+numberOf leaf = 64
+numberOf unknown = 0
 
-both-right : (a b : Bool) → T (a && b) → T b
-both-right true b t = t
-both-right false b t = absurd t
-
--- the test passes at each entry of the list and its place, counted from i
-abbrev every : (ℕ → ℕ → Bool) → ℕ → List ℕ → Bool
-every f i [] = true
-every f i (x ∷ xs) = f i x && every f (suc i) xs
-
-from : (f : ℕ → ℕ → Bool) (xs : List ℕ) (i : ℕ) → T (every f i xs) → (k : ℕ) → k < length xs → T (f (i + k) (getD xs k 0))
-from f [] i t k h = absurd (not-suc-le-zero h)
-from f (x ∷ xs) i t zero h = subst (λ (m : ℕ). T (f m x)) (sym (add-zero i)) (both-left (f i x) (every f (suc i) xs) t)
-from f (x ∷ xs) i t (suc k) h =
-    subst (λ (m : ℕ). T (f m (getD xs k 0))) (suc-add i k ∙ sym (add-suc i k))
-    (from f xs (suc i) (both-right (f i x) (every f (suc i) xs) t) k (le-of-suc-le-suc h))
-
-at : (f : ℕ → ℕ → Bool) (xs : List ℕ) → T (every f 0 xs) → (k : ℕ) → k < length xs → T (f k (getD xs k 0))
-at f xs t k h = subst (λ (m : ℕ). T (f m (getD xs k 0))) (zero-add k) (from f xs 0 t k h)
-
-abbrev pub entries : List ℕ
-entries =
-    0 ∷ 9 ∷ 9 ∷ 9 ∷ 9 ∷ 9 ∷ 1 ∷ 34 ∷ 1 ∷ 35 ∷ 8 ∷ 0 ∷ 0 ∷ 9 ∷ 9 ∷ 9 ∷ 9 ∷ 9 ∷ 0 ∷ 9 ∷ 9 ∷ 9 ∷ 9 ∷ 9 ∷ 0 ∷ 9 ∷ 9 ∷ 9 ∷ 9 ∷ 9 ∷ 0 ∷ 9 ∷ 9 ∷ 9 ∷ 9 ∷ 9 ∷ 0 ∷ 9 ∷ 9 ∷ 9 ∷ 9 ∷ 9 ∷ 0 ∷ 9 ∷ 9 ∷ 9 ∷ 9 ∷ 9 ∷ 0 ∷ 9 ∷ 9 ∷ 9 ∷ 9 ∷ 9 ∷ 0 ∷ 9 ∷ 9 ∷ 9 ∷ 9 ∷ 9 ∷ 0 ∷ 9 ∷ 9 ∷ 9 ∷ 9 ∷ 9 ∷ 0 ∷ 9 ∷ 9 ∷ 9 ∷ 9 ∷ 9 ∷ 0 ∷ 9 ∷ 9 ∷ 9 ∷ 9 ∷ 9 ∷ 0 ∷ 9 ∷ 9 ∷ 9 ∷ 9 ∷ 9 ∷ 0 ∷ 9 ∷ 9 ∷ 9 ∷ 9 ∷ 9 ∷ 0 ∷ 9 ∷ 9 ∷ 9 ∷ 9 ∷ 9 ∷ 2 ∷ 18 ∷ 5 ∷ 0 ∷ 0 ∷ 0 ∷ 2 ∷ 18 ∷ 2 ∷ 2 ∷ 0 ∷ 0 ∷ 0 ∷ 9 ∷ 9 ∷ 9 ∷ 9 ∷ 9 ∷ 0 ∷ 9 ∷ 9 ∷ 9 ∷ 9 ∷ 9 ∷ 0 ∷ 9 ∷ 9 ∷ 9 ∷ 9 ∷ 9 ∷ 0 ∷ 9 ∷ 9 ∷ 9 ∷ 9 ∷ 9 ∷ 0 ∷ 9 ∷ 9 ∷ 9 ∷ 9 ∷ 9 ∷ 0 ∷ 9 ∷ 9 ∷ 9 ∷ 9 ∷ 9 ∷ 0 ∷ 9 ∷ 9 ∷ 9 ∷ 9 ∷ 9 ∷ 0 ∷ 9 ∷ 9 ∷ 9 ∷ 9 ∷ 9 ∷ 0 ∷ 9 ∷ 9 ∷ 9 ∷ 9 ∷ 9 ∷ 0 ∷ 9 ∷ 9 ∷ 9 ∷ 9 ∷ 9 ∷ 0 ∷ 9 ∷ 9 ∷ 9 ∷ 9 ∷ 9 ∷ 0 ∷ 9 ∷ 9 ∷ 9 ∷ 9 ∷ 9 ∷ 0 ∷ 9 ∷ 9 ∷ 9 ∷ 9 ∷ 9 ∷ 0 ∷ 9 ∷ 9 ∷ 9 ∷ 9 ∷ 9 ∷ 3 ∷ 0 ∷ 2 ∷ 37 ∷ 0 ∷ 0 ∷ 3 ∷ 0 ∷ 7 ∷ 0 ∷ 0 ∷ 0 ∷ 3 ∷ 0 ∷ 35 ∷ 35 ∷ 0 ∷ 0 ∷ 3 ∷ 0 ∷ 35 ∷ 0 ∷ 0 ∷ 0 ∷ 3 ∷ 0 ∷ 35 ∷ 0 ∷ 0 ∷ 0 ∷ 3 ∷ 0 ∷ 35 ∷ 35 ∷ 0 ∷ 0 ∷ 3 ∷ 0 ∷ 2 ∷ 35 ∷ 35 ∷ 0 ∷ 3 ∷ 0 ∷ 35 ∷ 35 ∷ 35 ∷ 36 ∷ 3 ∷ 0 ∷ 2 ∷ 37 ∷ 35 ∷ 0 ∷ 0 ∷ 9 ∷ 9 ∷ 9 ∷ 9 ∷ 9 ∷ 0 ∷ 9 ∷ 9 ∷ 9 ∷ 9 ∷ 9 ∷ 0 ∷ 9 ∷ 9 ∷ 9 ∷ 9 ∷ 9 ∷ 0 ∷ 9 ∷ 9 ∷ 9 ∷ 9 ∷ 9 ∷ 0 ∷ 9 ∷ 9 ∷ 9 ∷ 9 ∷ 9 ∷ 0 ∷ 9 ∷ 9 ∷ 9 ∷ 9 ∷ 9 ∷ 0 ∷ 9 ∷ 9 ∷ 9 ∷ 9 ∷ 9 ∷ 4 ∷ 20 ∷ 2 ∷ 0 ∷ 0 ∷ 0 ∷ 4 ∷ 20 ∷ 3 ∷ 4 ∷ 0 ∷ 0 ∷ 4 ∷ 20 ∷ 36 ∷ 36 ∷ 0 ∷ 0 ∷ 0 ∷ 9 ∷ 9 ∷ 9 ∷ 9 ∷ 9 ∷ 0 ∷ 9 ∷ 9 ∷ 9 ∷ 9 ∷ 9 ∷ 0 ∷ 9 ∷ 9 ∷ 9 ∷ 9 ∷ 9 ∷ 0 ∷ 9 ∷ 9 ∷ 9 ∷ 9 ∷ 9 ∷ 0 ∷ 9 ∷ 9 ∷ 9 ∷ 9 ∷ 9 ∷ 0 ∷ 9 ∷ 9 ∷ 9 ∷ 9 ∷ 9 ∷ 0 ∷ 9 ∷ 9 ∷ 9 ∷ 9 ∷ 9 ∷ 0 ∷ 9 ∷ 9 ∷ 9 ∷ 9 ∷ 9 ∷ 0 ∷ 9 ∷ 9 ∷ 9 ∷ 9 ∷ 9 ∷ 0 ∷ 9 ∷ 9 ∷ 9 ∷ 9 ∷ 9 ∷ 0 ∷ 9 ∷ 9 ∷ 9 ∷ 9 ∷ 9 ∷ 0 ∷ 9 ∷ 9 ∷ 9 ∷ 9 ∷ 9 ∷ 0 ∷ 9 ∷ 9 ∷ 9 ∷ 9 ∷ 9 ∷ 5 ∷ 21 ∷ 6 ∷ 0 ∷ 0 ∷ 0 ∷ []
-
--- what stands at place i: the sort of kind i / 6 at its first place, then what its words ask
-unfoldable pub entry : ℕ → ℕ → ℕ
-entry kind zero = sortNumber (sortOf (kindOf kind))
-entry kind (suc k) = askNumber (askOf kind (suc k))
-
-right : ℕ → ℕ → Bool
-right i x = eqb x (entry (i / 6) (i % 6))
-
-pub entries-right : (kind k : ℕ) → kind < 65 → k < 6 → getD entries (6 * kind + k) 0 ≡ entry kind k
-unfolding right entry kindOf askOf rowOf
-entries-right kind k h l =
-    let i : ℕ = 6 * kind + k in
-    let q : (6 * kind + k) / 6 ≡ kind = omega arith in
-    let m : (6 * kind + k) % 6 ≡ k = omega arith in
-    subst (λ (x : ℕ). getD entries (6 * kind + k) 0 ≡ entry x k) q
-    (subst (λ (x : ℕ). getD entries (6 * kind + k) 0 ≡ entry ((6 * kind + k) / 6) x) m
-    (eqb→eq _ _ (at right entries tt (6 * kind + k) (omega arith))))
-
--- no row has a number from 65 on
-pub unknown-above : (n : ℕ) → 65 ≤ n → rowOf n ≡ row n unknown never never never never never
-unfolding rowOf
-unknown-above n h =
-    simp (
-      ne-eqb 1 n (omega arith),
-      ne-eqb 16 n (omega arith),
-      ne-eqb 17 n (omega arith),
-      ne-eqb 32 n (omega arith),
-      ne-eqb 33 n (omega arith),
-      ne-eqb 34 n (omega arith),
-      ne-eqb 35 n (omega arith),
-      ne-eqb 36 n (omega arith),
-      ne-eqb 37 n (omega arith),
-      ne-eqb 38 n (omega arith),
-      ne-eqb 39 n (omega arith),
-      ne-eqb 40 n (omega arith),
-      ne-eqb 48 n (omega arith),
-      ne-eqb 49 n (omega arith),
-      ne-eqb 50 n (omega arith),
-      ne-eqb 64 n (omega arith),
-    )
-
-pub entry-ask : (kind k : ℕ) → 0 < k → entry kind k ≡ askNumber (askOf kind k)
-unfolding entry
-entry-ask kind zero h = absurd (not-suc-le-zero h)
-entry-ask kind (suc k) h = refl
-
-pub sort-below : (kind : ℕ) → kind < 65 → getD entries (6 * kind) 0 ≡ sortNumber (sortOf (kindOf kind))
-unfolding entry
-sort-below kind h = subst (λ (x : ℕ). getD entries x 0 ≡ entry kind 0) (add-zero (6 * kind)) (entries-right kind 0 h (omega arith))
-
-pub sort-above : (kind : ℕ) → 65 ≤ kind → sortNumber (sortOf (kindOf kind)) ≡ 0
-unfolding kindOf
-sort-above kind h = rw (unknown-above kind h)
-
-unknown-asks : (k : ℕ) → 0 < k → k < 6 → askNumber (getD (asksIn (row 65 unknown never never never never never)) k zeroed) ≡ 9
-unknown-asks zero h l = absurd (not-suc-le-zero h)
-unknown-asks (suc zero) h l = refl
-unknown-asks (suc (suc zero)) h l = refl
-unknown-asks (suc (suc (suc zero))) h l = refl
-unknown-asks (suc (suc (suc (suc zero)))) h l = refl
-unknown-asks (suc (suc (suc (suc (suc zero))))) h l = refl
-unknown-asks (suc (suc (suc (suc (suc (suc k)))))) h l = absurd (omega arith)
-
-pub ask-above : (kind k : ℕ) → 65 ≤ kind → 0 < k → k < 6 → askNumber (askOf kind k) ≡ 9
+-- what word j of a record of this kind asks
+unfoldable pub askOfKind : Kind → ℕ → Ask
 unfolding askOf
-ask-above kind k h p l = rw (unknown-above kind h) (unknown-asks k p l)
+askOfKind k j = askOf (numberOf k) j
 
--- A test of kinds that passes at one number alone: computed at the numbers below 65.
-abbrev pub below : (ℕ → Bool) → ℕ → Bool
-below f zero = true
-below f (suc n) = f n && below f n
+abbrev All : (Row → Type 0) → List Row → Type 0
+All P [] = Unit {0}
+All P (x ∷ xs) = P x × All P xs
 
-below-at : (f : ℕ → Bool) (n : ℕ) → T (below f n) → (k : ℕ) → k < n → T (f k)
-below-at f zero t k h = absurd (not-suc-le-zero h)
-below-at f (suc n) t k h = go (below-at f n (both-right (f n) (below f n) t) k) (decLt k n)
-  where
-    go : (k < n → T (f k)) → Dec (k < n) → T (f k)
-    go lower (yes l) = lower l
-    go lower (no l) = let e : n ≡ k = omega arith in subst (λ (x : ℕ). T (f x)) e (both-left (f n) (below f n) t)
+pick : (P : Row → Type 0) (b : Bool) (x y : Row) → P x → P y → P (cond b x y)
+pick P true x y p q = p
+pick P false x y p q = q
 
-beq→eq : (a b : Bool) → T (Bool·beq a b) → a ≡ b
-beq→eq true true t = refl
-beq→eq true false t = absurd t
-beq→eq false true t = absurd t
-beq→eq false false t = refl
+-- what each row has, and the row of an unknown number, has the row that is looked up
+looked-up : (P : Row → Type 0) (xs : List Row) (n : ℕ) → All P xs → P (row n unknown never never never never never) → P (lookUp xs n)
+looked-up P [] n all rest = rest
+looked-up P (x ∷ xs) n all rest =
+    pick P (eqb (numberIn x) n) x (lookUp xs n) (all .0) (looked-up P xs n (all .1) rest)
 
-module _ (f : Kind → Bool) (m : ℕ) (none : f unknown ≡ false) (small : m < 65) where
-  abbrev kind-test : ℕ → Bool
-  kind-test k = Bool·beq (f (kindOf k)) (eqb k m)
+asks-by-kind : (n : ℕ) → asksIn (rowOf n) ≡ asksIn (rowOf (numberOf (kindIn (rowOf n))))
+unfolding rowOf
+asks-by-kind n =
+    looked-up (λ x. asksIn x ≡ asksIn (rowOf (numberOf (kindIn x)))) table n
+    (refl, (refl, (refl, (refl, (refl, (refl, (refl, (refl, (refl, (refl, (refl, (refl, (refl, (refl, (refl, (refl, tt)))))))))))))))) refl
 
-  pub only-kind : T (below kind-test 65) → (k : ℕ) → f (kindOf k) ≡ eqb k m
-  unfolding kindOf
-  only-kind t k = go (decLt k 65)
-    where
-      go : Dec (k < 65) → f (kindOf k) ≡ eqb k m
-      go (yes h) = beq→eq _ _ (below-at kind-test 65 t k h)
-      go (no h) = rw (unknown-above k (omega arith), ne-eqb k m (omega arith)) none
+ask-by-number : (n j : ℕ) → askOf n j ≡ askOfKind (kindOf n) j
+unfolding askOf kindOf askOfKind
+ask-by-number n j = ap (λ asks. getD asks j zeroed) (asks-by-kind n)
 
-pub flat-number : (k : ℕ) → isFlat (kindOf k) ≡ eqb k 16
-unfolding kindOf
-flat-number = only-kind isFlat 16 refl (omega arith) tt
+-- the kind of a record settles what its words ask
+pub ask-by-kind : (s : List ℕ) (r j : ℕ) (k : Kind) → kindAt s r ≡ k → askAt s r j ≡ askOfKind k j
+ask-by-kind s r j k e = ask-by-number (kindWord s r) j ∙ ap (λ k. askOfKind k j) e
 
-pub pair-number : (k : ℕ) → isPair (kindOf k) ≡ eqb k 17
-unfolding kindOf
-pair-number = only-kind isPair 17 refl (omega arith) tt
+sortWith : ℕ → Sort
+sortWith zero = none
+sortWith (suc zero) = headers
+sortWith (suc (suc zero)) = types
+sortWith (suc (suc (suc zero))) = expressions
+sortWith (suc (suc (suc (suc zero)))) = patterns
+sortWith (suc (suc (suc (suc (suc n))))) = leafs
 
-pub header-number : (k : ℕ) → isHeader (kindOf k) ≡ eqb k 1
-unfolding kindOf
-header-number = only-kind isHeader 1 refl (omega arith) tt
+sort-with-number : (σ : Sort) → sortWith (sortNumber σ) ≡ σ
+unfolding sortWith
+sort-with-number none = refl
+sort-with-number headers = refl
+sort-with-number types = refl
+sort-with-number expressions = refl
+sort-with-number patterns = refl
+sort-with-number leafs = refl
+
+pub same-sort : (σ τ : Sort) → sameSort σ τ ≡ true → σ ≡ τ
+same-sort σ τ e = sym (sort-with-number σ) ∙ ap sortWith (eqb-true (sortNumber σ) (sortNumber τ) e) ∙ sort-with-number τ
+
+pub is-flat : (k : Kind) → isFlat k ≡ true → k ≡ typeOf flat
+is-flat (typeOf flat) e = refl
+is-flat (typeOf pair) e = cc
+is-flat header e = cc
+is-flat (expression k) e = cc
+is-flat (pattern k) e = cc
+is-flat leaf e = cc
+is-flat unknown e = cc
+
+pub is-pair : (k : Kind) → isPair k ≡ true → k ≡ typeOf pair
+is-pair (typeOf pair) e = refl
+is-pair (typeOf flat) e = cc
+is-pair header e = cc
+is-pair (expression k) e = cc
+is-pair (pattern k) e = cc
+is-pair leaf e = cc
+is-pair unknown e = cc
+
+pub is-header : (k : Kind) → isHeader k ≡ true → k ≡ header
+is-header header e = refl
+is-header (typeOf k) e = cc
+is-header (expression k) e = cc
+is-header (pattern k) e = cc
+is-header leaf e = cc
+is-header unknown e = cc
+
+-- a sort says which kinds a record may have
+abbrev pub OfSort : Sort → Kind → Type 0
+OfSort headers k = k ≡ header
+OfSort types k = (t : TypeKind) × (k ≡ typeOf t)
+OfSort expressions k = (e : ExpressionKind) × (k ≡ expression e)
+OfSort patterns k = (p : PatternKind) × (k ≡ pattern p)
+OfSort leafs k = k ≡ leaf
+OfSort none k = k ≡ unknown
+
+of-sort : (k : Kind) → OfSort (sortOf k) k
+of-sort header = refl
+of-sort (typeOf t) = (t, refl)
+of-sort (expression e) = (e, refl)
+of-sort (pattern p) = (p, refl)
+of-sort leaf = refl
+of-sort unknown = refl
+
+pub kind-of-sort : (σ : Sort) (k : Kind) → sortOf k ≡ σ → OfSort σ k
+kind-of-sort σ k e = rw e at (of-sort k)

@@ -26,7 +26,8 @@ use Rattle.records.specs.Kinds.{
 use Rattle.records.specs.Says.{kindAt, sortAt}
 use Rattle.records.specs.TypeRecords.{typeStep, typeWithin, typeAt}
 use Rattle.records.specs.Written.{Written, TypesFit}
-use Rattle.records.proofs.Asked.{askOfKind, as-kind-asks, kind-of-sort}
+use Rattle.records.proofs.Table.{askOfKind, kind-of-sort}
+use Rattle.records.proofs.Asked.{as-kind-asks}
 
 pub leaves-of-bounds : (τ : Ty) → leaves τ ≡ length (bounds τ)
 leaves-of-bounds (Flat r n) = refl

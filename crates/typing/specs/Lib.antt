@@ -1,3 +1,4 @@
 -- The check of document 01: the type rules and the verdict on a byte string.
 pub mod Judgements
 pub mod Verdict
+pub mod Promises

@@ -1,7 +1,7 @@
 -- Below 65 the answer is the table's entry, and from 65 on the kind is unknown. Assumes nothing.
 use borrow.Author.Needs.{needs}
 use mathlib.Core.Path.{_∙_, sym}
-use Rattle.records.proofs.Table.{entry, sort-below, sort-above}
+use Rattle.records.proofs.CodeTable.{entry, sort-below, sort-above}
 use Rattle.records.proofs.sort_number.Statement.{statement}
 use Rattle.records.proofs.sort_number.Tie as tie
 use Rattle.records.proofs.sort_number.Reads as reads
