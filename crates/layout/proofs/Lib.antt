@@ -1,6 +1,8 @@
 -- Laws that belong to no one function.
 pub mod Depths
+pub mod LeafCounts
 pub mod Lowest
 pub mod Namers
+pub mod PairRecords
 pub mod Passes
 pub mod WrongRecords

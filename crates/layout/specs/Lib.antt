@@ -5,3 +5,5 @@ pub mod Rules
 pub mod Passes
 pub mod Searches
 pub mod NamerTable
+pub mod LeafTable
+pub mod DepthTable

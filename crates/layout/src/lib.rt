@@ -1,16 +1,19 @@
 // The rules on records: codes 1 to 6, each as a search for the lowest record that breaks its rule.
 ghost use mathlib.Core.Path.{_≡_};
 ghost use mathlib.Core.Bool.{true, false};
-ghost use Prim.Native.Nat.{ℕ, _+_, _*_, _≤_, _<_};
+ghost use Prim.Native.Nat.{ℕ, _+_, min, _≤_, _<_};
 ghost use lib.ListN.{length};
 ghost use mathlib.Core.List.{List, []};
 ghost use Rattle.records.specs.Words.{count};
 ghost use Rattle.records.specs.Sized.{Sized};
 ghost use Rattle.records.specs.Namings.{Naming, namings, namingsIn, namesAt, ifNamed};
+ghost use Rattle.records.specs.TypeRecords.{isPairOf, pairBelow};
+ghost use Rattle.records.specs.Written.{Written};
+ghost use Rattle.layout.specs.LeafTable.{Counts};
 ghost use Rattle.layout.specs.Lowest.{lowest};
 ghost use Rattle.layout.specs.Searches.{found};
-ghost use Rattle.layout.specs.Rules.{wrongHeader, wrongRecord, wrongNaming};
-ghost use Rattle.layout.specs.NamerTable.{Adds, Holds, summary};
+ghost use Rattle.layout.specs.Rules.{wrongHeader, wrongRecord, wrongNaming, wrongType};
+ghost use Rattle.layout.specs.NamerTable.{Adds, Holds};
 
 use records::word;
 use records::well_said;
@@ -119,6 +122,111 @@ pub fn first_wrong_naming(n: usize, namers: &[u16; 4096]) -> Found
             return Found::At(rec);
         }
         if namer == 65535 {
+            return Found::At(rec);
+        }
+        rec += 1;
+    }
+    Found::Nothing
+}
+
+// Whether record q is the pair type of a and b.
+fn is_pair_of(sheet: &[u8], n: usize, a: usize, b: usize, q: usize) -> bool
+    requires { ⌜ Sized (now sheet) n × (q < n) ⌝ }
+    ensures { λ r. ⌜ r ≡ isPairOf (now (sheet .entry)) a b q ⌝ }
+{
+    if word(sheet, n, q, 0) != 17 {
+        return false;
+    }
+    if word(sheet, n, q, 2) != a {
+        return false;
+    }
+    word(sheet, n, q, 3) == b
+}
+
+// The lowest pair type of a and b below m, or 0.
+pub fn pair_below(sheet: &[u8], n: usize, a: usize, b: usize, m: usize) -> usize
+    requires { ⌜ Sized (now sheet) n × (m ≤ n) ⌝ }
+    ensures { λ r. ⌜ r ≡ pairBelow (now (sheet .entry)) a b m ⌝ }
+{
+    let mut q = 1;
+    while q < m {
+        if is_pair_of(sheet, n, a, b, q) {
+            return q;
+        }
+        q += 1;
+    }
+    0
+}
+
+// A table of leaf counts with no count in it.
+pub fn no_leaves() -> [u8; 4096]
+    ensures { λ r. ⌜ ((s : List ℕ) → Counts s 0 r) ⌝ }
+{
+    [0; 4096]
+}
+
+// The sum, and 65 where it is more.
+fn capped_sum(x: u8, y: u8) -> u8
+    requires { ⌜ (x ≤ 65) × (y ≤ 65) ⌝ }
+    ensures { λ r. ⌜ r ≡ min 65 (x + y) ⌝ }
+{
+    if x + y < 65 {
+        x + y
+    } else {
+        65
+    }
+}
+
+// Adds record rec to a table that has the leaf counts of the types below it.
+fn count_type(sheet: &[u8], n: usize, rec: usize, table: &mut [u8; 4096])
+    requires { ⌜ Sized (now sheet) n × (rec < n) × Written (now sheet) × Counts (now sheet) rec (now table) ⌝ }
+    ensures { λ _. ⌜ Counts (now (sheet .entry)) (rec + 1) (now (table .exit)) ⌝ }
+{
+    let kind = word(sheet, n, rec, 0);
+    if kind == 16 {
+        table[rec] = 1;
+        return;
+    }
+    if kind == 17 {
+        let a = word(sheet, n, rec, 2);
+        let b = word(sheet, n, rec, 3);
+        table[rec] = capped_sum(table[a], table[b]);
+    }
+}
+
+// Fills an empty table with the leaf counts of all types.
+pub fn count_types(sheet: &[u8], n: usize, table: &mut [u8; 4096])
+    requires { ⌜ Sized (now sheet) n × Written (now sheet) × Counts (now sheet) 0 (now table) ⌝ }
+    ensures { λ _. ⌜ Counts (now (sheet .entry)) n (now (table .exit)) ⌝ }
+{
+    let mut rec = 0;
+    while rec < n {
+        count_type(sheet, n, rec, table);
+        rec += 1;
+    }
+}
+
+// Whether a pair type has the parts of a lower one, or over 64 leaves: code 5.
+fn wrong_type(sheet: &[u8], n: usize, rec: usize, table: &[u8; 4096]) -> bool
+    requires { ⌜ Sized (now sheet) n × (rec < n) × Counts (now sheet) n (now table) ⌝ }
+    ensures { λ r. ⌜ r ≡ wrongType (now (sheet .entry)) rec ⌝ }
+{
+    if word(sheet, n, rec, 0) != 17 {
+        return false;
+    }
+    if 64 < table[rec] {
+        return true;
+    }
+    pair_below(sheet, n, word(sheet, n, rec, 2), word(sheet, n, rec, 3), rec) != 0
+}
+
+pub fn first_wrong_type(sheet: &[u8], n: usize, table: &[u8; 4096]) -> Found
+    requires { ⌜ Sized (now sheet) n × Counts (now sheet) n (now table) ⌝ }
+    ensures { λ r. ⌜ found r ≡ lowest (wrongType (now (sheet .entry))) n ⌝ }
+{
+    let mut rec = 0;
+    while rec < n {
+        if wrong_type(sheet, n, rec, table) {
             return Found::At(rec);
         }
         rec += 1;
