@@ -35,7 +35,7 @@ ancestry-steps {s} w (suc m) zero r low hm hn = absurd (omega arith)
 ancestry-steps {s} w (suc m) (suc n) r low hm hn =
     climb-agrees (ancestryWithin s m) (ancestryWithin s n) (namings s r)
     (λ x member h. let l = namer-lower w r x low (in-namings-names s r x member) in
-        ancestry-steps w m n (x .by) h (omega arith) (omega arith))
+    ancestry-steps w m n (x .by) h (omega arith) (omega arith))
 
 -- the ancestry of a record is its naming and the ancestry of the record that names it
 pub ancestry-of : {s : List ℕ} → Written s → NamedOnce s → (r : ℕ) (x : Naming) → 0 < r → Names s r x
@@ -46,7 +46,7 @@ ancestry-of {s} w once r x low n =
     ancestry-steps w r (suc r) r low (omega arith) (omega arith)
     ∙ ap (climb (ancestryWithin s r)) (only-naming s once r x low (below .1) n)
     ∙ ap (_∷_ x) (follow-agrees [] (ancestryWithin s r) (ancestry s) (x .by)
-        (λ some. ancestry-steps w r (x .by) (x .by) some (omega arith) (omega arith)))
+    (λ some. ancestry-steps w r (x .by) (x .by) some (omega arith) (omega arith)))
 
 follow-through {ℓ κ} :
     {A : Type ℓ} {B : Type κ} (f : A → B) (stop : A) (go : ℕ → A) (n : ℕ) → f (follow stop go n) ≡ follow (f stop) (λ m. f (go m)) n

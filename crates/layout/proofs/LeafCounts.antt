@@ -27,7 +27,7 @@ use Rattle.records.specs.Kinds.{
   sameSort,
   isFlat,
   isPair,
-  kindOf
+  kindOf,
 }
 use Rattle.records.specs.Says.{kindAt, sortAt}
 use Rattle.records.specs.TypeRecords.{typeAt, pairBelow}
@@ -59,7 +59,7 @@ pub counts-none : (s : List ℕ) → Counts s 0 (replicate 4096 0)
 counts-none s = record {
   long = length-replicate {A = ℕ} 4096 0;
   below = λ r h. absurd (omega arith);
-  rest = λ r h l. getD-replicate {A = ℕ} 4096 r 0 0 l
+  rest = λ r h l. getD-replicate {A = ℕ} 4096 r 0 0 l;
 }
 
 module _ (s : List ℕ) (rec : ℕ) (table : List ℕ) (counts : Counts s rec table) (few : rec < 4096) where
@@ -67,7 +67,7 @@ module _ (s : List ℕ) (rec : ℕ) (table : List ℕ) (counts : Counts s rec ta
   counts-set v e = record {
     long = length-set table rec v ∙ counts .long;
     below = λ r h. go r h (ℕ-discrete r rec);
-    rest = λ r h l. getD-set-other table rec r v 0 (λ q. omega arith) ∙ counts .rest r (omega arith) l
+    rest = λ r h l. getD-set-other table rec r v 0 (λ q. omega arith) ∙ counts .rest r (omega arith) l;
   }
     where
       go : (r : ℕ) → r < rec + 1 → Dec (r ≡ rec) → getD (set table rec v) r 0 ≡ typeLeaves s r
@@ -80,7 +80,7 @@ module _ (s : List ℕ) (rec : ℕ) (table : List ℕ) (counts : Counts s rec ta
   counts-other k ek f g = record {
     long = counts .long;
     below = λ r h. go r h (ℕ-discrete r rec);
-    rest = λ r h l. counts .rest r (omega arith) l
+    rest = λ r h l. counts .rest r (omega arith) l;
   }
     where
       none : typeLeaves s rec ≡ 0
@@ -110,7 +110,7 @@ module _ (s : List ℕ) (rec : ℕ) (table : List ℕ) (counts : Counts s rec ta
     second-counted x ex = let p = pair-parts w rec h (pair-kind s rec k ek e) in rw ex (part-of (wordB s rec) (p .2) (p .3))
 
     pub counts-pair : (x y v : ℕ) → x ≡ word s rec 2 → y ≡ word s rec 3 → v ≡ min 65 (getD table x 0 + getD table y 0)
-      → Counts s (rec + 1) (set table rec v)
+        → Counts s (rec + 1) (set table rec v)
     counts-pair x y v ex ey ev = counts-set v (ev ∙ sum)
       where
         f : kindAt s rec ≡ typeOf pair
@@ -139,7 +139,7 @@ module _ (s : List ℕ) (n : ℕ) (table : List ℕ) (counts : Counts s n table)
       rw (pair-number, ← ek, e, lt-ltb 64 (leaves (typeAt s r)) (omega arith)) (sym (or-true (ltb 0 (pairBelow s (wordA s r) (wordB s r) r))))
 
   pub few-leaves-fit : (x y v : ℕ) → k ≡ 17 → getD table r 0 ≤ 64 → x ≡ word s r 2 → y ≡ word s r 3 → v ≡ pairBelow s x y r
-    → not (eqb v 0) ≡ wrongType s r
+      → not (eqb v 0) ≡ wrongType s r
   unfolding wrongType
   few-leaves-fit x y v e l ex ey ev =
       let m = counted e in

@@ -27,7 +27,7 @@ use Rattle.records.specs.Kinds.{
   total,
   never,
   sortNumber,
-  askNumber
+  askNumber,
 }
 use Rattle.records.specs.Says.{askAt}
 use Rattle.records.specs.Namings.{Naming, names, namesAt, ifNamed, namings, namingsIn, namingsBelow, exactlyOnce}
@@ -76,7 +76,7 @@ module _ (s : List ℕ) (q k : ℕ) where
       unchanged before (λ r h. rw (← ew, ne-eqb w r (omega arith), and-false))
 
   module _ (a w : ℕ) (ea : a ≡ askNumber (askAt s q k)) (l : 16 ≤ a) (ew : w ≡ word s q k) (before : List ℕ)
-    (long : w < length before) where
+      (long : w < length before) where
     named : (r : ℕ) → w ≡ r → namesAt s r q k ≡ true
     named r e = rw (names-number (askAt s q k), ← ea, le-leb 16 a l, ← ew, eq-eqb w r e)
 
@@ -85,7 +85,7 @@ module _ (s : List ℕ) (q k : ℕ) where
 
     -- the entry at w has what one naming more makes of it, and every other is as it was
     stored : (v : ℕ) → ((ns : List Naming) → getD before w 0 ≡ summary ns → v ≡ summary (ns ++ (record { by = q; at = k } ∷ [])))
-      → Adds added before (set before w v)
+        → Adds added before (set before w v)
     stored v at-w = record { long = λ e. length-set before w v ∙ e; entries = λ r ns h e. go r ns e (ℕ-discrete w r) }
       where
         go : (r : ℕ) (ns : List Naming) → getD before r 0 ≡ summary ns → Dec (w ≡ r) → getD (set before w v) r 0 ≡ summary (ns ++ added r)
@@ -100,21 +100,21 @@ module _ (s : List ℕ) (q k : ℕ) where
 
 -- what is added twice over is added at once
 pub adds-both : (f g h : ℕ → List Naming) (before between after : List ℕ) → ((r : ℕ) → h r ≡ f r ++ g r)
-  → Adds f before between → Adds g between after → Adds h before after
+    → Adds f before between → Adds g between after → Adds h before after
 adds-both f g h before between after e p q =
     record {
       long = λ l. q .long (p .long l);
-      entries = λ r ns l z. rw (e r, ← append-assoc ns (f r) (g r)) (q .entries r (ns ++ f r) l (p .entries r ns l z))
+      entries = λ r ns l z. rw (e r, ← append-assoc ns (f r) (g r)) (q .entries r (ns ++ f r) l (p .entries r ns l z));
     }
 
 pub adds-to : (f g h : ℕ → List Naming) (before after : List ℕ) → ((r : ℕ) → h r ≡ f r ++ g r) → Holds f before → Adds g before after
-  → Holds h after
+    → Holds h after
 adds-to f g h before after e p q =
     record { long = q .long (p .long); entries = λ r l. rw (e r) (q .entries r (f r) l (p .entries r l)) }
 
 -- the five words of a record, one after the other
 pub adds-words : (s : List ℕ) (q : ℕ) (t u v w x y : List ℕ) → Adds (added s q 1) t u → Adds (added s q 2) u v
-  → Adds (added s q 3) v w → Adds (added s q 4) w x → Adds (added s q 5) x y → Adds (λ r. namingsIn s r q 5) t y
+    → Adds (added s q 3) v w → Adds (added s q 4) w x → Adds (added s q 5) x y → Adds (λ r. namingsIn s r q 5) t y
 adds-words s q t u v w x y a b c d e =
     adds-both (λ r. namingsIn s r q 4) (added s q 5) _ t x y (λ r. refl)
     (adds-both (λ r. namingsIn s r q 3) (added s q 4) _ t w x (λ r. refl)
@@ -176,15 +176,16 @@ module _ (s table : List ℕ) (all : Holds (namings s) table) (r : ℕ) (h : 0 <
   pub named-once : (getD table r 0 ≡ 0 → ⊥) → (getD table r 0 ≡ 65535 → ⊥) → wrongNaming s r ≡ false
   unfolding wrongNaming
   named-once f g =
-      rw
-      (lt-ltb 0 r h,
-      once (namings s r) (λ e. f (all .entries r l ∙ e)) (λ e. g (all .entries r l ∙ e)))
+      rw (
+        lt-ltb 0 r h,
+        once (namings s r) (λ e. f (all .entries r l ∙ e)) (λ e. g (all .entries r l ∙ e)),
+      )
 
 pub one-record-more : (s : List ℕ) (r q : ℕ) → namingsBelow s r (q + 1) ≡ namingsBelow s r q ++ namingsIn s r q 5
 one-record-more s r q = rw (add-one q)
 
 pub all-records : (s : List ℕ) (n q : ℕ) (table : List ℕ) → n ≡ count s → q ≤ n → n ≤ q
-  → Holds (λ r. namingsBelow s r q) table → Holds (namings s) table
+    → Holds (λ r. namingsBelow s r q) table → Holds (namings s) table
 unfolding namings
 all-records s n q table c h l p =
     let e : q ≡ count s = omega arith in

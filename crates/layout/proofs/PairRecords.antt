@@ -37,7 +37,7 @@ module _ (s : List ℕ) (a b : ℕ) where
       rw (none-below m (λ p h l. f p h (omega arith))) (here-none m (λ h. f m h (omega arith)))
 
   pub lowest-below : (m q : ℕ) → 0 < q → q < m → isPairOf s a b q ≡ true
-    → ((p : ℕ) → 0 < p → p < q → isPairOf s a b p ≡ false) → pairBelow s a b m ≡ q
+      → ((p : ℕ) → 0 < p → p < q → isPairOf s a b p ≡ false) → pairBelow s a b m ≡ q
   lowest-below zero q h l e f = absurd (omega arith)
   lowest-below (suc m) zero h l e f = absurd (omega arith)
   lowest-below (suc m) (suc q) h l e f = go (λ d. lowest-below m (suc q) h d e f) (ℕ-discrete (suc q) m)

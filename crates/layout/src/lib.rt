@@ -1,6 +1,6 @@
 // The rules on records: codes 1 to 6, each as a search for the lowest record that breaks its rule.
 ghost use mathlib.Core.Path.{_≡_};
-ghost use mathlib.Core.Bool.{true, false};
+ghost use mathlib.Core.Bool.{cond};
 ghost use Prim.Native.Nat.{ℕ, _+_, min, _≤_, _<_};
 ghost use lib.ListN.{length};
 ghost use mathlib.Core.List.{List, []};
@@ -10,14 +10,16 @@ ghost use Rattle.records.specs.Namings.{Naming, namings, namingsIn, namesAt, if
 ghost use Rattle.records.specs.TypeRecords.{isPairOf, pairBelow};
 ghost use Rattle.records.specs.Written.{Written};
 ghost use Rattle.layout.specs.LeafTable.{Counts};
+ghost use Rattle.layout.specs.Depth.{ofDefiningPart};
+ghost use Rattle.layout.specs.DepthTable.{Capped, Placed, Placing};
 ghost use Rattle.layout.specs.Lowest.{lowest};
 ghost use Rattle.layout.specs.Searches.{found};
-ghost use Rattle.layout.specs.Rules.{wrongHeader, wrongRecord, wrongNaming, wrongType};
+ghost use Rattle.layout.specs.Rules.{wrongHeader, wrongRecord, wrongNaming, wrongType, tooDeep};
 ghost use Rattle.layout.specs.NamerTable.{Adds, Holds};
-
-use records::word;
-use records::well_said;
 use records::ask_number;
+use records::sort_number;
+use records::well_said;
+use records::word;
 
 // The record that a search found, if it found one.
 pub enum Found {
@@ -170,11 +172,7 @@ fn capped_sum(x: u8, y: u8) -> u8
     requires { ⌜ (x ≤ 65) × (y ≤ 65) ⌝ }
     ensures { λ r. ⌜ r ≡ min 65 (x + y) ⌝ }
 {
-    if x + y < 65 {
-        x + y
-    } else {
-        65
-    }
+    if x + y < 65 { x + y } else { 65 }
 }
 
 // Adds record rec to a table that has the leaf counts of the types below it.
@@ -217,7 +215,14 @@ fn wrong_type(sheet: &[u8], n: usize, rec: usize, table: &[u8; 4096]) -> bool
     if 64 < table[rec] {
         return true;
     }
-    pair_below(sheet, n, word(sheet, n, rec, 2), word(sheet, n, rec, 3), rec) != 0
+    pair_below(
+        sheet,
+        n,
+        word(sheet, n, rec, 2),
+        word(sheet, n, rec, 3),
+        rec,
+    )
+        != 0
 }
 
 pub fn first_wrong_type(sheet: &[u8], n: usize, table: &[u8; 4096]) -> Found
@@ -227,6 +232,100 @@ pub fn first_wrong_type(sheet: &[u8], n: usize, table: &[u8; 4096]) -> Found
     let mut rec = 0;
     while rec < n {
         if wrong_type(sheet, n, rec, table) {
+            return Found::At(rec);
+        }
+        rec += 1;
+    }
+    Found::Nothing
+}
+
+// A table of depths or nestings with nothing in it.
+pub fn no_depths() -> [u8; 4096]
+    ensures { λ r. ⌜ ((cap : ℕ) (f : ℕ → ℕ) → f 0 ≡ 0 → Capped cap f 1 r) ⌝ }
+{
+    [0; 4096]
+}
+
+// One more, up to a cap.
+fn one_more(x: u8, cap: u8) -> u8
+    requires { ⌜ x ≤ cap ⌝ }
+    ensures { λ r. ⌜ r ≡ min cap (x + 1) ⌝ }
+{
+    if x < cap { x + 1 } else { cap }
+}
+
+// The nesting of what word `at` of record q names, where that of q is x.
+fn nested(sheet: &[u8], n: usize, q: usize, at: usize, x: u8) -> u8
+    requires { ⌜ Sized (now sheet) n × (q < n) × (x ≤ 4) ⌝ }
+    ensures { λ r. ⌜ r ≡ cond (ofDefiningPart (now (sheet .entry)) (record { by = q; at = at })) (min 4 (x + 1)) x ⌝ }
+{
+    if at != 3 {
+        return x;
+    }
+    if word(sheet, n, q, 0) != 38 {
+        return x;
+    }
+    one_more(x, 4)
+}
+
+// Adds record rec to the tables of depths and nestings of the records below it.
+fn place(
+    sheet: &[u8],
+    n: usize,
+    rec: usize,
+    namers: &[u16; 4096],
+    depths: &mut [u8; 4096],
+    nestings: &mut [u8; 4096],
+)
+    requires { ⌜ Placing (now sheet) n rec (now namers) (now depths) (now nestings) × (rec < n) ⌝ }
+    ensures { λ _. ⌜ Placed (now (sheet .entry)) (rec + 1) (now (depths .exit)) (now (nestings .exit)) ⌝ }
+{
+    let namer = namers[rec] as usize - 1;
+    let q = namer / 8;
+    let x = nestings[q];
+    depths[rec] = one_more(depths[q], 65);
+    nestings[rec] = nested(sheet, n, q, namer % 8, x);
+}
+
+// Fills empty tables with the depths and nestings of all records.
+pub fn place_all(
+    sheet: &[u8],
+    n: usize,
+    namers: &[u16; 4096],
+    depths: &mut [u8; 4096],
+    nestings: &mut [u8; 4096],
+)
+    requires { ⌜ Placing (now sheet) n 1 (now namers) (now depths) (now nestings) ⌝ }
+    ensures { λ _. ⌜ Placed (now (sheet .entry)) n (now (depths .exit)) (now (nestings .exit)) ⌝ }
+{
+    let mut rec = 1;
+    while rec < n {
+        place(sheet, n, rec, namers, depths, nestings);
+        rec += 1;
+    }
+}
+
+// Whether an expression lies too deep, or in over three feedbacks: code 6.
+fn too_deep(sheet: &[u8], n: usize, rec: usize, depths: &[u8; 4096], nestings: &[u8; 4096]) -> bool
+    requires { ⌜ Sized (now sheet) n × (rec < n) × Placed (now sheet) n (now depths) (now nestings) ⌝ }
+    ensures { λ r. ⌜ r ≡ tooDeep (now (sheet .entry)) rec ⌝ }
+{
+    if sort_number(word(sheet, n, rec, 0)) != 3 {
+        return false;
+    }
+    if 64 < depths[rec] {
+        return true;
+    }
+    3 < nestings[rec]
+}
+
+pub fn first_too_deep(sheet: &[u8], n: usize, depths: &[u8; 4096], nestings: &[u8; 4096]) -> Found
+    requires { ⌜ Sized (now sheet) n × Placed (now sheet) n (now depths) (now nestings) ⌝ }
+    ensures { λ r. ⌜ found r ≡ lowest (tooDeep (now (sheet .entry))) n ⌝ }
+{
+    let mut rec = 0;
+    while rec < n {
+        if too_deep(sheet, n, rec, depths, nestings) {
             return Found::At(rec);
         }
         rec += 1;

@@ -135,15 +135,17 @@ namer-lower {s} w r x h n =
 pub part-names : (s : List ℕ) (q : ℕ) (k : Kind) (σ : Sort) → q < count s → kindAt s q ≡ k → (j : ℕ) → (ltb 0 j && ltb j 6) ≡ true
     → askOfKind k j ≡ part σ → Names s (word s q j) (record { by = q; at = j })
 part-names s q k σ h e j t a = record {
-      there = h;
-      low = ltb-true 0 j (both-left (ltb 0 j) (ltb j 6) t);
-      high = ltb-true j 6 (both-right (ltb 0 j) (ltb j 6) t);
-      names = rw (ask-by-kind s q j k e, a) (eq-eqb (word s q j) (word s q j) refl) }
+  there = h;
+  low = ltb-true 0 j (both-left (ltb 0 j) (ltb j 6) t);
+  high = ltb-true j 6 (both-right (ltb 0 j) (ltb j 6) t);
+  names = rw (ask-by-kind s q j k e, a) (eq-eqb (word s q j) (word s q j) refl);
+}
 
 pub next-names : (s : List ℕ) (q : ℕ) (k : Kind) (σ : Sort) → q < count s → kindAt s q ≡ k → askOfKind k 1 ≡ nextOf σ
     → Names s (word s q 1) (record { by = q; at = 1 })
 next-names s q k σ h e a = record {
-      there = h;
-      low = omega arith;
-      high = omega arith;
-      names = rw (ask-by-kind s q 1 k e, a) (eq-eqb (word s q 1) (word s q 1) refl) }
+  there = h;
+  low = omega arith;
+  high = omega arith;
+  names = rw (ask-by-kind s q 1 k e, a) (eq-eqb (word s q 1) (word s q 1) refl);
+}

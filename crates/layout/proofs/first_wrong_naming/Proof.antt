@@ -50,11 +50,12 @@ loop-less : tie.Need-loop-less Inv-loop μ-loop
 loop-less c = search needs
 
 loop-again : tie.Need-loop-again Inv-loop μ-loop
-loop-again c = 
-    (search needs,
-    λ s all.
-    below-more _ _ (c .before .before .before .before .loop .inv .1 s all)
-    (named-once s _ all (c .before .before .before .before .loop .rec) (search needs) (search needs) (c .before .if1 .left) (c .if2 .left)))
+loop-again c = (
+  search needs,
+  λ s all.
+      below-more _ _ (c .before .before .before .before .loop .inv .1 s all)
+      (named-once s _ all (c .before .before .before .before .loop .rec) (search needs) (search needs) (c .before .if1 .left) (c .if2 .left)),
+)
 
 returns-3 : tie.Need-returns-3 Inv-loop μ-loop
 returns-3 c = λ s all.

@@ -29,10 +29,11 @@ loop-less c = search needs
 loop-again : tie.Need-loop-again Inv-loop μ-loop
 loop-again c =
     let s = now (c .before .before .before .before .before .args .sheet) in
-    let q = c .before .before .before .loop .q in
-    (search needs,
-    adds-to (λ r. namingsBelow s r q) (λ r. namingsIn s r q 5) (λ r. namingsBelow s r (q + 1)) _ _
-    (λ r. one-record-more s r q) (c .before .before .before .loop .inv .1) (c .note-record .ensures))
+    let q = c .before .before .before .loop .q in (
+      search needs,
+      adds-to (λ r. namingsBelow s r q) (λ r. namingsIn s r q 5) (λ r. namingsBelow s r (q + 1)) _ _
+          (λ r. one-record-more s r q) (c .before .before .before .loop .inv .1) (c .note-record .ensures),
+    )
 
 returns : tie.Need-returns Inv-loop μ-loop
 returns c =

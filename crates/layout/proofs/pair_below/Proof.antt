@@ -25,7 +25,7 @@ is-pair-of-requires : tie.Need-is-pair-of-requires Inv-loop μ-loop
 is-pair-of-requires c κs = search needs
 
 returns : tie.Need-returns Inv-loop μ-loop
-returns c = 
+returns c =
     let a = c .before .before .before .before .before .args in
     sym
     (lowest-below (now (a .sheet)) (a .a) (a .b) (a .m) (c .before .before .before .loop .q) (search needs) (search needs)
@@ -38,14 +38,15 @@ loop-less : tie.Need-loop-less Inv-loop μ-loop
 loop-less c = search needs
 
 loop-again : tie.Need-loop-again Inv-loop μ-loop
-loop-again c =
-    (search needs,
-    λ p h l.
-    below-more (λ (k : ℕ). 0 < k → isPairOf (now (c .before .before .before .before .before .args .sheet)) (c .before .before .before .before .before .args .a) (c .before .before .before .before .before .args .b) k ≡ false) (c .before .before .before .loop .q)
-    (λ k d z. c .before .before .before .loop .inv .1 k z d) (λ z. sym (c .before .is-pair-of .ensures) ∙ c .if1 .left) p l h)
+loop-again c = (
+  search needs,
+  λ p h l.
+      below-more (λ (k : ℕ). 0 < k → isPairOf (now (c .before .before .before .before .before .args .sheet)) (c .before .before .before .before .before .args .a) (c .before .before .before .before .before .args .b) k ≡ false) (c .before .before .before .loop .q)
+      (λ k d z. c .before .before .before .loop .inv .1 k z d) (λ z. sym (c .before .is-pair-of .ensures) ∙ c .if1 .left) p l h,
+)
 
 returns-2 : tie.Need-returns-2 Inv-loop μ-loop
-returns-2 c = 
+returns-2 c =
     let a = c .before .before .before .args in
     sym (none-below (now (a .sheet)) (a .a) (a .b) (a .m) (λ p h l. c .before .loop .inv .1 p h (omega arith)))
 

@@ -27,7 +27,7 @@ pair-below-requires : tie.Need-pair-below-requires
 pair-below-requires c κs = search needs
 
 returns-3 : tie.Need-returns-3
-returns-3 c = 
+returns-3 c =
     few-leaves-fit (now (c .before .before .before .before .before .before .before .before .args .sheet)) (c .before .before .before .before .before .before .before .before .args .n) (now (c .before .before .before .before .before .before .before .before .args .table)) (c .before .before .before .before .before .before .before .before .pre .2) (c .before .before .before .before .before .before .before .before .args .rec) _ (search needs) (c .before .before .before .before .before .before .word .ensures .0) _ _ _ (c .before .before .before .before .before .if1 .left) (c .before .before .before .if2 .left)
     (c .before .before .word2 .ensures .0) (c .before .word3 .ensures .0) (c .pair-below .ensures)
 
