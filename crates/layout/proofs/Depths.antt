@@ -17,8 +17,7 @@ use Rattle.records.specs.Trees.{follow}
 use Rattle.records.specs.Written.{Written, NamedOnce}
 use Rattle.records.proofs.Trees.{follow-agrees}
 use Rattle.records.proofs.Table.{askOfKind}
-use Rattle.records.proofs.Asked.{part-of-kind}
-use Rattle.records.proofs.Decoding.{root-is}
+use Rattle.records.proofs.Asked.{part-of-kind, root-is}
 use Rattle.records.proofs.Namings.{Names, only-naming, in-namings-names, namer-lower, part-names}
 use Rattle.layout.specs.Depth.{climb, ancestryWithin, ancestry, depth, ofDefiningPart, howMany, nesting}
 

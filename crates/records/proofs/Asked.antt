@@ -8,8 +8,8 @@ use mathlib.Core.Path.{_≡_, refl}
 use native.Mathlib.Omega.{arith}
 use lib.Dec.{eqb, ltb, leb}
 use borrow.Author.Tests.{ltb-true, leb-true, eqb-true, ne-eqb}
-use Rattle.records.specs.Words.{word, count, wordA}
-use Rattle.records.specs.Kinds.{Sort, types, flat, Kind, header, typeOf, sameSort, isFlat, isHeader, Ask, zeroed, nextOf, part, inputType, lowerType, lowerFlat, constructorOf, counted, byte, free, total, never}
+use Rattle.records.specs.Words.{word, count, wordA, wordB}
+use Rattle.records.specs.Kinds.{Sort, types, flat, Kind, header, typeOf, sameSort, isFlat, isHeader, Ask, zeroed, nextOf, part, inputType, lowerType, lowerFlat, constructorOf, counted, byte, free, total, never, expressions}
 use Rattle.records.specs.Says.{kindAt, sortAt, askAt, higher, meets, meetsAt, wellSaid}
 use Rattle.records.specs.Written.{Written}
 use Rattle.records.proofs.Tests.{never-both, both-left, both-right}
@@ -119,3 +119,7 @@ next-of-kind {s} w r k σ h e a = rw a at (as-kind-asks w r k h e 1 refl)
 pub past-header : {s : List ℕ} → Written s → (r : ℕ) → isHeader (kindAt s r) ≡ false → 0 < r
 past-header {s} w zero e = absurd (never-both (isHeader (kindAt s 0)) (rw (w .headed)) e)
 past-header {s} w (suc r) e = omega arith
+
+-- the root is an expression
+pub root-is : {s : List ℕ} → Written s → (0 < wordB s 0) × (wordB s 0 < count s) × (sortAt s (wordB s 0) ≡ expressions)
+root-is {s} w = part-of-kind w 0 header expressions (w .some) (w .headed) 3 refl (unfold askOfKind in refl)

@@ -9,3 +9,4 @@ pub mod TypeRecords
 pub mod Trees
 pub mod Decoding
 pub mod Written
+pub mod Held

@@ -1,3 +1,8 @@
 -- Laws that belong to no one function.
+pub mod Exact
 pub mod Failing
+pub mod Judged
+pub mod PatternTypes
 pub mod Places
+pub mod TypeRecordsOf
+pub mod Typings

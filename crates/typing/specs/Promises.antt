@@ -1,10 +1,15 @@
 -- What the verdict promises, as named types; their terms are in `proofs/`.
 use Prim.Native.Nat.{ℕ, _<_}
+use mathlib.Core.Logic.{_↔_}
 use mathlib.Core.Path.{_≡_}
 use mathlib.Core.Bool.{Bool, true, false}
-use mathlib.Core.List.{List, _∷_, _++_, List·Memᴰ}
-use mathlib.Core.Option.{none}
-use Rattle.records.specs.Words.{count}
+use mathlib.Core.List.{List, [], _∷_, _++_, List·Memᴰ}
+use mathlib.Core.Option.{none, some}
+use Rattle.picoella.specs.Expressions.{Expr}
+use Rattle.picoella.specs.Typing.{Typed}
+use Rattle.records.specs.Words.{count, wordA}
+use Rattle.records.specs.TypeRecords.{typeAt, TypeRecord, Declared}
+use Rattle.records.specs.Decoding.{decode}
 use Rattle.records.specs.Trees.{circuit}
 use Rattle.layout.specs.Lowest.{lowest}
 use Rattle.layout.specs.Rules.{wrongLength, wrongHeader, wrongRecord, wrongNaming, wrongType, tooDeep}
@@ -71,3 +76,14 @@ Says s (IllTyped r) = Passes s × FailsFirst s (judgements s (inputs s) (circuit
 -- the verdict says so of the sheet
 abbrev pub Places : Type 0
 Places = (s : List ℕ) → Says s (verdict s)
+
+-- The sheet decodes to an expression that has the type of record t by the rules of picoELLA, over the types that the sheet
+-- declares, where the input has the type in the header's word a.
+abbrev pub WellTyped : List ℕ → ℕ → Type 0
+WellTyped s t =
+    TypeRecord s t
+    × ((e : Expr) × (decode s ≡ some e) × Typed (Declared s) (typeAt s (wordA s 0) ∷ []) e (typeAt s t))
+
+-- A sheet is accepted with output type t exactly where it passes codes 1 to 6 and is well typed with t.
+abbrev pub Exact : Type 0
+Exact = (s : List ℕ) (t : ℕ) → verdict s ≡ Accepted t ↔ (Passes s × WellTyped s t)

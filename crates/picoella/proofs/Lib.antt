@@ -1,0 +1,2 @@
+-- The laws of the static semantics.
+pub mod Inversion
