@@ -1,4 +1,5 @@
 -- Laws that belong to no one function.
+pub mod Bounds
 pub mod Exact
 pub mod Failing
 pub mod Judged

@@ -1,4 +1,5 @@
 -- The check of document 01: the type rules and the verdict on a byte string.
 pub mod Judgements
+pub mod Judging
 pub mod Verdict
 pub mod Promises

@@ -1,4 +1,22 @@
 // The check: whether a sheet is accepted, and with which type, or the number and the place of its first fault.
+ghost use mathlib.Core.Path.{_≡_};
+ghost use mathlib.Core.List.{List, _∷_};
+ghost use mathlib.Core.Bool.{Bool, _&&_};
+ghost use Prim.Native.Nat.{ℕ, _+_, _≤_, _<_};
+ghost use lib.ListN.{length, getD};
+ghost use Rattle.picoella.specs.Types.{bounds, leaves};
+ghost use Rattle.records.specs.Words.{count, next};
+ghost use Rattle.records.specs.Kinds.{expressions, patterns, leafs};
+ghost use Rattle.records.specs.Says.{sortAt};
+ghost use Rattle.records.specs.Sized.{Sized};
+ghost use Rattle.records.specs.TypeRecords.{typeAt, TypeRecord};
+ghost use Rattle.records.specs.Trees.{alternatives, chain, follow, end, treeAt};
+ghost use Rattle.records.specs.Decoding.{leafValues};
+ghost use Rattle.typing.specs.Judgements.{within, patternFits};
+ghost use Rattle.typing.specs.Judging.{Ground, Ready, Done, scopeOf};
+
+use records::word;
+use layout::pair_below;
 
 // The answer of the check. `specs/Verdict.antt` gives document 01's number and place for each case.
 pub enum Verdict {
@@ -12,4 +30,30 @@ pub enum Verdict {
     WrongType(usize),
     TooDeep(usize),
     IllTyped(usize),
+}
+
+// What judging an expression gives: its type record, or the record at which a type rule is broken.
+pub enum Outcome {
+    Typed(usize),
+    Fault(usize),
+}
+
+// The constructor count of leaf i of type t.
+pub fn bound_at(sheet: &[u8], n: usize, table: &[u8; 4096], t: usize, i: usize) -> usize
+    requires { ⌜ Ground (now sheet) n (now table) × TypeRecord (now sheet) t × (i < leaves (typeAt (now sheet) t)) ⌝ }
+    ensures { λ r. ⌜ r ≡ getD (bounds (typeAt (now (sheet .entry)) t)) i 0 ⌝ }
+{
+    let mut flat = t;
+    let mut at = i;
+    while word(sheet, n, flat, 0) == 17 {
+        let first = word(sheet, n, flat, 2);
+        let w = table[first] as usize;
+        if at < w {
+            flat = first;
+        } else {
+            at -= w;
+            flat = word(sheet, n, flat, 3);
+        }
+    }
+    word(sheet, n, flat, 2)
 }
