@@ -2,11 +2,12 @@
 -- way, the leaf count of the type of each expression, one byte a record.
 use Prim.Native.Nat.{ℕ, zero, suc, _≤_, _<_}
 use mathlib.Core.Path.{_≡_}
+use mathlib.Core.Bool.{Bool, _&&_}
 use mathlib.Core.List.{List, [], _∷_}
 use mathlib.Core.Option.{Option, none, some}
 use lib.ListN.{length, getD, set}
 use Rattle.picoella.specs.Types.{leaves}
-use Rattle.records.specs.Words.{count}
+use Rattle.records.specs.Words.{next}
 use Rattle.records.specs.Kinds.{expressions, patterns, leafs}
 use Rattle.records.specs.Says.{sortAt}
 use Rattle.records.specs.Sized.{Sized}
@@ -22,12 +23,15 @@ use Rattle.records.specs.Trees.{
   letOf,
   feedbackOf,
   ifOf,
-  delayOf
+  delayOf,
+  alternatives,
+  follow,
+  end
 }
 use Rattle.layout.specs.Depth.{depth}
 use Rattle.layout.specs.Passes.{Passes}
 use Rattle.layout.specs.LeafTable.{Counts}
-use Rattle.typing.specs.Judgements.{typeOf, judgements, firstFailing}
+use Rattle.typing.specs.Judgements.{typeOf, judgements, firstFailing, patternFits}
 use Rattle.typing.specs.declared.Outcome.{Outcome}
 use Rattle.typing.specs.declared.Outcome.the-variants.{Typed, Fault}
 
@@ -88,3 +92,16 @@ pub record Done (s Γ : List ℕ) (e : Tree) (answer : Outcome) (before after : 
   pub answered : answer ≡ judged s Γ e
   pub long : length after ≡ 4096
   pub notes : (t : ℕ) → answer ≡ Typed t → after ≡ noted s Γ e before
+
+-- a pattern is held against a type
+pub record Matching (s : List ℕ) (n p t : ℕ) : Type 0 where
+  pub sized : Sized s n
+  pub passes : Passes s
+  pub there : p < n
+  pub sort : sortAt s p ≡ patterns
+  pub typed : TypeRecord s t
+
+-- the alternative at p fits or not; with those after it this makes the chain
+abbrev pub FitsOne : List ℕ → ℕ → ℕ → Bool → Type 0
+FitsOne s p t answer =
+    patternFits s (alternatives s p) t ≡ (answer && patternFits s (follow end (alternatives s) (next s p)) t)

@@ -13,7 +13,7 @@ ghost use Rattle.records.specs.TypeRecords.{typeAt, TypeRecord};
 ghost use Rattle.records.specs.Trees.{alternatives, chain, follow, end, treeAt};
 ghost use Rattle.records.specs.Decoding.{leafValues};
 ghost use Rattle.typing.specs.Judgements.{within, patternFits};
-ghost use Rattle.typing.specs.Judging.{Ground, Ready, Done, scopeOf};
+ghost use Rattle.typing.specs.Judging.{Ground, Ready, Done, scopeOf, Matching, FitsOne};
 
 use records::word;
 use layout::pair_below;
@@ -56,4 +56,59 @@ pub fn bound_at(sheet: &[u8], n: usize, table: &[u8; 4096], t: usize, i: usize) 
         }
     }
     word(sheet, n, flat, 2)
+}
+
+// Whether the chain of leaves from `first` has as many leaves as type t, each no greater than its flat type's count.
+fn leaves_fit(sheet: &[u8], n: usize, table: &[u8; 4096], t: usize, first: usize) -> bool
+    requires { ⌜ Ground (now sheet) n (now table) × TypeRecord (now sheet) t × (first < n) × (sortAt (now sheet) first ≡ leafs) ⌝ }
+    ensures { λ r. ⌜ r ≡ within (bounds (typeAt (now (sheet .entry)) t)) (leafValues (now (sheet .entry)) (chain (now (sheet .entry)) first)) ⌝ }
+{
+    let all = table[t] as usize;
+    let mut leaf = first;
+    let mut i = 0;
+    while i < all {
+        if bound_at(sheet, n, table, t, i) < word(sheet, n, leaf, 2) {
+            return false;
+        }
+        i += 1;
+        let following = word(sheet, n, leaf, 1);
+        if following == 0 {
+            return i == all;
+        }
+        leaf = following;
+    }
+    false
+}
+
+// Whether each alternative from p has type t.
+fn fits_all(sheet: &[u8], n: usize, p: usize, t: usize) -> bool
+    requires { ⌜ Matching (now sheet) n p t ⌝ }
+    ensures { λ r. ⌜ r ≡ patternFits (now (sheet .entry)) (alternatives (now (sheet .entry)) p) t ⌝ }
+{
+    let mut at = p;
+    while fits_one(sheet, n, at, t) {
+        let following = word(sheet, n, at, 1);
+        if following == 0 {
+            return true;
+        }
+        at = following;
+    }
+    false
+}
+
+// Whether the alternative at p has type t, a pair pattern part by part.
+fn fits_one(sheet: &[u8], n: usize, p: usize, t: usize) -> bool
+    requires { ⌜ Matching (now sheet) n p t ⌝ }
+    ensures { λ r. ⌜ FitsOne (now (sheet .entry)) p t r ⌝ }
+{
+    if word(sheet, n, p, 0) != 50 {
+        return word(sheet, n, p, 2) == t;
+    }
+    if word(sheet, n, t, 0) != 17 {
+        return false;
+    }
+    if !fits_all(sheet, n, word(sheet, n, p, 2), word(sheet, n, t, 2)) {
+        return false;
+    }
+    fits_all(sheet, n, word(sheet, n, p, 3), word(sheet, n, t, 3))
 }
