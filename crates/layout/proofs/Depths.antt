@@ -3,9 +3,9 @@
 -- deeper than the record it is a part of, and in one more defining part just where it is one.
 -- Assumes nothing.
 use Prim.Native.Nat.{ℕ, zero, suc, _≤_, _<_}
-use mathlib.Core.Bool.{Bool, cond, _&&_, true}
+use mathlib.Core.Bool.{cond, _&&_, true}
 use mathlib.Core.List.{List, [], _∷_, List·Memᴰ, List·Memᴰ·head}
-use mathlib.Core.Path.{_≡_, refl, sym, ap, _∙_}
+use mathlib.Core.Path.{_≡_, refl, ap, _∙_}
 use native.Mathlib.Omega.{arith}
 use lib.ListN.{length}
 use Rattle.records.specs.Words.{word, count, wordB}
@@ -48,7 +48,8 @@ ancestry-of {s} w once r x low n =
     (λ some. ancestry-steps w r (x .by) (x .by) some (omega arith) (omega arith)))
 
 follow-through {ℓ κ} :
-    {A : Type ℓ} {B : Type κ} (f : A → B) (stop : A) (go : ℕ → A) (n : ℕ) → f (follow stop go n) ≡ follow (f stop) (λ m. f (go m)) n
+    {A : Type ℓ} {B : Type κ} (f : A → B) (stop : A) (go : ℕ → A) (n : ℕ)
+    → f (follow stop go n) ≡ follow (f stop) (λ m. f (go m)) n
 follow-through f stop go zero = refl
 follow-through f stop go (suc n) = refl
 
@@ -78,7 +79,8 @@ depth-of-part {s} w once q k σ past h e j t a =
     depth-of w once (word s q j) (record { by = q; at = j }) (omega arith) (part-names s q k σ h e j t a)
     ∙ ap suc (followed-past 0 (depth s) q past)
 
-pub nesting-of-part : {s : List ℕ} → Written s → NamedOnce s → (q : ℕ) (k : Kind) (σ : Sort) → 0 < q → q < count s → kindAt s q ≡ k
+pub nesting-of-part : {s : List ℕ} → Written s → NamedOnce s → (q : ℕ) (k : Kind) (σ : Sort) → 0 < q → q < count s
+    → kindAt s q ≡ k
     → (j : ℕ) → (ltb 0 j && ltb j 6) ≡ true → askOfKind k j ≡ part σ
     → nesting s (word s q j) ≡ cond (ofDefiningPart s (record { by = q; at = j })) (suc (nesting s q)) (nesting s q)
 nesting-of-part {s} w once q k σ past h e j t a =

@@ -1,17 +1,17 @@
 -- What a sheet has to which none of the codes 1 to 6 applies: its records say what the table asks, each but the header is named
 -- once, its types fit, and no expression lies too deep. Each by taking the negated test of its code apart.
 -- Assumes nothing.
-use Prim.Native.Nat.{ℕ, zero, suc, _/_, _%_, _≤_, _<_}
-use mathlib.Core.Bool.{Bool, true, false, not, _&&_, _||_}
+use Prim.Native.Nat.{ℕ, zero, suc, _%_, _≤_, _<_}
+use mathlib.Core.Bool.{true, false, not, _&&_, _||_}
 use mathlib.Core.List.{List}
-use mathlib.Core.Path.{_≡_, refl}
+use mathlib.Core.Path.{_≡_}
 use native.Mathlib.Omega.{arith}
 use lib.ListN.{length}
 use lib.Dec.{eqb, ltb}
 use borrow.Author.Tests.{ltb-false, lt-ltb, not-false}
 use Rattle.picoella.specs.Types.{leaves}
 use Rattle.records.specs.Words.{count, wordA, wordB}
-use Rattle.records.specs.Kinds.{sameSort, sortOf, expressions, typeOf, pair, header, isPair, isHeader}
+use Rattle.records.specs.Kinds.{sameSort, expressions, typeOf, pair, header, isPair, isHeader}
 use Rattle.records.specs.Says.{kindAt, sortAt, wellSaid}
 use Rattle.records.specs.Namings.{namings, exactlyOnce}
 use Rattle.records.specs.TypeRecords.{typeAt, pairBelow}
@@ -27,7 +27,8 @@ use Rattle.layout.proofs.Lowest.{lowest-none-fails}
 pub length-fits : (s : List ℕ) → wrongLength s ≡ false → (0 < count s) × (count s ≤ 4096)
 unfolding wrongLength count
 length-fits s e =
-    let low : 12 ≤ length s = ltb-false (length s) 12 (neither-left (ltb (length s) 12) (ltb 49152 (length s) || not (eqb (length s % 12) 0)) e) in
+    let short = neither-left (ltb (length s) 12) (ltb 49152 (length s) || not (eqb (length s % 12) 0)) e in
+    let low : 12 ≤ length s = ltb-false (length s) 12 short in
     let rest = neither-right (ltb (length s) 12) (ltb 49152 (length s) || not (eqb (length s % 12) 0)) e in
     let high : length s ≤ 49152 = ltb-false 49152 (length s) (neither-left (ltb 49152 (length s)) (not (eqb (length s % 12) 0)) rest) in
     (omega arith, omega arith)

@@ -9,7 +9,31 @@ use native.Mathlib.Omega.{arith}
 use lib.Dec.{eqb, ltb, leb}
 use borrow.Author.Tests.{ltb-true, leb-true, eqb-true, ne-eqb}
 use Rattle.records.specs.Words.{word, count, wordA, wordB}
-use Rattle.records.specs.Kinds.{Sort, types, flat, Kind, header, typeOf, sameSort, isFlat, isHeader, Ask, zeroed, nextOf, part, inputType, lowerType, lowerFlat, constructorOf, counted, byte, free, total, never, expressions}
+use Rattle.records.specs.Kinds.{
+  Sort,
+  types,
+  flat,
+  Kind,
+  header,
+  typeOf,
+  sameSort,
+  isFlat,
+  isHeader,
+  Ask,
+  zeroed,
+  nextOf,
+  part,
+  inputType,
+  lowerType,
+  lowerFlat,
+  constructorOf,
+  counted,
+  byte,
+  free,
+  total,
+  never,
+  expressions,
+}
 use Rattle.records.specs.Says.{kindAt, sortAt, askAt, higher, meets, meetsAt, wellSaid}
 use Rattle.records.specs.Written.{Written}
 use Rattle.records.proofs.Tests.{never-both, both-left, both-right}
@@ -106,12 +130,14 @@ as-kind-asks {s} w r k h e j t =
 
 -- a word that names a part of a record of this kind
 pub part-of-kind :
-    {s : List ℕ} → Written s → (r : ℕ) (k : Kind) (σ : Sort) → r < count s → kindAt s r ≡ k → (j : ℕ) → (ltb 0 j && ltb j 6) ≡ true
+    {s : List ℕ} → Written s → (r : ℕ) (k : Kind) (σ : Sort) → r < count s → kindAt s r ≡ k → (j : ℕ)
+    → (ltb 0 j && ltb j 6) ≡ true
     → askOfKind k j ≡ part σ → (r < word s r j) × (word s r j < count s) × (sortAt s (word s r j) ≡ σ)
 part-of-kind {s} w r k σ h e j t a = rw a at (as-kind-asks w r k h e j t)
 
 -- a next that is not zero
-pub next-of-kind : {s : List ℕ} → Written s → (r : ℕ) (k : Kind) (σ : Sort) → r < count s → kindAt s r ≡ k → askOfKind k 1 ≡ nextOf σ
+pub next-of-kind : {s : List ℕ} → Written s → (r : ℕ) (k : Kind) (σ : Sort) → r < count s → kindAt s r ≡ k
+    → askOfKind k 1 ≡ nextOf σ
     → 0 < word s r 1 → (r < word s r 1) × (word s r 1 < count s) × (sortAt s (word s r 1) ≡ σ)
 next-of-kind {s} w r k σ h e a = rw a at (as-kind-asks w r k h e 1 refl)
 

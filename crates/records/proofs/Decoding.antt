@@ -60,7 +60,8 @@ all-there s (ifOf r a p b c) g =
     (both (allThere b) (allThere c) (all-there s b (g .2)) (all-there s c (g .3))))
 all-there s (delayOf r t ls a) g = all-there s a (g .1)
 
-pub patterns-there : {s : List ℕ} → Written s → (r : ℕ) → r < count s → sortAt s r ≡ patterns → allPatterns (alternatives s r) ≡ true
+pub patterns-there : {s : List ℕ} → Written s → (r : ℕ) → r < count s → sortAt s r ≡ patterns
+    → allPatterns (alternatives s r) ≡ true
 patterns-there {s} w r h e = all-patterns s ⊥ (alternatives s r) (grown-pattern w r h e)
 
 pub expressions-there : {s : List ℕ} → Written s → (r : ℕ) → r < count s → sortAt s r ≡ expressions → allThere (treeAt s r) ≡ true

@@ -2,7 +2,7 @@
 -- nothing lies under two parts of a record; nor is the record itself under its parts, which are higher. By induction on the
 -- records, from the highest down.
 -- Assumes nothing.
-use Prim.Native.Nat.{ℕ, zero, suc, _≤_, _<_}
+use Prim.Native.Nat.{ℕ, zero, suc, _<_}
 use mathlib.Core.Bool.{Bool, true, false, _&&_}
 use mathlib.Core.List.{
   List,
@@ -34,8 +34,6 @@ use Rattle.records.specs.Kinds.{
   leaf,
   expressions,
   leafs,
-  Sort,
-  Kind,
   part,
 }
 use Rattle.records.specs.Says.{kindAt, sortAt}
@@ -110,7 +108,8 @@ piece-below {s} {r} {j} {rs} w p =
     (omega arith, under-under (down (record { by = r; at = j }) here (omega arith) (p .named)) u))
     (p .only)
 
-pieces-apart : {s : List ℕ} {r j k : ℕ} {rs ls : List ℕ} → Written s → NamedOnce s → (j ≡ k → ⊥) → Piece s r j rs → Piece s r k ls → Apart rs ls
+pieces-apart : {s : List ℕ} {r j k : ℕ} {rs ls : List ℕ} → Written s → NamedOnce s → (j ≡ k → ⊥) → Piece s r j rs
+    → Piece s r k ls → Apart rs ls
 unfolding Apart
 pieces-apart {s} {r} {j} {k} w once differ p q =
     let hp = p .higher in
@@ -137,7 +136,8 @@ apart-both rs ls ks a b = λ x m n. go x m (List·Memᴰ·append-cases ls n)
 
 -- the rest of a chain
 rest-piece : {s : List ℕ} → Written s → (r : ℕ) → r < count s → sortAt s r ≡ leafs
-    → ((q : ℕ) → r < q → q < count s → sortAt s q ≡ leafs → Only (Under s q) (chain s q)) → Below s r (follow [] (chain s) (next s r))
+    → ((q : ℕ) → r < q → q < count s → sortAt s q ≡ leafs → Only (Under s q) (chain s q))
+    → Below s r (follow [] (chain s) (next s r))
 rest-piece {s} w r h e above = go (next s r) refl
   where
     go : (n : ℕ) → next s r ≡ n → Below s r (follow [] (chain s) n)
@@ -160,26 +160,31 @@ chain-only {s} w = from-above (count s) (λ r. sortAt s r ≡ leafs → Only (Un
     step r h above e = rw (chain-of w r h e) (with-own true (follow [] (chain s) (next s r)) (rest-piece w r h e above))
 
 -- a record with two pieces
-two : {s : List ℕ} {r j k : ℕ} {rs ls : List ℕ} → Written s → NamedOnce s → (x : Bool) → Piece s r j rs → Piece s r k ls → (j ≡ k → ⊥)
+two : {s : List ℕ} {r j k : ℕ} {rs ls : List ℕ} → Written s → NamedOnce s → (x : Bool) → Piece s r j rs → Piece s r k ls
+    → (j ≡ k → ⊥)
     → Only (Under s r) (listed x (r ∷ []) ++ (rs ++ ls))
 two {rs = rs} {ls = ls} w once x p q differ =
     with-own x (rs ++ ls) (below-both rs ls (piece-below w p) (piece-below w q) (pieces-apart w once differ p q))
 
 -- what the tree of a record of this kind holds, from what its parts hold
 node-only : {s : List ℕ} → Written s → NamedOnce s → (x c d : Bool) (k : ExpressionKind) (r : ℕ)
-    → ((j : ℕ) → (ltb 0 j && ltb j 6) ≡ true → askOfKind (expression k) j ≡ part expressions → Piece s r j (held x c d (treeAt s (word s r j))))
+    → ((j : ℕ) → (ltb 0 j && ltb j 6) ≡ true → askOfKind (expression k) j ≡ part expressions
+    → Piece s r j (held x c d (treeAt s (word s r j))))
     → (askOfKind (expression k) 3 ≡ part leafs → (b : Bool) → Piece s r 3 (listed b (chain s (wordB s r))))
     → Only (Under s r) (held x c d (treeStep s (treeAt s) (expression k) r (wordA s r) (wordB s r) (wordC s r) (wordD s r)))
 node-only {s} w once x c d constant r at leaves =
     with-own x (listed c (chain s (wordB s r))) (piece-below w (leaves (unfold askOfKind in refl) c))
 node-only {s} w once x c d name r at leaves = only-one x r here
-node-only {s} w once x c d tuple r at leaves = two w once x (at 2 refl (unfold askOfKind in refl)) (at 3 refl (unfold askOfKind in refl)) (λ e. omega arith)
+node-only {s} w once x c d tuple r at leaves =
+    two w once x (at 2 refl (unfold askOfKind in refl)) (at 3 refl (unfold askOfKind in refl)) (λ e. omega arith)
 node-only {s} w once x c d first r at leaves =
     with-own x (held x c d (treeAt s (wordA s r))) (piece-below w (at 2 refl (unfold askOfKind in refl)))
 node-only {s} w once x c d second r at leaves =
     with-own x (held x c d (treeAt s (wordA s r))) (piece-below w (at 2 refl (unfold askOfKind in refl)))
-node-only {s} w once x c d letIn r at leaves = two w once x (at 2 refl (unfold askOfKind in refl)) (at 3 refl (unfold askOfKind in refl)) (λ e. omega arith)
-node-only {s} w once x c d feedback r at leaves = two w once x (at 3 refl (unfold askOfKind in refl)) (at 4 refl (unfold askOfKind in refl)) (λ e. omega arith)
+node-only {s} w once x c d letIn r at leaves =
+    two w once x (at 2 refl (unfold askOfKind in refl)) (at 3 refl (unfold askOfKind in refl)) (λ e. omega arith)
+node-only {s} w once x c d feedback r at leaves =
+    two w once x (at 3 refl (unfold askOfKind in refl)) (at 4 refl (unfold askOfKind in refl)) (λ e. omega arith)
 node-only {s} w once x c d ifMatches r at leaves =
     let p = at 2 refl (unfold askOfKind in refl) in
     let q = at 3 refl (unfold askOfKind in refl) in
@@ -191,11 +196,13 @@ node-only {s} w once x c d ifMatches r at leaves =
     (below-both a (b ++ e) (piece-below w p)
     (below-both b e (piece-below w q) (piece-below w o) (pieces-apart w once (λ z. omega arith) q o))
     (apart-both a b e (pieces-apart w once (λ z. omega arith) p q) (pieces-apart w once (λ z. omega arith) p o)))
-node-only {s} w once x c d delay r at leaves = two w once x (leaves (unfold askOfKind in refl) d) (at 4 refl (unfold askOfKind in refl)) (λ e. omega arith)
+node-only {s} w once x c d delay r at leaves =
+    two w once x (leaves (unfold askOfKind in refl) d) (at 4 refl (unfold askOfKind in refl)) (λ e. omega arith)
 
 pub tree-only : {s : List ℕ} → Written s → NamedOnce s → (x c d : Bool) (r : ℕ) → r < count s → sortAt s r ≡ expressions
     → Only (Under s r) (held x c d (treeAt s r))
-tree-only {s} w once x c d = from-above (count s) (λ r. sortAt s r ≡ expressions → Only (Under s r) (held x c d (treeAt s r))) step
+tree-only {s} w once x c d =
+    from-above (count s) (λ r. sortAt s r ≡ expressions → Only (Under s r) (held x c d (treeAt s r))) step
   where
     step : (r : ℕ) → r < count s
         → ((q : ℕ) → r < q → q < count s → sortAt s q ≡ expressions → Only (Under s q) (held x c d (treeAt s q)))

@@ -2,7 +2,7 @@
 -- flat one, and each pattern has an alternative. By induction on the records, from the highest down.
 -- Assumes nothing.
 use Prim.Native.Nat.{ℕ, zero, suc, _<_}
-use mathlib.Core.Bool.{true, false, _&&_}
+use mathlib.Core.Bool.{true, _&&_}
 use mathlib.Core.List.{List}
 use mathlib.Core.Path.{_≡_, refl}
 use native.Mathlib.Omega.{arith}
@@ -105,7 +105,8 @@ may-end s (wholeType r t m) g = g
 may-end s (oneConstructor r t k m) g = g
 may-end s (pairOfPatterns r a b m) g = g
 
-followed : (s : List ℕ) (n : ℕ) → (0 < n → GrownPattern s (alternatives s n)) → Alternative s (Unit {0}) (follow end (alternatives s) n)
+followed : (s : List ℕ) (n : ℕ) → (0 < n → GrownPattern s (alternatives s n))
+    → Alternative s (Unit {0}) (follow end (alternatives s) n)
 followed s zero grown = tt
 followed s (suc n) grown = may-end s (alternatives s (suc n)) (grown (omega arith))
 
@@ -116,8 +117,10 @@ pattern-step : (s : List ℕ) (k : PatternKind) (r n a b : ℕ)
     → (askOfKind (pattern k) 2 ≡ lowerType → TypeRecord s a)
     → (askOfKind (pattern k) 2 ≡ lowerFlat → FlatRecord s a)
     → GrownPattern s (alternativeStep (alternatives s) (pattern k) r n a b)
-pattern-step s whole r n a b atNext atA atB type flatType = (type (unfold askOfKind in refl), followed s n (atNext (unfold askOfKind in refl)))
-pattern-step s constructor r n a b atNext atA atB type flatType = (flatType (unfold askOfKind in refl), followed s n (atNext (unfold askOfKind in refl)))
+pattern-step s whole r n a b atNext atA atB type flatType =
+    (type (unfold askOfKind in refl), followed s n (atNext (unfold askOfKind in refl)))
+pattern-step s constructor r n a b atNext atA atB type flatType =
+    (flatType (unfold askOfKind in refl), followed s n (atNext (unfold askOfKind in refl)))
 pattern-step s parts r n a b atNext atA atB type flatType =
     (atA (unfold askOfKind in refl), atB (unfold askOfKind in refl), followed s n (atNext (unfold askOfKind in refl)))
 
@@ -156,8 +159,12 @@ tree-step s second r words grown fits type = grown 2 refl (unfold askOfKind in r
 tree-step s letIn r words grown fits type = (grown 2 refl (unfold askOfKind in refl), grown 3 refl (unfold askOfKind in refl))
 tree-step s feedback r words grown fits type =
     (type (unfold askOfKind in refl), grown 3 refl (unfold askOfKind in refl), grown 4 refl (unfold askOfKind in refl))
-tree-step s ifMatches r words grown fits type =
-    (grown 2 refl (unfold askOfKind in refl), fits (unfold askOfKind in refl), grown 3 refl (unfold askOfKind in refl), grown 4 refl (unfold askOfKind in refl))
+tree-step s ifMatches r words grown fits type = (
+  grown 2 refl (unfold askOfKind in refl),
+  fits (unfold askOfKind in refl),
+  grown 3 refl (unfold askOfKind in refl),
+  grown 4 refl (unfold askOfKind in refl),
+)
 tree-step s delay r words grown fits type = (type (unfold askOfKind in refl), grown 4 refl (unfold askOfKind in refl))
 
 pub grown-tree : {s : List ℕ} → Written s → (r : ℕ) → r < count s → sortAt s r ≡ expressions → Grown s (treeAt s r)
@@ -169,8 +176,10 @@ grown-tree {s} w = from-above (count s) (λ r. sortAt s r ≡ expressions → Gr
         let k = kind-of-sort expressions (kindAt s r) e in
         rw (tree-of w r h (expression (k .0)) (k .1))
         (tree-step s (k .0) r (word s r)
-        (λ j t a. let p = part-of-kind w r (expression (k .0)) expressions h (k .1) j t a in above (word s r j) (p .0) (p .1) (p .2))
-        (λ a. let p = part-of-kind w r (expression (k .0)) patterns h (k .1) 5 refl a in grown-pattern w (word s r 5) (p .1) (p .2))
+        (λ j t a. let p = part-of-kind w r (expression (k .0)) expressions h (k .1) j t a in
+        above (word s r j) (p .0) (p .1) (p .2))
+        (λ a. let p = part-of-kind w r (expression (k .0)) patterns h (k .1) 5 refl a in
+        grown-pattern w (word s r 5) (p .1) (p .2))
         (λ a. type-word w r (expression (k .0)) h (k .1) 2 refl a))
 
 pub grown-circuit : {s : List ℕ} → Written s → Grown s (circuit s)

@@ -5,12 +5,15 @@ pub mod CodeTable
 pub mod Decoding
 pub mod Distinct
 pub mod Grown
+pub mod Leaves
 pub mod Namings
 pub mod Pairs
 pub mod Reading
+pub mod Rewritten
 pub mod Table
 pub mod Tests
 pub mod Trees
 pub mod TypeRecords
 pub mod Types
 pub mod Under
+pub mod WrittenAgain

@@ -4,7 +4,17 @@
 -- Assumes nothing.
 use Prim.Native.Nat.{ℕ, zero, suc, _≤_, _<_}
 use mathlib.Core.Bool.{Bool, true, false, _&&_}
-use mathlib.Core.List.{List, [], _∷_, _++_, List·Memᴰ, List·Memᴰ·head, List·Memᴰ·tail, List·Memᴰ·append-cases, Memᴰ·append-left, Memᴰ·append-right}
+use mathlib.Core.List.{
+  List,
+  [],
+  _∷_,
+  List·Memᴰ,
+  List·Memᴰ·head,
+  List·Memᴰ·tail,
+  List·Memᴰ·append-cases,
+  Memᴰ·append-left,
+  Memᴰ·append-right,
+}
 use mathlib.Core.Path.{_≡_, refl, ap}
 use mathlib.Core.Logic.{_⊎_, inl, inr}
 use native.Mathlib.Omega.{arith}
@@ -29,15 +39,16 @@ use Rattle.records.specs.Kinds.{
   total,
   never,
 }
-use Rattle.records.specs.Says.{kindAt, sortAt, askAt}
+use Rattle.records.specs.Says.{kindAt, askAt}
 use Rattle.records.specs.Namings.{Naming, names, namesAt, ifNamed, namingsIn, namingsBelow, namings, exactlyOnce}
 use Rattle.records.specs.Written.{Written, NamedOnce}
-use Rattle.records.proofs.Tests.{never-both, both, both-left, both-right}
+use Rattle.records.proofs.Tests.{never-both, both-left, both-right}
 use Rattle.records.proofs.Table.{askOfKind, ask-by-kind}
 use Rattle.records.proofs.Asked.{Means, as-asked}
 
 -- a word that names is in the list
-in-record : (s : List ℕ) (r q n k : ℕ) → 0 < k → k ≤ n → namesAt s r q k ≡ true → List·Memᴰ (record { by = q; at = k }) (namingsIn s r q n)
+in-record : (s : List ℕ) (r q n k : ℕ) → 0 < k → k ≤ n → namesAt s r q k ≡ true
+    → List·Memᴰ (record { by = q; at = k }) (namingsIn s r q n)
 in-record s r q zero k low high e = absurd (omega arith)
 in-record s r q (suc n) k low high e = go (ℕ-discrete k (suc n)) (in-record s r q n k low)
   where
@@ -51,7 +62,8 @@ in-records : (s : List ℕ) (r n q k : ℕ) → q < n → 0 < k → k < 6 → na
 in-records s r zero q k h low high e = absurd (omega arith)
 in-records s r (suc n) q k h low high e = go (ℕ-discrete q n) (in-records s r n q k)
   where
-    go : Dec (q ≡ n) → (q < n → 0 < k → k < 6 → namesAt s r q k ≡ true → List·Memᴰ (record { by = q; at = k }) (namingsBelow s r n))
+    go : Dec (q ≡ n)
+        → (q < n → 0 < k → k < 6 → namesAt s r q k ≡ true → List·Memᴰ (record { by = q; at = k }) (namingsBelow s r n))
         → List·Memᴰ (record { by = q; at = k }) (namingsBelow s r (suc n))
     go (yes d) rest = Memᴰ·append-right (namingsBelow s r n) (rw (← d) (in-record s r q 5 k low (omega arith) e))
     go (no d) rest = Memᴰ·append-left (namingsIn s r n 5) (rest (omega arith) low high e)
@@ -89,7 +101,8 @@ record-names s r q (suc n) x h m = go (List·Memᴰ·append-cases (namingsIn s r
         → (n < 6 → List·Memᴰ x (namingsIn s r q n) → (x .by ≡ q) × (0 < x .at) × (x .at < 6) × (namesAt s r (x .by) (x .at) ≡ true))
         → (x .by ≡ q) × (0 < x .at) × (x .at < 6) × (namesAt s r (x .by) (x .at) ≡ true)
     go (inl m) rest = rest (omega arith) m
-    go (inr m) rest = let f = if-named (namesAt s r q (suc n)) q (suc n) x m in (f .1, omega arith, omega arith, rw (f .1, f .2) (f .0))
+    go (inr m) rest =
+        let f = if-named (namesAt s r q (suc n)) q (suc n) x m in (f .1, omega arith, omega arith, rw (f .1, f .2) (f .0))
 
 records-name : (s : List ℕ) (r n : ℕ) (x : Naming) → n ≤ count s → List·Memᴰ x (namingsBelow s r n) → Names s r x
 records-name s r zero x h m = elim m [ ]
@@ -127,7 +140,8 @@ named-higher s q w never e m h = absurd (never-both false e refl)
 pub namer-lower : {s : List ℕ} → Written s → (r : ℕ) (x : Naming) → 0 < r → Names s r x → (x .by < r) × (r < count s)
 namer-lower {s} w r x h n =
     let a = both-left (names (askAt s (x .by) (x .at))) (eqb (word s (x .by) (x .at)) r) (n .names) in
-    let e = eqb-true (word s (x .by) (x .at)) r (both-right (names (askAt s (x .by) (x .at))) (eqb (word s (x .by) (x .at)) r) (n .names)) in
+    let b = both-right (names (askAt s (x .by) (x .at))) (eqb (word s (x .by) (x .at)) r) (n .names) in
+    let e = eqb-true (word s (x .by) (x .at)) r b in
     rw e at (named-higher s (x .by) (word s (x .by) (x .at)) (askAt s (x .by) (x .at)) a
     (as-asked w (x .by) (x .at) (askAt s (x .by) (x .at)) (n .there) (n .low) (n .high) refl) (rw e h))
 

@@ -5,13 +5,13 @@
 use Prim.Native.Nat.{ℕ, zero, suc, _<_}
 use mathlib.Core.Bool.{Bool, true, false, cond, _&&_}
 use mathlib.Core.List.{List}
-use mathlib.Core.Path.{_≡_, refl, sym, subst}
+use mathlib.Core.Path.{_≡_, refl}
 use native.Mathlib.Omega.{arith}
 use native.Mathlib.Decide.{ℕ-discrete, decLt}
 use lib.Dec.{eqb}
 use borrow.Author.Tests.{eqb-true, eq-eqb}
-use Rattle.records.specs.Words.{word, count, wordA, wordB}
-use Rattle.records.specs.Kinds.{Kind, header, typeOf, pair, isPair}
+use Rattle.records.specs.Words.{count, wordA, wordB}
+use Rattle.records.specs.Kinds.{typeOf, pair, isPair}
 use Rattle.records.specs.Says.{kindAt}
 use Rattle.records.specs.TypeRecords.{isPairOf, pairBelow, pairOf}
 use Rattle.records.specs.Written.{Written, TypesFit}
@@ -46,12 +46,18 @@ pub no-pair-below :
     (s : List ℕ) (a b n : ℕ) → pairBelow s a b n ≡ 0 → (r : ℕ) → 0 < r → r < n → isPairOf s a b r ≡ false
 no-pair-below s a b n e = rw e at (pair-found s a b n)
 
+-- nor has record 0 of a written sheet, which is the header
+pub no-pair : {s : List ℕ} → Written s → (a b n : ℕ) → pairBelow s a b n ≡ 0 → (r : ℕ) → r < n → isPairOf s a b r ≡ false
+no-pair {s} w a b n e zero h = rw (w .headed)
+no-pair {s} w a b n e (suc r) h = no-pair-below s a b n e (suc r) (omega arith) h
+
 pub lowest-pair : (s : List ℕ) (a b n r : ℕ) → pairBelow s a b n ≡ r → 0 < r
     → (r < n) × (isPairOf s a b r ≡ true) × ((q : ℕ) → 0 < q → q < r → isPairOf s a b q ≡ false)
 lowest-pair s a b n zero e h = absurd (omega arith)
 lowest-pair s a b n (suc r) e h = rw e at (pair-found s a b n)
 
-pub pair-with-parts : (s : List ℕ) (a b r : ℕ) → isPairOf s a b r ≡ true → (kindAt s r ≡ typeOf pair) × (wordA s r ≡ a) × (wordB s r ≡ b)
+pub pair-with-parts : (s : List ℕ) (a b r : ℕ) → isPairOf s a b r ≡ true
+    → (kindAt s r ≡ typeOf pair) × (wordA s r ≡ a) × (wordB s r ≡ b)
 pair-with-parts s a b r e =
     let f = both-right (isPair (kindAt s r)) (eqb (wordA s r) a && eqb (wordB s r) b) e in (
       is-pair (kindAt s r) (both-left (isPair (kindAt s r)) (eqb (wordA s r) a && eqb (wordB s r) b) e),
@@ -88,6 +94,9 @@ pair-of-parts {s} w fit r h e = go (pairOf s (wordA s r) (wordB s r)) (pair-foun
     go (suc q) f = same (decLt (suc q) r) (decLt r (suc q))
       where
         same : Dec (suc q < r) → Dec (r < suc q) → suc q ≡ r
-        same (yes d) _ = absurd (never-both (isPairOf s (wordA s r) (wordB s r) (suc q)) (f .1) (no-pair-below s (wordA s r) (wordB s r) r (fit .unique r h e) (suc q) (omega arith) d))
+        same (yes d) _ =
+            absurd
+            (never-both (isPairOf s (wordA s r) (wordB s r) (suc q)) (f .1)
+            (no-pair-below s (wordA s r) (wordB s r) r (fit .unique r h e) (suc q) (omega arith) d))
         same (no d) (yes g) = absurd (never-both (isPairOf s (wordA s r) (wordB s r) r) here (f .2 r high g))
         same (no d) (no g) = omega arith

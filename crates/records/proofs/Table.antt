@@ -3,14 +3,68 @@
 -- the kinds and the sorts.
 -- Assumes nothing.
 use Prim.Native.Nat.{ℕ, zero, suc}
-use mathlib.Core.Bool.{Bool, true, false, cond}
+use mathlib.Core.Bool.{Bool, true, false, cond, _||_, or-true, false≢true}
 use mathlib.Core.List.{List, [], _∷_}
 use mathlib.Core.Path.{_≡_, refl, sym, ap, _∙_}
 use lib.ListN.{getD}
 use lib.Dec.{eqb}
 use borrow.Author.Tests.{eqb-true}
-use Rattle.records.specs.Words.{word, kindWord}
-use Rattle.records.specs.Kinds.{Sort, headers, types, expressions, patterns, leafs, none, TypeKind, flat, pair, ExpressionKind, constant, name, tuple, first, second, letIn, feedback, ifMatches, delay, PatternKind, whole, constructor, parts, Kind, header, typeOf, expression, pattern, leaf, unknown, sortOf, sortNumber, sameSort, isFlat, isPair, isHeader, Ask, zeroed, never, Row, row, table, numberIn, kindIn, asksIn, lookUp, rowOf, kindOf, askOf}
+use Rattle.records.specs.Words.{kindWord}
+use Rattle.records.specs.Kinds.{
+  Sort,
+  headers,
+  types,
+  expressions,
+  patterns,
+  leafs,
+  none,
+  TypeKind,
+  flat,
+  pair,
+  ExpressionKind,
+  constant,
+  name,
+  tuple,
+  first,
+  second,
+  letIn,
+  feedback,
+  ifMatches,
+  delay,
+  PatternKind,
+  whole,
+  constructor,
+  parts,
+  Kind,
+  header,
+  typeOf,
+  expression,
+  pattern,
+  leaf,
+  unknown,
+  sortOf,
+  sortNumber,
+  sameSort,
+  isFlat,
+  isPair,
+  isHeader,
+  Ask,
+  zeroed,
+  never,
+  constructorOf,
+  lowerFlat,
+  askNumber,
+  Row,
+  row,
+  table,
+  numberIn,
+  kindIn,
+  asksIn,
+  lookUp,
+  rowOf,
+  kindOf,
+  askOf,
+}
 use Rattle.records.specs.Says.{kindAt, askAt}
 
 -- a kind's number in the table; 0 is no kind's
@@ -47,7 +101,8 @@ pick P true x y p q = p
 pick P false x y p q = q
 
 -- what each row has, and the row of an unknown number, has the row that is looked up
-looked-up : (P : Row → Type 0) (xs : List Row) (n : ℕ) → All P xs → P (row n unknown never never never never never) → P (lookUp xs n)
+looked-up : (P : Row → Type 0) (xs : List Row) (n : ℕ) → All P xs → P (row n unknown never never never never never)
+    → P (lookUp xs n)
 looked-up P [] n all rest = rest
 looked-up P (x ∷ xs) n all rest =
     pick P (eqb (numberIn x) n) x (lookUp xs n) (all .0) (looked-up P xs n (all .1) rest)
@@ -65,6 +120,68 @@ ask-by-number n j = ap (λ asks. getD asks j zeroed) (asks-by-kind n)
 -- the kind of a record settles what its words ask
 pub ask-by-kind : (s : List ℕ) (r j : ℕ) (k : Kind) → kindAt s r ≡ k → askAt s r j ≡ askOfKind k j
 ask-by-kind s r j k e = ask-by-number (kindWord s r) j ∙ ap (λ k. askOfKind k j) e
+
+-- a test that an ask in a list passes
+abbrev some : (Ask → Bool) → List Ask → Bool
+some p [] = false
+some p (a ∷ rest) = p a || some p rest
+
+some-at : (p : Ask → Bool) (asks : List Ask) (j : ℕ) → p zeroed ≡ false → p (getD asks j zeroed) ≡ true → some p asks ≡ true
+some-at p [] j z e = sym z ∙ e
+some-at p (a ∷ rest) zero z e = rw e
+some-at p (a ∷ rest) (suc j) z e = rw (some-at p rest j z e) (or-true (p a))
+
+asksConstructor : Ask → Bool
+asksConstructor a = eqb (askNumber a) (askNumber constructorOf)
+
+no-flat : {a : Ask} → false ≡ true → a ≡ lowerFlat
+no-flat e = absurd (false≢true e)
+
+-- where a word asks for a constructor, word a asks for a flat type
+pub constructor-of-flat : (n j : ℕ) → askOf n j ≡ constructorOf → askOf n 2 ≡ lowerFlat
+unfolding askOf asksConstructor
+constructor-of-flat n j e =
+    looked-up (λ x. some asksConstructor (asksIn x) ≡ true → getD (asksIn x) 2 zeroed ≡ lowerFlat) table n (
+      no-flat,
+      (
+        no-flat,
+        (
+          no-flat,
+          (
+            no-flat,
+            (
+              no-flat,
+              (
+                no-flat,
+                (
+                  no-flat,
+                  (
+                    no-flat,
+                    (
+                      no-flat,
+                      (
+                        no-flat,
+                        (
+                          no-flat,
+                          (
+                            no-flat,
+                            (
+                              no-flat,
+                              ((λ e. refl), (no-flat, (no-flat, tt))),
+                            ),
+                          ),
+                        ),
+                      ),
+                    ),
+                  ),
+                ),
+              ),
+            ),
+          ),
+        ),
+      ),
+    ) no-flat
+    (some-at asksConstructor (asksIn (rowOf n)) j refl (rw e))
 
 sortWith : ℕ → Sort
 sortWith zero = none

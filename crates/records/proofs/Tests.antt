@@ -1,8 +1,8 @@
 -- What a passed or failed test says of its parts, and that no test does both. By the cases of a truth value.
 -- Assumes nothing.
 use Prim.Native.Nat.{ℕ}
-use mathlib.Core.Bool.{Bool, true, false, not, _&&_, _||_}
-use mathlib.Core.Path.{_≡_, refl, sym}
+use mathlib.Core.Bool.{Bool, true, false, _&&_, _||_}
+use mathlib.Core.Path.{_≡_, refl}
 use native.Mathlib.Omega.{arith}
 
 pub never-both : (b : Bool) → b ≡ true → b ≡ false → ⊥

@@ -3,9 +3,9 @@
 -- enough, and how many more there are does not matter.
 -- Assumes nothing.
 use Prim.Native.Nat.{ℕ, zero, suc, _+_, _≤_, _<_}
-use mathlib.Core.Bool.{Bool, true, false, _&&_}
+use mathlib.Core.Bool.{true, _&&_}
 use mathlib.Core.List.{List, [], _∷_}
-use mathlib.Core.Path.{_≡_, refl, sym, ap, ap₂, _∙_}
+use mathlib.Core.Path.{_≡_, refl, ap, ap₂, _∙_}
 use native.Mathlib.Omega.{arith}
 use lib.Dec.{ltb}
 use Rattle.records.specs.Words.{word, count, next, wordA, wordB, wordC, wordD}
@@ -26,7 +26,6 @@ use Rattle.records.specs.Kinds.{
   feedback,
   ifMatches,
   delay,
-  PatternKind,
   whole,
   constructor,
   parts,
@@ -95,7 +94,8 @@ chain-steps {s} w (suc m) (suc n) r h e hm hn =
     (λ some. let p = next-leaf w r h e some in chain-steps w m n (next s r) (p .1) (p .2) (omega arith) (omega arith)))
 
 -- a chain is its first record and the chain of the next
-pub chain-of : {s : List ℕ} → Written s → (r : ℕ) → r < count s → sortAt s r ≡ leafs → chain s r ≡ r ∷ follow [] (chain s) (next s r)
+pub chain-of : {s : List ℕ} → Written s → (r : ℕ) → r < count s → sortAt s r ≡ leafs
+    → chain s r ≡ r ∷ follow [] (chain s) (next s r)
 unfolding chain chainWithin
 chain-of {s} w r h e = chain-steps w (count s) (suc (count s)) r h e (omega arith) (omega arith)
 
@@ -124,9 +124,12 @@ alternatives-steps {s} w zero n r h hm hn = absurd (omega arith)
 alternatives-steps {s} w (suc m) zero r h hm hn = absurd (omega arith)
 alternatives-steps {s} w (suc m) (suc n) r h hm hn =
     alternative-agrees (alternativesWithin s m) (alternativesWithin s n) (kindAt s r) r (next s r) (wordA s r) (wordB s r)
-    (λ a some. let p = next-of-kind w r (kindAt s r) patterns h refl a some in alternatives-steps w m n (next s r) (p .1) (omega arith) (omega arith))
-    (λ a. let p = part-of-kind w r (kindAt s r) patterns h refl 2 refl a in alternatives-steps w m n (wordA s r) (p .1) (omega arith) (omega arith))
-    (λ a. let p = part-of-kind w r (kindAt s r) patterns h refl 3 refl a in alternatives-steps w m n (wordB s r) (p .1) (omega arith) (omega arith))
+    (λ a some. let p = next-of-kind w r (kindAt s r) patterns h refl a some in
+    alternatives-steps w m n (next s r) (p .1) (omega arith) (omega arith))
+    (λ a. let p = part-of-kind w r (kindAt s r) patterns h refl 2 refl a in
+    alternatives-steps w m n (wordA s r) (p .1) (omega arith) (omega arith))
+    (λ a. let p = part-of-kind w r (kindAt s r) patterns h refl 3 refl a in
+    alternatives-steps w m n (wordB s r) (p .1) (omega arith) (omega arith))
 
 -- the alternatives from a record are by its kind, with those of its parts and its next; at a kind this computes
 pub alternatives-of : {s : List ℕ} → Written s → (r : ℕ) → r < count s → (k : Kind) → kindAt s r ≡ k

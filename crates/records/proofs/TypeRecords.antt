@@ -2,15 +2,15 @@
 -- last by induction on the record: a flat type carries its record's number, and of two pairs of the same types the parts are
 -- the same records, so that each is the one pair record of these parts.
 -- Assumes nothing.
-use Prim.Native.Nat.{ℕ, zero, suc, _≤_, _<_}
-use mathlib.Core.Bool.{true, false, _&&_}
+use Prim.Native.Nat.{ℕ, zero, suc, _<_}
+use mathlib.Core.Bool.{true, _&&_}
 use mathlib.Core.List.{List}
 use mathlib.Core.Path.{_≡_, refl, sym, ap₂, _∙_}
 use native.Mathlib.Omega.{arith}
 use lib.Dec.{ltb}
 use Rattle.picoella.specs.Types.{Ty, Flat, TyTuple}
 use Rattle.records.specs.Words.{word, count, wordA, wordB}
-use Rattle.records.specs.Kinds.{Kind, TypeKind, flat, pair, typeOf, types, lowerType, lowerFlat}
+use Rattle.records.specs.Kinds.{Kind, TypeKind, flat, pair, typeOf, types, lowerType}
 use Rattle.records.specs.Says.{kindAt, sortAt}
 use Rattle.records.specs.TypeRecords.{typeAt, pairOf, TypeRecord}
 use Rattle.records.specs.Written.{Written, TypesFit}
@@ -24,7 +24,8 @@ pub type-record : {s : List ℕ} → Written s → (t : ℕ) → t < count s →
 type-record {s} w t h e = record { past = past-header w t (rw e); there = h; sort = e }
 
 -- a type word of a record of this kind names a type record
-pub type-word : {s : List ℕ} → Written s → (r : ℕ) (k : Kind) → r < count s → kindAt s r ≡ k → (j : ℕ) → (ltb 0 j && ltb j 6) ≡ true
+pub type-word : {s : List ℕ} → Written s → (r : ℕ) (k : Kind) → r < count s → kindAt s r ≡ k → (j : ℕ)
+    → (ltb 0 j && ltb j 6) ≡ true
     → askOfKind k j ≡ lowerType → TypeRecord s (word s r j)
 type-word {s} w r k h e j t a =
     let f : (word s r j < r) × (sortAt s (word s r j) ≡ types) = rw a at (as-kind-asks w r k h e j t) in
@@ -52,12 +53,14 @@ pub pair-record : {s : List ℕ} → Written s → (t : ℕ) (σ τ : Ty) → Ty
     → (kindAt s t ≡ typeOf pair) × (typeAt s (wordA s t) ≡ σ) × (typeAt s (wordB s t) ≡ τ)
 pair-record {s} w t σ τ r e = let k = kind-of-sort types (kindAt s t) (r .sort) in go (k .0) (k .1)
   where
-    go : (k : TypeKind) → kindAt s t ≡ typeOf k → (kindAt s t ≡ typeOf pair) × (typeAt s (wordA s t) ≡ σ) × (typeAt s (wordB s t) ≡ τ)
+    go : (k : TypeKind) → kindAt s t ≡ typeOf k
+        → (kindAt s t ≡ typeOf pair) × (typeAt s (wordA s t) ≡ σ) × (typeAt s (wordB s t) ≡ τ)
     go flat k = let f = flat-type s t k in (cc, cc, cc)
     go pair k = let f = pair-type w t (r .there) k in (k, cc, cc)
 
 -- a record of a flat type is that flat record
-pub flat-record : {s : List ℕ} → Written s → (t r n : ℕ) → TypeRecord s t → typeAt s t ≡ Flat r n → (kindAt s t ≡ typeOf flat) × (t ≡ r)
+pub flat-record : {s : List ℕ} → Written s → (t r n : ℕ) → TypeRecord s t → typeAt s t ≡ Flat r n
+    → (kindAt s t ≡ typeOf flat) × (t ≡ r)
 flat-record {s} w t r n u e = let k = kind-of-sort types (kindAt s t) (u .sort) in go (k .0) (k .1)
   where
     go : (k : TypeKind) → kindAt s t ≡ typeOf k → (kindAt s t ≡ typeOf flat) × (t ≡ r)

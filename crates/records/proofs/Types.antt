@@ -2,14 +2,13 @@
 -- the pair of its parts' types. The parts of a written pair record are lower, so the steps never run out, and how many are
 -- left does not matter. A type has as many leaves as bounds, and at least one.
 -- Assumes nothing.
-use Prim.Native.Nat.{ℕ, zero, suc, _+_, _≤_, _<_}
-use mathlib.Core.Bool.{Bool, true, false}
-use mathlib.Core.List.{List, [], _∷_, _++_}
-use mathlib.Core.Path.{_≡_, refl, sym, ap₂, _∙_}
+use Prim.Native.Nat.{ℕ, zero, suc, _≤_, _<_}
+use mathlib.Core.List.{List}
+use mathlib.Core.Path.{_≡_, refl, ap₂}
 use native.Mathlib.Omega.{arith}
 use lib.ListN.{length, length-append}
 use Rattle.picoella.specs.Types.{Ty, Flat, TyTuple, bounds, leaves}
-use Rattle.records.specs.Words.{word, count, wordA, wordB}
+use Rattle.records.specs.Words.{count, wordA, wordB}
 use Rattle.records.specs.Kinds.{
   Kind,
   header,

@@ -2,12 +2,11 @@
 -- once, the records above one lie in a line; so nothing lies under two different parts of one record.
 -- Assumes nothing.
 use Prim.Native.Nat.{ℕ, _≤_, _<_}
-use mathlib.Core.List.{List, [], _∷_}
-use mathlib.Core.Path.{_≡_, refl, sym, ap, subst, _∙_}
+use mathlib.Core.List.{List}
+use mathlib.Core.Path.{_≡_, sym, ap}
 use mathlib.Core.Logic.{_⊎_, inl, inr}
 use native.Mathlib.Omega.{arith}
-use Rattle.records.specs.Words.{word, count}
-use Rattle.records.specs.Namings.{Naming, namings}
+use Rattle.records.specs.Namings.{Naming}
 use Rattle.records.specs.Written.{Written, NamedOnce}
 use Rattle.records.proofs.Namings.{Names, only-naming, namer-lower}
 

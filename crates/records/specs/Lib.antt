@@ -10,3 +10,4 @@ pub mod Trees
 pub mod Decoding
 pub mod Written
 pub mod Held
+pub mod Rewritten

@@ -3,16 +3,13 @@
 -- and the type of an expression has one record.
 -- Assumes nothing.
 use Prim.Native.Nat.{ℕ}
-use mathlib.Core.List.{List, [], _∷_}
+use mathlib.Core.List.{List}
 use mathlib.Core.Option.{Option, none, some}
-use mathlib.Core.Path.{_≡_, refl, sym, ap, _∙_}
+use mathlib.Core.Path.{_≡_, refl}
 use mathlib.Core.Logic.{_↔_}
-use Rattle.picoella.specs.Expressions.{Expr}
-use Rattle.picoella.specs.Typing.{Typed}
-use Rattle.records.specs.Words.{wordA}
-use Rattle.records.specs.TypeRecords.{typeAt, TypeRecord, Declared}
+use Rattle.records.specs.TypeRecords.{typeAt}
 use Rattle.records.specs.Trees.{circuit}
-use Rattle.records.specs.Decoding.{decode, expressionOf}
+use Rattle.records.specs.Decoding.{expressionOf}
 use Rattle.records.proofs.TypeRecords.{input-type, same-type-same-record}
 use Rattle.records.proofs.Grown.{grown-circuit}
 use Rattle.records.proofs.Decoding.{decodes}
@@ -20,16 +17,17 @@ use Rattle.typing.specs.Judgements.{judgements, typeOf, firstFailing}
 use Rattle.layout.specs.Passes.{Passes}
 use Rattle.typing.specs.Verdict.{inputs, refusing, byTypes, verdict}
 use Rattle.typing.specs.Promises.{WellTyped, Exact}
-use Rattle.typing.specs.declared.Verdict.{Verdict}
 use Rattle.typing.specs.declared.Verdict.the-variants.{Accepted, IllTyped}
 use Rattle.layout.proofs.Passes.{written, types-fit}
 use Rattle.typing.proofs.Places.{accepted-by-types}
 use Rattle.typing.proofs.Judged.{Judged, Passed, passed-judged, judged-passed}
-use Rattle.typing.proofs.TypeRecordsOf.{Context, type-of-record}
+use Rattle.typing.specs.Judging.{Context}
+use Rattle.typing.proofs.TypeRecordsOf.{type-of-record}
 use Rattle.typing.proofs.Typings.{judged-typed, typed-judged}
 
 -- the type rules accept exactly where no judgement of the circuit fails, with the type of the circuit
-pub types-accept : (s : List ℕ) (t : ℕ) → byTypes s ≡ Accepted t ↔ (Passed s (inputs s) (circuit s) × (typeOf s (inputs s) (circuit s) ≡ t))
+pub types-accept : (s : List ℕ) (t : ℕ)
+    → byTypes s ≡ Accepted t ↔ (Passed s (inputs s) (circuit s) × (typeOf s (inputs s) (circuit s) ≡ t))
 unfolding byTypes
 types-accept s t = (go (firstFailing s (judgements s (inputs s) (circuit s))), λ p. rw (p .0, p .1))
   where
@@ -77,5 +75,6 @@ exact s t = (there, λ p. back (p .0) (p .1))
         let g = grown-circuit w in
         let same : expressionOf s (circuit s) ≡ e = let f = decodes w in cc in
         let j = typed-judged w fit (inputs s) (circuit s) g c (typeAt s t) (rw same h) in
-        let u = same-type-same-record w fit (typeOf s (inputs s) (circuit s)) t (type-of-record w (inputs s) (circuit s) g c (j .0)) r (j .1) in
+        let found = type-of-record w (inputs s) (circuit s) g c (j .0) in
+        let u = same-type-same-record w fit (typeOf s (inputs s) (circuit s)) t found r (j .1) in
         accepted-by-types s t .1 (p, types-accept s t .1 (judged-passed s (inputs s) (circuit s) (j .0), u))

@@ -21,7 +21,6 @@ use Rattle.records.specs.Trees.{
   delayOf,
 }
 use Rattle.typing.specs.Judgements.{
-  Judgement,
   Rule,
   leavesFit,
   inScope,

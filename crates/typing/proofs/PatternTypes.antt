@@ -5,10 +5,10 @@
 use Prim.Native.Nat.{ℕ}
 use mathlib.Core.Bool.{true, _&&_}
 use mathlib.Core.List.{List}
-use mathlib.Core.Path.{_≡_, refl, sym, _∙_}
+use mathlib.Core.Path.{_≡_, refl, sym}
 use lib.Dec.{eqb}
 use borrow.Author.Tests.{eqb-true, eq-eqb}
-use Rattle.picoella.specs.Types.{Ty, Flat, TyTuple}
+use Rattle.picoella.specs.Types.{Ty}
 use Rattle.picoella.specs.Patterns.{
   Pattern,
   Whole,
@@ -20,7 +20,7 @@ use Rattle.picoella.specs.Patterns.{
   p-parts,
   p-bar,
 }
-use Rattle.picoella.proofs.Inversion.{PatternPremises, pattern-premises}
+use Rattle.picoella.proofs.Inversion.{pattern-premises}
 use Rattle.records.specs.Words.{wordA, wordB}
 use Rattle.records.specs.Kinds.{isPair}
 use Rattle.records.specs.Says.{kindAt}
@@ -44,7 +44,8 @@ or-else-typed s (wholeType r t m) p τ g h rest = p-bar h (rest g)
 or-else-typed s (oneConstructor r t k m) p τ g h rest = p-bar h (rest g)
 or-else-typed s (pairOfPatterns r a b m) p τ g h rest = p-bar h (rest g)
 
-pub fits-typed : {s : List ℕ} → Written s → (m : Alternatives) (t : ℕ) → TypeRecord s t → GrownPattern s m → patternFits s m t ≡ true
+pub fits-typed : {s : List ℕ} → Written s → (m : Alternatives) (t : ℕ) → TypeRecord s t → GrownPattern s m
+    → patternFits s m t ≡ true
     → HasType (patternOf s m) (typeAt s t)
 fits-typed {s} w end t u g f = absurd g
 fits-typed {s} w noPattern t u g f = absurd g

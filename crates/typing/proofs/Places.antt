@@ -33,7 +33,8 @@ tested : (P : Verdict → Type 0) (b : Bool) (v w : Verdict) → (b ≡ true →
 tested P true v w passed failed = passed refl
 tested P false v w passed failed = failed refl
 
-searched : (P : Verdict → Type 0) (o : Option ℕ) (f : ℕ → Verdict) (v : Verdict) → ((r : ℕ) → o ≡ some r → P (f r)) → (o ≡ none → P v)
+searched : (P : Verdict → Type 0) (o : Option ℕ) (f : ℕ → Verdict) (v : Verdict) → ((r : ℕ) → o ≡ some r → P (f r))
+    → (o ≡ none → P v)
     → P (refusing o f v)
 searched P (some r) f v found nothing = found r refl
 searched P none f v found nothing = nothing refl

@@ -7,7 +7,6 @@ use mathlib.Core.List.{List, [], _∷_}
 use native.Mathlib.Omega.{arith}
 use lib.ListN.{length, getD}
 use borrow.Author.Tests.{ltb-true}
-use Rattle.records.specs.Words.{count}
 use Rattle.records.specs.Says.{kindAt}
 use Rattle.records.specs.TypeRecords.{TypeRecord, pairOf}
 use Rattle.records.specs.Trees.{
@@ -28,12 +27,8 @@ use Rattle.records.proofs.Table.{is-pair}
 use Rattle.records.proofs.TypeRecords.{first-part, second-part, found-pair}
 use Rattle.records.proofs.Grown.{Grown}
 use Rattle.typing.specs.Judgements.{typeOf}
+use Rattle.typing.specs.Judging.{Context}
 use Rattle.typing.proofs.Judged.{Judged}
-
--- the names in scope have type records
-abbrev pub Context : List ℕ → List ℕ → Type 0
-Context s [] = Unit {0}
-Context s (t ∷ Γ) = TypeRecord s t × Context s Γ
 
 pub in-context : (s Γ : List ℕ) (k : ℕ) → Context s Γ → k < length Γ → TypeRecord s (getD Γ k 0)
 in-context s [] k c h = absurd (omega arith)
@@ -41,7 +36,8 @@ in-context s (t ∷ Γ) zero c h = c .0
 in-context s (t ∷ Γ) (suc k) c h = in-context s Γ k (c .1) (omega arith)
 
 -- an expression whose rules hold has a type record
-pub type-of-record : {s : List ℕ} → Written s → (Γ : List ℕ) (e : Tree) → Grown s e → Context s Γ → Judged s Γ e → TypeRecord s (typeOf s Γ e)
+pub type-of-record : {s : List ℕ} → Written s → (Γ : List ℕ) (e : Tree) → Grown s e → Context s Γ → Judged s Γ e
+    → TypeRecord s (typeOf s Γ e)
 type-of-record {s} w Γ noExpression g c j = absurd g
 type-of-record {s} w Γ (constantOf r t ls) g c j = g
 type-of-record {s} w Γ (nameOf r k) g c j = in-context s Γ k c (ltb-true k (length Γ) j)

@@ -3,12 +3,12 @@
 -- into the same record.
 -- Assumes nothing.
 use Prim.Native.Nat.{ℕ, zero, suc, _<_}
-use mathlib.Core.Bool.{true, _&&_}
+use mathlib.Core.Bool.{true}
 use mathlib.Core.List.{List, [], _∷_, map}
 use mathlib.Core.Path.{_≡_, refl, sym, ap, ap₂, _∙_}
 use native.Mathlib.Omega.{arith}
 use lib.ListN.{length, getD}
-use lib.Dec.{leb, ltb}
+use lib.Dec.{leb}
 use borrow.Author.Tests.{leb-true, le-leb, ltb-true, lt-ltb, eqb-true, eq-eqb}
 use Rattle.picoella.specs.Types.{Ty, TyTuple, bounds, Within, none, leaf}
 use Rattle.picoella.specs.Typing.{
@@ -53,19 +53,21 @@ use Rattle.records.proofs.TypeRecords.{first-part, second-part, found-pair, pai
 use Rattle.records.proofs.Grown.{Grown}
 use Rattle.typing.specs.Judgements.{within, typeOf}
 use Rattle.typing.proofs.Judged.{Judged}
-use Rattle.typing.proofs.TypeRecordsOf.{Context, type-of-record}
+use Rattle.typing.specs.Judging.{Context}
+use Rattle.typing.proofs.TypeRecordsOf.{type-of-record}
 use Rattle.typing.proofs.PatternTypes.{fits-typed, typed-fits}
 
-within-fits : (ns vs : List ℕ) → within ns vs ≡ true → Within ns vs
+pub within-fits : (ns vs : List ℕ) → within ns vs ≡ true → Within ns vs
 within-fits [] [] e = none
 within-fits [] (v ∷ vs) e = absurd (never-both _ e refl)
 within-fits (n ∷ ns) [] e = absurd (never-both _ e refl)
 within-fits (n ∷ ns) (v ∷ vs) e =
     leaf (leb-true v n (both-left (leb v n) (within ns vs) e)) (within-fits ns vs (both-right (leb v n) (within ns vs) e))
 
-fits-within : (ns vs : List ℕ) → Within ns vs → within ns vs ≡ true
+pub fits-within : (ns vs : List ℕ) → Within ns vs → within ns vs ≡ true
 fits-within xs ys none = refl
-fits-within xs ys (leaf {n = n} {v = v} {ns = ns} {vs = vs} h f) = both (leb v n) (within ns vs) (le-leb v n h) (fits-within ns vs f)
+fits-within xs ys (leaf {n = n} {v = v} {ns = ns} {vs = vs} h f) =
+    both (leb v n) (within ns vs) (le-leb v n h) (fits-within ns vs f)
 
 name-typed : (s Γ : List ℕ) (k : ℕ) → k < length Γ → Named (map (typeAt s) Γ) k (typeAt s (getD Γ k 0))
 name-typed s [] k h = absurd (omega arith)
@@ -78,7 +80,8 @@ typed-name s (t ∷ Γ) k τ here = (omega arith, refl)
 typed-name s (t ∷ Γ) k τ (there {n = m} n) = let f = typed-name s Γ m τ n in (omega arith, f .1)
 
 -- the type of the pair record of two parts
-pair-of-type : {s : List ℕ} → Written s → (a b : ℕ) → 0 < pairOf s a b → typeAt s (pairOf s a b) ≡ TyTuple (typeAt s a) (typeAt s b)
+pair-of-type : {s : List ℕ} → Written s → (a b : ℕ) → 0 < pairOf s a b
+    → typeAt s (pairOf s a b) ≡ TyTuple (typeAt s a) (typeAt s b)
 pair-of-type {s} w a b h =
     let f = pair-of-found s a b (pairOf s a b) refl h in
     pair-type w (pairOf s a b) (f .0) (f .1) ∙ rw (f .2, f .3)

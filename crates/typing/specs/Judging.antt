@@ -2,14 +2,14 @@
 -- way, the leaf count of the type of each expression, one byte a record.
 use Prim.Native.Nat.{ℕ, zero, suc, _≤_, _<_}
 use mathlib.Core.Path.{_≡_}
-use mathlib.Core.Bool.{Bool, _&&_}
+use mathlib.Core.Bool.{Bool, true, false, _&&_}
 use mathlib.Core.List.{List, [], _∷_}
 use mathlib.Core.Option.{Option, none, some}
 use lib.ListN.{length, getD, set}
 use Rattle.picoella.specs.Types.{leaves}
 use Rattle.records.specs.Words.{next}
-use Rattle.records.specs.Kinds.{expressions, patterns, leafs}
-use Rattle.records.specs.Says.{sortAt}
+use Rattle.records.specs.Kinds.{expressions, patterns, expression, first, second}
+use Rattle.records.specs.Says.{sortAt, kindAt}
 use Rattle.records.specs.Sized.{Sized}
 use Rattle.records.specs.TypeRecords.{typeAt, TypeRecord}
 use Rattle.records.specs.Trees.{
@@ -31,7 +31,7 @@ use Rattle.records.specs.Trees.{
 use Rattle.layout.specs.Depth.{depth}
 use Rattle.layout.specs.Passes.{Passes}
 use Rattle.layout.specs.LeafTable.{Counts}
-use Rattle.typing.specs.Judgements.{typeOf, judgements, firstFailing, patternFits}
+use Rattle.typing.specs.Judgements.{Rule, holds, typeOf, judgements, firstFailing, patternFits}
 use Rattle.typing.specs.declared.Outcome.{Outcome}
 use Rattle.typing.specs.declared.Outcome.the-variants.{Typed, Fault}
 
@@ -105,3 +105,24 @@ pub record Matching (s : List ℕ) (n p t : ℕ) : Type 0 where
 abbrev pub FitsOne : List ℕ → ℕ → ℕ → Bool → Type 0
 FitsOne s p t answer =
     patternFits s (alternatives s p) t ≡ (answer && patternFits s (follow end (alternatives s) (next s p)) t)
+
+-- a last judgement of an expression at record rec: where the rule holds, its type is t, and the type's leaf count is noted
+abbrev pub lastly : Bool → ℕ → ℕ → Outcome
+lastly true rec t = Typed t
+lastly false rec t = Fault rec
+
+pub record Closed (s : List ℕ) (rule : Rule) (rec t : ℕ) (answer : Outcome) (before after : List ℕ) : Type 0 where
+  pub answered : answer ≡ lastly (holds s rule) rec t
+  pub long : length after ≡ 4096
+  pub notes : (u : ℕ) → answer ≡ Typed u → after ≡ set before rec (leaves (typeAt s t))
+
+-- what a last judgement is called with
+pub record Closing (s : List ℕ) (n : ℕ) (table : List ℕ) (rec : ℕ) (widths : List ℕ) : Type 0 where
+  pub ground : Ground s n table
+  pub there : rec < n
+  pub long : length widths ≡ 4096
+
+-- record rec takes the part of a pair whose type is in word k of the pair's record
+pub data PartAt (s : List ℕ) (rec : ℕ) : ℕ → Type 0 where
+  at-first : kindAt s rec ≡ expression first → PartAt s rec 2
+  at-second : kindAt s rec ≡ expression second → PartAt s rec 3

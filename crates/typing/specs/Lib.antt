@@ -3,3 +3,4 @@ pub mod Judgements
 pub mod Judging
 pub mod Verdict
 pub mod Promises
+pub mod Scopes

@@ -1,0 +1,107 @@
+-- One term of each promise of the front page, `specs/Promises.antt`; the theorems stand in the files beside this one. A promise
+-- without a term is refused here.
+-- Assumes nothing.
+use Prim.Native.Nat.{ℕ}
+use mathlib.Core.Path.{refl, sym, _∙_}
+use mathlib.Core.List.{List, _∷_}
+use Rattle.picoella.specs.Types.{Ty}
+use Rattle.meaning.specs.Values.{ValuesOf}
+use Rattle.meaning.specs.Elaboration.{Term, Elaborated}
+use Rattle.meaning.specs.Constants.{ConstantTree}
+use Rattle.meaning.specs.Undecided.{Lawful, Agreeing}
+use Rattle.meaning.specs.Evaluation.{eval, next}
+use Rattle.meaning.specs.Promises.{IterateEquations, Settles, Promises, AllPromises}
+use Rattle.meaning.proofs.Order.{both-below, both-of}
+use Rattle.meaning.proofs.MatchMonotone.{match-monotone}
+use Rattle.meaning.proofs.EvaluationMonotone.{eval-monotone, eval-typed}
+use Rattle.meaning.proofs.FeedbackLeast.{
+  application-typed,
+  feedback-rises,
+  feedback-stable,
+  feedback-typed,
+  feedback-fixed,
+  feedback-least,
+  applications-most,
+  applications-reach,
+  applications-fewest,
+  iterate-unchanged,
+  iterate-again,
+}
+use Rattle.meaning.proofs.ElaborationUnique.{elaboration-exists, elaboration-unique, erased-typed}
+use Rattle.meaning.proofs.NextTyped.{next-typed, next-frame, outputs-typed, after-typed, after-frame}
+use Rattle.meaning.proofs.AnnotationIgnored.{eval-annotation, next-annotation}
+use Rattle.meaning.proofs.FlattenOneToOne.{flatten-typed, flatten-one, flatten-onto}
+use Rattle.meaning.proofs.MatchAgrees.{match-agrees}
+use Rattle.meaning.proofs.RulesDeterministic.{reduces-one, reduces-seq-one}
+use Rattle.meaning.proofs.Adequacy.{cycle-adequate, cycle-exists, run-adequate, run-exists}
+use Rattle.meaning.proofs.UndefinedLeavesLawful.{undefined-lawful, undefined-agreeing}
+
+module _
+    (undecided : List ℕ → List ℕ → List ℕ)
+    (law : Lawful undecided)
+    (tree : ConstantTree → ConstantTree → ConstantTree)
+    (agree : Agreeing undecided tree)
+    (Declared : Ty → Type 0)
+  where
+    settles
+        : {Γ : List Ty} {ρ : List (List ℕ)} {σ : Ty} {t : Term}
+        → Elaborated Declared (σ ∷ Γ) t σ → ValuesOf Γ ρ → Settles undecided law tree agree Declared ρ σ t
+    unfolding eval next
+    settles typed env =
+        record {
+          rises = λ k. both-below (feedback-rises undecided law Declared typed env k);
+          stable = feedback-stable undecided law Declared typed env;
+          of-type = feedback-typed undecided law Declared typed env;
+          fixed = feedback-fixed undecided law Declared typed env;
+          least = λ w h p. both-below (feedback-least undecided law Declared typed env h p);
+          at-most = applications-most undecided law Declared typed env;
+          reached = applications-reach undecided law Declared typed env;
+          none-fewer = applications-fewest undecided law Declared typed env;
+          value = λ s. refl;
+          after-cycle = λ s. refl;
+        }
+
+    iterate-equations : IterateEquations undecided law tree agree Declared
+    iterate-equations Γ ρ σ t v typed env h below = (
+      λ p. iterate-unchanged undecided law Declared typed env p ∙ sym p,
+      iterate-again undecided law Declared typed env
+          (both-of h (application-typed undecided law Declared typed env h) below),
+    )
+
+    kept-promises : Promises undecided law tree agree Declared
+    kept-promises =
+        record {
+          elaboration-exists = λ Γ e τ d. elaboration-exists Declared d;
+          elaboration-unique = λ Γ t s σ τ h k p. elaboration-unique Declared h k p;
+          erasure-typed = λ Γ t τ h. erased-typed Declared h;
+          annotation-ignored = λ places ρ t. (eval-annotation undecided places ρ t, next-annotation undecided places ρ t);
+          evaluation-typed = λ Γ t τ ρ h env. eval-typed undecided law Declared h env;
+          next-typed = λ Γ t τ ρ h env. (next-typed undecided law Declared h env, next-frame undecided ρ t);
+          run-typed = λ Γ t σ τ ρ inputs h env given. (
+            outputs-typed undecided law Declared h env given,
+            after-typed undecided law Declared h env given,
+            after-frame undecided ρ t inputs,
+          );
+          match-monotone = λ p τ v w h i j below. match-monotone h (both-of i j below);
+          evaluation-monotone = λ Γ t τ ρ π h r. both-below (eval-monotone undecided law Declared h r);
+          feedback-least = λ Γ ρ σ t h env. settles h env;
+          iterate-equations = iterate-equations;
+          flatten-one-to-one = λ τ.
+              (λ c h. flatten-typed h, λ c d h k p. flatten-one h k p, λ v h. flatten-onto τ h);
+          match-agrees = λ p τ c h k. match-agrees h k;
+          cycle-adequate = λ Γ t τ l c f h env. cycle-adequate undecided tree law agree Declared h env;
+          cycle-exists = λ Γ t τ l h env. cycle-exists undecided tree law agree Declared h env;
+          cycle-unique = λ l e f g c d r s. reduces-one tree r s;
+          run-adequate = λ Γ t σ τ l inputs cs f h env given.
+              run-adequate undecided tree law agree Declared h env given;
+          run-exists = λ Γ t σ τ l inputs h env given. run-exists undecided tree law agree Declared h env given;
+          run-unique = λ l inputs cs ds e f g r s. reduces-seq-one tree r s;
+        }
+
+pub kept : AllPromises
+kept =
+    record {
+      every-rule = kept-promises;
+      undefined-lawful = undefined-lawful;
+      undefined-agreeing = undefined-agreeing;
+    }

@@ -1,0 +1,192 @@
+-- A sheet with only leaves rewritten has the same kinds, types, chains, alternatives, trees and namings: none of them reads the
+-- word a of a leaf record. Each by induction on the steps, a record at a time: it is a leaf, whose word a is not read, or its
+-- words are the same.
+-- Assumes nothing.
+use Prim.Native.Nat.{ℕ, zero, suc}
+use mathlib.Core.Bool.{false, cond}
+use mathlib.Core.List.{List, _++_}
+use mathlib.Core.Path.{_≡_, refl, sym, ap, ap₂, fun-ext, _∙_}
+use mathlib.Core.Logic.{_⊎_, inl, inr}
+use native.Mathlib.Omega.{arith}
+use native.Mathlib.Decide.{ℕ-discrete}
+use lib.ListN.{length}
+use Rattle.records.specs.Words.{word, count, next, wordA, wordB, wordC, wordD}
+use Rattle.records.specs.Kinds.{
+  Kind,
+  header,
+  typeOf,
+  expression,
+  pattern,
+  leaf,
+  unknown,
+  constant,
+  name,
+  tuple,
+  first,
+  second,
+  letIn,
+  feedback,
+  ifMatches,
+  delay,
+  kindOf,
+}
+use Rattle.records.specs.Says.{kindAt}
+use Rattle.records.specs.TypeRecords.{typeWithin, typeAt, isPairOf, pairBelow, pairOf}
+use Rattle.records.specs.Namings.{namesAt, ifNamed, namingsIn, namingsBelow, namings}
+use Rattle.records.specs.Trees.{
+  Tree,
+  constantOf,
+  ifOf,
+  delayOf,
+  treeStep,
+  chainWithin,
+  chain,
+  alternativesWithin,
+  alternatives,
+  treeWithin,
+  treeAt,
+  circuit,
+}
+use Rattle.records.specs.Rewritten.{OnlyLeaves}
+use Rattle.records.proofs.Table.{askOfKind, ask-by-kind}
+
+pub leaf-or-not : (k : Kind) → (k ≡ leaf) ⊎ (k ≡ leaf → ⊥)
+leaf-or-not leaf = inl refl
+leaf-or-not header = inr (λ e. let z : _≡_ {A = ℕ} 0 1 = cc in omega arith)
+leaf-or-not (typeOf k) = inr (λ e. let z : _≡_ {A = ℕ} 0 1 = cc in omega arith)
+leaf-or-not (expression k) = inr (λ e. let z : _≡_ {A = ℕ} 0 1 = cc in omega arith)
+leaf-or-not (pattern k) = inr (λ e. let z : _≡_ {A = ℕ} 0 1 = cc in omega arith)
+leaf-or-not unknown = inr (λ e. let z : _≡_ {A = ℕ} 0 1 = cc in omega arith)
+
+module _ (s s′ : List ℕ) (o : OnlyLeaves s s′) where
+  pub same-count : count s′ ≡ count s
+  unfolding count
+  same-count = rw (o .length)
+
+  pub same-kind : (r : ℕ) → kindAt s′ r ≡ kindAt s r
+  same-kind r = ap kindOf (o .leaves r 0 (λ e. omega arith))
+
+  pub same-next : (r : ℕ) → next s′ r ≡ next s r
+  same-next r = o .leaves r 1 (λ e. omega arith)
+
+  -- a record is a leaf or has the same words
+  pub leaf-or-same : (r : ℕ) → (kindAt s r ≡ leaf) ⊎ (word s′ r ≡ word s r)
+  leaf-or-same r = go (leaf-or-not (kindAt s r))
+    where
+      go : (kindAt s r ≡ leaf) ⊎ (kindAt s r ≡ leaf → ⊥) → (kindAt s r ≡ leaf) ⊎ (word s′ r ≡ word s r)
+      go (inl e) = inl e
+      go (inr f) = inr (fun-ext (o .others r f))
+
+  chains-same : (n : ℕ) → chainWithin s′ n ≡ chainWithin s n
+  unfolding chainWithin
+  chains-same zero = refl
+  chains-same (suc n) = fun-ext (λ r. rw (same-next r, chains-same n))
+
+  pub same-chain : (r : ℕ) → chain s′ r ≡ chain s r
+  unfolding chain
+  same-chain r = rw (same-count, chains-same (count s))
+
+  types-same : (n : ℕ) → typeWithin s′ n ≡ typeWithin s n
+  unfolding typeWithin
+  types-same zero = refl
+  types-same (suc n) = fun-ext (λ r. go r (leaf-or-same r) (types-same n))
+    where
+      go : (r : ℕ) → (kindAt s r ≡ leaf) ⊎ (word s′ r ≡ word s r) → typeWithin s′ n ≡ typeWithin s n
+          → typeWithin s′ (suc n) r ≡ typeWithin s (suc n) r
+      go r (inl e) ih = rw (same-kind r, e)
+      go r (inr e) ih = rw (e, ih)
+
+  pub same-type : (r : ℕ) → typeAt s′ r ≡ typeAt s r
+  unfolding typeAt
+  same-type r = rw (types-same (suc r))
+
+  pub same-pair : (a b r : ℕ) → isPairOf s′ a b r ≡ isPairOf s a b r
+  same-pair a b r = go (leaf-or-same r)
+    where
+      go : (kindAt s r ≡ leaf) ⊎ (word s′ r ≡ word s r) → isPairOf s′ a b r ≡ isPairOf s a b r
+      go (inl e) = rw (same-kind r, e)
+      go (inr e) = rw e
+
+  pub same-pair-below : (a b n : ℕ) → pairBelow s′ a b n ≡ pairBelow s a b n
+  same-pair-below a b zero = refl
+  same-pair-below a b (suc n) = go (pairBelow s a b n) refl (same-pair-below a b n)
+    where
+      go : (v : ℕ) → pairBelow s a b n ≡ v → pairBelow s′ a b n ≡ v → pairBelow s′ a b (suc n) ≡ pairBelow s a b (suc n)
+      go zero e f = rw (e, f) (ap (λ t. cond t n 0) (same-pair a b n))
+      go (suc r) e f = rw (e, f)
+
+  pub same-pair-of : (a b : ℕ) → pairOf s′ a b ≡ pairOf s a b
+  unfolding pairOf
+  same-pair-of a b = rw (same-count, same-pair-below a b (count s))
+
+  alternatives-same : (n : ℕ) → alternativesWithin s′ n ≡ alternativesWithin s n
+  unfolding alternativesWithin
+  alternatives-same zero = refl
+  alternatives-same (suc n) = fun-ext (λ r. go r (leaf-or-same r) (alternatives-same n))
+    where
+      go : (r : ℕ) → (kindAt s r ≡ leaf) ⊎ (word s′ r ≡ word s r) → alternativesWithin s′ n ≡ alternativesWithin s n
+          → alternativesWithin s′ (suc n) r ≡ alternativesWithin s (suc n) r
+      go r (inl e) ih = rw (same-kind r, e)
+      go r (inr e) ih = rw (e, ih)
+
+  pub same-alternatives : (r : ℕ) → alternatives s′ r ≡ alternatives s r
+  unfolding alternatives
+  same-alternatives r = rw (same-count, alternatives-same (count s))
+
+  tree-step-same : (go : ℕ → Tree) (k : Kind) (r a b c d : ℕ) → treeStep s′ go k r a b c d ≡ treeStep s go k r a b c d
+  tree-step-same go header r a b c d = refl
+  tree-step-same go (typeOf k) r a b c d = refl
+  tree-step-same go (expression constant) r a b c d = ap (constantOf r a) (same-chain b)
+  tree-step-same go (expression name) r a b c d = refl
+  tree-step-same go (expression tuple) r a b c d = refl
+  tree-step-same go (expression first) r a b c d = refl
+  tree-step-same go (expression second) r a b c d = refl
+  tree-step-same go (expression letIn) r a b c d = refl
+  tree-step-same go (expression feedback) r a b c d = refl
+  tree-step-same go (expression ifMatches) r a b c d = ap (λ p. ifOf r (go a) p (go b) (go c)) (same-alternatives d)
+  tree-step-same go (expression delay) r a b c d = ap (λ ls. delayOf r a ls (go c)) (same-chain b)
+  tree-step-same go (pattern k) r a b c d = refl
+  tree-step-same go leaf r a b c d = refl
+  tree-step-same go unknown r a b c d = refl
+
+  trees-same : (n : ℕ) → treeWithin s′ n ≡ treeWithin s n
+  unfolding treeWithin
+  trees-same zero = refl
+  trees-same (suc n) = fun-ext (λ r. go r (leaf-or-same r) (trees-same n))
+    where
+      go : (r : ℕ) → (kindAt s r ≡ leaf) ⊎ (word s′ r ≡ word s r) → treeWithin s′ n ≡ treeWithin s n
+          → treeWithin s′ (suc n) r ≡ treeWithin s (suc n) r
+      go r (inl e) ih = rw (same-kind r, e)
+      go r (inr e) ih = rw (e, ih) (tree-step-same (treeWithin s n) (kindAt s r) r (wordA s r) (wordB s r) (wordC s r) (wordD s r))
+
+  pub same-tree : (r : ℕ) → treeAt s′ r ≡ treeAt s r
+  unfolding treeAt
+  same-tree r = rw (same-count, trees-same (count s))
+
+  pub same-circuit : circuit s′ ≡ circuit s
+  unfolding circuit
+  same-circuit = rw (o .leaves 0 3 (λ e. omega arith), same-tree (wordB s 0))
+
+  same-naming : (r q k : ℕ) → namesAt s′ r q k ≡ namesAt s r q k
+  same-naming r q k = go (ℕ-discrete k 2) (leaf-or-same q)
+    where
+      -- the word a of a leaf asks for a byte, and names nothing
+      unnamed : (z : List ℕ) → kindAt z q ≡ leaf → namesAt z r q 2 ≡ false
+      unnamed z e = rw (ask-by-kind z q 2 leaf e) (unfold askOfKind in refl)
+
+      go : Dec (k ≡ 2) → (kindAt s q ≡ leaf) ⊎ (word s′ q ≡ word s q) → namesAt s′ r q k ≡ namesAt s r q k
+      go (no f) d = rw (o .leaves q 0 (λ e. omega arith), o .leaves q k f)
+      go (yes z) (inr e) = rw e
+      go (yes z) (inl e) = rw z (unnamed s′ (same-kind q ∙ e) ∙ sym (unnamed s e))
+
+  pub same-namings : (r : ℕ) → namings s′ r ≡ namings s r
+  unfolding namings
+  same-namings r = rw same-count (below (count s))
+    where
+      within : (q n : ℕ) → namingsIn s′ r q n ≡ namingsIn s r q n
+      within q zero = refl
+      within q (suc n) = ap₂ _++_ (within q n) (ap (λ t. ifNamed t q (suc n)) (same-naming r q (suc n)))
+
+      below : (n : ℕ) → namingsBelow s′ r n ≡ namingsBelow s r n
+      below zero = refl
+      below (suc n) = ap₂ _++_ (below n) (within n 5)

@@ -1,0 +1,59 @@
+-- The laws speak of some sheet: document 01's sheet T is accepted with type 1, by computation; so it passes codes 1 to 6, is well
+-- typed, and its root is an expression of an accepted circuit.
+-- Assumes nothing.
+use Prim.Native.Nat.{ℕ, _%_, _/_}
+use mathlib.Core.List.{List, [], _∷_}
+use mathlib.Core.Path.{_≡_, refl}
+use Rattle.records.specs.Words.{word, count, wordB}
+use Rattle.records.specs.Kinds.{rowOf, kindOf, askOf}
+use Rattle.records.specs.Says.{wellSaid}
+use Rattle.records.specs.Namings.{namings}
+use Rattle.records.specs.TypeRecords.{typeWithin, typeAt, pairOf}
+use Rattle.records.specs.Trees.{chainWithin, chain, alternativesWithin, alternatives, treeWithin, treeAt, circuit}
+use Rattle.layout.specs.Depth.{ancestryWithin, ancestry, depth, nesting}
+use Rattle.layout.specs.Rules.{wrongLength, wrongHeader, wrongRecord, wrongNaming, wrongType, tooDeep}
+use Rattle.layout.specs.Passes.{Passes}
+use Rattle.typing.specs.Verdict.{inputs, byTypes, byRecords, verdict}
+use Rattle.typing.specs.Promises.{WellTyped}
+use Rattle.typing.specs.Scopes.{root}
+use Rattle.typing.specs.declared.Verdict.the-variants.{Accepted}
+use Rattle.typing.proofs.Exact.{exact}
+use Rattle.typing.proofs.Scopes.{Checked, scope-checked}
+
+-- the bytes of words, low byte first
+abbrev bytes : List ℕ → List ℕ
+bytes [] = []
+bytes (w ∷ ws) = w % 256 ∷ w / 256 ∷ bytes ws
+
+-- six words a record: kind, next, a, b, c, d
+abbrev sheet : List ℕ
+sheet =
+    bytes
+    (1 ∷ 1 ∷ 1 ∷ 2 ∷ 17 ∷ 0
+    ∷ 16 ∷ 0 ∷ 2 ∷ 0 ∷ 0 ∷ 0
+    ∷ 38 ∷ 0 ∷ 1 ∷ 3 ∷ 16 ∷ 0
+    ∷ 40 ∷ 0 ∷ 1 ∷ 4 ∷ 5 ∷ 0
+    ∷ 64 ∷ 0 ∷ 2 ∷ 0 ∷ 0 ∷ 0
+    ∷ 39 ∷ 0 ∷ 6 ∷ 8 ∷ 15 ∷ 7
+    ∷ 33 ∷ 0 ∷ 1 ∷ 0 ∷ 0 ∷ 0
+    ∷ 49 ∷ 0 ∷ 1 ∷ 1 ∷ 0 ∷ 0
+    ∷ 39 ∷ 0 ∷ 9 ∷ 11 ∷ 13 ∷ 10
+    ∷ 33 ∷ 0 ∷ 0 ∷ 0 ∷ 0 ∷ 0
+    ∷ 49 ∷ 0 ∷ 1 ∷ 2 ∷ 0 ∷ 0
+    ∷ 32 ∷ 0 ∷ 1 ∷ 12 ∷ 0 ∷ 0
+    ∷ 64 ∷ 0 ∷ 1 ∷ 0 ∷ 0 ∷ 0
+    ∷ 32 ∷ 0 ∷ 1 ∷ 14 ∷ 0 ∷ 0
+    ∷ 64 ∷ 0 ∷ 2 ∷ 0 ∷ 0 ∷ 0
+    ∷ 33 ∷ 0 ∷ 0 ∷ 0 ∷ 0 ∷ 0
+    ∷ 33 ∷ 0 ∷ 0 ∷ 0 ∷ 0 ∷ 0
+    ∷ [])
+
+accepted : verdict sheet ≡ Accepted 1
+unfolding verdict byRecords byTypes wrongLength wrongHeader wrongRecord wrongNaming wrongType tooDeep depth nesting ancestry ancestryWithin circuit treeAt treeWithin alternatives alternativesWithin chain chainWithin pairOf typeAt typeWithin namings wellSaid askOf kindOf rowOf word count
+accepted = refl
+
+passes : Passes sheet × WellTyped sheet 1
+passes = exact sheet 1 .0 accepted
+
+root-checked : Checked sheet (wordB sheet 0) (inputs sheet)
+root-checked = scope-checked 1 (passes .0) accepted root

@@ -1,0 +1,90 @@
+//! Compares the two checks on one sheet at a time and keeps count.
+
+use std::fmt::Write;
+use std::hint::black_box;
+use std::sync::atomic::{AtomicBool, Ordering};
+
+use second::check::{check, packed, Verdict};
+use second::mistake::Mistake;
+use second::table::read;
+
+use crate::external;
+use crate::tally::Tally;
+
+/// A sheet on which the two checks differ.
+pub struct Difference {
+    source: String,
+    sheet: Vec<u8>,
+    second: Verdict,
+    archive: u64,
+    altered: bool,
+}
+
+impl Difference {
+    /// The sheet as words and as hex, and both verdicts.
+    pub fn report(&self) -> String {
+        let mut text = format!("difference found, in: {}\n", self.source);
+        for (number, record) in read(&self.sheet).iter().enumerate() {
+            let words = record.map(|w| w.to_string()).join(" ");
+            let _ = writeln!(text, "{number}: {words}");
+        }
+        let _ = writeln!(text, "{} bytes: {}", self.sheet.len(), hex(&self.sheet));
+        let _ = writeln!(text, "second:  {} at {}", self.second.code, self.second.place);
+        let (code, place) = (self.archive >> 32, self.archive & 0xFFFF_FFFF);
+        let _ = writeln!(text, "archive: {code} at {place}");
+        if self.altered {
+            text.push_str("the archive's check altered the sheet\n");
+        }
+        text
+    }
+}
+
+/// The archive's verdict on a copy of the sheet that begins so many bytes
+/// after an aligned place, and whether the call altered any byte around.
+fn lend(sheet: &[u8], offset: usize) -> (u64, bool) {
+    const AROUND: u8 = 0xA5;
+    let mut copy = vec![AROUND; offset];
+    copy.extend_from_slice(sheet);
+    copy.resize(offset + sheet.len() + 8, AROUND);
+    let (before, rest) = copy.split_at(offset);
+    let (lent, after) = rest.split_at(sheet.len());
+    let archive = external::check(lent);
+    let kept = |bytes: &[u8]| black_box(bytes).iter().all(|&byte| byte == AROUND);
+    (archive, black_box(lent) != sheet || !kept(before) || !kept(after))
+}
+
+fn hex(bytes: &[u8]) -> String {
+    bytes.iter().map(|byte| format!("{byte:02x}")).collect()
+}
+
+/// Why a job ends early: it found a difference, or another job did.
+pub enum Halt {
+    Difference(Box<Difference>),
+    Stopped,
+}
+
+pub struct Comparer<'a> {
+    pub mistake: Option<Mistake>,
+    pub stop: &'a AtomicBool,
+    pub tally: Tally,
+}
+
+impl Comparer<'_> {
+    /// Compares both verdicts on a sheet; hands back the verdict.
+    pub fn compare(&mut self, source: &str, sheet: &[u8]) -> Result<Verdict, Halt> {
+        if self.stop.load(Ordering::Relaxed) {
+            return Err(Halt::Stopped);
+        }
+        let second = check(sheet, self.mistake);
+        let (archive, altered) = lend(sheet, (self.tally.compared % 8) as usize);
+        if altered || archive != packed(second) {
+            let sheet = sheet.to_vec();
+            let source = source.to_string();
+            let found = Difference { source, sheet, second, archive, altered };
+            return Err(Halt::Difference(Box::new(found)));
+        }
+        self.tally.compared += 1;
+        self.tally.codes[usize::from(second.code)] += 1;
+        Ok(second)
+    }
+}

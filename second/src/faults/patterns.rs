@@ -1,0 +1,119 @@
+//! Alternatives of a type other than the tested one: code 7 at the IF.
+
+use super::Category;
+use crate::draft::{Draft, Term};
+use crate::generate::patterns::full;
+use crate::generate::types::{other, twin};
+use crate::rng::Rng;
+use crate::survey::{alternatives, alternatives_of, Alternative};
+use crate::table::{D, FLAT, NEXT, PAIR_TYPE};
+
+/// Where an alternative stands.
+#[derive(Clone, Copy)]
+enum Where {
+    First,
+    Later,
+    Nested,
+}
+
+/// What stands there instead.
+#[derive(Clone, Copy)]
+enum Wrong {
+    Whole,
+    Constructor,
+    PairOnFlat,
+    PairOfOthers,
+    WholeTwin,
+    FullTwin,
+}
+
+const PLACES: [(Where, &str); 3] = [
+    (Where::First, "first alternative"),
+    (Where::Later, "later alternative"),
+    (Where::Nested, "part of a pair pattern"),
+];
+
+const WRONGS: [(Wrong, &str); 6] = [
+    (Wrong::Whole, "whole, another type"),
+    (Wrong::Constructor, "constructor, another type"),
+    (Wrong::PairOnFlat, "pair pattern on a flat type"),
+    (Wrong::PairOfOthers, "pair pattern of another type"),
+    (Wrong::WholeTwin, "whole, same shape"),
+    (Wrong::FullTwin, "down to the leaves, same shape"),
+];
+
+pub fn categories() -> Vec<Category> {
+    let mut all = Vec::new();
+    for (place, place_name) in PLACES {
+        for (wrong, wrong_name) in WRONGS {
+            let name = format!("pattern: {place_name}: {wrong_name}");
+            all.push(Category::draft(7, name, move |draft, rng| {
+                let stands = |spot: &Alternative| match place {
+                    Where::First => spot.level == 0 && spot.word == D,
+                    Where::Later => spot.level == 0 && spot.word == NEXT,
+                    Where::Nested => spot.level > 0,
+                };
+                let spots: Vec<Alternative> =
+                    alternatives(draft).into_iter().filter(stands).collect();
+                rng.pick(&spots).is_some_and(|spot| put(draft, spot, wrong, rng))
+            }));
+        }
+    }
+    all
+}
+
+/// Breaks some alternative of an IF.
+pub fn break_pattern(draft: &mut Draft, choice: usize, rng: &mut Rng) -> bool {
+    let spots = alternatives_of(draft, choice);
+    let wrong = rng.pick(&[Wrong::Whole, Wrong::Constructor, Wrong::WholeTwin]);
+    match (rng.pick(&spots), wrong) {
+        (Some(spot), Some(wrong)) => put(draft, spot, wrong, rng),
+        _ => false,
+    }
+}
+
+/// Puts a wrong alternative in the place of one, with the same next.
+fn put(draft: &mut Draft, spot: Alternative, wrong: Wrong, rng: &mut Rng) -> bool {
+    let tested = draft.nodes[spot.node].of;
+    let Some(node) = wrong_pattern(draft, tested, wrong, rng) else { return false };
+    draft.nodes[node].words[NEXT] = draft.nodes[spot.node].words[NEXT];
+    draft.nodes[spot.holder].words[spot.word] = Term::Part(node);
+    true
+}
+
+/// A pattern that does not have the tested type.
+fn wrong_pattern(draft: &mut Draft, tested: usize, wrong: Wrong, rng: &mut Rng) -> Option<usize> {
+    match wrong {
+        Wrong::Whole => {
+            let of = other(draft, tested, rng, &|_, _| true)?;
+            Some(draft.whole(of))
+        }
+        Wrong::Constructor => {
+            let of = other(draft, tested, rng, &|draft, of| draft.kind(of) == FLAT)?;
+            Some(full(draft, of, rng))
+        }
+        Wrong::PairOnFlat => {
+            if draft.kind(tested) != FLAT {
+                return None;
+            }
+            let first = draft.whole(tested);
+            let second = draft.whole(tested);
+            Some(draft.pair_pattern(first, second, tested))
+        }
+        Wrong::PairOfOthers => {
+            let of = other(draft, tested, rng, &|draft, of| draft.kind(of) == PAIR_TYPE)?;
+            let (first, second) = draft.parts(of)?;
+            let first = draft.whole(first);
+            let second = draft.whole(second);
+            Some(draft.pair_pattern(first, second, of))
+        }
+        Wrong::WholeTwin => {
+            let of = twin(draft, tested, rng);
+            Some(draft.whole(of))
+        }
+        Wrong::FullTwin => {
+            let of = twin(draft, tested, rng);
+            Some(full(draft, of, rng))
+        }
+    }
+}

@@ -1,0 +1,180 @@
+//! Faults of single words against the table, the numbering rule or the sort
+//! asked for: code 3.
+
+use super::header::nonzero;
+use super::{past_count, some_record, Category};
+use crate::rng::Rng;
+use crate::table::{
+    sort, words, Record, Sort, Word, A, B, CONSTRUCTOR, FLAT, HEADER, KIND, KINDS, LEAF, NEXT,
+    PAIR_TYPE, WORD_NAMES,
+};
+
+pub fn categories() -> Vec<Category> {
+    let mut all = kinds();
+    all.extend(values());
+    for kind in KINDS {
+        let asked = words(kind).unwrap_or([Word::Zero; 5]);
+        for (k, word) in asked.into_iter().enumerate() {
+            all.extend(of_word(kind, NEXT + k, word));
+        }
+    }
+    all
+}
+
+/// A kind that is not in the table; often close to one that is.
+pub fn unknown_kind(rng: &mut Rng) -> u16 {
+    loop {
+        let kind = match rng.below(4) {
+            0 => rng.below(70) as u16,
+            1 => rng.pick(&[0, 2, 15, 18, 31, 41, 47, 51, 63, 65]).unwrap_or(0),
+            2 => rng.pick(&KINDS).unwrap_or(0) | (256 << rng.below(8)),
+            _ => rng.word(),
+        };
+        if kind != HEADER && sort(kind).is_none() {
+            return kind;
+        }
+    }
+}
+
+/// A record that the header doesn't name.
+fn free(records: &[Record], number: usize) -> bool {
+    ![NEXT, A, B].iter().any(|&w| usize::from(records[0][w]) == number)
+}
+
+/// A value for a word of the record with a number.
+type Value = dyn Fn(&[Record], usize, &mut Rng) -> Option<u16> + Send + Sync;
+
+/// Changes one word of a random record of a kind.
+fn change(
+    kind: u16,
+    word: usize,
+    value: impl Fn(&[Record], usize, &mut Rng) -> Option<u16>,
+) -> impl Fn(&mut Vec<Record>, &mut Rng) -> bool {
+    move |records, rng| {
+        let Some(number) = some_record(records, rng, |_, r| r[KIND] == kind) else {
+            return false;
+        };
+        let Some(value) = value(records, number, rng) else { return false };
+        records[number][word] = value;
+        true
+    }
+}
+
+fn kinds() -> Vec<Category> {
+    let mut all = Vec::new();
+    for wanted in [Sort::Type, Sort::Expression, Sort::Pattern, Sort::Leaf] {
+        let change = move |records: &mut Vec<Record>, rng: &mut Rng, kind: u16| {
+            let of_sort = |i: usize, r: &Record| sort(r[KIND]) == Some(wanted) && free(records, i);
+            let Some(number) = some_record(records, rng, of_sort) else { return false };
+            records[number][KIND] = kind;
+            true
+        };
+        let name = format!("kind: unknown, for a {wanted:?}").to_lowercase();
+        all.push(Category::words(3, name, move |records, rng| {
+            let kind = unknown_kind(rng);
+            change(records, rng, kind)
+        }));
+        let name = format!("kind: 1 for a {wanted:?}").to_lowercase();
+        all.push(Category::words(3, name, move |records, rng| change(records, rng, HEADER)));
+        let name = format!("kind: another sort for a {wanted:?}").to_lowercase();
+        all.push(Category::words(3, name, move |records, rng| {
+            let others = KINDS.into_iter().filter(|&k| sort(k) != Some(wanted));
+            let others: Vec<u16> = others.collect();
+            let kind = rng.pick(&others).unwrap_or(0);
+            change(records, rng, kind)
+        }));
+    }
+    all
+}
+
+/// Numbers outside their range.
+fn values() -> Vec<Category> {
+    let flat_count = |records: &[Record], number: usize| {
+        let of = usize::from(records[number][A]);
+        records[of][A]
+    };
+    let large = |_: &[Record], _: usize, rng: &mut Rng| {
+        Some(if rng.one_in(2) { 256 } else { rng.range(256, 65_535) as u16 })
+    };
+    vec![
+        Category::words(3, "flat type: count 0", change(FLAT, A, |_, _, _| Some(0))),
+        Category::words(3, "flat type: count over 255", change(FLAT, A, large)),
+        Category::words(3, "leaf: over 255", change(LEAF, A, large)),
+        Category::words(3, "constructor: 0", change(CONSTRUCTOR, B, |_, _, _| Some(0))),
+        Category::words(
+            3,
+            "constructor: count + 1",
+            change(CONSTRUCTOR, B, move |records, number, _| Some(flat_count(records, number) + 1)),
+        ),
+        Category::words(
+            3,
+            "constructor: far over the count",
+            change(CONSTRUCTOR, B, move |records, number, rng| {
+                let low = usize::from(flat_count(records, number)) + 1;
+                Some(rng.range(low, 65_535) as u16)
+            }),
+        ),
+        Category::words(
+            3,
+            "constructor: of a pair type",
+            change(CONSTRUCTOR, A, |records, number, rng| {
+                let found = some_record(records, rng, |i, r| i < number && r[KIND] == PAIR_TYPE);
+                found.map(|i| i as u16)
+            }),
+        ),
+    ]
+}
+
+/// Each way to break what one word of a kind asks for.
+fn of_word(kind: u16, word: usize, asked: Word) -> Vec<Category> {
+    let name = |what: &str| format!("kind {kind}: {} {what}", WORD_NAMES[word]);
+    match asked {
+        Word::Zero => vec![Category::words(
+            3,
+            name("not mentioned, not 0"),
+            change(kind, word, |_, _, rng| Some(nonzero(rng))),
+        )],
+        Word::Type | Word::FlatType => named_wrongly(kind, word, Sort::Type, false, &name),
+        Word::Part(sort) => named_wrongly(kind, word, sort, true, &name),
+        Word::Next(sort) => named_wrongly(kind, word, sort, true, &name)
+            .into_iter()
+            .filter(|category| !category.name.ends_with("is 0"))
+            .collect(),
+        _ => Vec::new(),
+    }
+}
+
+/// Naming 0, past the count, on the wrong side of the record, or a record of
+/// another sort on the right side.
+fn named_wrongly(
+    kind: u16,
+    word: usize,
+    wanted: Sort,
+    higher: bool,
+    name: &dyn Fn(&str) -> String,
+) -> Vec<Category> {
+    let category =
+        |what: &str, value: Box<Value>| Category::words(3, name(what), change(kind, word, value));
+    let on_side = move |number: usize, i: usize| if higher { i > number } else { i < number };
+    vec![
+        category("is 0", Box::new(|_, _, _| Some(0))),
+        category("past the count", Box::new(|records, _, rng| Some(past_count(records, rng)))),
+        category("is itself", Box::new(|_, number, _| Some(number as u16))),
+        category(
+            if higher { "not higher" } else { "not lower" },
+            Box::new(move |records, number, rng| {
+                let found =
+                    |i: usize, r: &Record| sort(r[KIND]) == Some(wanted) && !on_side(number, i);
+                some_record(records, rng, found).map(|i| i as u16)
+            }),
+        ),
+        category(
+            "of another sort",
+            Box::new(move |records, number, rng| {
+                let found =
+                    |i: usize, r: &Record| sort(r[KIND]) != Some(wanted) && on_side(number, i);
+                some_record(records, rng, found).map(|i| i as u16)
+            }),
+        ),
+    ]
+}

@@ -1,0 +1,105 @@
+//! The generators keep the rules, or break the one they aim at.
+
+use crate::check::check;
+use crate::faults::{categories, faulty};
+use crate::fuzz;
+use crate::generate::boundary::{deepen, nest, widen};
+use crate::generate::{circuit, circuit_of_records};
+use crate::layout::{layout, sheet};
+use crate::mistake::{self, MISTAKES};
+use crate::rng::Rng;
+use crate::shapes;
+use crate::table::{bytes, read};
+
+#[test]
+fn circuits_are_accepted() {
+    let mut rng = Rng::new(11);
+    for _ in 0..3000 {
+        let sheet = sheet(&circuit(&mut rng), &mut rng);
+        assert_eq!(check(&sheet, None).code, 0, "{:?}", read(&sheet));
+    }
+}
+
+#[test]
+fn layouts_differ() {
+    let mut rng = Rng::new(12);
+    let draft = circuit_of_records(60, &mut rng);
+    let one = layout(&draft, &mut rng);
+    assert!((0..20).any(|_| layout(&draft, &mut rng) != one));
+}
+
+#[test]
+fn limits_are_reached() {
+    let mut rng = Rng::new(13);
+    for (records, code) in [(4095, 0), (4096, 0), (4097, 1)] {
+        let draft = circuit_of_records(records, &mut rng);
+        let sheet = sheet(&draft, &mut rng);
+        assert_eq!((sheet.len(), check(&sheet, None).code), (records * 12, code));
+    }
+    for over in [false, true] {
+        let extra = usize::from(over);
+        for _ in 0..200 {
+            let draft = circuit_of_records(100, &mut rng);
+            let (mut deep, mut nested, mut wide) = (draft.clone(), draft.clone(), draft);
+            if deepen(&mut deep, 64 + extra, &mut rng) {
+                assert_eq!(check(&sheet(&deep, &mut rng), None).code, 6 * u8::from(over));
+            }
+            if nest(&mut nested, 3 + extra, &mut rng) {
+                assert_eq!(check(&sheet(&nested, &mut rng), None).code, 6 * u8::from(over));
+            }
+            widen(&mut wide, 64 + extra, &mut rng);
+            assert_eq!(check(&sheet(&wide, &mut rng), None).code, 5 * u8::from(over));
+        }
+    }
+}
+
+#[test]
+fn faults_hit_their_code() {
+    let categories = categories();
+    let mut hits = vec![(0, 0); categories.len()];
+    let mut rng = Rng::new(14);
+    for _ in 0..60 {
+        let draft = circuit(&mut rng);
+        for (category, hits) in categories.iter().zip(&mut hits) {
+            if let Some(sheet) = faulty(&draft, &[category], &mut rng) {
+                hits.0 += 1;
+                hits.1 += usize::from(check(&sheet, None).code == category.code);
+            }
+        }
+    }
+    for (category, (made, hit)) in categories.iter().zip(hits) {
+        assert!(hit > 0 && hit * 10 >= made * 8, "{}: {hit} of {made}", category.name);
+    }
+}
+
+#[test]
+fn any_bytes_have_a_verdict() {
+    let mut rng = Rng::new(15);
+    for _ in 0..1000 {
+        let length = rng.below(600);
+        let random = fuzz::random_bytes(length, &mut rng);
+        let mut records = layout(&circuit(&mut rng), &mut rng);
+        fuzz::change_words(&mut records, &mut rng);
+        let strewn = bytes(&fuzz::random_records(&mut rng));
+        for sheet in [random, bytes(&records), strewn] {
+            for (_, mistake) in MISTAKES {
+                assert!(check(&sheet, Some(mistake)).code <= 7);
+            }
+        }
+    }
+}
+
+#[test]
+fn named_sheets_have_their_verdicts() {
+    for (name, make) in shapes::LARGE {
+        let sheet = make();
+        let code = match name {
+            "pair-types-repeated" | "doubled-types" => 5,
+            "one-leaf-chain" | "deep-pattern" => 7,
+            _ => 0,
+        };
+        assert_eq!((sheet.len(), check(&sheet, None).code), (49_152, code), "{name}");
+    }
+    assert!(shapes::named("none").is_none());
+    assert!(mistake::named("none").is_none());
+}

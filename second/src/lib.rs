@@ -1,0 +1,24 @@
+//! A second implementation of the type check, and generators of sheets to
+//! compare it with another one.
+
+pub mod check;
+pub mod draft;
+pub mod faults;
+pub mod fuzz;
+pub mod generate;
+pub mod layout;
+pub mod mistake;
+pub mod rng;
+pub mod samples;
+pub mod shapes;
+pub mod structure;
+pub mod survey;
+pub mod table;
+pub mod typing;
+
+#[cfg(test)]
+mod check_tests;
+#[cfg(test)]
+mod generate_tests;
+#[cfg(test)]
+mod typing_tests;

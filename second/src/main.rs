@@ -1,0 +1,62 @@
+//! Compares the second implementation of the type check with the one in the
+//! archive, on generated sheets; times both; writes named sheets.
+
+mod bench;
+mod compare;
+mod external;
+mod fixed;
+mod jobs;
+mod plan;
+mod tally;
+
+use std::process::ExitCode;
+
+use second::{mistake, shapes};
+
+const USAGE: &str = "usage: second check [--seed N] [--sheets N] [--threads N] [--mistake NAME]
+       second mistakes
+       second bench
+       second shapes
+       second emit NAME FILE";
+
+fn main() -> ExitCode {
+    let arguments: Vec<String> = std::env::args().skip(1).collect();
+    let words: Vec<&str> = arguments.iter().map(String::as_str).collect();
+    match words.as_slice() {
+        ["check", options @ ..] => match plan::Options::read(options) {
+            Some(options) => plan::run(&options),
+            None => usage(),
+        },
+        ["mistakes"] => {
+            mistake::MISTAKES.iter().for_each(|(name, _)| println!("{name}"));
+            ExitCode::SUCCESS
+        }
+        ["bench"] => bench::run(),
+        ["shapes"] => {
+            let all = shapes::SMALL.iter().chain(&shapes::LARGE);
+            all.for_each(|(name, _)| println!("{name}"));
+            ExitCode::SUCCESS
+        }
+        ["emit", name, file] => emit(name, file),
+        _ => usage(),
+    }
+}
+
+fn usage() -> ExitCode {
+    eprintln!("{USAGE}");
+    ExitCode::from(2)
+}
+
+fn emit(name: &str, file: &str) -> ExitCode {
+    let Some(sheet) = shapes::named(name) else {
+        eprintln!("no sheet is named {name}; `second shapes` lists the names");
+        return ExitCode::from(2);
+    };
+    match std::fs::write(file, sheet) {
+        Ok(()) => ExitCode::SUCCESS,
+        Err(error) => {
+            eprintln!("{file}: {error}");
+            ExitCode::FAILURE
+        }
+    }
+}

@@ -1,0 +1,139 @@
+//! The rules about records that need no types: codes 2 to 6.
+
+use std::collections::HashSet;
+
+use crate::check::root;
+use crate::table::{
+    sort, words, Record, Sort, Word, A, B, C, D, FEEDBACK, FLAT, HEADER, KIND, NEXT, PAIR_TYPE,
+};
+
+/// The sort of the record with this number; none at or past the count.
+fn sort_of(records: &[Record], number: u16) -> Option<Sort> {
+    records.get(usize::from(number)).and_then(|record| sort(record[KIND]))
+}
+
+/// Code 2: kind, count and d, and the three records the header names.
+pub fn header_holds(records: &[Record]) -> bool {
+    let header = &records[0];
+    header[KIND] == HEADER
+        && usize::from(header[C]) == records.len()
+        && header[D] == 0
+        && sort_of(records, header[NEXT]) == Some(Sort::Type)
+        && sort_of(records, header[A]) == Some(Sort::Type)
+        && sort_of(records, header[B]) == Some(Sort::Expression)
+}
+
+/// Code 3: a known kind outside the header, and every word as its kind asks.
+pub fn record_holds(records: &[Record], number: usize) -> bool {
+    match words(records[number][KIND]) {
+        None => false,
+        Some(asked) => (0..5).all(|k| word_holds(records, number, NEXT + k, asked[k])),
+    }
+}
+
+/// Whether one word of a record is as asked.
+fn word_holds(records: &[Record], number: usize, index: usize, asked: Word) -> bool {
+    let value = records[number][index];
+    let lower = usize::from(value) < number;
+    let higher = usize::from(value) > number;
+    match asked {
+        Word::Zero => value == 0,
+        Word::Number => true,
+        Word::Count => (1..=255).contains(&value),
+        Word::LeafValue => value <= 255,
+        Word::Constructor => value >= 1 && value <= flat_count(records, records[number][A]),
+        Word::Type => lower && sort_of(records, value) == Some(Sort::Type),
+        Word::FlatType => lower && records[usize::from(value)][KIND] == FLAT,
+        Word::Part(sort) => higher && sort_of(records, value) == Some(sort),
+        Word::Next(sort) => value == 0 || (higher && sort_of(records, value) == Some(sort)),
+    }
+}
+
+/// The count of constructors of a flat type; 0 for any other number.
+fn flat_count(records: &[Record], number: u16) -> u16 {
+    match records.get(usize::from(number)) {
+        Some(record) if record[KIND] == FLAT => record[A],
+        _ => 0,
+    }
+}
+
+/// The numbers that a record outside the header names in words that count as
+/// naming; 0 stands for none.
+fn named(record: &Record) -> [u16; 5] {
+    let asked = words(record[KIND]).unwrap_or([Word::Zero; 5]);
+    std::array::from_fn(|k| match asked[k] {
+        Word::Part(_) | Word::Next(_) => record[NEXT + k],
+        _ => 0,
+    })
+}
+
+/// Code 4: how many words name each record outside the header.
+pub fn namings(records: &[Record]) -> Vec<u32> {
+    let mut count = vec![0; records.len()];
+    count[usize::from(records[0][NEXT])] += 1;
+    count[usize::from(records[0][B])] += 1;
+    for record in &records[1..] {
+        for number in named(record) {
+            count[usize::from(number)] += 1;
+        }
+    }
+    count
+}
+
+/// The leaves of each type record, 0 for other records. A pair type's parts
+/// are lower, so one pass will do; sums saturate.
+pub fn type_leaves(records: &[Record]) -> Vec<u64> {
+    let mut leaves: Vec<u64> = vec![0; records.len()];
+    for (number, record) in records.iter().enumerate() {
+        leaves[number] = match record[KIND] {
+            FLAT => 1,
+            PAIR_TYPE => {
+                leaves[usize::from(record[A])].saturating_add(leaves[usize::from(record[B])])
+            }
+            _ => 0,
+        };
+    }
+    leaves
+}
+
+/// Code 5: the pair types with the parts of a lower one.
+pub fn repeated_pairs(records: &[Record]) -> Vec<bool> {
+    let mut seen = HashSet::new();
+    records
+        .iter()
+        .map(|record| record[KIND] == PAIR_TYPE && !seen.insert((record[A], record[B])))
+        .collect()
+}
+
+/// The numbers of a record's parts that are expressions, with their words.
+pub fn expression_parts(record: &Record) -> impl Iterator<Item = (usize, usize)> + '_ {
+    let asked = words(record[KIND]).unwrap_or([Word::Zero; 5]);
+    (0..5)
+        .filter(move |&k| asked[k] == Word::Part(Sort::Expression))
+        .map(|k| (NEXT + k, usize::from(record[NEXT + k])))
+}
+
+/// Code 6: the depth of each expression, the root at 1; 0 for other records.
+/// Parts are higher, so one pass will do.
+pub fn depths(records: &[Record]) -> Vec<usize> {
+    let mut depth = vec![0; records.len()];
+    depth[root(records)] = 1;
+    for (number, record) in records.iter().enumerate().skip(1) {
+        for (_, part) in expression_parts(record) {
+            depth[part] = depth[number] + 1;
+        }
+    }
+    depth
+}
+
+/// Code 6: in how many feedbacks' defining parts each expression lies.
+pub fn nestings(records: &[Record]) -> Vec<usize> {
+    let mut nesting = vec![0; records.len()];
+    for (number, record) in records.iter().enumerate().skip(1) {
+        for (word, part) in expression_parts(record) {
+            let defining = record[KIND] == FEEDBACK && word == B;
+            nesting[part] = nesting[number] + usize::from(defining);
+        }
+    }
+    nesting
+}
