@@ -23,7 +23,7 @@ use Rattle.records.specs.Kinds.{
   pair,
   kindOf,
   isPair,
-  nextOf
+  nextOf,
 }
 use Rattle.records.specs.Says.{kindAt, sortAt}
 use Rattle.records.specs.Sized.{Sized}
@@ -104,7 +104,7 @@ module _ (s : List ℕ) (n p t : ℕ) (m : Matching s n p t) where
           (is-parts (kind .0) (sym (ap isParts (kind .1)) ∙ parts-number (word s p 0) ∙ eq-eqb (word s p 0) 50 (sym ek ∙ e)))
 
       both-parts : patternFits s (alternatives s p) t
-        ≡ (isPair (kindAt s t) && (patternFits s (alternatives s (wordA s p)) (wordA s t) && (patternFits s (alternatives s (wordB s p)) (wordB s t) && patternFits s (follow end (alternatives s) (next s p)) t)))
+          ≡ (isPair (kindAt s t) && (patternFits s (alternatives s (wordA s p)) (wordA s t) && (patternFits s (alternatives s (wordB s p)) (wordB s t) && patternFits s (follow end (alternatives s) (next s p)) t)))
       both-parts = rw (alternatives-of w p in-sheet (pattern parts) pair-pattern)
 
       pub no-pair-type : (q : ℕ) → q ≡ word s t 0 → (q ≡ 17 → ⊥) → FitsOne s p t false
@@ -128,12 +128,12 @@ module _ (s : List ℕ) (n p t : ℕ) (m : Matching s n p t) where
             (omega arith, record { sized = m .sized; passes = m .passes; there = omega arith; sort = rw ex (h .2); typed = rw eu (second-part w t (m .typed .there) pair-type-record) })
 
         pub first-fails : (x u : ℕ) (a : Bool) → x ≡ word s p 2 → u ≡ word s t 2 → a ≡ patternFits s (alternatives s x) u → a ≡ false
-          → FitsOne s p t false
+            → FitsOne s p t false
         first-fails x u a ex eu ea f =
             both-parts ∙ rw (pair-number (word s t 0), ← eq, e17, ← ex, ← eu, ← ea, f)
 
         pub second-decides : (x u y v : ℕ) (a b : Bool) → x ≡ word s p 2 → u ≡ word s t 2 → y ≡ word s p 3 → v ≡ word s t 3
-          → a ≡ patternFits s (alternatives s x) u → a ≡ true → b ≡ patternFits s (alternatives s y) v → FitsOne s p t b
+            → a ≡ patternFits s (alternatives s x) u → a ≡ true → b ≡ patternFits s (alternatives s y) v → FitsOne s p t b
         second-decides x u y v a b ex eu ey ev ea f eb =
             both-parts ∙ rw (pair-number (word s t 0), ← eq, e17, ← ex, ← eu, ← ea, f, ← ey, ← ev, ← eb)
 
@@ -142,11 +142,11 @@ pub chain-fails : (s : List ℕ) (p t : ℕ) (a : Bool) → FitsOne s p t a → 
 chain-fails s p t a e f = sym (e ∙ rw f)
 
 pub chain-ends : (s : List ℕ) (p t x : ℕ) (a : Bool) → FitsOne s p t a → a ≡ true → x ≡ word s p 1 → x ≡ 0
-  → true ≡ patternFits s (alternatives s p) t
+    → true ≡ patternFits s (alternatives s p) t
 chain-ends s p t x a e f ex z = sym (e ∙ rw (f, ← ex, z))
 
 pub chain-goes-on : (s : List ℕ) (p t x : ℕ) (a : Bool) → FitsOne s p t a → a ≡ true → x ≡ word s p 1 → (x ≡ 0 → ⊥)
-  → patternFits s (alternatives s p) t ≡ patternFits s (alternatives s x) t
+    → patternFits s (alternatives s p) t ≡ patternFits s (alternatives s x) t
 chain-goes-on s p t x a e f ex z = e ∙ rw (f, ← ex, follows x z)
   where
     follows : (x : ℕ) → (x ≡ 0 → ⊥) → follow end (alternatives s) x ≡ alternatives s x

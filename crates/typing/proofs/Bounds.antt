@@ -78,10 +78,10 @@ module _ (s : List ℕ) (n : ℕ) (table : List ℕ) (g : Ground s n table) wher
             typed = first-typed;
             below = omega arith;
             same =
-              r .same
-              ∙ ap (λ (τ : Ty). getD (bounds τ) at 0) split
-              ∙ List·getD-append (bounds (typeAt s (wordA s part))) (bounds (typeAt s (wordB s part))) 0 at
-              (omega (arith, leaves-of-bounds (typeAt s (wordA s part))))
+                r .same
+                ∙ ap (λ (τ : Ty). getD (bounds τ) at 0) split
+                ∙ List·getD-append (bounds (typeAt s (wordA s part))) (bounds (typeAt s (wordB s part))) 0 at
+                (omega (arith, leaves-of-bounds (typeAt s (wordA s part))));
           })
 
       pub reached-second : (x y w : ℕ) → x ≡ word s part 2 → y ≡ word s part 3 → w ≡ getD table x 0 → w ≤ at → Reached t i y (at - w)
@@ -97,10 +97,10 @@ module _ (s : List ℕ) (n : ℕ) (table : List ℕ) (g : Ground s n table) wher
             typed = second-part ground-written part (r .typed .there) is-pair-record;
             below = omega arith;
             same =
-              r .same
-              ∙ ap (λ (τ : Ty). getD (bounds τ) at 0) split
-              ∙ ap (λ (z : ℕ). getD (bounds (typeAt s (wordA s part)) ++ bounds (typeAt s (wordB s part))) z 0) back
-              ∙ getD-append-add (bounds (typeAt s (wordA s part))) (bounds (typeAt s (wordB s part))) (at - w) 0
+                r .same
+                ∙ ap (λ (τ : Ty). getD (bounds τ) at 0) split
+                ∙ ap (λ (z : ℕ). getD (bounds (typeAt s (wordA s part)) ++ bounds (typeAt s (wordB s part))) z 0) back
+                ∙ getD-append-add (bounds (typeAt s (wordA s part))) (bounds (typeAt s (wordB s part))) (at - w) 0;
           })
 
     pub reached-flat : (v : ℕ) → (k ≡ 17 → ⊥) → v ≡ word s part 2 → v ≡ getD (bounds (typeAt s t)) i 0

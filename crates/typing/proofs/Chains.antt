@@ -42,7 +42,7 @@ module _ (s ns : List ℕ) (w : Written s) (first : ℕ) where
   module _ (i leaf : ℕ) (l : Left i leaf) where
     -- one leaf and one bound taken off
     one-off : i < length ns
-      → within ns (values first) ≡ leb (wordA s leaf) (getD ns i 0) && within (drop (suc i) ns) (leafValues s (follow [] (chain s) (next s leaf)))
+        → within ns (values first) ≡ leb (wordA s leaf) (getD ns i 0) && within (drop (suc i) ns) (leafValues s (follow [] (chain s) (next s leaf)))
     one-off h = l .same ∙ rw (drop-cons ns i 0 h, chain-of w leaf (l .there) (l .sort))
 
     pub too-great : (b v : ℕ) → i < length ns → b ≡ getD ns i 0 → v ≡ word s leaf 2 → b < v → false ≡ within ns (values first)
@@ -69,7 +69,7 @@ module _ (s ns : List ℕ) (w : Written s) (first : ℕ) where
             few = omega arith;
             there = rw ex (p .1);
             sort = rw ex (p .2);
-            same = one-off h ∙ rw (← ev, ← eb, le-leb v b g, ← ex, add-one i, follows x f)
+            same = one-off h ∙ rw (← ev, ← eb, le-leb v b g, ← ex, add-one i, follows x f);
           }
         where
           follows : (x : ℕ) → (x ≡ 0 → ⊥) → follow [] (chain s) x ≡ chain s x

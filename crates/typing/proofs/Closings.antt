@@ -31,7 +31,7 @@ below-store stack m v (suc n) h =
     rw (getD-set-other stack m n v 0 (λ e. omega arith), below-store stack m v n (omega arith))
 
 pub one-name-more : (stack : List ℕ) (n t : ℕ) → length stack ≡ 64 → n < 64
-  → scopeOf (n + 1) (set stack n t) ≡ t ∷ scopeOf n stack
+    → scopeOf (n + 1) (set stack n t) ≡ t ∷ scopeOf n stack
 one-name-more stack n t long h =
     rw (add-one n, getD-set-same stack n t 0 (omega arith), below-store stack n t n (omega arith))
 
@@ -43,15 +43,15 @@ module _ (s : List ℕ) (n : ℕ) (table : List ℕ) (rec : ℕ) (before : List 
   fails-closed rule t e = record {
     answered = rw e;
     long = c .long;
-    notes = λ u q. absurd (not-typed rec u q)
+    notes = λ u q. absurd (not-typed rec u q);
   }
 
   pub noted-closed : (rule : Rule) (t : ℕ) (answer : Outcome) (after : List ℕ) → holds s rule ≡ true → answer ≡ Typed t
-    → after ≡ set before rec (leaves (typeAt s t)) → Closed s rule rec t answer before after
+      → after ≡ set before rec (leaves (typeAt s t)) → Closed s rule rec t answer before after
   noted-closed rule t answer after e ea en = record {
     answered = ea ∙ rw e;
     long = ap length en ∙ length-set before rec (leaves (typeAt s t)) ∙ c .long;
-    notes = λ u q. en
+    notes = λ u q. en;
   }
 
   -- the pair record of two types
@@ -68,7 +68,7 @@ module _ (s : List ℕ) (n : ℕ) (table : List ℕ) (rec : ℕ) (before : List 
       rw q (found-pair (ground-written s n table (c .ground)) t u (rw (← q) (omega arith)))
 
   pub pair-closed : (t u p : ℕ) (answer : Outcome) (after : List ℕ) → p ≡ pairBelow s t u n → (p ≡ 0 → ⊥) → answer ≡ Typed p
-    → after ≡ set before rec (leaves (typeAt s p)) → Closed s (pairDeclared t u) rec (pairOf s t u) answer before after
+      → after ≡ set before rec (leaves (typeAt s p)) → Closed s (pairDeclared t u) rec (pairOf s t u) answer before after
   pair-closed t u p answer after e f ea en =
       let q = pair-found t u p e in
       noted-closed (pairDeclared t u) (pairOf s t u) answer after (rw (← q) (lt-ltb 0 p (omega arith))) (rw (← q) ea) (rw (← q) en)
@@ -87,7 +87,7 @@ module _ (s : List ℕ) (n : ℕ) (table : List ℕ) (rec : ℕ) (before : List 
   part-is-type t (suc (suc (suc (suc k)))) x y r e f ey l h = absurd (omega arith)
 
   pub part-closed : (t k x y : ℕ) (answer : Outcome) (after : List ℕ) → x ≡ word s t 0 → x ≡ 17 → y ≡ word s t k → answer ≡ Typed y
-    → after ≡ set before rec (leaves (typeAt s y)) → Closed s (pairType t) rec (word s t k) answer before after
+      → after ≡ set before rec (leaves (typeAt s y)) → Closed s (pairType t) rec (word s t k) answer before after
   part-closed t k x y answer after e f ey ea en =
       noted-closed (pairType t) (word s t k) answer after (pair-number (word s t 0) ∙ rw (← e) (eq-eqb x 17 f)) (rw (← ey) ea) (rw (← ey) en)
 
@@ -95,7 +95,7 @@ module _ (s : List ℕ) (n : ℕ) (table : List ℕ) (rec : ℕ) (before : List 
   differ-closed x y t f = fails-closed (sameType x y) t (ne-eqb x y f)
 
   pub same-closed : (x y t : ℕ) (answer : Outcome) (after : List ℕ) → x ≡ y → answer ≡ Typed t
-    → after ≡ set before rec (leaves (typeAt s t)) → Closed s (sameType x y) rec t answer before after
+      → after ≡ set before rec (leaves (typeAt s t)) → Closed s (sameType x y) rec t answer before after
   same-closed x y t answer after e ea en = noted-closed (sameType x y) t answer after (eq-eqb x y e) ea en
 
 -- a judgement that is no last one

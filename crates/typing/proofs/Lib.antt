@@ -7,11 +7,14 @@ pub mod Closings
 pub mod Exact
 pub mod Failing
 pub mod Judged
+pub mod Judgings
+pub mod KindNumbers
 pub mod Outcomes
 pub mod Parts
 pub mod PassesAgain
 pub mod PatternTypes
 pub mod Places
+pub mod Readiness
 pub mod Scopes
 pub mod TypeRecordsOf
 pub mod Typings

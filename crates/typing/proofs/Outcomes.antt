@@ -21,7 +21,7 @@ use Rattle.records.specs.Trees.{
   letOf,
   feedbackOf,
   ifOf,
-  delayOf
+  delayOf,
 }
 use Rattle.typing.specs.Judgements.{
   Judgement,
@@ -36,7 +36,7 @@ use Rattle.typing.specs.Judgements.{
   typeOf,
   judge,
   judgements,
-  firstFailing
+  firstFailing,
 }
 use Rattle.typing.specs.Judging.{conclude, judged, width, noted, Done, lastly, Closed}
 use Rattle.typing.specs.declared.Outcome.{Outcome}
@@ -71,29 +71,29 @@ module _ (s Γ : List ℕ) (e : Tree) (answer : Outcome) (before after : List �
 
   -- a fault
   pub fault-done : (p : ℕ) → firstFailing s (judgements s Γ e) ≡ some p → answer ≡ Fault p → length after ≡ 4096
-    → Done s Γ e answer before after
+      → Done s Γ e answer before after
   unfolding judged
   fault-done p f a l = record {
     answered = a ∙ rw f;
     long = l;
-    notes = λ t q. let z : _≡_ {A = ℕ} 0 1 = cc in absurd (omega arith)
+    notes = λ t q. let z : _≡_ {A = ℕ} 0 1 = cc in absurd (omega arith);
   }
 
   -- no fault
   pub typed-done : firstFailing s (judgements s Γ e) ≡ none → answer ≡ Typed (typeOf s Γ e) → length after ≡ 4096
-    → after ≡ noted s Γ e before → Done s Γ e answer before after
+      → after ≡ noted s Γ e before → Done s Γ e answer before after
   unfolding judged
   typed-done f a l n = record { answered = a ∙ rw f; long = l; notes = λ t q. n }
 
   -- the last judgement decides
   pub closing-done : (rec : ℕ) (rule : Rule) (middle : List ℕ) → firstFailing s (judgements s Γ e) ≡ firstFailing s (judge rec rule)
-    → Closed s rule rec (typeOf s Γ e) answer middle after → set middle rec (width s Γ e) ≡ noted s Γ e before
-    → Done s Γ e answer before after
+      → Closed s rule rec (typeOf s Γ e) answer middle after → set middle rec (width s Γ e) ≡ noted s Γ e before
+      → Done s Γ e answer before after
   unfolding judged
   closing-done rec rule middle f c n = record {
     answered = c .answered ∙ rw f (concludes (holds s rule));
     long = c .long;
-    notes = λ t q. c .notes t q ∙ n
+    notes = λ t q. c .notes t q ∙ n;
   }
     where
       concludes : (b : Bool) → lastly b rec (typeOf s Γ e) ≡ conclude (cond b none (some rec)) (typeOf s Γ e)
@@ -101,9 +101,9 @@ module _ (s Γ : List ℕ) (e : Tree) (answer : Outcome) (before after : List �
       concludes false = refl
 
 -- a judgement that stands before others
-module _ (s Γ : List ℕ) (e : Tree) (before after : List ℕ) (rec : ℕ) where
+module _ (s : List ℕ) (rec : ℕ) where
   pub lastly-holds : (rule : Rule) (t u : ℕ) (answer : Outcome) → answer ≡ lastly (holds s rule) rec t → answer ≡ Typed u
-    → (firstFailing s (judge rec rule) ≡ none) × (u ≡ t)
+      → (firstFailing s (judge rec rule) ≡ none) × (u ≡ t)
   lastly-holds rule t u answer a b = go (holds s rule) (sym a ∙ b)
     where
       go : (h : Bool) → lastly h rec t ≡ Typed u → (cond h none (some rec) ≡ none) × (u ≡ t)
@@ -111,7 +111,7 @@ module _ (s Γ : List ℕ) (e : Tree) (before after : List ℕ) (rec : ℕ) wher
       go false q = let z : _≡_ {A = ℕ} 0 1 = cc in absurd (omega arith)
 
   pub lastly-fails : (rule : Rule) (t p : ℕ) (answer : Outcome) → answer ≡ lastly (holds s rule) rec t → answer ≡ Fault p
-    → firstFailing s (judge rec rule) ≡ some p
+      → firstFailing s (judge rec rule) ≡ some p
   lastly-fails rule t p answer a b = go (holds s rule) (sym a ∙ b)
     where
       go : (h : Bool) → lastly h rec t ≡ Fault p → cond h none (some rec) ≡ some p

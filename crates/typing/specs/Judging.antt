@@ -26,7 +26,7 @@ use Rattle.records.specs.Trees.{
   delayOf,
   alternatives,
   follow,
-  end
+  end,
 }
 use Rattle.layout.specs.Depth.{depth}
 use Rattle.layout.specs.Passes.{Passes}

@@ -15,9 +15,8 @@ ghost use Rattle.records.specs.Trees.{alternatives, chain, follow, end, treeAt}
 ghost use Rattle.records.specs.Decoding.{leafValues};
 ghost use Rattle.typing.specs.Judgements.{within, patternFits, holds, leavesFit, inScope, pairDeclared, pairType, sameType, patternHas};
 ghost use Rattle.typing.specs.Judging.{Ground, Ready, Done, scopeOf, Matching, FitsOne, Closed, Closing, lastly, PartAt};
-
-use records::word;
 use layout::pair_below;
+use records::word;
 
 // The answer of the check. `specs/Verdict.antt` gives document 01's number and place for each case.
 pub enum Verdict {
@@ -125,7 +124,14 @@ fn with_name(scope: &[u16; 64], names: usize, t: usize) -> [u16; 64]
 }
 
 // Notes the leaf count of type t at rec.
-fn note(sheet: &[u8], n: usize, table: &[u8; 4096], rec: usize, t: usize, widths: &mut [u8; 4096]) -> Outcome
+fn note(
+    sheet: &[u8],
+    n: usize,
+    table: &[u8; 4096],
+    rec: usize,
+    t: usize,
+    widths: &mut [u8; 4096],
+) -> Outcome
     requires { ⌜ Closing (now sheet) n (now table) rec (now widths) × TypeRecord (now sheet) t ⌝ }
     ensures { λ r. ⌜ (r ≡ Typed t) × (now (widths .exit) ≡ set (now (widths .entry)) rec (leaves (typeAt (now (sheet .entry)) t))) ⌝ }
 {
@@ -134,7 +140,15 @@ fn note(sheet: &[u8], n: usize, table: &[u8; 4096], rec: usize, t: usize, widths
 }
 
 // A pair's last judgement: a pair record of exactly the two types.
-fn pair_type(sheet: &[u8], n: usize, table: &[u8; 4096], rec: usize, t: usize, u: usize, widths: &mut [u8; 4096]) -> Outcome
+fn pair_type(
+    sheet: &[u8],
+    n: usize,
+    table: &[u8; 4096],
+    rec: usize,
+    t: usize,
+    u: usize,
+    widths: &mut [u8; 4096],
+) -> Outcome
     requires { ⌜ Closing (now sheet) n (now table) rec (now widths) ⌝ }
     ensures { λ r. ⌜ Closed (now (sheet .entry)) (pairDeclared t u) rec (pairOf (now (sheet .entry)) t u) r (now (widths .entry)) (now (widths .exit)) ⌝ }
 {
@@ -146,7 +160,15 @@ fn pair_type(sheet: &[u8], n: usize, table: &[u8; 4096], rec: usize, t: usize, u
 }
 
 // The last judgement of a first or second part: the type t is a pair's, and word k of its record is the part's type.
-fn part_type(sheet: &[u8], n: usize, table: &[u8; 4096], rec: usize, t: usize, k: usize, widths: &mut [u8; 4096]) -> Outcome
+fn part_type(
+    sheet: &[u8],
+    n: usize,
+    table: &[u8; 4096],
+    rec: usize,
+    t: usize,
+    k: usize,
+    widths: &mut [u8; 4096],
+) -> Outcome
     requires { ⌜ Closing (now sheet) n (now table) rec (now widths) × TypeRecord (now sheet) t × (1 < k) × (k < 4) ⌝ }
     ensures { λ r. ⌜ Closed (now (sheet .entry)) (pairType t) rec (word (now (sheet .entry)) t k) r (now (widths .entry)) (now (widths .exit)) ⌝ }
 {
@@ -157,7 +179,16 @@ fn part_type(sheet: &[u8], n: usize, table: &[u8; 4096], rec: usize, t: usize, k
 }
 
 // A last judgement that two types are the same; the expression's type is t.
-fn same_type(sheet: &[u8], n: usize, table: &[u8; 4096], rec: usize, x: usize, y: usize, t: usize, widths: &mut [u8; 4096]) -> Outcome
+fn same_type(
+    sheet: &[u8],
+    n: usize,
+    table: &[u8; 4096],
+    rec: usize,
+    x: usize,
+    y: usize,
+    t: usize,
+    widths: &mut [u8; 4096],
+) -> Outcome
     requires { ⌜ Closing (now sheet) n (now table) rec (now widths) × TypeRecord (now sheet) t ⌝ }
     ensures { λ r. ⌜ Closed (now (sheet .entry)) (sameType x y) rec t r (now (widths .entry)) (now (widths .exit)) ⌝ }
 {
@@ -168,7 +199,14 @@ fn same_type(sheet: &[u8], n: usize, table: &[u8; 4096], rec: usize, x: usize, y
 }
 
 // Whether the leaves from `first` fit type t, as a judgement at rec.
-fn leaves_type(sheet: &[u8], n: usize, table: &[u8; 4096], rec: usize, t: usize, first: usize) -> Outcome
+fn leaves_type(
+    sheet: &[u8],
+    n: usize,
+    table: &[u8; 4096],
+    rec: usize,
+    t: usize,
+    first: usize,
+) -> Outcome
     requires { ⌜ Ground (now sheet) n (now table) × TypeRecord (now sheet) t × (first < n) × (sortAt (now sheet) first ≡ leafs) ⌝ }
     ensures { λ r. ⌜ r ≡ lastly (holds (now (sheet .entry)) (leavesFit t (chain (now (sheet .entry)) first))) rec t ⌝ }
 {
@@ -190,7 +228,13 @@ fn pattern_type(sheet: &[u8], n: usize, rec: usize, p: usize, t: usize) -> Outco
 }
 
 // Judges a constant.
-fn of_constant(sheet: &[u8], n: usize, table: &[u8; 4096], rec: usize, widths: &mut [u8; 4096]) -> Outcome
+fn of_constant(
+    sheet: &[u8],
+    n: usize,
+    table: &[u8; 4096],
+    rec: usize,
+    widths: &mut [u8; 4096],
+) -> Outcome
     requires { ⌜ Closing (now sheet) n (now table) rec (now widths) × (kindAt (now sheet) rec ≡ expression constant) ⌝ }
     ensures { λ r. ⌜ ((Γ : List ℕ) → Done (now (sheet .entry)) Γ (treeAt (now (sheet .entry)) rec) r (now (widths .entry)) (now (widths .exit))) ⌝ }
 {
@@ -203,7 +247,15 @@ fn of_constant(sheet: &[u8], n: usize, table: &[u8; 4096], rec: usize, widths: &
 }
 
 // Judges a name.
-fn of_name(sheet: &[u8], n: usize, table: &[u8; 4096], scope: &[u16; 64], names: usize, rec: usize, widths: &mut [u8; 4096]) -> Outcome
+fn of_name(
+    sheet: &[u8],
+    n: usize,
+    table: &[u8; 4096],
+    scope: &[u16; 64],
+    names: usize,
+    rec: usize,
+    widths: &mut [u8; 4096],
+) -> Outcome
     requires { ⌜ Ready (now sheet) n (now table) (now scope) names rec (now widths) × (kindAt (now sheet) rec ≡ expression name) ⌝ }
     ensures { λ r. ⌜ Done (now (sheet .entry)) (scopeOf names (now (scope .entry))) (treeAt (now (sheet .entry)) rec) r (now (widths .entry)) (now (widths .exit)) ⌝ }
 {
@@ -216,7 +268,15 @@ fn of_name(sheet: &[u8], n: usize, table: &[u8; 4096], scope: &[u16; 64], names:
 }
 
 // Judges an expression: its parts in the order of its words, then the whole.
-fn judge(sheet: &[u8], n: usize, table: &[u8; 4096], scope: &[u16; 64], names: usize, rec: usize, widths: &mut [u8; 4096]) -> Outcome
+fn judge(
+    sheet: &[u8],
+    n: usize,
+    table: &[u8; 4096],
+    scope: &[u16; 64],
+    names: usize,
+    rec: usize,
+    widths: &mut [u8; 4096],
+) -> Outcome
     requires { ⌜ Ready (now sheet) n (now table) (now scope) names rec (now widths) ⌝ }
     ensures { λ r. ⌜ Done (now (sheet .entry)) (scopeOf names (now (scope .entry))) (treeAt (now (sheet .entry)) rec) r (now (widths .entry)) (now (widths .exit)) ⌝ }
 {
@@ -248,15 +308,39 @@ fn judge(sheet: &[u8], n: usize, table: &[u8; 4096], scope: &[u16; 64], names: u
     of_delay(sheet, n, table, scope, names, rec, widths)
 }
 
-fn of_pair(sheet: &[u8], n: usize, table: &[u8; 4096], scope: &[u16; 64], names: usize, rec: usize, widths: &mut [u8; 4096]) -> Outcome
+fn of_pair(
+    sheet: &[u8],
+    n: usize,
+    table: &[u8; 4096],
+    scope: &[u16; 64],
+    names: usize,
+    rec: usize,
+    widths: &mut [u8; 4096],
+) -> Outcome
     requires { ⌜ Ready (now sheet) n (now table) (now scope) names rec (now widths) × (kindAt (now sheet) rec ≡ expression tuple) ⌝ }
     ensures { λ r. ⌜ Done (now (sheet .entry)) (scopeOf names (now (scope .entry))) (treeAt (now (sheet .entry)) rec) r (now (widths .entry)) (now (widths .exit)) ⌝ }
 {
-    let first = judge(sheet, n, table, scope, names, word(sheet, n, rec, 2), widths);
+    let first = judge(
+        sheet,
+        n,
+        table,
+        scope,
+        names,
+        word(sheet, n, rec, 2),
+        widths,
+    );
     let Outcome::Typed(t) = first else {
         return first;
     };
-    let second = judge(sheet, n, table, scope, names, word(sheet, n, rec, 3), widths);
+    let second = judge(
+        sheet,
+        n,
+        table,
+        scope,
+        names,
+        word(sheet, n, rec, 3),
+        widths,
+    );
     let Outcome::Typed(u) = second else {
         return second;
     };
@@ -264,55 +348,136 @@ fn of_pair(sheet: &[u8], n: usize, table: &[u8; 4096], scope: &[u16; 64], names:
 }
 
 // A first part where k is 2, a second part where k is 3.
-fn of_part(sheet: &[u8], n: usize, table: &[u8; 4096], scope: &[u16; 64], names: usize, rec: usize, k: usize, widths: &mut [u8; 4096]) -> Outcome
+fn of_part(
+    sheet: &[u8],
+    n: usize,
+    table: &[u8; 4096],
+    scope: &[u16; 64],
+    names: usize,
+    rec: usize,
+    k: usize,
+    widths: &mut [u8; 4096],
+) -> Outcome
     requires { ⌜ Ready (now sheet) n (now table) (now scope) names rec (now widths) × PartAt (now sheet) rec k ⌝ }
     ensures { λ r. ⌜ Done (now (sheet .entry)) (scopeOf names (now (scope .entry))) (treeAt (now (sheet .entry)) rec) r (now (widths .entry)) (now (widths .exit)) ⌝ }
 {
-    let whole = judge(sheet, n, table, scope, names, word(sheet, n, rec, 2), widths);
+    let whole = judge(
+        sheet,
+        n,
+        table,
+        scope,
+        names,
+        word(sheet, n, rec, 2),
+        widths,
+    );
     let Outcome::Typed(t) = whole else {
         return whole;
     };
     part_type(sheet, n, table, rec, t, k, widths)
 }
 
-fn of_let(sheet: &[u8], n: usize, table: &[u8; 4096], scope: &[u16; 64], names: usize, rec: usize, widths: &mut [u8; 4096]) -> Outcome
+fn of_let(
+    sheet: &[u8],
+    n: usize,
+    table: &[u8; 4096],
+    scope: &[u16; 64],
+    names: usize,
+    rec: usize,
+    widths: &mut [u8; 4096],
+) -> Outcome
     requires { ⌜ Ready (now sheet) n (now table) (now scope) names rec (now widths) × (kindAt (now sheet) rec ≡ expression letIn) ⌝ }
     ensures { λ r. ⌜ Done (now (sheet .entry)) (scopeOf names (now (scope .entry))) (treeAt (now (sheet .entry)) rec) r (now (widths .entry)) (now (widths .exit)) ⌝ }
 {
-    let defined = judge(sheet, n, table, scope, names, word(sheet, n, rec, 2), widths);
+    let defined = judge(
+        sheet,
+        n,
+        table,
+        scope,
+        names,
+        word(sheet, n, rec, 2),
+        widths,
+    );
     let Outcome::Typed(t) = defined else {
         return defined;
     };
     let inner = with_name(scope, names, t);
-    let body = judge(sheet, n, table, &inner, names + 1, word(sheet, n, rec, 3), widths);
+    let body = judge(
+        sheet,
+        n,
+        table,
+        &inner,
+        names + 1,
+        word(sheet, n, rec, 3),
+        widths,
+    );
     let Outcome::Typed(u) = body else {
         return body;
     };
     note(sheet, n, table, rec, u, widths)
 }
 
-fn of_feedback(sheet: &[u8], n: usize, table: &[u8; 4096], scope: &[u16; 64], names: usize, rec: usize, widths: &mut [u8; 4096]) -> Outcome
+fn of_feedback(
+    sheet: &[u8],
+    n: usize,
+    table: &[u8; 4096],
+    scope: &[u16; 64],
+    names: usize,
+    rec: usize,
+    widths: &mut [u8; 4096],
+) -> Outcome
     requires { ⌜ Ready (now sheet) n (now table) (now scope) names rec (now widths) × (kindAt (now sheet) rec ≡ expression feedback) ⌝ }
     ensures { λ r. ⌜ Done (now (sheet .entry)) (scopeOf names (now (scope .entry))) (treeAt (now (sheet .entry)) rec) r (now (widths .entry)) (now (widths .exit)) ⌝ }
 {
     let t = word(sheet, n, rec, 2);
     let inner = with_name(scope, names, t);
-    let defined = judge(sheet, n, table, &inner, names + 1, word(sheet, n, rec, 3), widths);
+    let defined = judge(
+        sheet,
+        n,
+        table,
+        &inner,
+        names + 1,
+        word(sheet, n, rec, 3),
+        widths,
+    );
     let Outcome::Typed(d) = defined else {
         return defined;
     };
-    let body = judge(sheet, n, table, &inner, names + 1, word(sheet, n, rec, 4), widths);
+    let body = judge(
+        sheet,
+        n,
+        table,
+        &inner,
+        names + 1,
+        word(sheet, n, rec, 4),
+        widths,
+    );
     let Outcome::Typed(u) = body else {
         return body;
     };
     same_type(sheet, n, table, rec, d, t, u, widths)
 }
 
-fn of_if(sheet: &[u8], n: usize, table: &[u8; 4096], scope: &[u16; 64], names: usize, rec: usize, widths: &mut [u8; 4096]) -> Outcome
+fn of_if(
+    sheet: &[u8],
+    n: usize,
+    table: &[u8; 4096],
+    scope: &[u16; 64],
+    names: usize,
+    rec: usize,
+    widths: &mut [u8; 4096],
+) -> Outcome
     requires { ⌜ Ready (now sheet) n (now table) (now scope) names rec (now widths) × (kindAt (now sheet) rec ≡ expression ifMatches) ⌝ }
     ensures { λ r. ⌜ Done (now (sheet .entry)) (scopeOf names (now (scope .entry))) (treeAt (now (sheet .entry)) rec) r (now (widths .entry)) (now (widths .exit)) ⌝ }
 {
-    let tested = judge(sheet, n, table, scope, names, word(sheet, n, rec, 2), widths);
+    let tested = judge(
+        sheet,
+        n,
+        table,
+        scope,
+        names,
+        word(sheet, n, rec, 2),
+        widths,
+    );
     let Outcome::Typed(t) = tested else {
         return tested;
     };
@@ -320,22 +485,54 @@ fn of_if(sheet: &[u8], n: usize, table: &[u8; 4096], scope: &[u16; 64], names: u
     let Outcome::Typed(_) = matched else {
         return matched;
     };
-    let then = judge(sheet, n, table, scope, names, word(sheet, n, rec, 3), widths);
+    let then = judge(
+        sheet,
+        n,
+        table,
+        scope,
+        names,
+        word(sheet, n, rec, 3),
+        widths,
+    );
     let Outcome::Typed(u) = then else {
         return then;
     };
-    let otherwise = judge(sheet, n, table, scope, names, word(sheet, n, rec, 4), widths);
+    let otherwise = judge(
+        sheet,
+        n,
+        table,
+        scope,
+        names,
+        word(sheet, n, rec, 4),
+        widths,
+    );
     let Outcome::Typed(v) = otherwise else {
         return otherwise;
     };
     same_type(sheet, n, table, rec, u, v, u, widths)
 }
 
-fn of_delay(sheet: &[u8], n: usize, table: &[u8; 4096], scope: &[u16; 64], names: usize, rec: usize, widths: &mut [u8; 4096]) -> Outcome
+fn of_delay(
+    sheet: &[u8],
+    n: usize,
+    table: &[u8; 4096],
+    scope: &[u16; 64],
+    names: usize,
+    rec: usize,
+    widths: &mut [u8; 4096],
+) -> Outcome
     requires { ⌜ Ready (now sheet) n (now table) (now scope) names rec (now widths) × (kindAt (now sheet) rec ≡ expression delay) ⌝ }
     ensures { λ r. ⌜ Done (now (sheet .entry)) (scopeOf names (now (scope .entry))) (treeAt (now (sheet .entry)) rec) r (now (widths .entry)) (now (widths .exit)) ⌝ }
 {
-    let delayed = judge(sheet, n, table, scope, names, word(sheet, n, rec, 4), widths);
+    let delayed = judge(
+        sheet,
+        n,
+        table,
+        scope,
+        names,
+        word(sheet, n, rec, 4),
+        widths,
+    );
     let Outcome::Typed(u) = delayed else {
         return delayed;
     };

@@ -43,7 +43,7 @@ fits-one-below t =
     and 1 fits-one-kinds.ps (falls 1 fits-one-kinds.ps _<_ μ-fits-one t) fits-one.Pre
 
 abbrev fits-all-Inv-loop : fits-all-lts.InvT-loop
-fits-all-Inv-loop sheet n p t at₀ at = 
+fits-all-Inv-loop sheet n p t at₀ at =
     (p ≤ at) × Matching sheet n at t × (patternFits sheet (alternatives sheet p) t ≡ patternFits sheet (alternatives sheet at) t)
 
 abbrev fits-all-μ-loop : fits-all-lts.MeasureT-loop
@@ -80,11 +80,12 @@ fits-all-loop-less t c =
 
 fits-all-loop-again : (t : ℕ) → fits-all-lts.Need-loop-again (fits-all-claims t) (fits-all-at t) fits-all.Post fits-all-Inv-loop fits-all-μ-loop
 fits-all-loop-again t c =
-    let m = next-matching _ _ _ _ (c .before .before .before .before .loop .inv .1) _ (c .before .word .ensures .0) (c .if2 .left) in
-    (omega (arith, m .0),
-    m .1,
-    c .before .before .before .before .loop .inv .2
-    ∙ chain-goes-on _ _ _ _ _ (c .before .before .before .fits-one .ensures) (c .before .before .if1 .taken) (c .before .word .ensures .0) (c .if2 .left))
+    let m = next-matching _ _ _ _ (c .before .before .before .before .loop .inv .1) _ (c .before .word .ensures .0) (c .if2 .left) in (
+      omega (arith, m .0),
+      m .1,
+      c .before .before .before .before .loop .inv .2
+          ∙ chain-goes-on _ _ _ _ _ (c .before .before .before .fits-one .ensures) (c .before .before .if1 .taken) (c .before .word .ensures .0) (c .if2 .left),
+    )
 
 fits-all-returns-2 : (t : ℕ) → fits-all-lts.Need-returns-2 (fits-all-claims t) (fits-all-at t) fits-all.Post fits-all-Inv-loop fits-all-μ-loop
 fits-all-returns-2 t c = chain-fails _ _ _ _ (c .before .fits-one .ensures) (c .if1 .left) ∙ sym (c .before .before .loop .inv .2)

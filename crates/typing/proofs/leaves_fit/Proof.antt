@@ -20,14 +20,14 @@ abbrev μ-loop : tie.MeasureT-loop
 μ-loop sheet n table t first all leaf₀ i₀ leaf i = all - i
 
 element-copy-out-all : tie.Need-element-copy-out-all Inv-loop μ-loop
-element-copy-out-all c = 
+element-copy-out-all c =
     let h = c .before .pre .1 .there in
     let e = c .before .pre .0 .sized .counted in
     let f = c .before .pre .0 .sized .few in
     omega arith
 
 cast-all : tie.Need-cast-all Inv-loop μ-loop
-cast-all c = 
+cast-all c =
     let m = leaves-counted _ _ _ (c .before .before .pre .0) _ (c .before .before .pre .1) in
     let f = few-of _ _ _ (c .before .before .pre .0) _ (c .before .before .pre .1) in
     omega arith
@@ -36,7 +36,7 @@ loop-holds : tie.Need-loop-holds Inv-loop μ-loop
 loop-holds c = λ g. from-first _ _ _ _ (in-count _ _ _ g _ (c .before .before .pre .2)) (c .before .before .pre .3)
 
 bound-at-requires : tie.Need-bound-at-requires Inv-loop μ-loop
-bound-at-requires c κs = 
+bound-at-requires c κs =
     let m = leaves-counted _ _ _ (c .before .before .before .before .pre .0) _ (c .before .before .before .before .pre .1) in
     (c .before .before .before .before .pre .0, c .before .before .before .before .pre .1, omega arith)
 
@@ -44,12 +44,12 @@ word-requires : tie.Need-word-requires Inv-loop μ-loop
 word-requires c κs = (c .before .before .before .before .before .pre .0 .sized, below-count _ _ _ (c .before .before .before .before .before .pre .0) _ (c .before .before .loop .inv (c .before .before .before .before .before .pre .0) .there), search needs)
 
 returns : tie.Need-returns Inv-loop μ-loop
-returns c = 
+returns c =
     let m = bounds-counted _ _ _ (c .before .before .before .before .before .before .before .pre .0) _ (c .before .before .before .before .before .before .before .pre .1) in
     too-great _ _ _ _ _ _ (c .before .before .before .before .loop .inv (c .before .before .before .before .before .before .before .pre .0)) _ _ (omega arith) (c .before .before .bound-at .ensures) (c .before .word .ensures .0) (c .if1 .taken)
 
 add-i : tie.Need-add-i Inv-loop μ-loop
-add-i c = 
+add-i c =
     let m = leaves-counted _ _ _ (c .before .before .before .before .before .before .before .pre .0) _ (c .before .before .before .before .before .before .before .pre .1) in
     let f = few-of _ _ _ (c .before .before .before .before .before .before .before .pre .0) _ (c .before .before .before .before .before .before .before .pre .1) in
     omega arith
@@ -58,7 +58,7 @@ word-requires-2 : tie.Need-word-requires-2 Inv-loop μ-loop
 word-requires-2 c κs = (c .before .before .before .before .before .before .before .pre .0 .sized, below-count _ _ _ (c .before .before .before .before .before .before .before .pre .0) _ (c .before .before .before .before .loop .inv (c .before .before .before .before .before .before .before .pre .0) .there), search needs)
 
 returns-2 : tie.Need-returns-2 Inv-loop μ-loop
-returns-2 c = 
+returns-2 c =
     let m = bounds-counted _ _ _ (c .before .before .before .before .before .before .before .before .before .pre .0) _ (c .before .before .before .before .before .before .before .before .before .pre .1) in
     last-leaf _ _ _ _ _ _ (c .before .before .before .before .before .before .loop .inv (c .before .before .before .before .before .before .before .before .before .pre .0)) _ _ _ (omega arith) (c .before .before .before .before .bound-at .ensures) (c .before .before .before .word .ensures .0) (c .before .before .if1 .left) (c .before .word2 .ensures .0) _ m (c .if2 .taken)
 
@@ -71,7 +71,7 @@ loop-again c = λ g.
     next-left _ _ _ _ _ _ (c .before .before .before .before .before .before .loop .inv g) _ _ _ (omega arith) (c .before .before .before .before .bound-at .ensures) (c .before .before .before .word .ensures .0) (c .before .before .if1 .left) (c .before .word2 .ensures .0) (c .if2 .left)
 
 returns-3 : tie.Need-returns-3 Inv-loop μ-loop
-returns-3 c = 
+returns-3 c =
     no-bound _ _ _ _ _ _ (c .before .loop .inv (c .before .before .before .before .pre .0)) _ (bounds-counted _ _ _ (c .before .before .before .before .pre .0) _ (c .before .before .before .before .pre .1)) (search needs)
 
 pub leaves-fit-spec : {M : Type 1} → statement M

@@ -14,10 +14,11 @@ word-requires-2 : tie.Need-word-requires-2
 word-requires-2 c κs = search needs
 
 note-requires : tie.Need-note-requires
-note-requires c κs =
-    (c .before .before .before .before .before .pre .0,
-    part-is-type _ _ _ _ _ (c .before .before .before .before .before .pre .0) _ _ _ _ (c .before .before .before .before .before .pre .1) (c .before .before .before .word .ensures .0) (c .before .before .if1 .left) (c .before .word2 .ensures .0)
-    (c .before .before .before .before .before .pre .2) (c .before .before .before .before .before .pre .3))
+note-requires c κs = (
+  c .before .before .before .before .before .pre .0,
+  part-is-type _ _ _ _ _ (c .before .before .before .before .before .pre .0) _ _ _ _ (c .before .before .before .before .before .pre .1) (c .before .before .before .word .ensures .0) (c .before .before .if1 .left) (c .before .word2 .ensures .0)
+      (c .before .before .before .before .before .pre .2) (c .before .before .before .before .before .pre .3),
+)
 
 returns-2 : tie.Need-returns-2
 returns-2 c =

@@ -17,9 +17,10 @@ array-write-inner : tie.Need-array-write-inner
 array-write-inner c = search needs
 
 returns : tie.Need-returns
-returns c =
-    (length-set (now (c .before .args .scope)) (c .before .args .names) (c .before .args .t) ∙ c .before .pre .2,
-    one-name-more (now (c .before .args .scope)) (c .before .args .names) (c .before .args .t) (c .before .pre .2) (c .before .pre .0))
+returns c = (
+  length-set (now (c .before .args .scope)) (c .before .args .names) (c .before .args .t) ∙ c .before .pre .2,
+  one-name-more (now (c .before .args .scope)) (c .before .args .names) (c .before .args .t) (c .before .pre .2) (c .before .pre .0),
+)
 
 pub with-name-spec : {M : Type 1} → statement M
 with-name-spec = tie.close (tie.spec cast-inner mul-inner array-write-inner returns)
