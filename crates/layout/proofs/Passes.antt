@@ -4,6 +4,7 @@
 use Prim.Native.Nat.{ℕ, zero, suc, _%_, _≤_, _<_}
 use mathlib.Core.Bool.{true, false, not, _&&_, _||_}
 use mathlib.Core.List.{List}
+use mathlib.Core.Option.{none}
 use mathlib.Core.Path.{_≡_}
 use native.Mathlib.Omega.{arith}
 use lib.ListN.{length}
@@ -21,6 +22,7 @@ use Rattle.records.proofs.Table.{is-header}
 use Rattle.layout.specs.Depth.{depth, nesting}
 use Rattle.layout.specs.Rules.{wrongLength, wrongHeader, wrongRecord, wrongNaming, wrongType, tooDeep}
 use Rattle.layout.specs.Passes.{Passes}
+use Rattle.layout.specs.Lowest.{lowest}
 use Rattle.layout.proofs.Lowest.{lowest-none-fails}
 
 -- code 1
@@ -49,26 +51,31 @@ record-said s r h e =
       not-false (wellSaid s r) (neither-right (isHeader (kindAt s r)) (not (wellSaid s r)) f),
     )
 
-pub written : {s : List ℕ} → Passes s → Written s
-written {s} p = record {
-  some = length-fits s (p .length) .0;
-  few = length-fits s (p .length) .1;
-  headed = header-said s (p .header) .0;
+pub written-by : {s : List ℕ} → wrongLength s ≡ false → wrongHeader s ≡ false → lowest (wrongRecord s) (count s) ≡ none → Written s
+written-by {s} el eh er = record {
+  some = length-fits s el .0;
+  few = length-fits s el .1;
+  headed = header-said s eh .0;
   said = said;
-  others = λ r low high. record-said s r low (lowest-none-fails (wrongRecord s) (count s) (p .records) r high) .0;
+  others = λ r low high. record-said s r low (lowest-none-fails (wrongRecord s) (count s) er r high) .0;
 }
   where
     said : (r : ℕ) → r < count s → wellSaid s r ≡ true
-    said zero h = header-said s (p .header) .1
-    said (suc r) h = record-said s (suc r) (omega arith) (lowest-none-fails (wrongRecord s) (count s) (p .records) (suc r) h) .1
+    said zero h = header-said s eh .1
+    said (suc r) h = record-said s (suc r) (omega arith) (lowest-none-fails (wrongRecord s) (count s) er (suc r) h) .1
+
+pub written : {s : List ℕ} → Passes s → Written s
+written {s} p = written-by (p .length) (p .header) (p .records)
 
 -- code 4
-pub named-once : {s : List ℕ} → Passes s → NamedOnce s
+pub once-by : (s : List ℕ) → lowest (wrongNaming s) (count s) ≡ none → NamedOnce s
 unfolding wrongNaming
-named-once {s} p r low high =
+once-by s en r low high =
     not-false (exactlyOnce (namings s r))
-    (both-fails (ltb 0 r) (not (exactlyOnce (namings s r)))
-    (lowest-none-fails (wrongNaming s) (count s) (p .namings) r high) (lt-ltb 0 r low))
+    (both-fails (ltb 0 r) (not (exactlyOnce (namings s r))) (lowest-none-fails (wrongNaming s) (count s) en r high) (lt-ltb 0 r low))
+
+pub named-once : {s : List ℕ} → Passes s → NamedOnce s
+named-once {s} p = once-by s (p .namings)
 
 -- code 5
 pub type-fits : (s : List ℕ) (r : ℕ) → kindAt s r ≡ typeOf pair → wrongType s r ≡ false

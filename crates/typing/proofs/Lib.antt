@@ -16,6 +16,7 @@ pub mod PatternTypes
 pub mod Places
 pub mod Readiness
 pub mod Scopes
+pub mod Stages
 pub mod TypeRecordsOf
 pub mod Typings
 pub mod Witness

@@ -1,14 +1,18 @@
 -- The verdict on a byte string (document 01, the table under "The run", codes 0 to 7): the lowest code that applies, with its
 -- place; and the numbers that stand for a verdict.
 use Prim.Native.Nat.{ℕ, _+_, _*_, _^_}
+use mathlib.Core.Path.{_≡_}
+use lib.ListN.{length}
 use mathlib.Core.Bool.{Bool, true, false}
 use mathlib.Core.List.{List, [], _∷_}
 use mathlib.Core.Option.{Option, none, some}
 use Rattle.records.specs.Words.{count, wordA}
 use Rattle.records.specs.Trees.{circuit}
+use Rattle.layout.specs.LeafTable.{Counts}
 use Rattle.layout.specs.Lowest.{lowest}
 use Rattle.layout.specs.Rules.{wrongLength, wrongHeader, wrongRecord, wrongNaming, wrongType, tooDeep}
 use Rattle.typing.specs.Judgements.{judgements, typeOf, firstFailing}
+use Rattle.typing.specs.Judging.{noted}
 use Rattle.typing.specs.declared.Verdict.{Verdict}
 use Rattle.typing.specs.declared.Verdict.the-variants.{
   Accepted,
@@ -65,12 +69,31 @@ byTypes s =
     refusing (firstFailing s (judgements s (inputs s) (circuit s))) IllTyped
     (Accepted (typeOf s (inputs s) (circuit s)))
 
--- by the rules on records, the lowest record first
+-- by each rule on records in its turn, the lowest record first, and then by what comes after it
+abbrev pub byDepths : List ℕ → Verdict
+byDepths s = refusing (lowest (tooDeep s) (count s)) TooDeep (byTypes s)
+
+abbrev pub byTypeRecords : List ℕ → Verdict
+byTypeRecords s = refusing (lowest (wrongType s) (count s)) WrongType (byDepths s)
+
+abbrev pub byNamings : List ℕ → Verdict
+byNamings s = refusing (lowest (wrongNaming s) (count s)) WrongNaming (byTypeRecords s)
+
 unfoldable pub byRecords : List ℕ → Verdict
-byRecords s =
-    refusing (lowest (wrongRecord s) (count s)) WrongRecord
-    (refusing (lowest (wrongNaming s) (count s)) WrongNaming
-    (refusing (lowest (wrongType s) (count s)) WrongType (refusing (lowest (tooDeep s) (count s)) TooDeep (byTypes s))))
+byRecords s = refusing (lowest (wrongRecord s) (count s)) WrongRecord (byNamings s)
 
 unfoldable pub verdict : List ℕ → Verdict
 verdict s = unless (wrongLength s) WrongLength (unless (wrongHeader s) WrongHeader (byRecords s))
+
+-- what a stage of the check gives: the verdict v, and for an accepted sheet the table `before` with the leaf count of each
+-- expression noted
+pub record Checked (s : List ℕ) (v answer : Verdict) (before after : List ℕ) : Type 0 where
+  pub answered : answer ≡ v
+  pub long : length after ≡ 4096
+  pub notes : (t : ℕ) → answer ≡ Accepted t → after ≡ noted s (inputs s) (circuit s) before
+
+-- the same where the table is first filled with the leaf counts of types
+pub record Tabled (s : List ℕ) (n : ℕ) (v answer : Verdict) (after : List ℕ) : Type 0 where
+  pub answered : answer ≡ v
+  pub notes : (t : ℕ) → answer ≡ Accepted t
+    → (table : List ℕ) × Counts s n table × (after ≡ noted s (inputs s) (circuit s) table)

@@ -1,7 +1,7 @@
 // The check: whether a sheet is accepted, and with which type, or the number and the place of its first fault.
 ghost use Rattle.typing.specs.declared.Outcome.the-variants.{Typed};
 ghost use mathlib.Core.Path.{_≡_};
-ghost use mathlib.Core.List.{List, _∷_};
+ghost use mathlib.Core.List.{List, [], _∷_};
 ghost use mathlib.Core.Bool.{Bool, _&&_};
 ghost use Prim.Native.Nat.{ℕ, _+_, _≤_, _<_};
 ghost use lib.ListN.{length, getD, set};
@@ -14,8 +14,27 @@ ghost use Rattle.records.specs.TypeRecords.{typeAt, TypeRecord, pairOf};
 ghost use Rattle.records.specs.Trees.{alternatives, chain, follow, end, treeAt};
 ghost use Rattle.records.specs.Decoding.{leafValues};
 ghost use Rattle.typing.specs.Judgements.{within, patternFits, holds, leavesFit, inScope, pairDeclared, pairType, sameType, patternHas};
+ghost use Rattle.typing.specs.Verdict.{verdict, byTypes, byDepths, byTypeRecords, byNamings, byRecords, unless, Checked, Tabled};
+ghost use Rattle.typing.specs.Stages.{Measured, Recorded, NamedAll, Fitted};
+ghost use Rattle.typing.specs.declared.Verdict.the-variants.{WrongHeader};
+ghost use Rattle.records.specs.Namings.{namings};
+ghost use Rattle.layout.specs.Rules.{wrongHeader};
+ghost use Rattle.layout.specs.NamerTable.{Holds};
+ghost use Rattle.layout.specs.LeafTable.{Counts};
 ghost use Rattle.typing.specs.Judging.{Ground, Ready, Done, scopeOf, Matching, FitsOne, Closed, Closing, lastly, PartAt};
+use layout::Found;
+use layout::count_types;
+use layout::first_too_deep;
+use layout::first_wrong_naming;
+use layout::first_wrong_record;
+use layout::first_wrong_type;
+use layout::no_depths;
+use layout::no_leaves;
+use layout::no_namings;
+use layout::note_all;
 use layout::pair_below;
+use layout::place_all;
+use layout::wrong_header;
 use records::word;
 
 // The answer of the check. `specs/Verdict.antt` gives document 01's number and place for each case.
@@ -542,4 +561,86 @@ fn of_delay(
         return fit;
     };
     same_type(sheet, n, table, rec, u, t, t, widths)
+}
+
+// The names in scope of the whole circuit: the input alone, of the type in the header's word a.
+fn input_scope(t: usize) -> [u16; 64]
+    requires { ⌜ t < 65536 ⌝ }
+    ensures { λ r. ⌜ (length r ≡ 64) × (scopeOf 1 r ≡ t ∷ []) ⌝ }
+{
+    let mut scope = [0u16; 64];
+    scope[0] = t as u16;
+    scope
+}
+
+// By the type rules: code 7.
+fn check_rules(sheet: &[u8], n: usize, table: &[u8; 4096], widths: &mut [u8; 4096]) -> Verdict
+    requires { ⌜ Ground (now sheet) n (now table) × (length (now widths) ≡ 4096) ⌝ }
+    ensures { λ r. ⌜ Checked (now (sheet .entry)) (byTypes (now (sheet .entry))) r (now (widths .entry)) (now (widths .exit)) ⌝ }
+{
+    let scope = input_scope(word(sheet, n, 0, 2));
+    let judged = judge(sheet, n, table, &scope, 1, word(sheet, n, 0, 3), widths);
+    match judged {
+        Outcome::Typed(t) => Verdict::Accepted(t),
+        Outcome::Fault(r) => Verdict::IllTyped(r),
+    }
+}
+
+// By the depth of expressions: code 6, and then by the type rules.
+fn check_depths(sheet: &[u8], n: usize, namers: &[u16; 4096], table: &[u8; 4096], widths: &mut [u8; 4096]) -> Verdict
+    requires { ⌜ Fitted (now sheet) n × Holds (namings (now sheet)) (now namers) × Counts (now sheet) n (now table) × (length (now widths) ≡ 4096) ⌝ }
+    ensures { λ r. ⌜ Checked (now (sheet .entry)) (byDepths (now (sheet .entry))) r (now (widths .entry)) (now (widths .exit)) ⌝ }
+{
+    let mut depths = no_depths();
+    let mut nestings = no_depths();
+    place_all(sheet, n, namers, &mut depths, &mut nestings);
+    let deep = first_too_deep(sheet, n, &depths, &nestings);
+    if let Found::At(r) = deep {
+        return Verdict::TooDeep(r);
+    }
+    check_rules(sheet, n, table, widths)
+}
+
+// By the type records: code 5, and then by what comes after it. The leaf counts of types go to the table.
+fn check_types(sheet: &[u8], n: usize, namers: &[u16; 4096], widths: &mut [u8; 4096]) -> Verdict
+    requires { ⌜ NamedAll (now sheet) n × Holds (namings (now sheet)) (now namers) ⌝ }
+    ensures { λ r. ⌜ Tabled (now (sheet .entry)) n (byTypeRecords (now (sheet .entry))) r (now (widths .exit)) ⌝ }
+{
+    let mut table = no_leaves();
+    count_types(sheet, n, &mut table);
+    let wrong = first_wrong_type(sheet, n, &table);
+    if let Found::At(r) = wrong {
+        return Verdict::WrongType(r);
+    }
+    *widths = table;
+    check_depths(sheet, n, namers, &table, widths)
+}
+
+// By the namings: code 4, and then by what comes after it.
+fn check_names(sheet: &[u8], n: usize, widths: &mut [u8; 4096]) -> Verdict
+    requires { ⌜ Recorded (now sheet) n ⌝ }
+    ensures { λ r. ⌜ Tabled (now (sheet .entry)) n (byNamings (now (sheet .entry))) r (now (widths .exit)) ⌝ }
+{
+    let mut namers = no_namings();
+    note_all(sheet, n, &mut namers);
+    let wrong = first_wrong_naming(n, &namers);
+    if let Found::At(r) = wrong {
+        return Verdict::WrongNaming(r);
+    }
+    check_types(sheet, n, &namers, widths)
+}
+
+// By the header and the records: codes 2 and 3, and then by what comes after them.
+fn check_records(sheet: &[u8], n: usize, widths: &mut [u8; 4096]) -> Verdict
+    requires { ⌜ Measured (now sheet) n ⌝ }
+    ensures { λ r. ⌜ Tabled (now (sheet .entry)) n (unless (wrongHeader (now (sheet .entry))) WrongHeader (byRecords (now (sheet .entry)))) r (now (widths .exit)) ⌝ }
+{
+    if wrong_header(sheet, n) {
+        return Verdict::WrongHeader;
+    }
+    let wrong = first_wrong_record(sheet, n);
+    if let Found::At(r) = wrong {
+        return Verdict::WrongRecord(r);
+    }
+    check_names(sheet, n, widths)
 }

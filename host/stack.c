@@ -1,0 +1,90 @@
+#define _DEFAULT_SOURCE /* MAP_ANONYMOUS */
+
+#include "stack.h"
+
+#include <pthread.h>
+#include <stdio.h>
+#include <stdlib.h>
+#include <string.h>
+#include <sys/mman.h>
+#include <unistd.h>
+
+#include "guard.h"
+#include "sheet.h"
+
+/* Left between the frame that makes the measured call and the filled part, for the frames that fill and look. */
+enum { GAP = 512 };
+
+static uint8_t *stack;
+
+static void *stack_opened(void)
+{
+    size_t page = (size_t)sysconf(_SC_PAGESIZE);
+    uint8_t *pages = mmap(NULL, SMALL_STACK + page, PROT_READ | PROT_WRITE, MAP_PRIVATE | MAP_ANONYMOUS, -1, 0);
+    if (pages == MAP_FAILED || mprotect(pages, page, PROT_NONE) != 0) {
+        perror("a stack");
+        exit(1);
+    }
+    return pages + page;
+}
+
+static void run(void *(*work)(void *), void *argument)
+{
+    pthread_t thread;
+    pthread_attr_t attributes;
+    if (stack == NULL)
+        stack = stack_opened();
+    if (pthread_attr_init(&attributes) != 0 || pthread_attr_setstack(&attributes, stack, SMALL_STACK) != 0 ||
+        pthread_create(&thread, &attributes, work, argument) != 0 || pthread_join(thread, NULL) != 0) {
+        fprintf(stderr, "no thread with a stack of %d bytes\n", (int)SMALL_STACK);
+        exit(1);
+    }
+    pthread_attr_destroy(&attributes);
+}
+
+static void *plain_work(void *argument)
+{
+    void (**work)(void) = argument;
+    guard_thread();
+    (*work)();
+    return NULL;
+}
+
+void on_small_stack(void (*work)(void))
+{
+    run(plain_work, &work);
+}
+
+struct measured {
+    const uint8_t *sheet;
+    size_t length;
+    uint8_t pattern;
+    size_t used;
+};
+
+/* Fills the stack below this frame, makes the call, and looks for the lowest byte that changed. */
+static void *measured_call(void *argument)
+{
+    struct measured *measured = argument;
+    volatile uint8_t here = 0;
+    size_t above = (size_t)((uintptr_t)&here - (uintptr_t)stack), lowest = 0;
+    memset(stack, measured->pattern, above - GAP);
+    sheet_check(measured->sheet, measured->length);
+    while (lowest < above - GAP && stack[lowest] == measured->pattern)
+        lowest++;
+    measured->used = above - lowest;
+    return NULL;
+}
+
+size_t stack_used(const uint8_t *sheet, size_t length)
+{
+    size_t most = 0;
+    /* A byte that happens to be written with one pattern shows with the other. */
+    static const uint8_t patterns[] = {0xa5, 0x5a};
+    for (size_t k = 0; k < sizeof patterns; k++) {
+        struct measured measured = {sheet, length, patterns[k], 0};
+        run(measured_call, &measured);
+        most = measured.used > most ? measured.used : most;
+    }
+    return most;
+}

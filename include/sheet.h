@@ -1,0 +1,108 @@
+/*
+ * Sheets of picoELLA circuits: the calls that a host in C or C++ makes, and how to read what they return.
+ *
+ * Rules for every call:
+ * - A slice is lent as a pointer to its first byte and then its length in bytes. The pointer is valid even where the length is 0:
+ *   never null.
+ * - Slices lent to one call do not overlap, and nothing else writes to them while the call runs.
+ * - A call touches nothing but the slices lent to it and its stack: it allocates nothing, keeps no pointer and no state. Several
+ *   threads may call at the same time.
+ * - Any content and any length is a good call. What is wrong with a sheet is said by the result, and a refusal leaves every lent
+ *   slice unaltered.
+ */
+#ifndef SHEET_H
+#define SHEET_H
+
+#include <stddef.h>
+#include <stdint.h>
+
+#ifdef __cplusplus
+extern "C" {
+#endif
+
+/* The most bytes that a sheet may have: 4,096 records of 12. */
+#define SHEET_LONGEST 49152
+
+/*
+ * A result is code * 2^32 + place. The lowest code that applies is returned, with its place. Above each code stands what its
+ * place says; `sheet_sentence` has a sentence on it for people.
+ */
+enum sheet_code {
+    /* The check's place is the record of the output's type, a run's the number of cycles done. */
+    SHEET_ACCEPTED = 0,
+
+    /* The sheet is refused, by the check and by a run. */
+    /* Place 0. */
+    SHEET_WRONG_LENGTH = 1,
+    /* Place 0, which is the header's record. */
+    SHEET_WRONG_HEADER = 2,
+    /* Codes 3 to 6: the lowest record that breaks the rule. */
+    SHEET_WRONG_RECORD = 3,
+    SHEET_WRONG_NAMING = 4,
+    SHEET_WRONG_TYPE = 5,
+    SHEET_TOO_DEEP = 6,
+    /* The first record that breaks a type rule, parts before the whole. */
+    SHEET_ILL_TYPED = 7,
+
+    /* The sheet is accepted and the run is refused. */
+    /* Place 0. */
+    SHEET_WRONG_STIMULUS = 8,
+    /* The first such byte of the stimulus, counted from 0. */
+    SHEET_WRONG_INPUT = 9,
+    /* The length that is needed. */
+    SHEET_WRONG_OUTPUT_LENGTH = 10,
+    SHEET_WRONG_NEXT_LENGTH = 11,
+
+    /* Of programs, not of calls: 1 is the sheet's file, 2 the stimulus's. */
+    SHEET_NO_FILE = 12
+};
+
+/* The code of a result. */
+static inline uint32_t sheet_code_of(uint64_t result)
+{
+    return (uint32_t)(result >> 32);
+}
+
+/* The place of a result. */
+static inline uint32_t sheet_place_of(uint64_t result)
+{
+    return (uint32_t)(result & 0xffffffffu);
+}
+
+/* What a code says, for people. */
+static inline const char *sheet_sentence(uint32_t code)
+{
+    static const char *const sentences[] = {
+        "The sheet is accepted.",
+        "The sheet is under 12 bytes long, over 49,152, or no multiple of 12.",
+        "The header's kind, count or last word is wrong, or it names no record or one of the wrong sort.",
+        "A record has an unknown kind, or a word that its kind, the numbering rule or the sort it asks for does not allow.",
+        "A record is not named exactly once.",
+        "A pair type has the same parts as a lower one, or over 64 leaves.",
+        "An expression lies over 64 deep, or in the defining parts of over three feedbacks.",
+        "A type rule is broken.",
+        "The stimulus is empty, over 65,535 bytes long, or not made of whole cycles.",
+        "A byte of the stimulus is above the constructor count of its leaf.",
+        "The output slice has another length than the cycles times the output's leaves.",
+        "The next slice is not as long as the sheet.",
+        "The file cannot be opened.",
+    };
+    return code < sizeof sentences / sizeof *sentences ? sentences[code] : "No call returns this code.";
+}
+
+/*
+ * The check, in libtyping.a: whether the sheet is accepted, and with which type. Codes 0 to 7.
+ *
+ * Its stack need in bytes, rounded up, from the caller's frame down. It does not grow with the sheet beyond this: expressions lie
+ * at most 64 deep, types of at most 64 leaves bound the depth of patterns, and chains are loops. Measured by host/tests.c on the
+ * deepest sheets and on sheets of 4,096 records: the stack is filled with a pattern before the call, and after it the lowest byte
+ * that changed is looked for. The tests fail where a call uses more than this figure, or never half of it.
+ */
+#define SHEET_CHECK_STACK 65536
+uint64_t sheet_check(const uint8_t *sheet, size_t length);
+
+#ifdef __cplusplus
+}
+#endif
+
+#endif
