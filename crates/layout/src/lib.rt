@@ -168,7 +168,7 @@ pub fn no_leaves() -> [u8; 4096]
 }
 
 // The sum, and 65 where it is more.
-fn capped_sum(x: u8, y: u8) -> u8
+pub fn capped_sum(x: u8, y: u8) -> u8
     requires { ⌜ (x ≤ 65) × (y ≤ 65) ⌝ }
     ensures { λ r. ⌜ r ≡ min 65 (x + y) ⌝ }
 {

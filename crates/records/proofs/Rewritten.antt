@@ -2,7 +2,7 @@
 -- word a of a leaf record. Each by induction on the steps, a record at a time: it is a leaf, whose word a is not read, or its
 -- words are the same.
 -- Assumes nothing.
-use Prim.Native.Nat.{ℕ, zero, suc}
+use Prim.Native.Nat.{ℕ, zero, suc, _<_}
 use mathlib.Core.Bool.{false, cond}
 use mathlib.Core.List.{List, _++_}
 use mathlib.Core.Path.{_≡_, refl, sym, ap, ap₂, fun-ext, _∙_}
@@ -58,24 +58,28 @@ leaf-or-not (expression k) = inr (λ e. let z : _≡_ {A = ℕ} 0 1 = cc in omeg
 leaf-or-not (pattern k) = inr (λ e. let z : _≡_ {A = ℕ} 0 1 = cc in omega arith)
 leaf-or-not unknown = inr (λ e. let z : _≡_ {A = ℕ} 0 1 = cc in omega arith)
 
+-- the words of record r are the same
+abbrev pub SameWords : List ℕ → List ℕ → ℕ → Type 0
+SameWords s s′ r = (k : ℕ) → k < 6 → word s′ r k ≡ word s r k
+
 module _ (s s′ : List ℕ) (o : OnlyLeaves s s′) where
   pub same-count : count s′ ≡ count s
   unfolding count
   same-count = rw (o .length)
 
   pub same-kind : (r : ℕ) → kindAt s′ r ≡ kindAt s r
-  same-kind r = ap kindOf (o .leaves r 0 (λ e. omega arith))
+  same-kind r = ap kindOf (o .leaves r 0 (omega arith) (λ e. omega arith))
 
   pub same-next : (r : ℕ) → next s′ r ≡ next s r
-  same-next r = o .leaves r 1 (λ e. omega arith)
+  same-next r = o .leaves r 1 (omega arith) (λ e. omega arith)
 
   -- a record is a leaf or has the same words
-  pub leaf-or-same : (r : ℕ) → (kindAt s r ≡ leaf) ⊎ (word s′ r ≡ word s r)
+  pub leaf-or-same : (r : ℕ) → (kindAt s r ≡ leaf) ⊎ SameWords s s′ r
   leaf-or-same r = go (leaf-or-not (kindAt s r))
     where
-      go : (kindAt s r ≡ leaf) ⊎ (kindAt s r ≡ leaf → ⊥) → (kindAt s r ≡ leaf) ⊎ (word s′ r ≡ word s r)
+      go : (kindAt s r ≡ leaf) ⊎ (kindAt s r ≡ leaf → ⊥) → (kindAt s r ≡ leaf) ⊎ SameWords s s′ r
       go (inl e) = inl e
-      go (inr f) = inr (fun-ext (o .others r f))
+      go (inr f) = inr (o .others r f)
 
   chains-same : (n : ℕ) → chainWithin s′ n ≡ chainWithin s n
   unfolding chainWithin
@@ -91,10 +95,10 @@ module _ (s s′ : List ℕ) (o : OnlyLeaves s s′) where
   types-same zero = refl
   types-same (suc n) = fun-ext (λ r. go r (leaf-or-same r) (types-same n))
     where
-      go : (r : ℕ) → (kindAt s r ≡ leaf) ⊎ (word s′ r ≡ word s r) → typeWithin s′ n ≡ typeWithin s n
+      go : (r : ℕ) → (kindAt s r ≡ leaf) ⊎ SameWords s s′ r → typeWithin s′ n ≡ typeWithin s n
           → typeWithin s′ (suc n) r ≡ typeWithin s (suc n) r
       go r (inl e) ih = rw (same-kind r, e)
-      go r (inr e) ih = rw (e, ih)
+      go r (inr e) ih = rw (e 0 (omega arith), e 2 (omega arith), e 3 (omega arith), ih)
 
   pub same-type : (r : ℕ) → typeAt s′ r ≡ typeAt s r
   unfolding typeAt
@@ -103,9 +107,9 @@ module _ (s s′ : List ℕ) (o : OnlyLeaves s s′) where
   pub same-pair : (a b r : ℕ) → isPairOf s′ a b r ≡ isPairOf s a b r
   same-pair a b r = go (leaf-or-same r)
     where
-      go : (kindAt s r ≡ leaf) ⊎ (word s′ r ≡ word s r) → isPairOf s′ a b r ≡ isPairOf s a b r
+      go : (kindAt s r ≡ leaf) ⊎ SameWords s s′ r → isPairOf s′ a b r ≡ isPairOf s a b r
       go (inl e) = rw (same-kind r, e)
-      go (inr e) = rw e
+      go (inr e) = rw (e 0 (omega arith), e 2 (omega arith), e 3 (omega arith))
 
   pub same-pair-below : (a b n : ℕ) → pairBelow s′ a b n ≡ pairBelow s a b n
   same-pair-below a b zero = refl
@@ -124,10 +128,11 @@ module _ (s s′ : List ℕ) (o : OnlyLeaves s s′) where
   alternatives-same zero = refl
   alternatives-same (suc n) = fun-ext (λ r. go r (leaf-or-same r) (alternatives-same n))
     where
-      go : (r : ℕ) → (kindAt s r ≡ leaf) ⊎ (word s′ r ≡ word s r) → alternativesWithin s′ n ≡ alternativesWithin s n
+      go : (r : ℕ) → (kindAt s r ≡ leaf) ⊎ SameWords s s′ r → alternativesWithin s′ n ≡ alternativesWithin s n
           → alternativesWithin s′ (suc n) r ≡ alternativesWithin s (suc n) r
       go r (inl e) ih = rw (same-kind r, e)
-      go r (inr e) ih = rw (e, ih)
+      go r (inr e) ih =
+          rw (e 0 (omega arith), e 1 (omega arith), e 2 (omega arith), e 3 (omega arith), ih)
 
   pub same-alternatives : (r : ℕ) → alternatives s′ r ≡ alternatives s r
   unfolding alternatives
@@ -154,10 +159,12 @@ module _ (s s′ : List ℕ) (o : OnlyLeaves s s′) where
   trees-same zero = refl
   trees-same (suc n) = fun-ext (λ r. go r (leaf-or-same r) (trees-same n))
     where
-      go : (r : ℕ) → (kindAt s r ≡ leaf) ⊎ (word s′ r ≡ word s r) → treeWithin s′ n ≡ treeWithin s n
+      go : (r : ℕ) → (kindAt s r ≡ leaf) ⊎ SameWords s s′ r → treeWithin s′ n ≡ treeWithin s n
           → treeWithin s′ (suc n) r ≡ treeWithin s (suc n) r
       go r (inl e) ih = rw (same-kind r, e)
-      go r (inr e) ih = rw (e, ih) (tree-step-same (treeWithin s n) (kindAt s r) r (wordA s r) (wordB s r) (wordC s r) (wordD s r))
+      go r (inr e) ih =
+          rw (e 0 (omega arith), e 2 (omega arith), e 3 (omega arith), e 4 (omega arith), e 5 (omega arith), ih)
+          (tree-step-same (treeWithin s n) (kindAt s r) r (wordA s r) (wordB s r) (wordC s r) (wordD s r))
 
   pub same-tree : (r : ℕ) → treeAt s′ r ≡ treeAt s r
   unfolding treeAt
@@ -165,28 +172,28 @@ module _ (s s′ : List ℕ) (o : OnlyLeaves s s′) where
 
   pub same-circuit : circuit s′ ≡ circuit s
   unfolding circuit
-  same-circuit = rw (o .leaves 0 3 (λ e. omega arith), same-tree (wordB s 0))
+  same-circuit = rw (o .leaves 0 3 (omega arith) (λ e. omega arith), same-tree (wordB s 0))
 
-  same-naming : (r q k : ℕ) → namesAt s′ r q k ≡ namesAt s r q k
-  same-naming r q k = go (ℕ-discrete k 2) (leaf-or-same q)
+  same-naming : (r q k : ℕ) → k < 6 → namesAt s′ r q k ≡ namesAt s r q k
+  same-naming r q k h = go (ℕ-discrete k 2) (leaf-or-same q)
     where
       -- the word a of a leaf asks for a byte, and names nothing
       unnamed : (z : List ℕ) → kindAt z q ≡ leaf → namesAt z r q 2 ≡ false
       unnamed z e = rw (ask-by-kind z q 2 leaf e) (unfold askOfKind in refl)
 
-      go : Dec (k ≡ 2) → (kindAt s q ≡ leaf) ⊎ (word s′ q ≡ word s q) → namesAt s′ r q k ≡ namesAt s r q k
-      go (no f) d = rw (o .leaves q 0 (λ e. omega arith), o .leaves q k f)
-      go (yes z) (inr e) = rw e
+      go : Dec (k ≡ 2) → (kindAt s q ≡ leaf) ⊎ SameWords s s′ q → namesAt s′ r q k ≡ namesAt s r q k
+      go (no f) d = rw (o .leaves q 0 (omega arith) (λ e. omega arith), o .leaves q k h f)
+      go (yes z) (inr e) = rw (z, e 0 (omega arith), e 2 (omega arith))
       go (yes z) (inl e) = rw z (unnamed s′ (same-kind q ∙ e) ∙ sym (unnamed s e))
 
   pub same-namings : (r : ℕ) → namings s′ r ≡ namings s r
   unfolding namings
   same-namings r = rw same-count (below (count s))
     where
-      within : (q n : ℕ) → namingsIn s′ r q n ≡ namingsIn s r q n
-      within q zero = refl
-      within q (suc n) = ap₂ _++_ (within q n) (ap (λ t. ifNamed t q (suc n)) (same-naming r q (suc n)))
+      within : (q n : ℕ) → n < 6 → namingsIn s′ r q n ≡ namingsIn s r q n
+      within q zero h = refl
+      within q (suc n) h = ap₂ _++_ (within q n (omega arith)) (ap (λ t. ifNamed t q (suc n)) (same-naming r q (suc n) h))
 
       below : (n : ℕ) → namingsBelow s′ r n ≡ namingsBelow s r n
       below zero = refl
-      below (suc n) = ap₂ _++_ (below n) (within n 5)
+      below (suc n) = ap₂ _++_ (below n) (within n 5 (omega arith))

@@ -42,7 +42,7 @@ use Rattle.records.proofs.Rewritten.{same-count, same-kind, same-naming
 module _ (s s′ : List ℕ) (w : Written s) (o : OnlyLeaves s s′)
     (small : (r : ℕ) → r < count s → kindAt s r ≡ leaf → wordA s′ r ≤ 255) where
   same-ask : (r j : ℕ) → askAt s′ r j ≡ askAt s r j
-  same-ask r j = ap (λ n. askOf n j) (o .leaves r 0 (λ e. omega arith))
+  same-ask r j = ap (λ n. askOf n j) (o .leaves r 0 (omega arith) (λ e. omega arith))
 
   same-higher : (r : ℕ) (σ : Sort) (v : ℕ) → higher s′ r σ v ≡ higher s r σ v
   same-higher r σ v = rw (same-count s s′ o, same-kind s s′ o v)
@@ -52,8 +52,8 @@ module _ (s s′ : List ℕ) (w : Written s) (o : OnlyLeaves s s′)
   same-bound r j h e =
       let a = constructor-of-flat (kindWord s r) j e in
       let f : (wordA s r < r) × (kindAt s (wordA s r) ≡ typeOf flat) = as-asked w r 2 lowerFlat h (omega arith) (omega arith) a in
-      let here : wordA s′ r ≡ wordA s r = o .others r (λ k. no-leaf (sym a ∙ ask-by-kind s r 2 leaf k)) 2 in
-      rw here (o .others (wordA s r) (λ k. let z : _≡_ {A = ℕ} 0 1 = cc in omega arith) 2)
+      let here : wordA s′ r ≡ wordA s r = o .others r (λ k. no-leaf (sym a ∙ ask-by-kind s r 2 leaf k)) 2 (omega arith) in
+      rw here (o .others (wordA s r) (λ k. let z : _≡_ {A = ℕ} 0 1 = cc in omega arith) 2 (omega arith))
     where
       no-leaf : lowerFlat ≡ askOfKind leaf 2 → ⊥
       no-leaf e = unfold askOfKind in (let z : _≡_ {A = ℕ} 0 1 = cc in omega arith)
@@ -81,8 +81,8 @@ module _ (s s′ : List ℕ) (w : Written s) (o : OnlyLeaves s s′)
           rw (same-ask r j, e) (meets-again r (askAt s r j) (word s r j) (same-bound r j h) (meets-at w r j h low high))
 
       go : Dec (j ≡ 2) → (kindAt s r ≡ leaf) ⊎ (kindAt s r ≡ leaf → ⊥) → meetsAt s′ r j ≡ true
-      go (no f) d = unchanged (o .leaves r j f)
-      go (yes z) (inr f) = unchanged (o .others r f j)
+      go (no f) d = unchanged (o .leaves r j high f)
+      go (yes z) (inr f) = unchanged (o .others r f j high)
       go (yes z) (inl e) =
           rw (z, ask-by-kind s′ r 2 leaf (same-kind s s′ o r ∙ e)) (unfold askOfKind in le-leb (wordA s′ r) 255 (small r h e))
 

@@ -36,7 +36,7 @@ use Rattle.records.specs.Trees.{
 use Rattle.records.specs.Decoding.{leafValues}
 use Rattle.records.specs.Rewritten.{OnlyLeaves}
 use Rattle.records.proofs.Table.{is-pair}
-use Rattle.records.proofs.Rewritten.{same-kind, same-pair-of, same-circuit, leaf-or-same}
+use Rattle.records.proofs.Rewritten.{SameWords, same-kind, same-pair-of, same-circuit, leaf-or-same}
 use Rattle.typing.specs.Judgements.{patternFits, typeOf}
 use Rattle.layout.specs.Passes.{Passes}
 use Rattle.typing.specs.Verdict.{inputs, verdict}
@@ -82,15 +82,16 @@ module _ (s s′ : List ℕ) (o : OnlyLeaves s s′) where
   pattern-again (oneConstructor r u k m) t = rw (pattern-again m t)
   pattern-again (pairOfPatterns r a b m) t = go (leaf-or-same s s′ o t) (pattern-again a) (pattern-again b) (pattern-again m t)
     where
-      go : (kindAt s t ≡ leaf) ⊎ (word s′ t ≡ word s t) → ((u : ℕ) → patternFits s′ a u ≡ patternFits s a u)
+      go : (kindAt s t ≡ leaf) ⊎ SameWords s s′ t → ((u : ℕ) → patternFits s′ a u ≡ patternFits s a u)
           → ((u : ℕ) → patternFits s′ b u ≡ patternFits s b u) → patternFits s′ m t ≡ patternFits s m t
           → patternFits s′ (pairOfPatterns r a b m) t ≡ patternFits s (pairOfPatterns r a b m) t
       go (inl e) fa fb fm = rw (same-kind s s′ o t, e)
-      go (inr e) fa fb fm = rw (e, fa (wordA s t), fb (wordB s t), fm)
+      go (inr e) fa fb fm =
+          rw (e 0 (omega arith), e 2 (omega arith), e 3 (omega arith), fa (wordA s t), fb (wordB s t), fm)
 
   -- the words of a pair type's record
-  pair-words : (t : ℕ) → isPair (kindAt s t) ≡ true → (k : ℕ) → word s′ t k ≡ word s t k
-  pair-words t e k = o .others t (λ f. let g = is-pair (kindAt s t) e in let z : _≡_ {A = ℕ} 0 1 = cc in omega arith) k
+  pair-words : (t : ℕ) → isPair (kindAt s t) ≡ true → (k : ℕ) → k < 6 → word s′ t k ≡ word s t k
+  pair-words t e k h = o .others t (λ f. let g = is-pair (kindAt s t) e in let z : _≡_ {A = ℕ} 0 1 = cc in omega arith) k h
 
   judged-again : (Γ : List ℕ) (e : Tree) → Judged s Γ e → Fitting s′ e → Judged s′ Γ e × (typeOf s′ Γ e ≡ typeOf s Γ e)
   judged-again Γ noExpression j f = (j, refl)
@@ -104,10 +105,10 @@ module _ (s s′ : List ℕ) (o : OnlyLeaves s s′) where
       ((ja .0, jb .0, rw e (j .2)), e)
   judged-again Γ (firstOf r a) j f =
       let ja = judged-again Γ a (j .0) f in
-      ((ja .0, rw (ja .1, same-kind s s′ o (typeOf s Γ a)) (j .1)), rw (ja .1) (pair-words (typeOf s Γ a) (j .1) 2))
+      ((ja .0, rw (ja .1, same-kind s s′ o (typeOf s Γ a)) (j .1)), rw (ja .1) (pair-words (typeOf s Γ a) (j .1) 2 (omega arith)))
   judged-again Γ (secondOf r a) j f =
       let ja = judged-again Γ a (j .0) f in
-      ((ja .0, rw (ja .1, same-kind s s′ o (typeOf s Γ a)) (j .1)), rw (ja .1) (pair-words (typeOf s Γ a) (j .1) 3))
+      ((ja .0, rw (ja .1, same-kind s s′ o (typeOf s Γ a)) (j .1)), rw (ja .1) (pair-words (typeOf s Γ a) (j .1) 3 (omega arith)))
   judged-again Γ (letOf r a b) j f =
       let ja = judged-again Γ a (j .0) (f .0) in
       let jb = judged-again (typeOf s Γ a ∷ Γ) b (j .1) (f .1) in
@@ -141,4 +142,4 @@ module _ (s s′ : List ℕ) (o : OnlyLeaves s s′) where
       )
     where
       input-same : Passes s → wordA s′ 0 ≡ wordA s 0
-      input-same p = o .others 0 (λ e. let h = written p .headed in let z : _≡_ {A = ℕ} 0 1 = cc in omega arith) 2
+      input-same p = o .others 0 (λ e. let h = written p .headed in let z : _≡_ {A = ℕ} 0 1 = cc in omega arith) 2 (omega arith)

@@ -15,7 +15,7 @@ use Rattle.records.specs.Kinds.{leaf}
 use Rattle.records.specs.Says.{kindAt}
 use Rattle.records.specs.Rewritten.{OnlyLeaves}
 use Rattle.records.specs.Written.{Written}
-use Rattle.records.proofs.Rewritten.{same-count, same-kind, same-type, same-pair-below, same-namings, leaf-or-same}
+use Rattle.records.proofs.Rewritten.{SameWords, same-count, same-kind, same-type, same-pair-below, same-namings, leaf-or-same}
 use Rattle.records.proofs.WrittenAgain.{written-again}
 use Rattle.layout.specs.Lowest.{lowest}
 use Rattle.layout.specs.Depth.{ancestryWithin, ancestry, depth, isFeedback, howMany, nesting}
@@ -47,9 +47,16 @@ module _ (s s′ : List ℕ) (o : OnlyLeaves s s′) where
   unfolding wrongType
   same-type-rule r = go (leaf-or-same s s′ o r)
     where
-      go : (kindAt s r ≡ leaf) ⊎ (word s′ r ≡ word s r) → wrongType s′ r ≡ wrongType s r
+      go : (kindAt s r ≡ leaf) ⊎ SameWords s s′ r → wrongType s′ r ≡ wrongType s r
       go (inl e) = rw (same-kind s s′ o r, e)
-      go (inr e) = rw (e, same-pair-below s s′ o (word s r 2) (word s r 3) r, same-type s s′ o r)
+      go (inr e) =
+          rw (
+            e 0 (omega arith),
+            e 2 (omega arith),
+            e 3 (omega arith),
+            same-pair-below s s′ o (word s r 2) (word s r 3) r,
+            same-type s s′ o r,
+          )
 
   ancestries-same : (n : ℕ) → ancestryWithin s′ n ≡ ancestryWithin s n
   unfolding ancestryWithin

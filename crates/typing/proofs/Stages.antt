@@ -40,13 +40,13 @@ use Rattle.typing.specs.declared.Verdict.the-variants.{
   WrongNaming,
   WrongType,
   TooDeep,
-  IllTyped
+  IllTyped,
 }
 use Rattle.typing.proofs.Outcomes.{Passed, passed, faulted}
 
 -- the type rules
 module _ (s : List ℕ) (n : ℕ) (table : List ℕ) (g : Ground s n table) (stack widths : List ℕ) (x y : ℕ) (ex : x ≡ word s 0 2)
-  (ey : y ≡ word s 0 3) (scope : scopeOf 1 stack ≡ x ∷ []) where
+    (ey : y ≡ word s 0 3) (scope : scopeOf 1 stack ≡ x ∷ []) where
   pub root-ready : length stack ≡ 64 → length widths ≡ 4096 → Ready s n table stack 1 y widths
   root-ready wide long =
       let w = written (g .passes) in
@@ -60,24 +60,24 @@ module _ (s : List ℕ) (n : ℕ) (table : List ℕ) (g : Ground s n table) (sta
         there = omega (arith, r .1, ey);
         sort = rw ey (r .2);
         deep = rw ey (omega arith);
-        context = subst (λ (Γ : List ℕ). Context s Γ) (sym scope) (rw ex (input-type w), tt)
+        context = subst (λ (Γ : List ℕ). Context s Γ) (sym scope) (rw ex (input-type w), tt);
       }
 
   -- judging the root is judging the circuit
   the-circuit : (answer : Outcome) (before after : List ℕ) → Done s (scopeOf 1 stack) (treeAt s y) answer before after
-    → Done s (inputs s) (circuit s) answer before after
+      → Done s (inputs s) (circuit s) answer before after
   unfolding circuit
   the-circuit answer before after d = rw (scope, ex, ey) at d
 
   pub rules-accept : (answer : Outcome) (t : ℕ) (before after : List ℕ) → Done s (scopeOf 1 stack) (treeAt s y) answer before after
-    → answer ≡ Typed t → Checked s (byTypes s) (Accepted t) before after
+      → answer ≡ Typed t → Checked s (byTypes s) (Accepted t) before after
   unfolding byTypes
   rules-accept answer t before after d e =
       let p = passed s (inputs s) (circuit s) answer before after t (the-circuit answer before after d) e in
       record { answered = rw (p .none-fails, p .typed); long = p .long; notes = λ u q. p .notes }
 
   pub rules-refuse : (answer : Outcome) (r : ℕ) (before after : List ℕ) → Done s (scopeOf 1 stack) (treeAt s y) answer before after
-    → answer ≡ Fault r → Checked s (byTypes s) (IllTyped r) before after
+      → answer ≡ Fault r → Checked s (byTypes s) (IllTyped r) before after
   unfolding byTypes
   rules-refuse answer r before after d e =
       let c = the-circuit answer before after d in
@@ -85,7 +85,7 @@ module _ (s : List ℕ) (n : ℕ) (table : List ℕ) (g : Ground s n table) (sta
       record {
         answered = rw f;
         long = c .long;
-        notes = λ u q. let z : _≡_ {A = ℕ} 0 1 = cc in absurd (omega arith)
+        notes = λ u q. let z : _≡_ {A = ℕ} 0 1 = cc in absurd (omega arith);
       }
 
 -- the depths
@@ -97,15 +97,15 @@ module _ (s : List ℕ) (n : ℕ) (f : Fitted s n) where
   fitted-written = written-by (recorded .measured .length) (recorded .header) (recorded .records)
 
   pub placing : (namers depths nestings : List ℕ) → Holds (namings s) namers
-    → ((cap : ℕ) (g : ℕ → ℕ) → g 0 ≡ 0 → Capped cap g 1 depths) → ((cap : ℕ) (g : ℕ → ℕ) → g 0 ≡ 0 → Capped cap g 1 nestings)
-    → Placing s n 1 namers depths nestings
+      → ((cap : ℕ) (g : ℕ → ℕ) → g 0 ≡ 0 → Capped cap g 1 depths) → ((cap : ℕ) (g : ℕ → ℕ) → g 0 ≡ 0 → Capped cap g 1 nestings)
+      → Placing s n 1 namers depths nestings
   placing namers depths nestings h d m = record {
     sized = recorded .measured .sized;
     written = fitted-written;
     once = once-by s (f .named .namings);
     named = h;
     some = omega arith;
-    placed = record { deep = d 65 (depth s) (depth-of-header s); nested = m 4 (nesting s) (nesting-of-header s) }
+    placed = record { deep = d 65 (depth s) (depth-of-header s); nested = m 4 (nesting s) (nesting-of-header s) };
   }
 
   pub ground-of : (table : List ℕ) → lowest (tooDeep s) (count s) ≡ none → Counts s n table → Ground s n table
@@ -117,9 +117,9 @@ module _ (s : List ℕ) (n : ℕ) (f : Fitted s n) where
       records = recorded .records;
       namings = f .named .namings;
       types = f .types;
-      depths = e
+      depths = e;
     };
-    counts = c
+    counts = c;
   }
 
 -- what a search over n records found is what one over all records finds
@@ -128,7 +128,7 @@ searched s n p o q c e f = rw (← c) (sym e ∙ f)
 
 module _ (s : List ℕ) (n : ℕ) where
   pub checked-refused : (v answer : Verdict) (before after : List ℕ) → answer ≡ v → length after ≡ 4096 → ((t : ℕ) → answer ≡ Accepted t → ⊥)
-    → Checked s v answer before after
+      → Checked s v answer before after
   checked-refused v answer before after e l f = record { answered = e; long = l; notes = λ t q. absurd (f t q) }
 
   pub tabled-refused : (v answer : Verdict) (after : List ℕ) → answer ≡ v → ((t : ℕ) → answer ≡ Accepted t → ⊥) → Tabled s n v answer after
@@ -136,11 +136,11 @@ module _ (s : List ℕ) (n : ℕ) where
 
   -- the verdict is the next stage's where the search found nothing
   pub checked-on : (o : Option ℕ) (g : ℕ → Verdict) (v answer : Verdict) (before after : List ℕ) → o ≡ none → Checked s v answer before after
-    → Checked s (refusing o g v) answer before after
+      → Checked s (refusing o g v) answer before after
   checked-on o g v answer before after e c = rw e c
 
   pub tabled-on : (o : Option ℕ) (g : ℕ → Verdict) (v answer : Verdict) (after : List ℕ) → o ≡ none → Tabled s n v answer after
-    → Tabled s n (refusing o g v) answer after
+      → Tabled s n (refusing o g v) answer after
   tabled-on o g v answer after e c = rw e c
 
   pub tabled-by : (table : List ℕ) (v answer : Verdict) (after : List ℕ) → Counts s n table → Checked s v answer table after → Tabled s n v answer after
@@ -168,11 +168,11 @@ pub header-refused : (s : List ℕ) (n : ℕ) (v : Verdict) (after : List ℕ) �
 header-refused s n v after e = tabled-refused s n _ WrongHeader after (rw e) (not-accepted WrongHeader (omega arith))
 
 pub records-on : (s : List ℕ) (n : ℕ) (answer : Verdict) (after : List ℕ) → wrongHeader s ≡ false → lowest (wrongRecord s) (count s) ≡ none
-  → Tabled s n (byNamings s) answer after → Tabled s n (unless (wrongHeader s) WrongHeader (byRecords s)) answer after
+    → Tabled s n (byNamings s) answer after → Tabled s n (unless (wrongHeader s) WrongHeader (byRecords s)) answer after
 unfolding byRecords
 records-on s n answer after e f t = rw (e, f) t
 
 pub record-refused : (s : List ℕ) (n : ℕ) (o : Found) (r : ℕ) (after : List ℕ) → n ≡ count s → found o ≡ lowest (wrongRecord s) n → o ≡ At r
-  → wrongHeader s ≡ false → Tabled s n (unless (wrongHeader s) WrongHeader (byRecords s)) (WrongRecord r) after
+    → wrongHeader s ≡ false → Tabled s n (unless (wrongHeader s) WrongHeader (byRecords s)) (WrongRecord r) after
 unfolding byRecords
 record-refused s n o r after c e q h = rw h (found-tabled s n c (wrongRecord s) o e r q WrongRecord (omega arith) (byNamings s) after)

@@ -5,3 +5,4 @@ pub mod Stages
 pub mod Verdict
 pub mod Promises
 pub mod Scopes
+pub mod Widths

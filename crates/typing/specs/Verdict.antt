@@ -96,4 +96,4 @@ pub record Checked (s : List ℕ) (v answer : Verdict) (before after : List ℕ)
 pub record Tabled (s : List ℕ) (n : ℕ) (v answer : Verdict) (after : List ℕ) : Type 0 where
   pub answered : answer ≡ v
   pub notes : (t : ℕ) → answer ≡ Accepted t
-    → (table : List ℕ) × Counts s n table × (after ≡ noted s (inputs s) (circuit s) table)
+      → (table : List ℕ) × Counts s n table × (after ≡ noted s (inputs s) (circuit s) table)

@@ -14,7 +14,9 @@ ghost use Rattle.records.specs.TypeRecords.{typeAt, TypeRecord, pairOf};
 ghost use Rattle.records.specs.Trees.{alternatives, chain, follow, end, treeAt};
 ghost use Rattle.records.specs.Decoding.{leafValues};
 ghost use Rattle.typing.specs.Judgements.{within, patternFits, holds, leavesFit, inScope, pairDeclared, pairType, sameType, patternHas};
-ghost use Rattle.typing.specs.Verdict.{verdict, byTypes, byDepths, byTypeRecords, byNamings, byRecords, unless, Checked, Tabled};
+ghost use Rattle.typing.specs.Verdict.{verdict, byTypes, byDepths, byTypeRecords, byNamings, byRecords, unless, Checked, Tabled, place, packed};
+ghost use Rattle.typing.specs.Widths.{PatternsFrom, Widths, Lent, accepts};
+ghost use Rattle.layout.specs.Passes.{Passes};
 ghost use Rattle.typing.specs.Stages.{Measured, Recorded, NamedAll, Fitted};
 ghost use Rattle.typing.specs.declared.Verdict.the-variants.{WrongHeader};
 ghost use Rattle.records.specs.Namings.{namings};
@@ -23,6 +25,7 @@ ghost use Rattle.layout.specs.NamerTable.{Holds};
 ghost use Rattle.layout.specs.LeafTable.{Counts};
 ghost use Rattle.typing.specs.Judging.{Ground, Ready, Done, scopeOf, Matching, FitsOne, Closed, Closing, lastly, PartAt};
 use layout::Found;
+use layout::capped_sum;
 use layout::count_types;
 use layout::first_too_deep;
 use layout::first_wrong_naming;
@@ -587,7 +590,13 @@ fn check_rules(sheet: &[u8], n: usize, table: &[u8; 4096], widths: &mut [u8; 409
 }
 
 // By the depth of expressions: code 6, and then by the type rules.
-fn check_depths(sheet: &[u8], n: usize, namers: &[u16; 4096], table: &[u8; 4096], widths: &mut [u8; 4096]) -> Verdict
+fn check_depths(
+    sheet: &[u8],
+    n: usize,
+    namers: &[u16; 4096],
+    table: &[u8; 4096],
+    widths: &mut [u8; 4096],
+) -> Verdict
     requires { ⌜ Fitted (now sheet) n × Holds (namings (now sheet)) (now namers) × Counts (now sheet) n (now table) × (length (now widths) ≡ 4096) ⌝ }
     ensures { λ r. ⌜ Checked (now (sheet .entry)) (byDepths (now (sheet .entry))) r (now (widths .entry)) (now (widths .exit)) ⌝ }
 {
@@ -643,4 +652,105 @@ fn check_records(sheet: &[u8], n: usize, widths: &mut [u8; 4096]) -> Verdict
         return Verdict::WrongRecord(r);
     }
     check_names(sheet, n, widths)
+}
+
+// Notes the width of rec where it is a pattern, from the widths of its parts.
+fn note_pattern(sheet: &[u8], n: usize, rec: usize, widths: &mut [u8; 4096])
+    requires { ⌜ Sized (now sheet) n × Passes (now sheet) × (rec < n) × PatternsFrom (now sheet) (rec + 1) (now widths) ⌝ }
+    ensures { λ _. ⌜ PatternsFrom (now (sheet .entry)) rec (now (widths .exit)) ⌝ }
+{
+    let kind = word(sheet, n, rec, 0);
+    if kind == 48 {
+        let t = word(sheet, n, rec, 2);
+        widths[rec] = widths[t];
+        return;
+    }
+    if kind == 49 {
+        widths[rec] = 1;
+        return;
+    }
+    if kind == 50 {
+        let p = word(sheet, n, rec, 2);
+        let q = word(sheet, n, rec, 3);
+        widths[rec] = capped_sum(widths[p], widths[q]);
+    }
+}
+
+// Notes the width of every pattern, the last record first.
+fn note_patterns(sheet: &[u8], n: usize, widths: &mut [u8; 4096])
+    requires { ⌜ Sized (now sheet) n × Passes (now sheet) × PatternsFrom (now sheet) n (now widths) ⌝ }
+    ensures { λ _. ⌜ Widths (now (sheet .entry)) (now (widths .exit)) ⌝ }
+{
+    let mut rec = n;
+    while 0 < rec {
+        rec -= 1;
+        note_pattern(sheet, n, rec, widths);
+    }
+}
+
+fn is_accepted(v: Verdict) -> bool
+    ensures { λ r. ⌜ r ≡ accepts v ⌝ }
+{
+    match v {
+        Verdict::Accepted(_) => true,
+        Verdict::WrongLength => false,
+        Verdict::WrongHeader => false,
+        Verdict::WrongRecord(_) => false,
+        Verdict::WrongNaming(_) => false,
+        Verdict::WrongType(_) => false,
+        Verdict::TooDeep(_) => false,
+        Verdict::IllTyped(_) => false,
+    }
+}
+
+// The check, with the leaf counts of the types of expressions, patterns and types for an accepted sheet.
+pub fn check_into(sheet: &[u8], table: &mut [u8; 4096]) -> Verdict
+    ensures { λ r. ⌜ Lent (now (sheet .entry)) r (now (table .entry)) (now (table .exit)) ⌝ }
+{
+    let len = sheet.len();
+    if len < 12 {
+        return Verdict::WrongLength;
+    }
+    if 49152 < len {
+        return Verdict::WrongLength;
+    }
+    let n = len / 12;
+    if 12 * n != len {
+        return Verdict::WrongLength;
+    }
+    let mut widths = no_leaves();
+    let answer = check_records(sheet, n, &mut widths);
+    if !is_accepted(answer) {
+        return answer;
+    }
+    note_patterns(sheet, n, &mut widths);
+    *table = widths;
+    answer
+}
+
+// Both numbers of a verdict in one.
+fn packed(v: Verdict) -> u64
+    requires { ⌜ place v < 4294967296 ⌝ }
+    ensures { λ r. ⌜ r ≡ packed v ⌝ }
+{
+    match v {
+        Verdict::Accepted(t) => t as u64,
+        Verdict::WrongLength => 4294967296,
+        Verdict::WrongHeader => 8589934592,
+        Verdict::WrongRecord(r) => 12884901888 + r as u64,
+        Verdict::WrongNaming(r) => 17179869184 + r as u64,
+        Verdict::WrongType(r) => 21474836480 + r as u64,
+        Verdict::TooDeep(r) => 25769803776 + r as u64,
+        Verdict::IllTyped(r) => 30064771072 + r as u64,
+    }
+}
+
+// The check, for C: the verdict's number times 2^32, plus its place.
+#[no_mangle]
+pub extern "C" fn sheet_check(sheet: &[u8]) -> u64
+    ensures { λ r. ⌜ r ≡ packed (verdict (now (sheet .entry))) ⌝ }
+{
+    let mut table = no_leaves();
+    let answer = check_into(sheet, &mut table);
+    packed(answer)
 }

@@ -21,18 +21,18 @@ enum-known-wrong : tie.Need-enum-known-wrong
 enum-known-wrong c = search needs
 
 returns-2 : tie.Need-returns-2
-returns-2 c = 
+returns-2 c =
     record-refused (now (c .before .before .before .before .before .before .before .args .sheet)) _ _ _ _ (c .before .before .before .before .before .before .before .pre .sized .counted) (c .before .before .before .first-wrong-record .ensures) (c .before .wrong .given .1) (sym (c .before .before .before .before .before .wrong-header .ensures) ∙ c .before .before .before .before .if1 .left)
 
 enum-told : tie.Need-enum-told
 enum-told c = search needs
 
 check-names-requires : tie.Need-check-names-requires
-check-names-requires c κs = 
+check-names-requires c κs =
     record { measured = c .before .before .before .before .before .before .before .pre; header = (sym (c .before .before .before .before .before .wrong-header .ensures) ∙ c .before .before .before .before .if1 .left); records = (found-none _ _ (c .before .before .before .before .before .before .before .pre .sized .counted) (wrongRecord (now (c .before .before .before .before .before .before .before .args .sheet))) _ (c .before .before .before .first-wrong-record .ensures) (c .before .enum-told .given .1)) }
 
 returns-3 : tie.Need-returns-3
-returns-3 c = 
+returns-3 c =
     records-on (now (c .before .before .before .before .before .before .before .before .args .sheet)) _ _ _ (sym (c .before .before .before .before .before .before .wrong-header .ensures) ∙ c .before .before .before .before .before .if1 .left) (found-none _ _ (c .before .before .before .before .before .before .before .before .pre .sized .counted) (wrongRecord (now (c .before .before .before .before .before .before .before .before .args .sheet))) _ (c .before .before .before .before .first-wrong-record .ensures) (c .before .before .enum-told .given .1)) (c .check-names .ensures)
 
 pub check-records-spec : {M : Type 1} → statement M

@@ -26,11 +26,11 @@ enum-known-judged-2 : tie.Need-enum-known-judged-2
 enum-known-judged-2 c = search needs
 
 returns : tie.Need-returns
-returns c = 
+returns c =
     rules-accept _ _ _ (c .before .before .before .before .before .before .before .before .before .before .pre .0) (c .before .before .before .before .before .before .before .input-scope .result) (now (c .before .before .before .before .before .before .before .before .before .before .args .widths)) _ _ (c .before .before .before .before .before .before .before .before .word .ensures .0) (c .before .before .before .before .before .word2 .ensures .0) (c .before .before .before .before .before .before .before .input-scope .ensures .1) _ _ _ _ (c .before .before .before .judge .ensures) (c .before .judged .given .1)
 
 returns-2 : tie.Need-returns-2
-returns-2 c = 
+returns-2 c =
     rules-refuse _ _ _ (c .before .before .before .before .before .before .before .before .before .before .pre .0) (c .before .before .before .before .before .before .before .input-scope .result) (now (c .before .before .before .before .before .before .before .before .before .before .args .widths)) _ _ (c .before .before .before .before .before .before .before .before .word .ensures .0) (c .before .before .before .before .before .word2 .ensures .0) (c .before .before .before .before .before .before .before .input-scope .ensures .1) _ _ _ _ (c .before .before .before .judge .ensures) (c .before .judged2 .given .1)
 
 pub check-rules-spec : {M : Type 1} → statement M
