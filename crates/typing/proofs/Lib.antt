@@ -20,6 +20,7 @@ pub mod PatternTypes
 pub mod Places
 pub mod PlacesSmall
 pub mod Readiness
+pub mod Requirements
 pub mod Scopes
 pub mod Stages
 pub mod Stores

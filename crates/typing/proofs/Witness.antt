@@ -1,7 +1,7 @@
 -- The laws speak of some sheet: document 01's sheet T is accepted with type 1, by computation; so it passes codes 1 to 6, is well
 -- typed, and its root is an expression of an accepted circuit.
 -- Assumes nothing.
-use Prim.Native.Nat.{ℕ, _%_, _/_}
+use Prim.Native.Nat.{ℕ, _*_, _%_, _/_}
 use mathlib.Core.List.{List, [], _∷_}
 use mathlib.Core.Path.{_≡_, refl}
 use Rattle.records.specs.Words.{word, count, wordB}
@@ -17,6 +17,14 @@ use Rattle.typing.specs.Verdict.{inputs, byTypes, byRecords, verdict}
 use Rattle.typing.specs.Promises.{WellTyped}
 use Rattle.typing.specs.Scopes.{root}
 use Rattle.typing.specs.declared.Verdict.the-variants.{Accepted}
+use native.Mathlib.Omega.{arith}
+use lib.ListN.{length}
+use Rattle.records.specs.Sized.{Sized}
+use Rattle.layout.specs.DepthTable.{Placed, Placing}
+use Rattle.typing.specs.Judging.{Ready, Closing, Matching}
+use Rattle.typing.specs.Stages.{Fitted}
+use Rattle.typing.specs.Widths.{PatternsFrom}
+use Rattle.typing.proofs.Requirements.{sized, fitted, placing, placed, ready, closing, patterns}
 use Rattle.typing.proofs.Exact.{exact}
 use Rattle.typing.proofs.Scopes.{Checked, scope-checked}
 
@@ -57,3 +65,40 @@ passes = exact sheet 1 .0 accepted
 
 root-checked : Checked sheet (wordB sheet 0) (inputs sheet)
 root-checked = scope-checked 1 (passes .0) accepted root
+
+-- so each record that a `requires` names has an instance at the sheet
+full : length sheet ≡ 12 * count sheet
+unfolding count
+full = refl
+
+sized-there : Sized sheet (count sheet)
+sized-there = sized sheet (passes .0) full
+
+fitted-there : Fitted sheet (count sheet)
+fitted-there = fitted sheet (passes .0) full
+
+placing-there : (namers : List ℕ) × (depths : List ℕ) × (nestings : List ℕ) × Placing sheet (count sheet) 1 namers depths nestings
+placing-there = placing sheet (passes .0) full
+
+placed-there : (depths : List ℕ) × (nestings : List ℕ) × Placed sheet (count sheet) depths nestings
+placed-there = placed sheet (passes .0) full
+
+ready-there : (table : List ℕ) × (stack : List ℕ) × (widths : List ℕ) × Ready sheet (count sheet) table stack 1 (wordB sheet 0) widths
+ready-there = ready sheet (passes .0) full
+
+closing-there : (table : List ℕ) × (widths : List ℕ) × Closing sheet (count sheet) table (wordB sheet 0) widths
+closing-there = closing sheet (passes .0) full
+
+patterns-there : (table : List ℕ) × PatternsFrom sheet (count sheet) table
+patterns-there = patterns sheet (passes .0) full
+
+-- the pattern of record 7 is held against the type of record 1
+matching-there : Matching sheet (count sheet) 7 1
+unfolding count kindOf rowOf word
+matching-there = record {
+  sized = sized-there;
+  passes = passes .0;
+  there = omega arith;
+  sort = refl;
+  typed = record { past = omega arith; there = omega arith; sort = refl };
+}

@@ -1,0 +1,126 @@
+-- What the functions of the check ask of their callers can be had: on every sheet that passes codes 1 to 6 there are tables, scopes and
+-- places with each of the records that a `requires` names. `Witness` has such a sheet. Assumes nothing.
+use mathlib.Core.Path.{_≡_, refl, sym, _∙_, ap}
+use mathlib.Core.Bool.{cond, true, false}
+use mathlib.Core.List.{List, [], _∷_, _++_}
+use Prim.Native.Nat.{ℕ, zero, suc, min, _*_, _≤_, _<_}
+use native.Mathlib.Omega.{arith}
+use native.Mathlib.Decide.{ℕ-discrete}
+use borrow.Author.Tests.{lt-ltb, le-ltb}
+use lib.Dec.{ltb}
+use lib.ListN.{length, getD, length-append, List·getD-append}
+use lib.Seq.{getD-at}
+use Rattle.records.specs.Words.{count, wordA, wordB}
+use Rattle.records.specs.Sized.{Sized}
+use Rattle.records.specs.Namings.{namings}
+use Rattle.layout.specs.Passes.{Passes}
+use Rattle.layout.specs.Depth.{depth, nesting}
+use Rattle.layout.specs.NamerTable.{summary, Holds}
+use Rattle.layout.specs.LeafTable.{typeLeaves, Counts}
+use Rattle.layout.specs.DepthTable.{Capped, Placed, Placing}
+use Rattle.layout.proofs.Passes.{written, named-once, length-fits}
+use Rattle.typing.specs.Judging.{Ground, Ready, Closing, scopeOf}
+use Rattle.typing.specs.Stages.{Measured, Recorded, NamedAll, Fitted}
+use Rattle.typing.specs.Widths.{PatternsFrom}
+use Rattle.typing.proofs.Stages.{root-ready}
+use Rattle.typing.proofs.Widths.{judged-widths}
+
+-- a table of n entries with any entries
+tabulated : (f : ℕ → ℕ) (n : ℕ) → (t : List ℕ) × (length t ≡ n) × ((r : ℕ) → r < n → getD t r 0 ≡ f r)
+tabulated f zero = ([], refl, λ r h. absurd (omega arith))
+tabulated f (suc n) = go (tabulated f n)
+  where
+    go : (t : List ℕ) × (length t ≡ n) × ((r : ℕ) → r < n → getD t r 0 ≡ f r)
+        → (t : List ℕ) × (length t ≡ suc n) × ((r : ℕ) → r < suc n → getD t r 0 ≡ f r)
+    go t = (t .0 ++ (f n ∷ []), rw (length-append (t .0) (f n ∷ [])) (omega (arith, t .1)), λ r h. at r h (ℕ-discrete r n))
+      where
+        at : (r : ℕ) → r < suc n → Dec (r ≡ n) → getD (t .0 ++ (f n ∷ [])) r 0 ≡ f r
+        at r h (yes e) = rw e (getD-at (t .0) (f n) [] 0 n (t .1))
+        at r h (no d) = List·getD-append (t .0) (f n ∷ []) 0 r (omega (arith, t .1)) ∙ t .2 r (omega arith)
+
+module _ (s : List ℕ) (p : Passes s) (whole : length s ≡ 12 * count s) where
+  few : count s ≤ 4096
+  few = length-fits s (p .length) .1
+
+  pub sized : Sized s (count s)
+  sized = record { counted = refl; whole = whole; some = length-fits s (p .length) .0; few = few }
+
+  pub fitted : Fitted s (count s)
+  fitted = record {
+    named = record {
+      recorded = record {
+        measured = record { sized = sized; length = p .length };
+        header = p .header;
+        records = p .records;
+      };
+      namings = p .namings;
+    };
+    types = p .types;
+  }
+
+  pub counts : (table : List ℕ) × Counts s (count s) table
+  counts =
+      let t = tabulated (λ r. cond (ltb r (count s)) (typeLeaves s r) 0) 4096 in
+      let f = few in (
+        t .0,
+        record {
+          long = t .1;
+          below = λ r h. t .2 r (omega arith) ∙ rw (lt-ltb r (count s) h);
+          rest = λ r h l. t .2 r l ∙ rw (le-ltb r (count s) h);
+        },
+      )
+
+  pub held : (namers : List ℕ) × Holds (namings s) namers
+  held = let t = tabulated (λ r. summary (namings s r)) 4096 in (t .0, record { long = t .1; entries = t .2 })
+
+  capped : (cap : ℕ) (f : ℕ → ℕ) (m : ℕ) → m ≤ 4096 → (table : List ℕ) × Capped cap f m table
+  capped cap f m h =
+      let t = tabulated (λ r. min cap (f r)) 4096 in
+      (t .0, record { long = t .1; below = λ r l. t .2 r (omega arith) })
+
+  placed-at : (m : ℕ) → m ≤ 4096 → (depths : List ℕ) × (nestings : List ℕ) × Placed s m depths nestings
+  placed-at m h =
+      let d = capped 65 (depth s) m h in
+      let n = capped 4 (nesting s) m h in
+      (d .0, n .0, record { deep = d .1; nested = n .1 })
+
+  pub placed : (depths : List ℕ) × (nestings : List ℕ) × Placed s (count s) depths nestings
+  placed = placed-at (count s) few
+
+  pub placing : (namers : List ℕ) × (depths : List ℕ) × (nestings : List ℕ) × Placing s (count s) 1 namers depths nestings
+  placing =
+      let n = held in
+      let d = placed-at 1 (omega arith) in (
+        n .0,
+        d .0,
+        d .1,
+        record {
+          sized = sized;
+          written = written p;
+          once = named-once p;
+          named = n .1;
+          some = omega arith;
+          placed = d .2;
+        },
+      )
+
+  pub ground : (table : List ℕ) × Ground s (count s) table
+  ground = let c = counts in (c .0, record { sized = sized; passes = p; counts = c .1 })
+
+  pub ready : (table : List ℕ) × (stack : List ℕ) × (widths : List ℕ) × Ready s (count s) table stack 1 (wordB s 0) widths
+  ready =
+      let g = ground in
+      let t = tabulated (λ r. wordA s 0) 64 in
+      let w = tabulated (λ r. 0) 4096 in (
+        g .0,
+        t .0,
+        w .0,
+        root-ready s (count s) (g .0) (g .1) (t .0) (w .0) (wordA s 0) (wordB s 0) refl refl (ap (λ (x : ℕ). x ∷ []) (t .2 0 (omega arith)))
+            (t .1) (w .1),
+      )
+
+  pub closing : (table : List ℕ) × (widths : List ℕ) × Closing s (count s) table (wordB s 0) widths
+  closing = let r = ready in (r .0, r .2, record { ground = r .3 .ground; there = r .3 .there; long = r .3 .long })
+
+  pub patterns : (table : List ℕ) × PatternsFrom s (count s) table
+  patterns = let c = counts in (_, judged-widths s (count s) (c .0) p refl (c .1))
