@@ -13,20 +13,20 @@ use Rattle.records.specs.Trees.{chainWithin, chain, alternativesWithin, alterna
 use Rattle.layout.specs.Depth.{ancestryWithin, ancestry, depth, nesting}
 use Rattle.layout.specs.Rules.{wrongLength, wrongHeader, wrongRecord, wrongNaming, wrongType, tooDeep}
 use Rattle.layout.specs.Passes.{Passes}
 use Rattle.typing.specs.Verdict.{inputs, byTypes, byRecords, verdict}
 use Rattle.typing.specs.Promises.{WellTyped}
 use Rattle.typing.specs.Scopes.{root}
 use Rattle.typing.specs.declared.Verdict.the-variants.{Accepted}
 use native.Mathlib.Omega.{arith}
 use lib.ListN.{length}
 use Rattle.records.specs.Sized.{Sized}
 use Rattle.layout.specs.DepthTable.{Placed, Placing}
 use Rattle.typing.specs.Judging.{Ready, Closing, Matching}
 use Rattle.typing.specs.Stages.{Fitted}
 use Rattle.typing.specs.Widths.{PatternsFrom}
-use Rattle.typing.proofs.Requirements.{sized, fitted, placing, placed, ready, closing, patterns}
+use Rattle.accepted.proofs.Requirements.{sized, fitted, placing, placed, ready, closing, patterns}
 use Rattle.typing.proofs.Exact.{exact}
-use Rattle.typing.proofs.Scopes.{Checked, scope-checked}
+use Rattle.accepted.proofs.Scopes.{Checked, scope-checked}
 
 -- the bytes of words, low byte first
 abbrev bytes : List ℕ → List ℕ

@@ -37,16 +37,16 @@ use Rattle.records.specs.Decoding.{leafValues}
 use Rattle.records.specs.Rewritten.{OnlyLeaves}
 use Rattle.records.proofs.Table.{is-pair}
 use Rattle.records.proofs.Rewritten.{SameWords, same-kind, same-pair-of, same-circuit, leaf-or-same}
 use Rattle.typing.specs.Judgements.{patternFits, typeOf}
 use Rattle.layout.specs.Passes.{Passes}
 use Rattle.typing.specs.Verdict.{inputs, verdict}
 use Rattle.typing.specs.declared.Verdict.the-variants.{Accepted}
 use Rattle.layout.proofs.Passes.{written}
 use Rattle.typing.proofs.Places.{accepted-by-types}
 use Rattle.typing.proofs.Judged.{Judged, judged-passed}
 use Rattle.typing.proofs.Typings.{within-fits, fits-within}
 use Rattle.typing.proofs.Exact.{types-accept, accepted-judged}
-use Rattle.typing.proofs.PassesAgain.{passes-again}
+use Rattle.accepted.proofs.PassesAgain.{passes-again}
 
 -- the leaves of each constant and each delay fit its type
 abbrev pub Fitting : List ℕ → Tree → Type 0

@@ -1,0 +1,28 @@
+-- One term of each promise of the front page, `specs/Promises.antt`; the theorems stand in the files beside this one and in the
+-- evaluator's. A promise without a term is refused here.
+-- Assumes nothing.
+use Rattle.evaluator.proofs.Sheets.{write-only-delays, write-read, write-accepted}
+use Rattle.evaluator.proofs.Sheets as Sheets
+use Rattle.simulator.specs.Promises.{AllPromises}
+use Rattle.simulator.proofs.Stimulus.{cycles-joined, cycles-counted}
+use Rattle.simulator.proofs.Run.{run-outputs, run-sheet}
+use Rattle.simulator.proofs.Reduces.{run-reduces}
+use Rattle.simulator.proofs.Afterwards.{afterwards}
+use Rattle.simulator.proofs.Answers.{lowest-first, refusal-unaltered}
+
+pub kept : AllPromises
+kept = record {
+  lowest-first = lowest-first;
+  refusal-unaltered = refusal-unaltered;
+  write-reads = λ s t v e h. record {
+    only-delays = write-only-delays s e (h .frame);
+    reads = write-read s t v e h;
+    again = write-accepted s t v e h;
+  };
+  write-own = Sheets.write-own;
+  cycles-whole = λ s stim e. (cycles-joined s stim e, cycles-counted s stim);
+  run-means = λ undecided law s t v inputs given.
+      (run-outputs undecided law s t v inputs given, run-sheet undecided law s t v inputs given);
+  run-reduces = run-reduces;
+  holds-afterwards = afterwards;
+}
