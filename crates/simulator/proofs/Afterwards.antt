@@ -14,9 +14,9 @@ use Rattle.typing.specs.Verdict.{verdict}
 use Rattle.meaning.specs.Values.{AllOf, all-none, all-more}
 use Rattle.meaning.specs.Undecided.{undefinedLeaves}
 use Rattle.meaning.proofs.UndefinedLeavesLawful.{undefined-lawful}
-use Rattle.evaluator.specs.Sheets.{OnlyDelays}
-use Rattle.evaluator.specs.Cycle.{output, after}
-use Rattle.evaluator.proofs.Cycle.{after-only-delays}
+use Rattle.cycles.specs.Sheets.{OnlyDelays}
+use Rattle.cycles.specs.Cycle.{output, after}
+use Rattle.cycles.proofs.Cycle.{after-only-delays}
 use Rattle.simulator.specs.Stimulus.{inputType, cycleCount, endToEnd, cycles}
 use Rattle.simulator.specs.Run.{
   outputsBy,

@@ -11,9 +11,9 @@ use Rattle.layout.specs.Depth.{ancestryWithin, ancestry, depth, nesting}
 use Rattle.layout.specs.Rules.{wrongLength, wrongHeader, wrongRecord, wrongNaming, wrongType, tooDeep}
 use Rattle.typing.specs.Verdict.{byTypes, byRecords, verdict}
 use Rattle.meaning.specs.Evaluation.{eval, next}
-use Rattle.evaluator.specs.Terms.{circuitTerm}
-use Rattle.evaluator.specs.Sheets.{write}
-use Rattle.evaluator.specs.Cycle.{outputBy, afterBy}
+use Rattle.cycles.specs.Terms.{circuitTerm}
+use Rattle.cycles.specs.Sheets.{write}
+use Rattle.cycles.specs.Cycle.{outputBy, afterBy}
 use Rattle.simulator.specs.Stimulus.{cycles, wrongStimulus, wrongByte}
 use Rattle.simulator.specs.Run.{bySlices, answer, finalOut, finalNext}
 use Rattle.simulator.specs.Bench.{AllHold, table}

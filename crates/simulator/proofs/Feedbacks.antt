@@ -36,12 +36,12 @@ use Rattle.meaning.proofs.FeedbackLeast.{
   applications-reach,
   applications-fewest,
 }
-use Rattle.evaluator.specs.Terms.{term}
-use Rattle.evaluator.specs.Sheets.{OnlyDelays}
-use Rattle.evaluator.proofs.Terms.{checked-term}
-use Rattle.evaluator.proofs.Sheets.{only-leaves}
-use Rattle.evaluator.proofs.Scoped.{Scoped, every-expression}
-use Rattle.evaluator.proofs.ScopesAgain.{scope-again}
+use Rattle.cycles.specs.Terms.{term}
+use Rattle.cycles.specs.Sheets.{OnlyDelays}
+use Rattle.cycles.proofs.Terms.{checked-term}
+use Rattle.cycles.proofs.Sheets.{only-leaves}
+use Rattle.cycles.proofs.Scoped.{Scoped, every-expression}
+use Rattle.cycles.proofs.ScopesAgain.{scope-again}
 use Rattle.simulator.specs.Afterwards.{FeedbackSettles, FeedbackAt}
 
 pub feedback-kind : (s : List ℕ) (q : ℕ) → kindWord s q ≡ 38 → kindAt s q ≡ expression feedback

@@ -1,8 +1,8 @@
 -- One term of each promise of the front page, `specs/Promises.antt`; the theorems stand in the files beside this one and in the
--- evaluator's. A promise without a term is refused here.
+-- crate `cycles`. A promise without a term is refused here.
 -- Assumes nothing.
-use Rattle.evaluator.proofs.Sheets.{write-only-delays, write-read, write-accepted}
-use Rattle.evaluator.proofs.Sheets as Sheets
+use Rattle.cycles.proofs.Sheets.{write-only-delays, write-read, write-accepted}
+use Rattle.cycles.proofs.Sheets as Sheets
 use Rattle.simulator.specs.Promises.{AllPromises}
 use Rattle.simulator.proofs.Stimulus.{cycles-joined, cycles-counted}
 use Rattle.simulator.proofs.Run.{run-outputs, run-sheet}

@@ -21,10 +21,10 @@ use Rattle.meaning.proofs.FlattenOneToOne.{flatten-typed}
 use Rattle.meaning.proofs.NextTyped.{after-typed, after-frame}
 use Rattle.meaning.proofs.UndefinedLeavesLawful.{undefined-lawful, undefined-agreeing}
 use Rattle.meaning.proofs.Adequacy.{run-adequate}
-use Rattle.evaluator.specs.Terms.{circuitTerm}
-use Rattle.evaluator.specs.Sheets.{write, Writable}
-use Rattle.evaluator.proofs.Terms.{erase-circuit, circuit-typed}
-use Rattle.evaluator.proofs.Sheets.{accepted-written, write-read, write-accepted}
+use Rattle.cycles.specs.Terms.{circuitTerm}
+use Rattle.cycles.specs.Sheets.{write, Writable}
+use Rattle.cycles.proofs.Terms.{erase-circuit, circuit-typed}
+use Rattle.cycles.proofs.Sheets.{accepted-written, write-read, write-accepted}
 use Rattle.simulator.specs.Stimulus.{inputType}
 use Rattle.simulator.specs.Run.{sheetAfter}
 use Rattle.simulator.specs.Promises.{RunReduces}

@@ -19,12 +19,12 @@ use Rattle.meaning.specs.Undecided.{Lawful}
 use Rattle.meaning.specs.Evaluation.{next}
 use Rattle.meaning.specs.Run.{outputs, after}
 use Rattle.meaning.proofs.NextTyped.{after-frame}
-use Rattle.evaluator.specs.Terms.{circuitTerm}
-use Rattle.evaluator.specs.Sheets.{write, Bytes, OnlyDelays}
-use Rattle.evaluator.specs.Cycle.{outputBy, afterBy}
-use Rattle.evaluator.proofs.Sheets.{write-own, only-leaves, accepted-written}
-use Rattle.evaluator.proofs.Stores.{write-again}
-use Rattle.evaluator.proofs.Cycle.{
+use Rattle.cycles.specs.Terms.{circuitTerm}
+use Rattle.cycles.specs.Sheets.{write, Bytes, OnlyDelays}
+use Rattle.cycles.specs.Cycle.{outputBy, afterBy}
+use Rattle.cycles.proofs.Sheets.{write-own, only-leaves, accepted-written}
+use Rattle.cycles.proofs.Stores.{write-again}
+use Rattle.cycles.proofs.Cycle.{
   output-typed,
   after-only-delays,
   after-term,

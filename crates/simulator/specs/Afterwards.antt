@@ -20,9 +20,9 @@ use Rattle.meaning.specs.Values.{undefined, _⊑_, ValuesOf}
 use Rattle.meaning.specs.Elaboration.{Term}
 use Rattle.meaning.specs.Undecided.{undefinedLeaves}
 use Rattle.meaning.specs.Evaluation.{iter, eval, application, settled}
-use Rattle.evaluator.specs.Terms.{term}
-use Rattle.evaluator.specs.Sheets.{Bytes, OnlyDelays}
-use Rattle.evaluator.specs.Cycle.{output, after}
+use Rattle.cycles.specs.Terms.{term}
+use Rattle.cycles.specs.Sheets.{Bytes, OnlyDelays}
+use Rattle.cycles.specs.Cycle.{output, after}
 use Rattle.simulator.specs.Stimulus.{inputLeaves, cycleCount, wrongStimulus, wrongByte}
 use Rattle.simulator.specs.Run.{outputNeeded}
 

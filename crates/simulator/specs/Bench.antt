@@ -13,7 +13,7 @@ use Rattle.typing.specs.Verdict.{inputs}
 use Rattle.meaning.specs.Matching.{Answer, Yes, Undecided, matches}
 use Rattle.meaning.specs.Undecided.{undefinedLeaves}
 use Rattle.meaning.specs.Evaluation.{applications}
-use Rattle.evaluator.specs.Terms.{term}
+use Rattle.cycles.specs.Terms.{term}
 use Rattle.simulator.specs.Stimulus.{cycleCount}
 use Rattle.simulator.specs.Run.{answer, packed, finalOut, finalNext}
 use Rattle.simulator.specs.Afterwards.{applied}

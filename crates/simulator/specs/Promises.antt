@@ -21,8 +21,8 @@ use Rattle.meaning.specs.Constants.{ConstantTree, AllConstantsOf, flatten}
 use Rattle.meaning.specs.Undecided.{undefinedLeaves, bottomOfThen, Lawful}
 use Rattle.meaning.specs.Rules.{ReducesSeq}
 use Rattle.meaning.specs.Run as Meaning
-use Rattle.evaluator.specs.Terms.{circuitTerm}
-use Rattle.evaluator.specs.Sheets.{write, Writable, OnlyDelays}
+use Rattle.cycles.specs.Terms.{circuitTerm}
+use Rattle.cycles.specs.Sheets.{write, Writable, OnlyDelays}
 use Rattle.simulator.specs.Stimulus.{inputType, endToEnd, cycles, cycleCount, wrongStimulus, wrongByte}
 use Rattle.simulator.specs.Run.{
   outputsBy,

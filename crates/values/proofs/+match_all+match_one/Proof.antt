@@ -1,0 +1,450 @@
+-- The measure is by the distance to the last record: parts and nexts are higher. The loop's invariant: the whole chain is what was
+-- matched so far, with what is left. Assumes nothing.
+use borrow.Author.Needs.{needs}
+use native.Mathlib.Omega.{arith}
+use Prim.Native.Nat.{_+_, _*_, _-_}
+use mathlib.Core.Path.{_≡_, refl}
+use Rattle.values.specs.Matchings.{Matched}
+use Rattle.values.proofs.Matches.{Gathered, begun, gone-on, ended, left, left-falls, next-matched, some-leaf, to-the-end, whole-matches, constructor-matches, first-in, cut-small, from-none, cut-inside, first-lent, second-lent, pair-matches}
+use Prim.Native.Nat.{ℕ, _<_}
+use borrow.Fn.Kinds.{In}
+use borrow.Fn.PlainCycle.{Measures, is, falls, and}
+use Rattle.values.proofs.match_all.Reads as match-all
+use Rattle.values.proofs.match_all.Kinds as match-all-kinds
+use Rattle.values.proofs.+match_all+match_one.Lts-match_all as match-all-lts
+use Rattle.values.proofs.match_one.Reads as match-one
+use Rattle.values.proofs.match_one.Kinds as match-one-kinds
+use Rattle.values.proofs.+match_all+match_one.Lts-match_one as match-one-lts
+use Rattle.records.proofs.word.Reads as word-reads
+use Rattle.values.proofs.both.Reads as both-reads
+use Rattle.values.proofs.either.Reads as either-reads
+use Rattle.values.proofs.on_leaf.Reads as on-leaf-reads
+use Rattle.values.proofs.+match_all+match_one.{statement}
+use Rattle.values.proofs.+match_all+match_one.Tie.{close}
+
+abbrev μ-match-all : Measures 3 match-all-kinds.ps ℕ
+μ-match-all κs a = (2 * (a .1 .0 - a .1 .1 .1 .0) + 1)
+
+abbrev μ-match-one : Measures 3 match-one-kinds.ps ℕ
+μ-match-one κs a = (2 * (a .1 .0 - a .1 .1 .1 .0))
+
+abbrev match-all-at : ℕ → In 3 match-all-kinds.ps
+match-all-at t = and 3 match-all-kinds.ps (is 3 match-all-kinds.ps μ-match-all t) match-all.Pre
+
+abbrev match-all-below : ℕ → In 3 match-all-kinds.ps
+match-all-below t =
+    and 3 match-all-kinds.ps (falls 3 match-all-kinds.ps _<_ μ-match-all t) match-all.Pre
+
+abbrev match-one-at : ℕ → In 3 match-one-kinds.ps
+match-one-at t = and 3 match-one-kinds.ps (is 3 match-one-kinds.ps μ-match-one t) match-one.Pre
+
+abbrev match-one-below : ℕ → In 3 match-one-kinds.ps
+match-one-below t =
+    and 3 match-one-kinds.ps (falls 3 match-one-kinds.ps _<_ μ-match-one t) match-one.Pre
+
+abbrev match-all-Inv-loop : match-all-lts.InvT-loop
+match-all-Inv-loop sheet n widths p value answer₀ at₀ answer at =
+    Gathered sheet p value answer at × ((at ≡ 0 → ⊥) → (p < at) × Matched sheet n widths at value)
+
+abbrev match-all-μ-loop : match-all-lts.MeasureT-loop
+match-all-μ-loop sheet n widths p value answer₀ at₀ answer at = left n at
+
+match-all-match-one-requires : (t : ℕ) → match-all-lts.Need-match-one-requires (
+  match-one-below t,
+  match-one.Post,
+  word-reads.Asked,
+  word-reads.Learnt,
+  either-reads.Asked,
+  either-reads.Learnt,
+) (match-all-at t) match-all.Post match-all-Inv-loop match-all-μ-loop
+match-all-match-one-requires t c κs =
+    let h = c .before .before .pre .1 .against .there in (omega (arith, c .before .before .pre .0), c .before .before .pre .1)
+
+match-all-word-requires : (t : ℕ) → match-all-lts.Need-word-requires (
+  match-one-below t,
+  match-one.Post,
+  word-reads.Asked,
+  word-reads.Learnt,
+  either-reads.Asked,
+  either-reads.Learnt,
+) (match-all-at t) match-all.Post match-all-Inv-loop match-all-μ-loop
+match-all-word-requires t c κs = (c .before .before .before .pre .1 .against .sized, c .before .before .before .pre .1 .against .there, search needs)
+
+match-all-loop-holds : (t : ℕ) → match-all-lts.Need-loop-holds (
+  match-one-below t,
+  match-one.Post,
+  word-reads.Asked,
+  word-reads.Learnt,
+  either-reads.Asked,
+  either-reads.Learnt,
+) (match-all-at t) match-all.Post match-all-Inv-loop match-all-μ-loop
+match-all-loop-holds t c =
+    (begun _ _ _ (c .before .match-one .result) _ (c .before .match-one .ensures) (c .word .ensures .0), λ f. next-matched _ _ _ _ _ (c .before .before .before .before .pre .1) _ (c .word .ensures .0) f)
+
+match-all-match-one-requires-2 : (t : ℕ) → match-all-lts.Need-match-one-requires-2 (
+  match-one-below t,
+  match-one.Post,
+  word-reads.Asked,
+  word-reads.Learnt,
+  either-reads.Asked,
+  either-reads.Learnt,
+) (match-all-at t) match-all.Post match-all-Inv-loop match-all-μ-loop
+match-all-match-one-requires-2 t c κs =
+    let v = c .before .loop .inv .1 (search needs) in let h = v .1 .against .there in (omega (arith, c .before .before .before .before .before .before .pre .0, v .0), v .1)
+
+match-all-either-requires : (t : ℕ) → match-all-lts.Need-either-requires (
+  match-one-below t,
+  match-one.Post,
+  word-reads.Asked,
+  word-reads.Learnt,
+  either-reads.Asked,
+  either-reads.Learnt,
+) (match-all-at t) match-all.Post match-all-Inv-loop match-all-μ-loop
+match-all-either-requires t c κs = tt
+
+match-all-word-requires-2 : (t : ℕ) → match-all-lts.Need-word-requires-2 (
+  match-one-below t,
+  match-one.Post,
+  word-reads.Asked,
+  word-reads.Learnt,
+  either-reads.Asked,
+  either-reads.Learnt,
+) (match-all-at t) match-all.Post match-all-Inv-loop match-all-μ-loop
+match-all-word-requires-2 t c κs =
+    let v = c .before .before .before .loop .inv .1 (search needs) in (v .1 .against .sized, v .1 .against .there, search needs)
+
+match-all-loop-less : (t : ℕ) → match-all-lts.Need-loop-less (
+  match-one-below t,
+  match-one.Post,
+  word-reads.Asked,
+  word-reads.Learnt,
+  either-reads.Asked,
+  either-reads.Learnt,
+) (match-all-at t) match-all.Post match-all-Inv-loop match-all-μ-loop
+match-all-loop-less t c =
+    let v = c .before .before .before .before .loop .inv .1 (search needs) in
+    left-falls _ _ _ (search needs) (v .1 .against .there) (λ f. let q = next-matched _ _ _ _ _ (v .1) _ (c .word2 .ensures .0) f in (q .0, q .1 .against .there))
+
+match-all-loop-again : (t : ℕ) → match-all-lts.Need-loop-again (
+  match-one-below t,
+  match-one.Post,
+  word-reads.Asked,
+  word-reads.Learnt,
+  either-reads.Asked,
+  either-reads.Learnt,
+) (match-all-at t) match-all.Post match-all-Inv-loop match-all-μ-loop
+match-all-loop-again t c =
+    let v = c .before .before .before .before .loop .inv .1 (search needs) in (
+      gone-on _ _ _ _ _ _ (v .1) (c .before .before .before .before .loop .answer) (c .before .before .match-one2 .result) (c .before .either .result) _ (search needs) (c .before .before .before .before .loop .inv .0) (c .before .before .match-one2 .ensures) (c .before .either .ensures) (c .word2 .ensures .0),
+      λ f. let q = next-matched _ _ _ _ _ (v .1) _ (c .word2 .ensures .0) f in (omega (arith, v .0, q .0), q .1),
+    )
+
+match-all-returns : (t : ℕ) → match-all-lts.Need-returns (
+  match-one-below t,
+  match-one.Post,
+  word-reads.Asked,
+  word-reads.Learnt,
+  either-reads.Asked,
+  either-reads.Learnt,
+) (match-all-at t) match-all.Post match-all-Inv-loop match-all-μ-loop
+match-all-returns t c = ended _ _ _ (c .before .loop .answer) (c .before .loop .at) (c .before .loop .inv .0) (search needs)
+
+match-one-word-requires : (t : ℕ) → match-one-lts.Need-word-requires (
+  word-reads.Asked,
+  word-reads.Learnt,
+  on-leaf-reads.Asked,
+  on-leaf-reads.Learnt,
+  match-all-below t,
+  match-all.Post,
+  both-reads.Asked,
+  both-reads.Learnt,
+) (match-one-at t) match-one.Post
+match-one-word-requires t c κs = (c .before .before .pre .1 .against .sized, c .before .before .pre .1 .against .there, search needs)
+
+match-one-returns : (t : ℕ) → match-one-lts.Need-returns (
+  word-reads.Asked,
+  word-reads.Learnt,
+  on-leaf-reads.Asked,
+  on-leaf-reads.Learnt,
+  match-all-below t,
+  match-all.Post,
+  both-reads.Asked,
+  both-reads.Learnt,
+) (match-one-at t) match-one.Post
+match-one-returns t c = whole-matches _ _ _ _ _ (c .before .before .before .before .pre .1) _ (c .before .word .ensures .0) (c .if1 .taken)
+
+match-one-word-requires-2 : (t : ℕ) → match-one-lts.Need-word-requires-2 (
+  word-reads.Asked,
+  word-reads.Learnt,
+  on-leaf-reads.Asked,
+  on-leaf-reads.Learnt,
+  match-all-below t,
+  match-all.Post,
+  both-reads.Asked,
+  both-reads.Learnt,
+) (match-one-at t) match-one.Post
+match-one-word-requires-2 t c κs = (c .before .before .before .before .before .pre .1 .against .sized, c .before .before .before .before .before .pre .1 .against .there, search needs)
+
+match-one-shared-slice-read-on-leaf : (t : ℕ) → match-one-lts.Need-shared-slice-read-on-leaf (
+  word-reads.Asked,
+  word-reads.Learnt,
+  on-leaf-reads.Asked,
+  on-leaf-reads.Learnt,
+  match-all-below t,
+  match-all.Post,
+  both-reads.Asked,
+  both-reads.Learnt,
+) (match-one-at t) match-one.Post
+match-one-shared-slice-read-on-leaf t c = some-leaf _ _ _ _ _ (c .before .before .before .before .before .before .before .pre .1)
+
+match-one-on-leaf-requires : (t : ℕ) → match-one-lts.Need-on-leaf-requires (
+  word-reads.Asked,
+  word-reads.Learnt,
+  on-leaf-reads.Asked,
+  on-leaf-reads.Learnt,
+  match-all-below t,
+  match-all.Post,
+  both-reads.Asked,
+  both-reads.Learnt,
+) (match-one-at t) match-one.Post
+match-one-on-leaf-requires t c κs = tt
+
+match-one-returns-2 : (t : ℕ) → match-one-lts.Need-returns-2 (
+  word-reads.Asked,
+  word-reads.Learnt,
+  on-leaf-reads.Asked,
+  on-leaf-reads.Learnt,
+  match-all-below t,
+  match-all.Post,
+  both-reads.Asked,
+  both-reads.Learnt,
+) (match-one-at t) match-one.Post
+match-one-returns-2 t c = constructor-matches _ _ _ _ _ (c .before .before .before .before .before .before .before .before .pre .1) _ (c .before .before .before .before .before .word .ensures .0) _ (c .on-leaf .result) (c .before .before .before .if2 .taken) (c .before .before .word2 .ensures .0) (c .on-leaf .ensures)
+
+match-one-word-requires-3 : (t : ℕ) → match-one-lts.Need-word-requires-3 (
+  word-reads.Asked,
+  word-reads.Learnt,
+  on-leaf-reads.Asked,
+  on-leaf-reads.Learnt,
+  match-all-below t,
+  match-all.Post,
+  both-reads.Asked,
+  both-reads.Learnt,
+) (match-one-at t) match-one.Post
+match-one-word-requires-3 t c κs = (c .before .before .before .before .before .pre .1 .against .sized, c .before .before .before .before .before .pre .1 .against .there, search needs)
+
+match-one-element-copy-out-w : (t : ℕ) → match-one-lts.Need-element-copy-out-w (
+  word-reads.Asked,
+  word-reads.Learnt,
+  on-leaf-reads.Asked,
+  on-leaf-reads.Learnt,
+  match-all-below t,
+  match-all.Post,
+  both-reads.Asked,
+  both-reads.Learnt,
+) (match-one-at t) match-one.Post
+match-one-element-copy-out-w t c =
+    let h = first-in _ _ _ _ _ (c .before .before .before .before .before .before .pre .1) _ (c .before .before .before .word .ensures .0) (c .before .before .if1 .left) (c .before .if2 .left) _ (c .word3 .ensures .0) in let e = c .before .before .before .before .before .before .pre .1 .against .sized .counted in let f = c .before .before .before .before .before .before .pre .1 .against .sized .few in omega arith
+
+match-one-cast-w : (t : ℕ) → match-one-lts.Need-cast-w (
+  word-reads.Asked,
+  word-reads.Learnt,
+  on-leaf-reads.Asked,
+  on-leaf-reads.Learnt,
+  match-all-below t,
+  match-all.Post,
+  both-reads.Asked,
+  both-reads.Learnt,
+) (match-one-at t) match-one.Post
+match-one-cast-w t c =
+    let h = cut-small _ _ _ _ _ (c .before .before .before .before .before .before .before .pre .1) _ (c .before .before .before .before .word .ensures .0) (c .before .before .before .if1 .left) (c .before .before .if2 .left) _ (c .before .word3 .ensures .0) _ refl in omega arith
+
+match-one-sub-match-all : (t : ℕ) → match-one-lts.Need-sub-match-all (
+  word-reads.Asked,
+  word-reads.Learnt,
+  on-leaf-reads.Asked,
+  on-leaf-reads.Learnt,
+  match-all-below t,
+  match-all.Post,
+  both-reads.Asked,
+  both-reads.Learnt,
+) (match-one-at t) match-one.Post
+match-one-sub-match-all t c = omega arith
+
+match-one-part-match-all-start : (t : ℕ) → match-one-lts.Need-part-match-all-start (
+  word-reads.Asked,
+  word-reads.Learnt,
+  on-leaf-reads.Asked,
+  on-leaf-reads.Learnt,
+  match-all-below t,
+  match-all.Post,
+  both-reads.Asked,
+  both-reads.Learnt,
+) (match-one-at t) match-one.Post
+match-one-part-match-all-start t c = from-none _ _ _ _ _ (c .before .before .before .before .before .before .before .pre .1) _ (c .before .before .before .before .word .ensures .0) (c .before .before .before .if1 .left) (c .before .before .if2 .left) _ (c .before .word3 .ensures .0) _ refl
+
+match-one-part-match-all-end : (t : ℕ) → match-one-lts.Need-part-match-all-end (
+  word-reads.Asked,
+  word-reads.Learnt,
+  on-leaf-reads.Asked,
+  on-leaf-reads.Learnt,
+  match-all-below t,
+  match-all.Post,
+  both-reads.Asked,
+  both-reads.Learnt,
+) (match-one-at t) match-one.Post
+match-one-part-match-all-end t c = cut-inside _ _ _ _ _ (c .before .before .before .before .before .before .before .pre .1) _ (c .before .before .before .before .word .ensures .0) (c .before .before .before .if1 .left) (c .before .before .if2 .left) _ (c .before .word3 .ensures .0) _ refl
+
+match-one-match-all-requires : (t : ℕ) → match-one-lts.Need-match-all-requires (
+  word-reads.Asked,
+  word-reads.Learnt,
+  on-leaf-reads.Asked,
+  on-leaf-reads.Learnt,
+  match-all-below t,
+  match-all.Post,
+  both-reads.Asked,
+  both-reads.Learnt,
+) (match-one-at t) match-one.Post
+match-one-match-all-requires t c κs =
+    let q = first-lent _ _ _ _ _ (c .before .before .before .before .before .before .before .before .pre .1) _ (c .before .before .before .before .before .word .ensures .0) (c .before .before .before .before .if1 .left) (c .before .before .before .if2 .left) _ (c .before .before .word3 .ensures .0) _ refl in let h = q .1 .against .there in (omega (arith, c .before .before .before .before .before .before .before .before .pre .0, q .0), q .1)
+
+match-one-word-requires-4 : (t : ℕ) → match-one-lts.Need-word-requires-4 (
+  word-reads.Asked,
+  word-reads.Learnt,
+  on-leaf-reads.Asked,
+  on-leaf-reads.Learnt,
+  match-all-below t,
+  match-all.Post,
+  both-reads.Asked,
+  both-reads.Learnt,
+) (match-one-at t) match-one.Post
+match-one-word-requires-4 t c κs = (c .before .before .before .before .before .before .before .before .before .pre .1 .against .sized, c .before .before .before .before .before .before .before .before .before .pre .1 .against .there, search needs)
+
+match-one-sub-match-all-2 : (t : ℕ) → match-one-lts.Need-sub-match-all-2 (
+  word-reads.Asked,
+  word-reads.Learnt,
+  on-leaf-reads.Asked,
+  on-leaf-reads.Learnt,
+  match-all-below t,
+  match-all.Post,
+  both-reads.Asked,
+  both-reads.Learnt,
+) (match-one-at t) match-one.Post
+match-one-sub-match-all-2 t c = cut-inside _ _ _ _ _ (c .before .before .before .before .before .before .before .before .before .before .pre .1) _ (c .before .before .before .before .before .before .before .word .ensures .0) (c .before .before .before .before .before .before .if1 .left) (c .before .before .before .before .before .if2 .left) _ (c .before .before .before .before .word3 .ensures .0) _ refl
+
+match-one-part-match-all-start-2 : (t : ℕ) → match-one-lts.Need-part-match-all-start-2 (
+  word-reads.Asked,
+  word-reads.Learnt,
+  on-leaf-reads.Asked,
+  on-leaf-reads.Learnt,
+  match-all-below t,
+  match-all.Post,
+  both-reads.Asked,
+  both-reads.Learnt,
+) (match-one-at t) match-one.Post
+match-one-part-match-all-start-2 t c = cut-inside _ _ _ _ _ (c .before .before .before .before .before .before .before .before .before .before .pre .1) _ (c .before .before .before .before .before .before .before .word .ensures .0) (c .before .before .before .before .before .before .if1 .left) (c .before .before .before .before .before .if2 .left) _ (c .before .before .before .before .word3 .ensures .0) _ refl
+
+match-one-part-match-all-end-2 : (t : ℕ) → match-one-lts.Need-part-match-all-end-2 (
+  word-reads.Asked,
+  word-reads.Learnt,
+  on-leaf-reads.Asked,
+  on-leaf-reads.Learnt,
+  match-all-below t,
+  match-all.Post,
+  both-reads.Asked,
+  both-reads.Learnt,
+) (match-one-at t) match-one.Post
+match-one-part-match-all-end-2 t c = to-the-end _ _ _ _ _ (c .before .before .before .before .before .before .before .before .before .before .pre .1)
+
+match-one-match-all-requires-2 : (t : ℕ) → match-one-lts.Need-match-all-requires-2 (
+  word-reads.Asked,
+  word-reads.Learnt,
+  on-leaf-reads.Asked,
+  on-leaf-reads.Learnt,
+  match-all-below t,
+  match-all.Post,
+  both-reads.Asked,
+  both-reads.Learnt,
+) (match-one-at t) match-one.Post
+match-one-match-all-requires-2 t c κs =
+    let q = second-lent _ _ _ _ _ (c .before .before .before .before .before .before .before .before .before .before .before .pre .1) _ (c .before .before .before .before .before .before .before .before .word .ensures .0) (c .before .before .before .before .before .before .before .if1 .left) (c .before .before .before .before .before .before .if2 .left) _ (c .before .before .before .before .before .word3 .ensures .0) _ refl _ (c .before .word4 .ensures .0) in let h = q .1 .against .there in (omega (arith, c .before .before .before .before .before .before .before .before .before .before .before .pre .0, q .0), q .1)
+
+match-one-both-requires : (t : ℕ) → match-one-lts.Need-both-requires (
+  word-reads.Asked,
+  word-reads.Learnt,
+  on-leaf-reads.Asked,
+  on-leaf-reads.Learnt,
+  match-all-below t,
+  match-all.Post,
+  both-reads.Asked,
+  both-reads.Learnt,
+) (match-one-at t) match-one.Post
+match-one-both-requires t c κs = tt
+
+match-one-returns-3 : (t : ℕ) → match-one-lts.Need-returns-3 (
+  word-reads.Asked,
+  word-reads.Learnt,
+  on-leaf-reads.Asked,
+  on-leaf-reads.Learnt,
+  match-all-below t,
+  match-all.Post,
+  both-reads.Asked,
+  both-reads.Learnt,
+) (match-one-at t) match-one.Post
+match-one-returns-3 t c =
+    pair-matches _ _ _ _ _ (c .before .before .before .before .before .before .before .before .before .before .before .before .before .pre .1) _ (c .before .before .before .before .before .before .before .before .before .before .word .ensures .0) (c .before .before .before .before .before .before .before .before .before .if1 .left) (c .before .before .before .before .before .before .before .before .if2 .left) _ (c .before .before .before .before .before .before .before .word3 .ensures .0) _ refl _ (c .before .before .before .before .match-all .result) (c .before .match-all2 .result) (c .both .result) (c .before .before .before .word4 .ensures .0) (c .before .before .before .before .match-all .ensures) (c .before .match-all2 .ensures) (c .both .ensures)
+
+pub +match-all+match-one-spec : {M : Type 1} → statement M
++match-all+match-one-spec = close μ-match-all μ-match-one (λ t. match-all-lts.spec (
+  match-one-below t,
+  match-one.Post,
+  word-reads.Asked,
+  word-reads.Learnt,
+  either-reads.Asked,
+  either-reads.Learnt,
+)
+    (match-all-at t)
+    match-all.Post
+    match-all-Inv-loop
+    match-all-μ-loop
+    (match-all-match-one-requires t)
+    (match-all-word-requires t)
+    (match-all-loop-holds t)
+    (match-all-match-one-requires-2 t)
+    (match-all-either-requires t)
+    (match-all-word-requires-2 t)
+    (match-all-loop-less t)
+    (match-all-loop-again t)
+    (match-all-returns t))
+    λ t. match-one-lts.spec (
+      word-reads.Asked,
+      word-reads.Learnt,
+      on-leaf-reads.Asked,
+      on-leaf-reads.Learnt,
+      match-all-below t,
+      match-all.Post,
+      both-reads.Asked,
+      both-reads.Learnt,
+    )
+    (match-one-at t)
+    match-one.Post
+    (match-one-word-requires t)
+    (match-one-returns t)
+    (match-one-word-requires-2 t)
+    (match-one-shared-slice-read-on-leaf t)
+    (match-one-on-leaf-requires t)
+    (match-one-returns-2 t)
+    (match-one-word-requires-3 t)
+    (match-one-element-copy-out-w t)
+    (match-one-cast-w t)
+    (match-one-sub-match-all t)
+    (match-one-part-match-all-start t)
+    (match-one-part-match-all-end t)
+    (match-one-match-all-requires t)
+    (match-one-word-requires-4 t)
+    (match-one-sub-match-all-2 t)
+    (match-one-part-match-all-start-2 t)
+    (match-one-part-match-all-end-2 t)
+    (match-one-match-all-requires-2 t)
+    (match-one-both-requires t)
+    (match-one-returns-3 t)

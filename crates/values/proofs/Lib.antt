@@ -1,0 +1,4 @@
+-- Laws on values as bytes.
+pub mod Leaves
+pub mod Slots
+pub mod Matches

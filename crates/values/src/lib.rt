@@ -1,0 +1,165 @@
+// Values as bytes: the leaves of a chain read and held, the look-up of a name, and matching.
+ghost use mathlib.Core.Path.{_≡_};
+ghost use Prim.Native.Nat.{ℕ, _+_, _-_, _*_, _≤_, _<_};
+ghost use lib.ListN.{length, take, drop};
+ghost use Rattle.records.specs.Sized.{Sized};
+ghost use Rattle.records.specs.Trees.{chain};
+ghost use Rattle.records.specs.Decoding.{leafValues};
+ghost use Rattle.cycles.specs.Delays.{assigned, putAll, enter};
+ghost use mathlib.Core.List.{List, _++_};
+ghost use Rattle.meaning.specs.Matching.{constructorAnswer, pairAnswer, chainAnswer};
+ghost use Rattle.values.specs.Chained.{Chained};
+ghost use Rattle.values.specs.Answers.{answerOf, Agrees};
+ghost use Rattle.values.specs.Matchings.{Matched, MatchesAll, MatchesOne};
+use records::word;
+
+// Reads the leaves from `first`.
+pub fn read_leaves(sheet: &[u8], n: usize, first: usize, out: &mut [u8])
+    requires { ⌜ Chained (now sheet) n first (length (now out)) ⌝ }
+    ensures { λ _. ⌜ now (out .exit) ≡ leafValues (now (sheet .entry)) (chain (now (sheet .entry)) first) ⌝ }
+{
+    let all = out.len();
+    let mut leaf = first;
+    let mut i = 0;
+    while i < all {
+        out[i] = word(sheet, n, leaf, 2) as u8;
+        leaf = word(sheet, n, leaf, 1);
+        i += 1;
+    }
+}
+
+// Holds a value at the leaves from `first`.
+pub fn hold_leaves(sheet: &[u8], n: usize, first: usize, value: &[u8], held: &mut [u8; 4096])
+    requires { ⌜ Chained (now sheet) n first (length (now value)) ⌝ }
+    ensures { λ _. ⌜ now (held .exit) ≡ putAll enter (assigned (chain (now (sheet .entry)) first) (now (value .entry))) (now (held .entry)) ⌝ }
+{
+    let all = value.len();
+    let mut leaf = first;
+    let mut i = 0;
+    while i < all {
+        held[leaf] = value[i];
+        leaf = word(sheet, n, leaf, 1);
+        i += 1;
+    }
+}
+
+// The value of the name at this level, in the lent environment: w bytes from the start of its slot.
+pub fn look_up(env: &[u8], level: usize, w: usize) -> &[u8]
+    requires { ⌜ (64 * level + w ≤ length (now env)) × (length (now env) ≤ 4096) ⌝ }
+    ensures { λ r. ⌜ now r ≡ take w (drop (64 * level) (now (env .entry))) ⌝ }
+{
+    let at = 64 * level;
+    &env[at..at + w]
+}
+
+// Copies a value into the front of a slot.
+pub fn put(value: &[u8], slot: &mut [u8])
+    requires { ⌜ length (now value) ≤ length (now slot) ⌝ }
+    ensures { λ _. ⌜ now (slot .exit) ≡ now (value .entry) ++ drop (length (now (value .entry))) (now (slot .entry)) ⌝ }
+{
+    let all = value.len();
+    let mut i = 0;
+    while i < all {
+        slot[i] = value[i];
+        i += 1;
+    }
+}
+
+// Whether a value stands at the front of a slot.
+pub fn stands(value: &[u8], slot: &[u8]) -> bool
+    requires { ⌜ length (now value) ≤ length (now slot) ⌝ }
+    ensures { λ r. ⌜ Agrees (now (value .entry)) (take (length (now (value .entry))) (now (slot .entry))) r ⌝ }
+{
+    let all = value.len();
+    let mut i = 0;
+    while i < all {
+        if slot[i] != value[i] {
+            return false;
+        }
+        i += 1;
+    }
+    true
+}
+
+// The answer of a match.
+pub enum Match {
+    Yes,
+    No,
+    Undecided,
+}
+
+// The answer of constructor k on a leaf.
+fn on_leaf(k: usize, leaf: u8) -> Match
+    ensures { λ r. ⌜ answerOf r ≡ constructorAnswer k leaf ⌝ }
+{
+    if leaf == 0 {
+        return Match::Undecided;
+    }
+    if leaf as usize == k {
+        return Match::Yes;
+    }
+    Match::No
+}
+
+// The answer of a pair pattern, from those of its parts.
+fn both(a: Match, b: Match) -> Match
+    ensures { λ r. ⌜ answerOf r ≡ pairAnswer (answerOf a) (answerOf b) ⌝ }
+{
+    match a {
+        Match::No => Match::No,
+        Match::Yes => b,
+        Match::Undecided => match b {
+            Match::No => Match::No,
+            Match::Yes => Match::Undecided,
+            Match::Undecided => Match::Undecided,
+        },
+    }
+}
+
+// The answer of a chain, from that of its first alternatives and that of the next one.
+fn either(a: Match, b: Match) -> Match
+    ensures { λ r. ⌜ answerOf r ≡ chainAnswer (answerOf a) (answerOf b) ⌝ }
+{
+    match a {
+        Match::Yes => Match::Yes,
+        Match::No => b,
+        Match::Undecided => match b {
+            Match::Yes => Match::Yes,
+            Match::No => Match::Undecided,
+            Match::Undecided => Match::Undecided,
+        },
+    }
+}
+
+// Matches a value against the alternatives from p.
+pub fn match_all(sheet: &[u8], n: usize, widths: &[u8; 4096], p: usize, value: &[u8]) -> Match
+    requires { ⌜ Matched (now sheet) n (now widths) p (now value) ⌝ }
+    ensures { λ r. ⌜ MatchesAll (now (sheet .entry)) p (now (value .entry)) r ⌝ }
+{
+    let mut answer = match_one(sheet, n, widths, p, value);
+    let mut at = word(sheet, n, p, 1);
+    while at != 0 {
+        answer = either(answer, match_one(sheet, n, widths, at, value));
+        at = word(sheet, n, at, 1);
+    }
+    answer
+}
+
+// Matches a value against the alternative at p, a pair pattern part by part.
+fn match_one(sheet: &[u8], n: usize, widths: &[u8; 4096], p: usize, value: &[u8]) -> Match
+    requires { ⌜ Matched (now sheet) n (now widths) p (now value) ⌝ }
+    ensures { λ r. ⌜ MatchesOne (now (sheet .entry)) p (now (value .entry)) r ⌝ }
+{
+    let kind = word(sheet, n, p, 0);
+    if kind == 48 {
+        return Match::Yes;
+    }
+    if kind == 49 {
+        return on_leaf(word(sheet, n, p, 3), value[0]);
+    }
+    let first = word(sheet, n, p, 2);
+    let w = widths[first] as usize;
+    let a = match_all(sheet, n, widths, first, &value[0..w]);
+    let b = match_all(sheet, n, widths, word(sheet, n, p, 3), &value[w..]);
+    both(a, b)
+}
