@@ -42,7 +42,9 @@ use Rattle.typing.proofs.Alternatives.{in-sheet, next-matching, first-matching,
 use Rattle.typing.specs.Judging.{Matching}
 use Rattle.accepted.proofs.FittingWidths.{fitting-leaves}
 use Rattle.meaning.specs.Matching.{Answer, Yes, No, Undecided, pairAnswer, chainAnswer, constructorAnswer, width, matches}
-use Rattle.values.specs.Matchings.{Matched, withRest, MatchesAll, MatchesOne}
+use Rattle.values.specs.Matchings.{Matched, withRest, MatchesAll, MatchesOne, Chosen}
+use Rattle.meaning.specs.Evaluation.{choose}
+use Rattle.meaning.specs.Undecided.{undefinedLeaves}
 use Rattle.values.specs.Answers.{answerOf}
 use Rattle.values.specs.declared.Match.{Match}
 use Rattle.values.specs.declared.Match.the-variants as Matched′
@@ -307,3 +309,8 @@ pub left-falls : (n at x : ℕ) → (at ≡ 0 → ⊥) → at < n → ((x ≡ 0 
 left-falls n zero x f h g = absurd (f refl)
 left-falls n (suc at) zero f h g = omega arith
 left-falls n (suc at) (suc x) f h g = let q = g (λ z. omega arith) in omega (arith, q .0, q .1)
+
+-- the value of an IF, by the answer of its match
+pub chosen : (s : List ℕ) (p : ℕ) (v otherwise out out′ : List ℕ) (a : Match) → MatchesAll s p v a
+    → out′ ≡ choose undefinedLeaves (answerOf a) out otherwise → Chosen s p v otherwise out out′
+chosen s p v otherwise out out′ a e g = rw (← e) g

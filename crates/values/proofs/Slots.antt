@@ -1,18 +1,22 @@
--- A value copied to the front of a slot, and held against it; a constructor held against a leaf.
+-- A value copied to the front of a slot, and held against it; a slice cleared; a constructor held against a leaf.
 -- Assumes nothing.
-use Prim.Native.Nat.{ℕ, zero, suc, _+_, _≤_, _<_}
-use mathlib.Core.Bool.{true, false}
-use mathlib.Core.List.{List, [], _∷_, _++_}
+use Prim.Native.Nat.{ℕ, zero, suc, _+_, _-_, _≤_, _<_}
+use mathlib.Core.Bool.{Bool, true, false}
+use mathlib.Core.List.{List, [], _∷_, _++_, append-nil}
 use mathlib.Core.Path.{_≡_, refl, sym, ap, _∙_}
 use mathlib.Core.Logic.{_≢_}
 use native.Mathlib.Omega.{arith}
 use native.Mathlib.Numerals.{add-one}
 use borrow.Author.Tests.{eq-eqb, ne-eqb}
-use lib.ListN.{length, getD, set, take, drop}
-use lib.Seq.{take-length, take-suc, getD-take, paste, paste-zero, paste-suc, length-paste}
+use lib.ListN.{length, getD, set, take, drop, replicate, length-drop, length-set}
+use lib.Seq.{take-length, take-all, take-take, take-suc, take-suc-set, drop-length, length-take-le, getD-take, paste, paste-zero, paste-suc, length-paste}
 use Rattle.records.proofs.Tests.{never-both}
 use Rattle.meaning.specs.Matching.{Yes, No, constructorAnswer}
-use Rattle.values.specs.Answers.{Agrees}
+use Rattle.meaning.specs.Evaluation.{choose}
+use Rattle.meaning.specs.Undecided.{undefinedLeaves}
+use Rattle.values.specs.Answers.{answerOf, Agrees}
+use Rattle.values.specs.declared.Match.{Match}
+use Rattle.values.specs.declared.Match.the-variants as Matches
 
 front : (i : ℕ) → 0 + i ≡ i
 front i = omega arith
@@ -75,3 +79,66 @@ leaf-is k (suc v) n e = rw (eq-eqb (suc v) k e) refl
 pub leaf-is-other : (k v : ℕ) → v ≢ 0 → v ≢ k → No ≡ constructorAnswer k v
 leaf-is-other k zero n e = absurd (n refl)
 leaf-is-other k (suc v) n e = rw (ne-eqb (suc v) k e) refl
+
+-- a value in front of what lies from a slot on
+pub entered-there : (a : ℕ) (xs v ys : List ℕ) → ys ≡ v ++ drop (length v) (take (length xs - a) (drop a xs))
+    → take a xs ++ (ys ++ drop (length xs - a) (drop a xs)) ≡ take a xs ++ (v ++ drop (length v) (drop a xs))
+entered-there a xs v ys e = rw (e, all, none, append-nil (v ++ drop (length v) (drop a xs))) refl
+  where
+    all : take (length xs - a) (drop a xs) ≡ drop a xs
+    all = let l = length-drop a xs in take-all (length xs - a) (drop a xs) (omega arith)
+
+    none : drop (length xs - a) (drop a xs) ≡ []
+    none = rw (← length-drop a xs) (drop-length (drop a xs))
+
+-- what is looked up for a slice of n bytes: a slot's first n
+module _ (n a : ℕ) (env r : List ℕ) (e : r ≡ take n (drop a env)) where
+  pub looked-up-long : a + n ≤ length env → length r ≡ n
+  looked-up-long h = let l = length-drop a env in rw e (length-take-le n (drop a env) (omega arith))
+
+  pub looked-up-stands : (v : List ℕ) (b : Bool) → length v ≡ n → Agrees v (take (length v) r) b → Agrees v (take n (drop a env)) b
+  looked-up-stands v b k g = rw (e, k, take-take n n (drop a env) (omega arith)) at g
+
+  pub looked-up-copied : (out out′ : List ℕ) → length out ≡ n → a + n ≤ length env → out′ ≡ r ++ drop (length r) out
+      → out′ ≡ take n (drop a env)
+  looked-up-copied out out′ k h g =
+      let all : length r ≡ length out = looked-up-long h ∙ sym k in
+      g ∙ rw (all, drop-length out) (append-nil r) ∙ e
+
+-- i leaves are undefined
+pub record Cleared (out₀ : List ℕ) (i : ℕ) (out : List ℕ) : Type 0 where
+  pub few : i ≤ length out₀
+  pub long : length out ≡ length out₀
+  pub so-far : take i out ≡ replicate i 0
+
+pub none-cleared : (out : List ℕ) → Cleared out 0 out
+none-cleared out = record { few = omega arith; long = refl; so-far = refl }
+
+pub clear-next : (out₀ : List ℕ) (i : ℕ) (out : List ℕ) → i < length out₀ → Cleared out₀ i out → Cleared out₀ (i + 1) (set out i 0)
+clear-next out₀ i out h c =
+    let l = c .long in
+    record {
+      few = omega arith;
+      long = length-set out i 0 ∙ l;
+      so-far = rw (add-one i, take-suc-set out i 0 (omega arith), c .so-far) (one-more i);
+    }
+  where
+    one-more : (i : ℕ) → _++_ {A = ℕ} (replicate i 0) (0 ∷ []) ≡ replicate (suc i) 0
+    one-more zero = refl
+    one-more (suc i) = ap (λ l. 0 ∷ l) (one-more i)
+
+pub all-cleared : (out₀ : List ℕ) (i : ℕ) (out : List ℕ) → length out₀ ≤ i → Cleared out₀ i out → out ≡ replicate (length out₀) 0
+all-cleared out₀ i out h c =
+    let f = c .few in
+    let e : i ≡ length out = let l = c .long in omega arith in
+    let f : take (length out) out ≡ replicate (length out) 0 = rw e at (c .so-far) in
+    sym (take-length out) ∙ f ∙ rw (c .long) refl
+
+-- the value of an IF by the answer of its match
+pub otherwise-chosen : (a : Match) (otherwise out out′ : List ℕ) → a ≡ Matches.No → length otherwise ≡ length out
+    → out′ ≡ otherwise ++ drop (length otherwise) out → out′ ≡ choose undefinedLeaves (answerOf a) out otherwise
+otherwise-chosen a otherwise out out′ e l g = g ∙ rw (e, l, drop-length out) (append-nil otherwise)
+
+pub undefined-chosen : (a : Match) (otherwise out out′ : List ℕ) → a ≡ Matches.Undecided → out′ ≡ replicate (length out) 0
+    → out′ ≡ choose undefinedLeaves (answerOf a) out otherwise
+undefined-chosen a otherwise out out′ e g = g ∙ rw e refl

@@ -2,3 +2,4 @@
 pub mod Chained
 pub mod Answers
 pub mod Matchings
+pub mod Slots

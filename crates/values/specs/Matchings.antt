@@ -24,6 +24,8 @@ use Rattle.typing.specs.Judgements.{patternFits}
 use Rattle.typing.specs.Judging.{Matching}
 use Rattle.typing.specs.Widths.{patternEntry}
 use Rattle.meaning.specs.Matching.{Answer, chainAnswer, matches}
+use Rattle.meaning.specs.Undecided.{undefinedLeaves}
+use Rattle.meaning.specs.Evaluation.{choose}
 use Rattle.values.specs.Answers.{answerOf}
 use Rattle.values.specs.declared.Match.{Match}
 
@@ -48,3 +50,8 @@ MatchesAll s p v r = answerOf r ≡ matches (patternOf s (alternatives s p)) v
 abbrev pub MatchesOne : List ℕ → ℕ → List ℕ → Match → Type 0
 MatchesOne s p v r =
     matches (patternOf s (alternatives s p)) v ≡ withRest (answerOf r) s (follow end (alternatives s) (next s p)) v
+
+-- the value of an IF whose pattern is at p, from the value tested and those of its branches
+abbrev pub Chosen : (sheet : List ℕ) (p : ℕ) (tested otherwise then value : List ℕ) → Type 0
+Chosen s p v otherwise then value =
+    value ≡ choose undefinedLeaves (matches (patternOf s (alternatives s p)) v) then otherwise

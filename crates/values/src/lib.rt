@@ -1,7 +1,7 @@
 // Values as bytes: the leaves of a chain read and held, the look-up of a name, and matching.
 ghost use mathlib.Core.Path.{_≡_};
 ghost use Prim.Native.Nat.{ℕ, _+_, _-_, _*_, _≤_, _<_};
-ghost use lib.ListN.{length, take, drop};
+ghost use lib.ListN.{length, take, drop, replicate};
 ghost use Rattle.records.specs.Sized.{Sized};
 ghost use Rattle.records.specs.Trees.{chain};
 ghost use Rattle.records.specs.Decoding.{leafValues};
@@ -10,7 +10,10 @@ ghost use mathlib.Core.List.{List, _++_};
 ghost use Rattle.meaning.specs.Matching.{constructorAnswer, pairAnswer, chainAnswer};
 ghost use Rattle.values.specs.Chained.{Chained};
 ghost use Rattle.values.specs.Answers.{answerOf, Agrees};
-ghost use Rattle.values.specs.Matchings.{Matched, MatchesAll, MatchesOne};
+ghost use Rattle.values.specs.Matchings.{Matched, MatchesAll, MatchesOne, Chosen};
+ghost use Rattle.values.specs.Slots.{slot, entered};
+ghost use Rattle.meaning.specs.Evaluation.{choose};
+ghost use Rattle.meaning.specs.Undecided.{undefinedLeaves};
 use records::word;
 
 // Reads the leaves from `first`.
@@ -79,6 +82,43 @@ pub fn stands(value: &[u8], slot: &[u8]) -> bool
         i += 1;
     }
     true
+}
+
+// Enters a value into the slot of the name at this level.
+pub fn enter_value(env: &mut [u8], level: usize, value: &[u8])
+    requires { ⌜ (64 * level + length (now value) ≤ length (now env)) × (length (now env) ≤ 4096) ⌝ }
+    ensures { λ _. ⌜ now (env .exit) ≡ entered level (now (value .entry)) (now (env .entry)) ⌝ }
+{
+    let at = 64 * level;
+    put(value, &mut env[at..]);
+}
+
+// Whether a value stands in the slot of the name at this level.
+pub fn stands_at(env: &[u8], level: usize, value: &[u8]) -> bool
+    requires { ⌜ (64 * level + length (now value) ≤ length (now env)) × (length (now env) ≤ 4096) ⌝ }
+    ensures { λ r. ⌜ Agrees (now (value .entry)) (slot level (length (now (value .entry))) (now (env .entry))) r ⌝ }
+{
+    stands(value, look_up(env, level, value.len()))
+}
+
+// Copies the value of the name at this level.
+pub fn copy_value(env: &[u8], level: usize, out: &mut [u8])
+    requires { ⌜ (64 * level + length (now out) ≤ length (now env)) × (length (now env) ≤ 4096) ⌝ }
+    ensures { λ _. ⌜ now (out .exit) ≡ slot level (length (now (out .entry))) (now (env .entry)) ⌝ }
+{
+    put(look_up(env, level, out.len()), out);
+}
+
+// Undefined in every leaf.
+fn clear(out: &mut [u8])
+    ensures { λ _. ⌜ now (out .exit) ≡ replicate (length (now (out .entry))) 0 ⌝ }
+{
+    let all = out.len();
+    let mut i = 0;
+    while i < all {
+        out[i] = 0;
+        i += 1;
+    }
 }
 
 // The answer of a match.
@@ -162,4 +202,32 @@ fn match_one(sheet: &[u8], n: usize, widths: &[u8; 4096], p: usize, value: &[u8]
     let a = match_all(sheet, n, widths, first, &value[0..w]);
     let b = match_all(sheet, n, widths, word(sheet, n, p, 3), &value[w..]);
     both(a, b)
+}
+
+// The value of an IF by the answer of its match, where the then value is in `out`.
+fn by_answer(answer: Match, otherwise: &[u8], out: &mut [u8])
+    requires { ⌜ length (now otherwise) ≡ length (now out) ⌝ }
+    ensures { λ _. ⌜ now (out .exit) ≡ choose undefinedLeaves (answerOf answer) (now (out .entry)) (now (otherwise .entry)) ⌝ }
+{
+    match answer {
+        Match::Yes => return,
+        Match::No => put(otherwise, out),
+        Match::Undecided => clear(out),
+    }
+}
+
+// The value of an IF with the alternatives from p, where the then value is in `out`.
+pub fn choose_value(
+    sheet: &[u8],
+    n: usize,
+    widths: &[u8; 4096],
+    p: usize,
+    tested: &[u8],
+    otherwise: &[u8],
+    out: &mut [u8],
+)
+    requires { ⌜ Matched (now sheet) n (now widths) p (now tested) × (length (now otherwise) ≡ length (now out)) ⌝ }
+    ensures { λ _. ⌜ Chosen (now (sheet .entry)) p (now (tested .entry)) (now (otherwise .entry)) (now (out .entry)) (now (out .exit)) ⌝ }
+{
+    by_answer(match_all(sheet, n, widths, p, tested), otherwise, out);
 }

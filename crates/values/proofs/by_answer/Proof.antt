@@ -1,0 +1,54 @@
+-- Assumes nothing.
+use Rattle.values.proofs.Slots.{otherwise-chosen, undefined-chosen}
+use borrow.Author.Needs.{needs}
+use Rattle.values.proofs.by_answer.Statement.{statement}
+use Rattle.values.proofs.by_answer.Tie as tie
+use Rattle.values.proofs.by_answer.Reads as reads
+use Rattle.values.proofs.by_answer.Lts as lts
+use Rattle.values.proofs.clear.Reads as clear-reads
+use Rattle.values.proofs.put.Reads as put-reads
+
+enum-told : tie.Need-enum-told
+enum-told c = search needs
+
+returns : tie.Need-returns
+returns c = search needs
+
+enum-told-2 : tie.Need-enum-told-2
+enum-told-2 c = search needs
+
+put-requires : tie.Need-put-requires
+put-requires c κs = search needs
+
+enum-told-3 : tie.Need-enum-told-3
+enum-told-3 c = search needs
+
+clear-requires : tie.Need-clear-requires
+clear-requires c κs = search needs
+
+same-length : tie.Need-same-length
+same-length c = search needs
+
+returns-2 : tie.Need-returns-2
+returns-2 c = otherwise-chosen _ _ _ _ (c .before .before .before .before .enum-told2 .given .1) (c .before .before .before .before .before .before .before .before .pre) (c .before .before .put .ensures)
+
+same-length-2 : tie.Need-same-length-2
+same-length-2 c = search needs
+
+returns-3 : tie.Need-returns-3
+returns-3 c = undefined-chosen _ _ _ _ (c .before .before .before .before .enum-told3 .given .1) (c .before .before .clear .ensures)
+
+pub by-answer-spec : {M : Type 1} → statement M
+by-answer-spec =
+    tie.close
+    (tie.spec
+    enum-told
+    returns
+    enum-told-2
+    put-requires
+    enum-told-3
+    clear-requires
+    same-length
+    returns-2
+    same-length-2
+    returns-3)
