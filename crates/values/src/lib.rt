@@ -109,6 +109,13 @@ pub fn copy_value(env: &[u8], level: usize, out: &mut [u8])
     put(look_up(env, level, out.len()), out);
 }
 
+// Room for a value, undefined in every leaf.
+pub fn room() -> [u8; 64]
+    ensures { λ r. ⌜ r ≡ replicate 64 0 ⌝ }
+{
+    [0; 64]
+}
+
 // Undefined in every leaf.
 fn clear(out: &mut [u8])
     ensures { λ _. ⌜ now (out .exit) ≡ replicate (length (now (out .entry))) 0 ⌝ }

@@ -1,0 +1,248 @@
+-- IFs and delays: an IF evaluates all three parts, and a delay gives the value it holds and next holds its part's value.
+-- Assumes nothing.
+use Prim.Native.Nat.{ℕ, suc, _+_, _-_, _*_, _≤_, _<_}
+use mathlib.Core.List.{List, _++_, map}
+use mathlib.Core.Path.{_≡_, refl, sym, ap, _∙_}
+use native.Mathlib.Omega.{arith}
+use borrow.Author.Tests.{eqb-true}
+use lib.ListN.{length, getD, take, drop, replicate, length-map}
+use Rattle.picoella.specs.Types.{leaves}
+use Rattle.records.specs.Words.{word, wordA, wordB, wordC, wordD, count}
+use Rattle.records.specs.Kinds.{expression, ifMatches, delay, leafs, patterns}
+use Rattle.records.specs.Says.{kindAt}
+use Rattle.records.specs.TypeRecords.{typeAt}
+use Rattle.records.specs.Written.{Written}
+use Rattle.records.specs.Trees.{treeAt, chain, alternatives}
+use Rattle.records.specs.Decoding.{leafValues}
+use Rattle.records.proofs.Table.{askOfKind}
+use Rattle.records.proofs.Asked.{part-of-kind}
+use Rattle.records.proofs.Trees.{tree-of}
+use Rattle.typing.specs.Judgements.{typeOf}
+use Rattle.typing.specs.Scopes.{Scope, if-tested, if-then, if-else, of-delay}
+use Rattle.accepted.proofs.Scopes.{judged-by-kind}
+use Rattle.meaning.specs.Undecided.{undefinedLeaves}
+use Rattle.cycles.specs.Delays.{assigned, putAll, enter}
+use Rattle.cycles.specs.Evaluated.{valueAt, storedAt}
+use Rattle.cycles.proofs.Evaluated.{if-value, if-stored, delay-value, delay-stored}
+use Rattle.values.specs.Chained.{Chained}
+use Rattle.values.specs.Matchings.{Matched, Chosen}
+use Rattle.values.specs.Slots.{frames}
+use Rattle.evaluator.specs.Evaluating.{Ready, Done, Evaluates}
+use Rattle.evaluator.proofs.Frames.{back-long, back-part, lent-long, zeros-long}
+use Rattle.evaluator.proofs.Readiness.{
+  ready-passes,
+  ready-written,
+  ready-there,
+  ready-value,
+  ready-at,
+  in-circuit,
+  type-there,
+  room-few,
+  entry-is,
+  value-long,
+  same-frames,
+  same-values,
+}
+use Rattle.evaluator.proofs.Parts.{fits-room, room-ready, room-done, room-wide}
+
+module _ (s : List ℕ) (n : ℕ) (W env : List ℕ) (names rec : ℕ) (out Γ : List ℕ) (r : Ready s n W env names rec out Γ) where
+  abbrev ρ : List (List ℕ)
+  ρ = frames s Γ env
+
+  abbrev val : ℕ → List ℕ
+  val x = valueAt undefinedLeaves s Γ ρ x
+
+  w : Written s
+  w = ready-written s n W env names rec out Γ r
+
+  b : rec < count s
+  b = ready-there s n W env names rec out Γ r
+
+  -- the entry of the record
+  own-entry : length out ≡ leaves (typeAt s (typeOf s Γ (treeAt s rec)))
+  own-entry = r .room ∙ entry-is s n W env names rec out Γ r rec Γ (r .scope)
+
+  module _ (e : kindAt s rec ≡ expression ifMatches) (x y z p : ℕ) (ex : x ≡ word s rec 2) (ey : y ≡ word s rec 3) (ez : z ≡ word s rec 4)
+      (ep : p ≡ word s rec 5) (c : ℕ) (ec : c ≡ getD W x 0) (R : List ℕ) (eR : R ≡ replicate 64 0) where
+    pub tested-scope : Scope s x Γ
+    tested-scope = rw ex (if-tested e (r .scope))
+
+    then-scope : Scope s y Γ
+    then-scope = rw ey (if-then e (r .scope))
+
+    else-scope : Scope s z Γ
+    else-scope = rw ez (if-else e (r .scope))
+
+    then-entry : length out ≡ getD W y 0
+    then-entry =
+        own-entry ∙ rw (tree-of w rec b (expression ifMatches) e, ey)
+        (sym (entry-is s n W env names rec out Γ r (word s rec 3) Γ (if-then e (r .scope))))
+
+    same-types : typeOf s Γ (treeAt s y) ≡ typeOf s Γ (treeAt s z)
+    same-types =
+        rw (ey, ez)
+        (eqb-true (typeOf s Γ (treeAt s (wordB s rec))) (typeOf s Γ (treeAt s (wordC s rec)))
+        (judged-by-kind (ready-passes s n W env names rec out Γ r) (in-circuit s n W env names rec out Γ r rec Γ (r .scope)) ifMatches e .4))
+
+    else-entry : length out ≡ getD W z 0
+    else-entry =
+        then-entry ∙ entry-is s n W env names rec out Γ r y Γ then-scope ∙ rw same-types (sym (entry-is s n W env names rec out Γ r z Γ else-scope))
+
+    module _ (held env₁ held₁ o₁ : List ℕ) (p₁ : Evaluates s n W env names x held (take (c - 0) R) env₁ held₁ o₁) where
+      d₁ : Done s Γ env names x held env₁ held₁ o₁
+      d₁ = room-done s n W env names rec out Γ r x tested-scope c ec R eR held env₁ held₁ o₁ p₁
+
+      pub then-ready : Ready s n W env₁ names y out Γ
+      then-ready =
+          ready-at s n W env names rec out Γ r y Γ then-scope env₁ names out (r .many) (d₁ .wide) then-entry
+          (same-values s n W env names rec out Γ r env₁ (d₁ .kept))
+
+      module _ (env₂ held₂ o₂ : List ℕ) (p₂ : Evaluates s n W env₁ names y held₁ out env₂ held₂ o₂) where
+        d₂ : Done s Γ env₁ names y held₁ env₂ held₂ o₂
+        d₂ = p₂ .done Γ then-ready
+
+        f₁ : frames s Γ env₁ ≡ ρ
+        f₁ = same-frames s n W env names rec out Γ r env₁ (d₁ .kept)
+
+        then-value : o₂ ≡ val y
+        then-value = rw f₁ at (d₂ .value)
+
+        then-long : length o₂ ≡ length out
+        then-long = ap length then-value ∙ value-long s n W env names rec out Γ r y Γ then-scope ρ (r .values) ∙ sym then-entry
+
+        kept₂ : take (64 * names) env₂ ≡ take (64 * names) env
+        kept₂ = d₂ .kept ∙ d₁ .kept
+
+        module _ (Q : List ℕ) (eQ : Q ≡ replicate 64 0) where
+          pub else-fits : length o₂ ≤ length Q
+          else-fits =
+              let l : length Q ≡ 64 = rw eQ (zeros-long 64) in
+              let f = room-few s n W env names rec out Γ r in
+              let t = then-long in
+              omega arith
+
+          pub else-ready : Ready s n W env₂ names z (take (length o₂ - 0) Q) Γ
+          else-ready =
+              ready-at s n W env names rec out Γ r z Γ else-scope env₂ names (take (length o₂ - 0) Q) (r .many) (d₂ .wide)
+              (lent-long (length o₂) Q else-fits ∙ then-long ∙ else-entry) (same-values s n W env names rec out Γ r env₂ kept₂)
+
+          module _ (env₃ held₃ o₃ : List ℕ) (p₃ : Evaluates s n W env₂ names z held₂ (take (length o₂ - 0) Q) env₃ held₃ o₃) where
+            d₃ : Done s Γ env₂ names z held₂ env₃ held₃ o₃
+            d₃ = p₃ .done Γ else-ready
+
+            f₂ : frames s Γ env₂ ≡ ρ
+            f₂ = same-frames s n W env names rec out Γ r env₂ kept₂
+
+            else-value : o₃ ≡ val z
+            else-value = rw f₂ at (d₃ .value)
+
+            else-long : length o₃ ≡ length o₂
+            else-long =
+                ap length else-value ∙ value-long s n W env names rec out Γ r z Γ else-scope ρ (r .values) ∙ sym else-entry ∙ sym then-long
+
+            abbrev tested : List ℕ
+            tested = take (c - 0) (o₁ ++ drop (c - 0) R)
+
+            abbrev otherwise : List ℕ
+            otherwise = take (length o₂ - 0) (o₃ ++ drop (length o₂ - 0) Q)
+
+            fits₁ : c ≤ length R
+            fits₁ = fits-room s n W env names rec out Γ r x tested-scope c ec R eR
+
+            wide₁ : length o₁ ≡ c
+            wide₁ = room-wide s n W env names rec out Γ r x tested-scope c ec R eR held env₁ held₁ o₁ p₁
+
+            tested-is : tested ≡ o₁
+            tested-is = back-part c R o₁ wide₁ fits₁
+
+            otherwise-is : otherwise ≡ o₃
+            otherwise-is = back-part (length o₂) Q o₃ else-long else-fits
+
+            pub tested-inside : c ≤ length (o₁ ++ drop (c - 0) R)
+            tested-inside = let l = back-long c R o₁ wide₁ fits₁ in let f = fits₁ in omega arith
+
+            pub otherwise-inside : length o₂ ≤ length (o₃ ++ drop (length o₂ - 0) Q)
+            otherwise-inside = let l = back-long (length o₂) Q o₃ else-long else-fits in let f = else-fits in omega arith
+
+            pub as-long : length otherwise ≡ length o₂
+            as-long = ap length otherwise-is ∙ else-long
+
+            pub pattern-matched : Matched s n W p tested
+            pattern-matched =
+                let q = part-of-kind w rec (expression ifMatches) patterns b e 5 refl (unfold askOfKind in refl) in
+                let counted = r .sized .counted in
+                let j = judged-by-kind (ready-passes s n W env names rec out Γ r) (in-circuit s n W env names rec out Γ r rec Γ (r .scope)) ifMatches e in
+                record {
+                  type = typeOf s Γ (treeAt s x);
+                  against = record {
+                    sized = r .sized;
+                    passes = ready-passes s n W env names rec out Γ r;
+                    there = omega (arith, q .1, ep);
+                    sort = rw ep (q .2);
+                    typed = type-there s n W env names rec out Γ r x Γ tested-scope;
+                  };
+                  table = r .table .patterns;
+                  fits = rw (ex, ep) (j .1);
+                  long = ap length tested-is ∙ wide₁ ∙ ec ∙ entry-is s n W env names rec out Γ r x Γ tested-scope;
+                }
+
+            pub if-wide : length env₃ ≡ length env
+            if-wide = d₃ .wide ∙ sym (r .wide)
+
+            pub if-done : (out′ : List ℕ) → Chosen s p tested otherwise o₂ out′ → Done s Γ env names rec held env₃ held₃ out′
+            if-done out′ g =
+                let h₂ : held₂ ≡ storedAt undefinedLeaves s Γ ρ y held₁ = rw f₁ at (d₂ .stored) in
+                let h₃ : held₃ ≡ storedAt undefinedLeaves s Γ ρ z held₂ = rw f₂ at (d₃ .stored) in
+                let chosen = rw (tested-is, otherwise-is, d₁ .value, then-value, else-value, ex, ey, ez, ep) at g in
+                record {
+                  value = chosen ∙ sym (if-value undefinedLeaves s w Γ ρ rec b e);
+                  stored = h₃ ∙ rw (h₂, d₁ .stored, ex, ey, ez) (sym (if-stored undefinedLeaves s w Γ ρ rec b e held));
+                  wide = d₃ .wide;
+                  kept = d₃ .kept ∙ kept₂;
+                }
+
+  module _ (e : kindAt s rec ≡ expression delay) (x : ℕ) (ex : x ≡ word s rec 4) (l : ℕ) (el : l ≡ word s rec 3) where
+    delayed-scope : Scope s x Γ
+    delayed-scope = rw ex (of-delay e (r .scope))
+
+    delayed-type : typeOf s Γ (treeAt s x) ≡ wordA s rec
+    delayed-type =
+        rw ex
+        (eqb-true (typeOf s Γ (treeAt s (wordC s rec))) (wordA s rec)
+        (judged-by-kind (ready-passes s n W env names rec out Γ r) (in-circuit s n W env names rec out Γ r rec Γ (r .scope)) delay e .2))
+
+    delayed-entry : length out ≡ getD W x 0
+    delayed-entry =
+        own-entry ∙ rw (tree-of w rec b (expression delay) e, ← delayed-type) (sym (entry-is s n W env names rec out Γ r x Γ delayed-scope))
+
+    pub delayed-ready : Ready s n W env names x out Γ
+    delayed-ready =
+        ready-at s n W env names rec out Γ r x Γ delayed-scope env names out (r .many) (r .wide) delayed-entry (r .values)
+
+    pub delay-chained : (held env₁ held₁ o : List ℕ) → Evaluates s n W env names x held out env₁ held₁ o → Chained s n l (length o)
+    delay-chained held env₁ held₁ o p₁ =
+        let eo = ap length (p₁ .done Γ delayed-ready .value) ∙ value-long s n W env names rec out Γ r x Γ delayed-scope ρ (r .values) ∙ sym delayed-entry in
+        let q = part-of-kind w rec (expression delay) leafs b e 3 refl (unfold askOfKind in refl) in
+        let counted = r .sized .counted in
+        record {
+          sized = r .sized;
+          written = w;
+          there = omega (arith, q .1, el);
+          sort = rw el (q .2);
+          many =
+              rw el
+              (sym (length-map (chain s (wordB s rec)) (wordA s)) ∙ ap length (sym (delay-value undefinedLeaves s w Γ ρ rec b e))
+              ∙ ready-value s n W env names rec out Γ r ∙ sym eo);
+        }
+
+    pub delay-done : (held env₁ held₁ o₁ held₂ o₂ : List ℕ) → Evaluates s n W env names x held out env₁ held₁ o₁
+        → held₂ ≡ putAll enter (assigned (chain s l) o₁) held₁ → o₂ ≡ leafValues s (chain s l)
+        → Done s Γ env names rec held env₁ held₂ o₂
+    delay-done held env₁ held₁ o₁ held₂ o₂ p₁ h g =
+        let d = p₁ .done Γ delayed-ready in
+        record {
+          value = g ∙ rw el (sym (delay-value undefinedLeaves s w Γ ρ rec b e));
+          stored = h ∙ rw (d .value, d .stored, ex, el) (sym (delay-stored undefinedLeaves s w Γ ρ rec b e held));
+          wide = d .wide;
+          kept = d .kept;
+        }

@@ -1,0 +1,191 @@
+-- A feedback: settled from undefined, and then its body, with the settled value as its name's.
+-- Assumes nothing.
+use Prim.Native.Nat.{ℕ, _+_, _-_, _*_, _≤_, _<_}
+use mathlib.Core.List.{List, _∷_, map}
+use mathlib.Core.Path.{_≡_, refl, sym, ap, ap₂, _∙_}
+use native.Mathlib.Omega.{arith}
+use native.Mathlib.Numerals.{add-one}
+use borrow.Author.Tests.{eqb-true}
+use lib.ListN.{length, getD, take, replicate}
+use Rattle.picoella.specs.Types.{Ty, leaves}
+use Rattle.records.specs.Words.{word, wordA, wordB, count}
+use Rattle.records.specs.Kinds.{expression, feedback}
+use Rattle.records.specs.Says.{kindAt}
+use Rattle.records.specs.TypeRecords.{typeAt, Declared}
+use Rattle.records.specs.Written.{Written}
+use Rattle.records.specs.Trees.{treeAt}
+use Rattle.typing.specs.Judgements.{typeOf}
+use Rattle.typing.specs.Scopes.{Scope, feedback-defining, feedback-body}
+use Rattle.accepted.proofs.Scopes.{judged-by-kind}
+use Rattle.meaning.specs.Values.{undefined, zeros, ValuesOf, more-values}
+use Rattle.meaning.specs.Elaboration.{Term, Elaborated}
+use Rattle.meaning.specs.Undecided.{undefinedLeaves}
+use Rattle.meaning.specs.Evaluation.{application, settled}
+use Rattle.meaning.proofs.Order.{value-length, zeros-length, undefined-typed}
+use Rattle.meaning.proofs.UndefinedLeavesLawful.{undefined-lawful}
+use Rattle.meaning.proofs.FeedbackLeast.{undefined-rises, feedback-typed}
+use Rattle.cycles.specs.Terms.{term}
+use Rattle.cycles.specs.Evaluated.{valueAt, storedAt}
+use Rattle.cycles.proofs.Evaluated.{feedback-value, feedback-stored}
+use Rattle.values.specs.Slots.{slot, entered, frames}
+use Rattle.evaluator.specs.Evaluating.{Ready, Done, Evaluates, Settling, Settled, Settles, leadsTo}
+use Rattle.evaluator.proofs.Frames.{front-kept, frames-kept, lent-long, zeros-long, zeros-front}
+use Rattle.evaluator.proofs.Readiness.{ready-passes, ready-written, ready-there, ready-value, ready-at, in-circuit, names-few, names-small, elaborated, entry-is, entry-few, value-long, room-there, name-wide, name-kept, name-slot, name-frames, name-values}
+
+module _ (s : List ℕ) (n : ℕ) (W env : List ℕ) (names rec : ℕ) (out Γ : List ℕ) (r : Ready s n W env names rec out Γ)
+    (e : kindAt s rec ≡ expression feedback) (d y : ℕ) (ed : d ≡ word s rec 3) (ey : y ≡ word s rec 4) (c : ℕ) (ec : c ≡ getD W d 0)
+    (R : List ℕ) (eR : R ≡ replicate 64 0)
+  where
+    abbrev t : ℕ
+    t = wordA s rec
+
+    abbrev τ : Ty
+    τ = typeAt s t
+
+    abbrev π : List (List ℕ)
+    π = frames s Γ env
+
+    abbrev body-part : Term
+    body-part = term s (t ∷ Γ) (treeAt s d)
+
+    w : Written s
+    w = ready-written s n W env names rec out Γ r
+
+    b : rec < count s
+    b = ready-there s n W env names rec out Γ r
+
+    pub part-scope : Scope s d (t ∷ Γ)
+    part-scope = rw ed (feedback-defining e (r .scope))
+
+    body-scope : Scope s y (t ∷ Γ)
+    body-scope = rw ey (feedback-body e (r .scope))
+
+    same-type : typeOf s (t ∷ Γ) (treeAt s d) ≡ t
+    same-type =
+        rw ed
+        (eqb-true (typeOf s (t ∷ Γ) (treeAt s (wordB s rec))) t
+        (judged-by-kind (ready-passes s n W env names rec out Γ r) (in-circuit s n W env names rec out Γ r rec Γ (r .scope)) feedback e .2))
+
+    entry : c ≡ leaves τ
+    entry = ec ∙ entry-is s n W env names rec out Γ r d (t ∷ Γ) part-scope ∙ rw same-type refl
+
+    pub feedback-small : leaves τ ≤ 64
+    feedback-small =
+        let f = entry-few s n W env names rec out Γ r d (t ∷ Γ) part-scope in let i = entry in omega arith
+
+    pub feedback-fits : c ≤ length R
+    feedback-fits =
+        let l : length R ≡ 64 = rw eR (zeros-long 64) in let f = feedback-small in let i = entry in omega arith
+
+    few-around : length (t ∷ Γ) ≤ 64
+    few-around = names-few s n W env names rec out Γ r d (t ∷ Γ) part-scope
+
+    whole : (k : ℕ) → k - 0 ≡ k
+    whole k = omega arith
+
+    -- the room is undefined in every leaf
+    start : take (c - 0) R ≡ undefined τ
+    start = rw (whole c, eR) (zeros-front c 64 (let f = feedback-small in let i = entry in omega arith) ∙ rw entry refl)
+
+    pub start-room : (64 * names + length (take (c - 0) R) ≤ length env) × (length env ≤ 4096)
+    start-room =
+        rw start (room-there s n W env names rec out Γ r t few-around (undefined τ) (undefined-typed τ) env (r .wide) refl feedback-small)
+
+    module _ (env₁ : List ℕ) (g : env₁ ≡ entered names (take (c - 0) R) env) where
+      started : env₁ ≡ entered names (undefined τ) env
+      started = rw start at g
+
+      slot₁ : slot names (leaves τ) env₁ ≡ undefined τ
+      slot₁ =
+          name-slot s n W env names rec out Γ r t few-around (undefined τ) (undefined-typed τ) env (r .wide) refl feedback-small env₁ started
+
+      framed₁ : frames s (t ∷ Γ) env₁ ≡ undefined τ ∷ π
+      framed₁ =
+          name-frames s n W env names rec out Γ r t few-around (undefined τ) (undefined-typed τ) env (r .wide) refl feedback-small env₁ started
+
+      kept₁ : take (64 * names) env₁ ≡ take (64 * names) env
+      kept₁ =
+          name-kept s n W env names rec out Γ r t few-around (undefined τ) (undefined-typed τ) env (r .wide) refl feedback-small env₁ started
+
+      ρ₁ : frames s Γ env₁ ≡ π
+      ρ₁ = frames-kept s Γ env₁ env (names-small s n W env names rec out Γ r rec Γ (r .scope)) (rw (r .many) kept₁)
+
+      part-typed : Elaborated (Declared s) (τ ∷ map (typeAt s) Γ) body-part τ
+      part-typed = rw same-type at (elaborated s n W env names rec out Γ r d (t ∷ Γ) part-scope)
+
+      applies : valueAt undefinedLeaves s (t ∷ Γ) (undefined τ ∷ π) d ≡ application undefinedLeaves π body-part (undefined τ)
+      unfolding valueAt
+      applies = refl
+
+      pub feedback-settling : Settling s n W env₁ names d (take (c - 0) R) t Γ
+      feedback-settling =
+          record {
+            ready = ready-at s n W env names rec out Γ r d (t ∷ Γ) part-scope env₁ (names + 1) (take (c - 0) R)
+                (rw (r .many, add-one names) refl)
+                (name-wide s n W env names rec out Γ r t few-around (undefined τ) (undefined-typed τ) env (r .wide) refl feedback-small env₁ started)
+                (lent-long c R feedback-fits ∙ ec)
+                (name-values s n W env names rec out Γ r t few-around (undefined τ) (undefined-typed τ) env (r .wide) refl feedback-small env₁ started);
+            same = same-type;
+            rises = rw (slot₁, framed₁, applies)
+                (undefined-rises undefinedLeaves undefined-lawful (Declared s) {ρ = π} {t = body-part} part-typed (r .values));
+          }
+
+      -- no more leaves are undefined than there is room for
+      pub few-undefined : zeros (slot names (length (take (c - 0) R)) env₁) ≤ 64
+      few-undefined =
+          let l = lent-long c R feedback-fits in
+          let i = entry in
+          let z = zeros-length (slot names (length (take (c - 0) R)) env₁) in
+          let u : length (slot names (length (take (c - 0) R)) env₁) ≡ leaves τ =
+          rw (l, i, slot₁) (value-length τ (undefined-typed τ)) in
+          let f = feedback-small in
+          omega arith
+
+      module _ (held env₂ held₁ : List ℕ) (p : Settles s n W env₁ names d held (take (c - 0) R) env₂ held₁) where
+        f₁ : Settled s t Γ env₁ names d held env₂ held₁
+        f₁ = p .settled t Γ feedback-settling
+
+        abbrev u : List ℕ
+        u = settled undefinedLeaves π τ body-part
+
+        leads : leadsTo s t Γ d names env₁ ≡ u
+        leads = rw (ρ₁, slot₁) refl
+
+        reached : slot names (leaves τ) env₂ ≡ u
+        reached = f₁ .reached ∙ leads
+
+        kept₂ : take (64 * names) env₂ ≡ take (64 * names) env
+        kept₂ = f₁ .kept ∙ kept₁
+
+        framed₂ : frames s (t ∷ Γ) env₂ ≡ u ∷ π
+        framed₂ =
+            ap₂ _∷_ (rw (r .many) reached)
+            (frames-kept s Γ env₂ env (names-small s n W env names rec out Γ r rec Γ (r .scope)) (rw (r .many) kept₂))
+
+        body-values : ValuesOf (map (typeAt s) (t ∷ Γ)) (frames s (t ∷ Γ) env₂)
+        body-values =
+            rw framed₂
+            (more-values (feedback-typed undefinedLeaves undefined-lawful (Declared s) {ρ = π} {t = body-part} part-typed (r .values)) (r .values))
+
+        body-value : valueAt undefinedLeaves s Γ π rec ≡ valueAt undefinedLeaves s (t ∷ Γ) (frames s (t ∷ Γ) env₂) y
+        body-value = rw (framed₂, ed, ey) (feedback-value undefinedLeaves s w Γ π rec b e)
+
+        pub feedback-body-ready : Ready s n W env₂ (names + 1) y out (t ∷ Γ)
+        feedback-body-ready =
+            ready-at s n W env names rec out Γ r y (t ∷ Γ) body-scope env₂ (names + 1) out (rw (r .many, add-one names) refl) (f₁ .wide)
+            (sym (ready-value s n W env names rec out Γ r) ∙ ap length body-value
+            ∙ value-long s n W env names rec out Γ r y (t ∷ Γ) body-scope (frames s (t ∷ Γ) env₂) body-values)
+            body-values
+
+        pub feedback-done : (env₃ held₂ o : List ℕ) → Evaluates s n W env₂ (names + 1) y held₁ out env₃ held₂ o
+            → Done s Γ env names rec held env₃ held₂ o
+        feedback-done env₃ held₂ o q =
+            let d₂ = q .done (t ∷ Γ) feedback-body-ready in
+            let h₁ : held₁ ≡ storedAt undefinedLeaves s (t ∷ Γ) (u ∷ π) d held = rw (leads, ρ₁) at (f₁ .stored) in
+            let h₂ : held₂ ≡ storedAt undefinedLeaves s (t ∷ Γ) (u ∷ π) y held₁ = rw framed₂ at (d₂ .stored) in
+            record {
+              value = d₂ .value ∙ sym body-value;
+              stored = h₂ ∙ rw (h₁, ed, ey) (sym (feedback-stored undefinedLeaves s w Γ π rec b e held));
+              wide = d₂ .wide;
+              kept = front-kept (64 * names) (64 * (names + 1)) env₃ env₂ (omega arith) (d₂ .kept) ∙ kept₂;
+            }

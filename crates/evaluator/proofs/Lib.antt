@@ -1,0 +1,8 @@
+-- Laws of evaluation.
+pub mod Frames
+pub mod Readiness
+pub mod Parts
+pub mod Names
+pub mod Settling
+pub mod Feedbacks
+pub mod Branches

@@ -1,0 +1,174 @@
+-- Names and LETs: the value of a name stands in its slot, and a LET's body is evaluated with one name more.
+-- Assumes nothing.
+use Prim.Native.Nat.{ℕ, suc, _+_, _-_, _*_, _≤_, _<_}
+use mathlib.Core.List.{List, [], _∷_, _++_, map}
+use mathlib.Core.Path.{_≡_, refl, sym, ap, _∙_}
+use native.Mathlib.Omega.{arith}
+use native.Mathlib.Numerals.{add-one}
+use borrow.Author.Tests.{ltb-true}
+use lib.ListN.{length, getD, take, drop, replicate}
+use Rattle.picoella.specs.Types.{leaves, OfType}
+use Rattle.records.specs.Words.{word, wordA, count}
+use Rattle.records.specs.Kinds.{expression, name, letIn}
+use Rattle.records.specs.Says.{kindAt}
+use Rattle.records.specs.TypeRecords.{typeAt}
+use Rattle.records.specs.Trees.{treeAt}
+use Rattle.records.specs.Written.{Written}
+use Rattle.records.proofs.Trees.{tree-of}
+use Rattle.typing.specs.Judgements.{typeOf}
+use Rattle.typing.specs.Scopes.{Scope, let-defining, let-body}
+use Rattle.accepted.proofs.Scopes.{judged-by-kind}
+use Rattle.meaning.specs.Values.{ValuesOf, more-values}
+use Rattle.meaning.specs.Undecided.{undefinedLeaves}
+use Rattle.cycles.specs.Evaluated.{valueAt, storedAt}
+use Rattle.cycles.proofs.Evaluated.{name-value, name-stored, let-value, let-stored}
+use Rattle.values.specs.Slots.{slot, entered, frames}
+use Rattle.evaluator.specs.Evaluating.{Ready, Done, Evaluates}
+use Rattle.evaluator.proofs.Frames.{front-kept, frame-at, back-part, back-long}
+use Rattle.evaluator.proofs.Readiness.{
+  ready-passes,
+  ready-written,
+  ready-there,
+  ready-value,
+  ready-at,
+  room-few,
+  in-circuit,
+  names-few,
+  entry-is,
+  entry-few,
+  value-typed,
+  value-long,
+  room-there,
+  name-wide,
+  name-kept,
+  name-frames,
+  name-values,
+}
+use Rattle.evaluator.proofs.Parts.{fits-room, room-done, room-wide}
+
+module _ (s : List ℕ) (n : ℕ) (W env : List ℕ) (names rec : ℕ) (out Γ : List ℕ) (r : Ready s n W env names rec out Γ) where
+  abbrev ρ : List (List ℕ)
+  ρ = frames s Γ env
+
+  w : Written s
+  w = ready-written s n W env names rec out Γ r
+
+  b : rec < count s
+  b = ready-there s n W env names rec out Γ r
+
+  module _ (e : kindAt s rec ≡ expression name) (k : ℕ) (ek : k ≡ word s rec 2) where
+    pub name-in-scope : k < names
+    name-in-scope =
+        let j = judged-by-kind (ready-passes s n W env names rec out Γ r) (in-circuit s n W env names rec out Γ r rec Γ (r .scope)) name e in
+        let h = ltb-true (wordA s rec) (length Γ) j in
+        let m = r .many in
+        omega (arith, h, ek)
+
+    pub name-room : (64 * (names - 1 - k) + length out ≤ length env) × (length env ≤ 4096)
+    name-room =
+        let f = names-few s n W env names rec out Γ r rec Γ (r .scope) in
+        let o = room-few s n W env names rec out Γ r in
+        let h = name-in-scope in
+        let m = r .many in
+        let l = r .wide in
+        (omega arith, omega arith)
+
+    name-leaves : length out ≡ leaves (typeAt s (getD Γ k 0))
+    name-leaves =
+        r .room ∙ entry-is s n W env names rec out Γ r rec Γ (r .scope) ∙ rw (tree-of w rec b (expression name) e, ek) refl
+
+    pub name-done : (held out′ : List ℕ) → out′ ≡ slot (names - 1 - k) (length out) env → Done s Γ env names rec held env held out′
+    name-done held out′ g =
+        let there : slot (names - 1 - k) (length out) env ≡ getD ρ k [] =
+        rw (name-leaves, ← r .many) (sym (frame-at s Γ env k (let h = name-in-scope in let m = r .many in omega arith))) in
+        record {
+          value = g ∙ there ∙ rw ek (sym (name-value undefinedLeaves s w Γ ρ rec b e));
+          stored = sym (name-stored undefinedLeaves s w Γ ρ rec b e held);
+          wide = r .wide;
+          kept = refl;
+        }
+
+  module _ (e : kindAt s rec ≡ expression letIn) (x y : ℕ) (ex : x ≡ word s rec 2) (ey : y ≡ word s rec 3) (c : ℕ) (ec : c ≡ getD W x 0)
+      (R : List ℕ) (eR : R ≡ replicate 64 0) where
+    pub defining-scope : Scope s x Γ
+    defining-scope = rw ex (let-defining e (r .scope))
+
+    abbrev t : ℕ
+    t = typeOf s Γ (treeAt s x)
+
+    body-scope : Scope s y (t ∷ Γ)
+    body-scope = rw (ex, ey) (let-body e (r .scope))
+
+    few : length (t ∷ Γ) ≤ 64
+    few = names-few s n W env names rec out Γ r y (t ∷ Γ) body-scope
+
+    small : leaves (typeAt s t) ≤ 64
+    small =
+        let f = entry-few s n W env names rec out Γ r x Γ defining-scope in
+        let i = entry-is s n W env names rec out Γ r x Γ defining-scope in
+        omega arith
+
+    module _ (held env₁ held₁ o₁ : List ℕ) (p₁ : Evaluates s n W env names x held (take (c - 0) R) env₁ held₁ o₁) where
+      d₁ : Done s Γ env names x held env₁ held₁ o₁
+      d₁ = room-done s n W env names rec out Γ r x defining-scope c ec R eR held env₁ held₁ o₁ p₁
+
+      typed : OfType (typeAt s t) o₁
+      typed = rw (d₁ .value) (value-typed s n W env names rec out Γ r x Γ defining-scope ρ (r .values))
+
+      abbrev value : List ℕ
+      value = take (c - 0) (o₁ ++ drop (c - 0) R)
+
+      value-is : value ≡ o₁
+      value-is =
+          back-part c R o₁ (room-wide s n W env names rec out Γ r x defining-scope c ec R eR held env₁ held₁ o₁ p₁)
+          (fits-room s n W env names rec out Γ r x defining-scope c ec R eR)
+
+      pub let-inside : c ≤ length (o₁ ++ drop (c - 0) R)
+      let-inside =
+          let l = back-long c R o₁ (room-wide s n W env names rec out Γ r x defining-scope c ec R eR held env₁ held₁ o₁ p₁)
+          (fits-room s n W env names rec out Γ r x defining-scope c ec R eR) in
+          let f = fits-room s n W env names rec out Γ r x defining-scope c ec R eR in
+          omega arith
+
+      pub let-room : (64 * names + length value ≤ length env₁) × (length env₁ ≤ 4096)
+      let-room =
+          rw value-is (room-there s n W env names rec out Γ r t few o₁ typed env₁ (d₁ .wide) (d₁ .kept) small)
+
+      module _ (env₂ : List ℕ) (g : env₂ ≡ entered names value env₁) where
+        entered-is : env₂ ≡ entered names o₁ env₁
+        entered-is = rw value-is at g
+
+        framed : frames s (t ∷ Γ) env₂ ≡ valueAt undefinedLeaves s Γ ρ x ∷ ρ
+        framed =
+            rw (d₁ .value) at
+            (name-frames s n W env names rec out Γ r t few o₁ typed env₁ (d₁ .wide) (d₁ .kept) small env₂ entered-is)
+
+        body-values : ValuesOf (map (typeAt s) (t ∷ Γ)) (frames s (t ∷ Γ) env₂)
+        body-values = name-values s n W env names rec out Γ r t few o₁ typed env₁ (d₁ .wide) (d₁ .kept) small env₂ entered-is
+
+        body-value : valueAt undefinedLeaves s Γ ρ rec ≡ valueAt undefinedLeaves s (t ∷ Γ) (frames s (t ∷ Γ) env₂) y
+        body-value = rw (framed, ex, ey) (let-value undefinedLeaves s w Γ ρ rec b e)
+
+        pub let-body-ready : Ready s n W env₂ (names + 1) y out (t ∷ Γ)
+        let-body-ready =
+            ready-at s n W env names rec out Γ r y (t ∷ Γ) body-scope env₂ (names + 1) out
+            (rw (r .many, add-one names) refl)
+            (name-wide s n W env names rec out Γ r t few o₁ typed env₁ (d₁ .wide) (d₁ .kept) small env₂ entered-is)
+            (sym (ready-value s n W env names rec out Γ r) ∙ ap length body-value
+            ∙ value-long s n W env names rec out Γ r y (t ∷ Γ) body-scope (frames s (t ∷ Γ) env₂) body-values)
+            body-values
+
+        pub let-done : (env₃ held₂ o₂ : List ℕ) → Evaluates s n W env₂ (names + 1) y held₁ out env₃ held₂ o₂
+            → Done s Γ env names rec held env₃ held₂ o₂
+        let-done env₃ held₂ o₂ p₂ =
+            let d₂ = p₂ .done (t ∷ Γ) let-body-ready in
+            let h₂ : held₂ ≡ storedAt undefinedLeaves s (t ∷ Γ) (valueAt undefinedLeaves s Γ ρ x ∷ ρ) y held₁ =
+            rw framed at (d₂ .stored) in
+            record {
+              value = d₂ .value ∙ sym body-value;
+              stored = h₂ ∙ rw (d₁ .stored, ex, ey) (sym (let-stored undefinedLeaves s w Γ ρ rec b e held));
+              wide = d₂ .wide;
+              kept =
+                  front-kept (64 * names) (64 * (names + 1)) env₃ env₂ (omega arith) (d₂ .kept)
+                  ∙ name-kept s n W env names rec out Γ r t few o₁ typed env₁ (d₁ .wide) (d₁ .kept) small env₂ entered-is;
+            }

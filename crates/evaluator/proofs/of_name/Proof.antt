@@ -1,0 +1,40 @@
+-- Assumes nothing.
+use native.Mathlib.Omega.{arith}
+use Rattle.evaluator.proofs.Readiness.{ready-word}
+use Rattle.evaluator.proofs.Names.{name-in-scope, name-room, name-done}
+use borrow.Author.Needs.{needs}
+use Rattle.evaluator.proofs.of_name.Statement.{statement}
+use Rattle.evaluator.proofs.of_name.Tie as tie
+use Rattle.evaluator.proofs.of_name.Reads as reads
+use Rattle.evaluator.proofs.of_name.Lts as lts
+use Rattle.records.proofs.word.Reads as word-reads
+use Rattle.values.proofs.copy_value.Reads as copy-value-reads
+
+word-requires : tie.Need-word-requires
+word-requires c κs = ready-word _ _ _ _ _ _ _ _ (c .before .before .before .pre .0 .1) 2 (omega arith)
+
+sub-copy-value : tie.Need-sub-copy-value
+sub-copy-value c = let h = name-in-scope _ _ _ _ _ _ _ _ (c .before .before .before .before .pre .0 .1) (c .before .before .before .before .pre .1) _ (c .word .ensures .0) in omega arith
+
+sub-copy-value-2 : tie.Need-sub-copy-value-2
+sub-copy-value-2 c = let h = name-in-scope _ _ _ _ _ _ _ _ (c .before .before .before .before .pre .0 .1) (c .before .before .before .before .pre .1) _ (c .word .ensures .0) in omega arith
+
+copy-value-requires : tie.Need-copy-value-requires
+copy-value-requires c κs = name-room _ _ _ _ _ _ _ _ (c .before .before .before .before .before .pre .0 .1) (c .before .before .before .before .before .pre .1) _ (c .before .word .ensures .0)
+
+same-length : tie.Need-same-length
+same-length c = search needs
+
+returns : tie.Need-returns
+returns c = λ held. record { done = λ Γ r. name-done _ _ _ _ _ _ _ Γ r (c .before .before .before .before .before .before .before .before .pre .1) _ (c .before .before .before .before .word .ensures .0) _ _ (c .before .before .copy-value .ensures) }
+
+pub of-name-spec : {M : Type 1} → statement M
+of-name-spec =
+    tie.close
+    (tie.spec
+    word-requires
+    sub-copy-value
+    sub-copy-value-2
+    copy-value-requires
+    same-length
+    returns)

@@ -1,0 +1,266 @@
+// One expression evaluated: by its kind, each part into its own part of a lent slice. A feedback's defining part is evaluated
+// again until the value is unchanged.
+ghost use mathlib.Core.Path.{_≡_};
+ghost use mathlib.Core.List.{List};
+ghost use Prim.Native.Nat.{ℕ};
+ghost use Rattle.records.specs.Kinds.{expression, name, tuple, first, second, letIn, feedback, ifMatches, delay};
+ghost use Rattle.records.specs.Says.{kindAt};
+ghost use Rattle.evaluator.specs.Evaluating.{Ready, Evaluates, Settling, Settles};
+use records::word;
+use values::choose_value;
+use values::copy_value;
+use values::enter_value;
+use values::hold_leaves;
+use values::put;
+use values::read_leaves;
+use values::room;
+use values::stands_at;
+
+// Copies the value of a name, and nothing else changes.
+fn of_name(
+    sheet: &[u8],
+    n: usize,
+    widths: &[u8; 4096],
+    env: &[u8],
+    names: usize,
+    rec: usize,
+    out: &mut [u8],
+)
+    requires { ⌜ ((Γ : List ℕ) × Ready (now sheet) n (now widths) (now env) names rec (now out) Γ) × (kindAt (now sheet) rec ≡ expression name) ⌝ }
+    ensures { λ _. ⌜ ((held : List ℕ) → Evaluates (now (sheet .entry)) n (now (widths .entry)) (now (env .entry)) names rec held (now (out .entry)) (now (env .entry)) held (now (out .exit))) ⌝ }
+{
+    let k = word(sheet, n, rec, 2);
+    copy_value(env, names - 1 - k, out);
+}
+
+// Evaluates an expression: its value goes to `out`, and its delays' next values to `held`.
+pub fn eval(
+    sheet: &[u8],
+    n: usize,
+    widths: &[u8; 4096],
+    env: &mut [u8],
+    names: usize,
+    held: &mut [u8; 4096],
+    rec: usize,
+    out: &mut [u8],
+)
+    requires { ⌜ ((Γ : List ℕ) × Ready (now sheet) n (now widths) (now env) names rec (now out) Γ) ⌝ }
+    ensures { λ _. ⌜ Evaluates (now (sheet .entry)) n (now (widths .entry)) (now (env .entry)) names rec (now (held .entry)) (now (out .entry)) (now (env .exit)) (now (held .exit)) (now (out .exit)) ⌝ }
+{
+    let kind = word(sheet, n, rec, 0);
+    if kind == 32 {
+        read_leaves(sheet, n, word(sheet, n, rec, 3), out);
+        return;
+    }
+    if kind == 33 {
+        of_name(sheet, n, widths, env, names, rec, out);
+        return;
+    }
+    if kind == 34 {
+        of_pair(sheet, n, widths, env, names, held, rec, out);
+        return;
+    }
+    if kind == 35 {
+        of_first(sheet, n, widths, env, names, held, rec, out);
+        return;
+    }
+    if kind == 36 {
+        of_second(sheet, n, widths, env, names, held, rec, out);
+        return;
+    }
+    if kind == 37 {
+        of_let(sheet, n, widths, env, names, held, rec, out);
+        return;
+    }
+    if kind == 38 {
+        of_feedback(sheet, n, widths, env, names, held, rec, out);
+        return;
+    }
+    if kind == 39 {
+        of_if(sheet, n, widths, env, names, held, rec, out);
+        return;
+    }
+    of_delay(sheet, n, widths, env, names, held, rec, out);
+}
+
+fn of_pair(
+    sheet: &[u8],
+    n: usize,
+    widths: &[u8; 4096],
+    env: &mut [u8],
+    names: usize,
+    held: &mut [u8; 4096],
+    rec: usize,
+    out: &mut [u8],
+)
+    requires { ⌜ ((Γ : List ℕ) × Ready (now sheet) n (now widths) (now env) names rec (now out) Γ) × (kindAt (now sheet) rec ≡ expression tuple) ⌝ }
+    ensures { λ _. ⌜ Evaluates (now (sheet .entry)) n (now (widths .entry)) (now (env .entry)) names rec (now (held .entry)) (now (out .entry)) (now (env .exit)) (now (held .exit)) (now (out .exit)) ⌝ }
+{
+    let a = word(sheet, n, rec, 2);
+    let w = widths[a] as usize;
+    eval(sheet, n, widths, env, names, held, a, &mut out[0..w]);
+    let b = word(sheet, n, rec, 3);
+    eval(sheet, n, widths, env, names, held, b, &mut out[w..]);
+}
+
+fn of_first(
+    sheet: &[u8],
+    n: usize,
+    widths: &[u8; 4096],
+    env: &mut [u8],
+    names: usize,
+    held: &mut [u8; 4096],
+    rec: usize,
+    out: &mut [u8],
+)
+    requires { ⌜ ((Γ : List ℕ) × Ready (now sheet) n (now widths) (now env) names rec (now out) Γ) × (kindAt (now sheet) rec ≡ expression first) ⌝ }
+    ensures { λ _. ⌜ Evaluates (now (sheet .entry)) n (now (widths .entry)) (now (env .entry)) names rec (now (held .entry)) (now (out .entry)) (now (env .exit)) (now (held .exit)) (now (out .exit)) ⌝ }
+{
+    let a = word(sheet, n, rec, 2);
+    let w = widths[a] as usize;
+    let mut whole = room();
+    eval(sheet, n, widths, env, names, held, a, &mut whole[0..w]);
+    put(&whole[0..out.len()], out);
+}
+
+fn of_second(
+    sheet: &[u8],
+    n: usize,
+    widths: &[u8; 4096],
+    env: &mut [u8],
+    names: usize,
+    held: &mut [u8; 4096],
+    rec: usize,
+    out: &mut [u8],
+)
+    requires { ⌜ ((Γ : List ℕ) × Ready (now sheet) n (now widths) (now env) names rec (now out) Γ) × (kindAt (now sheet) rec ≡ expression second) ⌝ }
+    ensures { λ _. ⌜ Evaluates (now (sheet .entry)) n (now (widths .entry)) (now (env .entry)) names rec (now (held .entry)) (now (out .entry)) (now (env .exit)) (now (held .exit)) (now (out .exit)) ⌝ }
+{
+    let a = word(sheet, n, rec, 2);
+    let w = widths[a] as usize;
+    let mut whole = room();
+    eval(sheet, n, widths, env, names, held, a, &mut whole[0..w]);
+    put(&whole[w - out.len()..w], out);
+}
+
+fn of_let(
+    sheet: &[u8],
+    n: usize,
+    widths: &[u8; 4096],
+    env: &mut [u8],
+    names: usize,
+    held: &mut [u8; 4096],
+    rec: usize,
+    out: &mut [u8],
+)
+    requires { ⌜ ((Γ : List ℕ) × Ready (now sheet) n (now widths) (now env) names rec (now out) Γ) × (kindAt (now sheet) rec ≡ expression letIn) ⌝ }
+    ensures { λ _. ⌜ Evaluates (now (sheet .entry)) n (now (widths .entry)) (now (env .entry)) names rec (now (held .entry)) (now (out .entry)) (now (env .exit)) (now (held .exit)) (now (out .exit)) ⌝ }
+{
+    let a = word(sheet, n, rec, 2);
+    let w = widths[a] as usize;
+    let mut value = room();
+    eval(sheet, n, widths, env, names, held, a, &mut value[0..w]);
+    enter_value(env, names, &value[0..w]);
+    let b = word(sheet, n, rec, 3);
+    eval(sheet, n, widths, env, names + 1, held, b, out);
+}
+
+fn of_feedback(
+    sheet: &[u8],
+    n: usize,
+    widths: &[u8; 4096],
+    env: &mut [u8],
+    names: usize,
+    held: &mut [u8; 4096],
+    rec: usize,
+    out: &mut [u8],
+)
+    requires { ⌜ ((Γ : List ℕ) × Ready (now sheet) n (now widths) (now env) names rec (now out) Γ) × (kindAt (now sheet) rec ≡ expression feedback) ⌝ }
+    ensures { λ _. ⌜ Evaluates (now (sheet .entry)) n (now (widths .entry)) (now (env .entry)) names rec (now (held .entry)) (now (out .entry)) (now (env .exit)) (now (held .exit)) (now (out .exit)) ⌝ }
+{
+    let d = word(sheet, n, rec, 3);
+    let w = widths[d] as usize;
+    let mut value = room();
+    enter_value(env, names, &value[0..w]);
+    settle(sheet, n, widths, env, names, held, d, &mut value[0..w]);
+    let b = word(sheet, n, rec, 4);
+    eval(sheet, n, widths, env, names + 1, held, b, out);
+}
+
+// Evaluates a feedback's defining part until it gives back unchanged what the feedback's name holds.
+fn settle(
+    sheet: &[u8],
+    n: usize,
+    widths: &[u8; 4096],
+    env: &mut [u8],
+    names: usize,
+    held: &mut [u8; 4096],
+    d: usize,
+    value: &mut [u8],
+)
+    requires { ⌜ ((t : ℕ) × (Γ : List ℕ) × Settling (now sheet) n (now widths) (now env) names d (now value) t Γ) ⌝ }
+    ensures { λ _. ⌜ Settles (now (sheet .entry)) n (now (widths .entry)) (now (env .entry)) names d (now (held .entry)) (now (value .entry)) (now (env .exit)) (now (held .exit)) ⌝ }
+{
+    eval(sheet, n, widths, env, names + 1, held, d, value);
+    if stands_at(env, names, value) {
+        return;
+    }
+    enter_value(env, names, value);
+    settle(sheet, n, widths, env, names, held, d, value);
+}
+
+fn of_if(
+    sheet: &[u8],
+    n: usize,
+    widths: &[u8; 4096],
+    env: &mut [u8],
+    names: usize,
+    held: &mut [u8; 4096],
+    rec: usize,
+    out: &mut [u8],
+)
+    requires { ⌜ ((Γ : List ℕ) × Ready (now sheet) n (now widths) (now env) names rec (now out) Γ) × (kindAt (now sheet) rec ≡ expression ifMatches) ⌝ }
+    ensures { λ _. ⌜ Evaluates (now (sheet .entry)) n (now (widths .entry)) (now (env .entry)) names rec (now (held .entry)) (now (out .entry)) (now (env .exit)) (now (held .exit)) (now (out .exit)) ⌝ }
+{
+    let a = word(sheet, n, rec, 2);
+    let w = widths[a] as usize;
+    let mut tested = room();
+    eval(sheet, n, widths, env, names, held, a, &mut tested[0..w]);
+    let b = word(sheet, n, rec, 3);
+    eval(sheet, n, widths, env, names, held, b, out);
+    let c = word(sheet, n, rec, 4);
+    let all = out.len();
+    let mut otherwise = room();
+    eval(
+        sheet,
+        n,
+        widths,
+        env,
+        names,
+        held,
+        c,
+        &mut otherwise[0..all],
+    );
+    let p = word(sheet, n, rec, 5);
+    choose_value(sheet, n, widths, p, &tested[0..w], &otherwise[0..all], out);
+}
+
+fn of_delay(
+    sheet: &[u8],
+    n: usize,
+    widths: &[u8; 4096],
+    env: &mut [u8],
+    names: usize,
+    held: &mut [u8; 4096],
+    rec: usize,
+    out: &mut [u8],
+)
+    requires { ⌜ ((Γ : List ℕ) × Ready (now sheet) n (now widths) (now env) names rec (now out) Γ) × (kindAt (now sheet) rec ≡ expression delay) ⌝ }
+    ensures { λ _. ⌜ Evaluates (now (sheet .entry)) n (now (widths .entry)) (now (env .entry)) names rec (now (held .entry)) (now (out .entry)) (now (env .exit)) (now (held .exit)) (now (out .exit)) ⌝ }
+{
+    let c = word(sheet, n, rec, 4);
+    eval(sheet, n, widths, env, names, held, c, out);
+    let first = word(sheet, n, rec, 3);
+    hold_leaves(sheet, n, first, out, held);
+    read_leaves(sheet, n, first, out);
+}
