@@ -3,12 +3,12 @@
 -- Assumes nothing.
 use Rattle.cycles.proofs.Sheets.{write-only-delays, write-read, write-accepted}
 use Rattle.cycles.proofs.Sheets as Sheets
-use Rattle.simulator.specs.Promises.{AllPromises}
-use Rattle.simulator.proofs.Stimulus.{cycles-joined, cycles-counted}
-use Rattle.simulator.proofs.Run.{run-outputs, run-sheet}
-use Rattle.simulator.proofs.Reduces.{run-reduces}
-use Rattle.simulator.proofs.Afterwards.{afterwards}
-use Rattle.simulator.proofs.Answers.{lowest-first, refusal-unaltered}
+use Rattle.runs.specs.Promises.{AllPromises}
+use Rattle.runs.proofs.Stimulus.{cycles-joined, cycles-counted}
+use Rattle.runs.proofs.Run.{run-outputs, run-sheet}
+use Rattle.runs.proofs.Reduces.{run-reduces}
+use Rattle.runs.proofs.Afterwards.{afterwards}
+use Rattle.runs.proofs.Answers.{lowest-first, refusal-unaltered}
 
 pub kept : AllPromises
 kept = record {

@@ -14,9 +14,9 @@ use Rattle.meaning.specs.Evaluation.{eval, next}
 use Rattle.cycles.specs.Terms.{circuitTerm}
 use Rattle.cycles.specs.Sheets.{write}
 use Rattle.cycles.specs.Cycle.{outputBy, afterBy}
-use Rattle.simulator.specs.Stimulus.{cycles, wrongStimulus, wrongByte}
-use Rattle.simulator.specs.Run.{bySlices, answer, finalOut, finalNext}
-use Rattle.simulator.specs.Bench.{AllHold, table}
+use Rattle.runs.specs.Stimulus.{cycles, wrongStimulus, wrongByte}
+use Rattle.runs.specs.Run.{bySlices, answer, finalOut, finalNext}
+use Rattle.runs.specs.Bench.{AllHold, table}
 
 bench : AllHold table
 unfolding verdict byRecords byTypes wrongLength wrongHeader wrongRecord wrongNaming wrongType tooDeep depth nesting ancestry ancestryWithin circuit treeAt treeWithin alternatives alternativesWithin chain chainWithin pairOf typeAt typeWithin namings wellSaid askOf kindOf rowOf word count eval next circuitTerm write outputBy afterBy cycles wrongStimulus wrongByte bySlices answer finalOut finalNext

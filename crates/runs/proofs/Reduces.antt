@@ -25,10 +25,10 @@ use Rattle.cycles.specs.Terms.{circuitTerm}
 use Rattle.cycles.specs.Sheets.{write, Writable}
 use Rattle.cycles.proofs.Terms.{erase-circuit, circuit-typed}
 use Rattle.cycles.proofs.Sheets.{accepted-written, write-read, write-accepted}
-use Rattle.simulator.specs.Stimulus.{inputType}
-use Rattle.simulator.specs.Run.{sheetAfter}
-use Rattle.simulator.specs.Promises.{RunReduces}
-use Rattle.simulator.proofs.Run.{run-outputs, run-sheet}
+use Rattle.runs.specs.Stimulus.{inputType}
+use Rattle.runs.specs.Run.{sheetAfter}
+use Rattle.runs.specs.Promises.{RunReduces}
+use Rattle.runs.proofs.Run.{run-outputs, run-sheet}
 
 flatten-all-typed : {τ : Ty} {cs : List ConstantTree} → AllConstantsOf τ cs → AllOf τ (map flatten cs)
 flatten-all-typed of-all-none = all-none

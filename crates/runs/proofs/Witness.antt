@@ -15,11 +15,11 @@ use Rattle.records.specs.Trees.{chainWithin, chain, alternativesWithin, alterna
 use Rattle.layout.specs.Depth.{ancestryWithin, ancestry, depth, nesting}
 use Rattle.layout.specs.Rules.{wrongLength, wrongHeader, wrongRecord, wrongNaming, wrongType, tooDeep}
 use Rattle.typing.specs.Verdict.{byTypes, byRecords, verdict}
-use Rattle.simulator.specs.Stimulus.{cycleCount, wrongStimulus, wrongByte}
-use Rattle.simulator.specs.Run.{answer, packed, finalOut, finalNext}
-use Rattle.simulator.specs.Afterwards.{WellFormed, Afterwards, FeedbackAt}
-use Rattle.simulator.specs.Bench.{toggle}
-use Rattle.simulator.proofs.Afterwards.{afterwards}
+use Rattle.runs.specs.Stimulus.{cycleCount, wrongStimulus, wrongByte}
+use Rattle.runs.specs.Run.{answer, packed, finalOut, finalNext}
+use Rattle.runs.specs.Afterwards.{WellFormed, Afterwards, FeedbackAt}
+use Rattle.runs.specs.Bench.{toggle}
+use Rattle.runs.proofs.Afterwards.{afterwards}
 
 abbrev ones : List ℕ
 ones = 1 ∷ 2 ∷ 1 ∷ []

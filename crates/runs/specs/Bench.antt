@@ -14,9 +14,9 @@ use Rattle.meaning.specs.Matching.{Answer, Yes, Undecided, matches}
 use Rattle.meaning.specs.Undecided.{undefinedLeaves}
 use Rattle.meaning.specs.Evaluation.{applications}
 use Rattle.cycles.specs.Terms.{term}
-use Rattle.simulator.specs.Stimulus.{cycleCount}
-use Rattle.simulator.specs.Run.{answer, packed, finalOut, finalNext}
-use Rattle.simulator.specs.Afterwards.{applied}
+use Rattle.runs.specs.Stimulus.{cycleCount}
+use Rattle.runs.specs.Run.{answer, packed, finalOut, finalNext}
+use Rattle.runs.specs.Afterwards.{applied}
 
 -- the bytes of words, low byte first
 abbrev pub bytes : List ℕ → List ℕ

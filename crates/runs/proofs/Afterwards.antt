@@ -17,8 +17,8 @@ use Rattle.meaning.proofs.UndefinedLeavesLawful.{undefined-lawful}
 use Rattle.cycles.specs.Sheets.{OnlyDelays}
 use Rattle.cycles.specs.Cycle.{output, after}
 use Rattle.cycles.proofs.Cycle.{after-only-delays}
-use Rattle.simulator.specs.Stimulus.{inputType, cycleCount, endToEnd, cycles}
-use Rattle.simulator.specs.Run.{
+use Rattle.runs.specs.Stimulus.{inputType, cycleCount, endToEnd, cycles}
+use Rattle.runs.specs.Run.{
   outputsBy,
   sheetBefore,
   sheetAfter,
@@ -30,10 +30,10 @@ use Rattle.simulator.specs.Run.{
   finalOut,
   finalNext,
 }
-use Rattle.simulator.specs.Afterwards.{WellFormed, inputOf, outputIn, Afterwards}
-use Rattle.simulator.proofs.Pieces.{joined-length, joined-at, typed-wide}
-use Rattle.simulator.proofs.Stimulus.{cycles-typed, cycles-counted, cycle-at}
-use Rattle.simulator.proofs.Run.{
+use Rattle.runs.specs.Afterwards.{WellFormed, inputOf, outputIn, Afterwards}
+use Rattle.runs.proofs.Pieces.{joined-length, joined-at, typed-wide}
+use Rattle.runs.proofs.Stimulus.{cycles-typed, cycles-counted, cycle-at}
+use Rattle.runs.proofs.Run.{
   sheet-last,
   sheet-first,
   sheet-next,
@@ -45,7 +45,7 @@ use Rattle.simulator.proofs.Run.{
   input-at,
   sheet-bytes,
 }
-use Rattle.simulator.proofs.Feedbacks.{feedback-kind, feedback-at}
+use Rattle.runs.proofs.Feedbacks.{feedback-kind, feedback-at}
 
 all-at : {τ : Ty} {vs : List (List ℕ)} → AllOf τ vs → (k : ℕ) → k < length vs → OfType τ (getD vs k [])
 all-at all-none k h = absurd (omega arith)

@@ -33,8 +33,8 @@ use Rattle.cycles.proofs.Cycle.{
   after-input,
   after-bytes,
 }
-use Rattle.simulator.specs.Stimulus.{inputType}
-use Rattle.simulator.specs.Run.{outputsBy, sheetBefore, sheetAfter}
+use Rattle.runs.specs.Stimulus.{inputType}
+use Rattle.runs.specs.Run.{outputsBy, sheetBefore, sheetAfter}
 
 module _ (undecided : List ℕ → List ℕ → List ℕ) where
   -- the sheet before the cycle after the last is the sheet after the last

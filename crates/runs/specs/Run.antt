@@ -17,7 +17,7 @@ use Rattle.typing.specs.declared.Verdict.{Verdict}
 use Rattle.typing.specs.declared.Verdict.the-variants as Verdicts
 use Rattle.meaning.specs.Undecided.{undefinedLeaves}
 use Rattle.cycles.specs.Cycle.{outputBy, afterBy}
-use Rattle.simulator.specs.Stimulus.{cycleCount, endToEnd, cycles, wrongStimulus, wrongByte}
+use Rattle.runs.specs.Stimulus.{cycleCount, endToEnd, cycles, wrongStimulus, wrongByte}
 
 module _ (undecided : List ℕ → List ℕ → List ℕ) where
   -- the outputs in order

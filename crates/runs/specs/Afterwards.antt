@@ -23,8 +23,8 @@ use Rattle.meaning.specs.Evaluation.{iter, eval, application, settled}
 use Rattle.cycles.specs.Terms.{term}
 use Rattle.cycles.specs.Sheets.{Bytes, OnlyDelays}
 use Rattle.cycles.specs.Cycle.{output, after}
-use Rattle.simulator.specs.Stimulus.{inputLeaves, cycleCount, wrongStimulus, wrongByte}
-use Rattle.simulator.specs.Run.{outputNeeded}
+use Rattle.runs.specs.Stimulus.{inputLeaves, cycleCount, wrongStimulus, wrongByte}
+use Rattle.runs.specs.Run.{outputNeeded}
 
 -- "A sheet is accepted where none of 1 to 7 applies. A stimulus is well formed for it where neither 8 nor 9 applies; slices have
 -- the right lengths where neither 10 nor 11 does."

@@ -42,7 +42,7 @@ use Rattle.cycles.proofs.Terms.{checked-term}
 use Rattle.cycles.proofs.Sheets.{only-leaves}
 use Rattle.cycles.proofs.Scoped.{Scoped, every-expression}
 use Rattle.cycles.proofs.ScopesAgain.{scope-again}
-use Rattle.simulator.specs.Afterwards.{FeedbackSettles, FeedbackAt}
+use Rattle.runs.specs.Afterwards.{FeedbackSettles, FeedbackAt}
 
 pub feedback-kind : (s : List ℕ) (q : ℕ) → kindWord s q ≡ 38 → kindAt s q ≡ expression feedback
 unfolding kindOf rowOf

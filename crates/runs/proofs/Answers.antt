@@ -19,8 +19,8 @@ use Rattle.typing.specs.declared.Verdict.{Verdict}
 use Rattle.typing.specs.declared.Verdict.the-variants.{Accepted}
 use Rattle.typing.specs.declared.Verdict.the-variants as Verdicts
 use Rattle.meaning.specs.Undecided.{undefinedLeaves}
-use Rattle.simulator.specs.Stimulus.{cycleCount, endToEnd, cycles, wrongStimulus, wrongByte}
-use Rattle.simulator.specs.Run.{
+use Rattle.runs.specs.Stimulus.{cycleCount, endToEnd, cycles, wrongStimulus, wrongByte}
+use Rattle.runs.specs.Run.{
   outputsBy,
   sheetAfter,
   Answer,
@@ -49,9 +49,9 @@ use Rattle.simulator.specs.Run.{
   finalNext,
   Gives,
 }
-use Rattle.simulator.specs.Afterwards.{WellFormed, Afterwards}
-use Rattle.simulator.specs.Promises.{Says, LowestFirst, RefusalUnaltered}
-use Rattle.simulator.proofs.Afterwards.{answer-done, afterwards}
+use Rattle.runs.specs.Afterwards.{WellFormed, Afterwards}
+use Rattle.runs.specs.Promises.{Says, LowestFirst, RefusalUnaltered}
+use Rattle.runs.proofs.Afterwards.{answer-done, afterwards}
 
 tested : (P : Answer → Type 0) (b : Bool) (a c : Answer) → (b ≡ true → P a) → (b ≡ false → P c) → P (unless b a c)
 tested P true a c passed failed = passed refl

@@ -23,8 +23,8 @@ use Rattle.meaning.specs.Rules.{ReducesSeq}
 use Rattle.meaning.specs.Run as Meaning
 use Rattle.cycles.specs.Terms.{circuitTerm}
 use Rattle.cycles.specs.Sheets.{write, Writable, OnlyDelays}
-use Rattle.simulator.specs.Stimulus.{inputType, endToEnd, cycles, cycleCount, wrongStimulus, wrongByte}
-use Rattle.simulator.specs.Run.{
+use Rattle.runs.specs.Stimulus.{inputType, endToEnd, cycles, cycleCount, wrongStimulus, wrongByte}
+use Rattle.runs.specs.Run.{
   outputsBy,
   sheetAfter,
   Answer,
@@ -47,7 +47,7 @@ use Rattle.simulator.specs.Run.{
   finalOut,
   finalNext,
 }
-use Rattle.simulator.specs.Afterwards.{WellFormed, Afterwards}
+use Rattle.runs.specs.Afterwards.{WellFormed, Afterwards}
 
 -- What each answer says of the call: its code applies at its place, at no place before, and no lower code applies. What each of
 -- the codes 1 to 7 says of the sheet is the verdict's promise.

@@ -1,0 +1,210 @@
+-- A table copied along a chain leaf by leaf, and along the chains of the delays record by record.
+-- Assumes nothing.
+use Prim.Native.Nat.{ℕ, zero, suc, _+_, _-_, _*_, _≤_, _<_}
+use mathlib.Core.List.{List, [], _∷_, _++_, append-nil}
+use mathlib.Core.Path.{_≡_, refl, sym, ap, _∙_}
+use mathlib.Core.Bool.{Bool, true, false}
+use native.Mathlib.Omega.{arith}
+use native.Mathlib.Numerals.{add-one}
+use lib.Dec.{eqb}
+use borrow.Author.Tests.{eqb-true}
+use lib.Seq.{lt-length-set}
+use lib.ListN.{length, getD, set, length-set}
+use Rattle.records.specs.Words.{count, next, word, wordB}
+use Rattle.records.specs.Kinds.{
+  Kind,
+  header,
+  typeOf,
+  expression,
+  pattern,
+  leaf,
+  unknown,
+  constant,
+  name,
+  tuple,
+  first,
+  second,
+  letIn,
+  feedback,
+  ifMatches,
+  delay,
+  leafs,
+  kindOf,
+}
+use Rattle.records.specs.Says.{kindAt, sortAt}
+use Rattle.records.specs.Trees.{chain, follow}
+use Rattle.records.specs.Written.{Written}
+use Rattle.records.proofs.CodeTable.{only-kind}
+use Rattle.records.proofs.Trees.{chain-of, next-leaf}
+use Rattle.records.proofs.Table.{askOfKind}
+use Rattle.records.proofs.Asked.{past-header, part-of-kind}
+use Rattle.values.proofs.Matches.{left, left-falls}
+use Rattle.cycles.specs.Sheets.{putWord}
+use Rattle.cycles.specs.Copies.{copied, leavesOf, delayChains}
+use Rattle.stepper.specs.Cycling.{Copying}
+
+abbrev isDelay : Kind → Bool
+isDelay header = false
+isDelay (typeOf k) = false
+isDelay (expression constant) = false
+isDelay (expression name) = false
+isDelay (expression tuple) = false
+isDelay (expression first) = false
+isDelay (expression second) = false
+isDelay (expression letIn) = false
+isDelay (expression feedback) = false
+isDelay (expression ifMatches) = false
+isDelay (expression delay) = true
+isDelay (pattern k) = false
+isDelay leaf = false
+isDelay unknown = false
+
+delay-test : (k : ℕ) → isDelay (kindOf k) ≡ eqb k 40
+unfolding kindOf
+delay-test = only-kind isDelay 40 refl (omega arith) tt
+
+delay-number : (k : ℕ) → kindOf k ≡ expression delay → k ≡ 40
+delay-number k e = eqb-true k 40 (sym (delay-test k) ∙ rw e refl)
+
+-- the leaves from l are still to be copied to
+pub record Left (first : List ℕ) (h : List ℕ) (all : List ℕ) (before : List ℕ) (l : ℕ) (now : List ℕ) : Type 0 where
+  pub long : length now ≡ length before
+  pub there : l < count first
+  pub sort : (l ≡ 0 → ⊥) → sortAt first l ≡ leafs
+  pub rest : copied h (follow [] (chain first) l) now ≡ copied h all before
+
+module _ (s : List ℕ) (n : ℕ) (before h : List ℕ) (g : Copying s n before) where
+  follows : (x : ℕ) → (x ≡ 0 → ⊥) → follow [] (chain s) x ≡ chain s x
+  follows zero f = absurd (f refl)
+  follows (suc x) f = refl
+
+  pub in-count : (x : ℕ) → x < n → x < count s
+  in-count x k = let c = g .sized .counted in omega arith
+
+  -- no leaf is the header
+  not-header : (x : ℕ) → sortAt s x ≡ leafs → x ≡ 0 → ⊥
+  not-header x e z = let h = past-header (g .written) x (rw e) in omega arith
+
+  pub all-left : (x : ℕ) → x < n → sortAt s x ≡ leafs → Left s h (chain s x) before x before
+  all-left x k e =
+      record { long = refl; there = in-count x k; sort = λ _. e; rest = ap (λ ls. copied h ls before) (follows x (not-header x e)) }
+
+  module _ (all : List ℕ) (l : ℕ) (now : List ℕ) (r : Left s h all before l now) (f : l ≡ 0 → ⊥) where
+    pub leaf-there : l < n
+    leaf-there = let t = r .there in let c = g .sized .counted in omega arith
+
+    pub leaf-bytes : 12 * l + 4 + 1 < length now
+    leaf-bytes =
+        let t = leaf-there in
+        let w = g .sized .whole in
+        let a = r .long in
+        let b = g .long in
+        omega arith
+
+    pub high-byte : 12 * l + 4 + 1 < length (set now (12 * l + 4) (getD h l 0))
+    high-byte = lt-length-set now (12 * l + 4) (getD h l 0) leaf-bytes
+
+    pub next-left : (x : ℕ) → x ≡ next s l
+        → Left s h all before x (set (set now (12 * l + 4) (getD h l 0)) (12 * l + 4 + 1) 0)
+    next-left x ex =
+        record {
+          long = length-set (set now (12 * l + 4) (getD h l 0)) (12 * l + 4 + 1) 0 ∙ length-set now (12 * l + 4) (getD h l 0) ∙ r .long;
+          there = rw ex (go (next s l) refl .0);
+          sort = λ z. rw ex (go (next s l) refl .1 (λ y. z (ex ∙ y)));
+          rest =
+              rw (high l, ex)
+              (ap (λ ls. copied h ls now) (sym (chain-of (g .written) l (r .there) (r .sort f)) ∙ sym (follows l f)) ∙ r .rest);
+        }
+      where
+        high : (l : ℕ) → 12 * l + 4 + 1 ≡ 12 * l + 5
+        high l = omega arith
+
+        go : (y : ℕ) → y ≡ next s l → (next s l < count s) × ((next s l ≡ 0 → ⊥) → sortAt s (next s l) ≡ leafs)
+        go zero e = (let t = r .there in omega arith, λ z. absurd (z (sym e)))
+        go (suc y) e = let p = next-leaf (g .written) l (r .there) (r .sort f) (omega arith) in (p .1, λ _. p .2)
+
+    pub next-falls : (x : ℕ) → x ≡ next s l → left n x < left n l
+    next-falls x ex = left-falls n l x f leaf-there (λ z. higher (λ y. z (ex ∙ y)))
+      where
+        higher : (next s l ≡ 0 → ⊥) → (l < x) × (x < n)
+        higher z =
+            let p = next-leaf (g .written) l (r .there) (r .sort f) (positive (next s l) z) in
+            let c = g .sized .counted in
+            (rw ex (p .0), omega (arith, p .1, ex))
+          where
+            positive : (y : ℕ) → (y ≡ 0 → ⊥) → 0 < y
+            positive y k = omega arith
+
+  pub none-left : (all now : List ℕ) (l : ℕ) → Left s h all before l now → l ≡ 0 → now ≡ copied h all before
+  none-left all now l r e = rw e at (r .rest)
+
+  -- a record that is no delay has no leaves to copy to
+  pub no-delay : (r k : ℕ) → k ≡ word s r 0 → (k ≡ 40 → ⊥) → before ≡ copied h (leavesOf (kindAt s r) (chain s (wordB s r))) before
+  no-delay r k ek f = ap (λ ls. copied h ls before) (sym (none (kindAt s r) refl))
+    where
+      none : (q : Kind) → kindAt s r ≡ q → leavesOf q (chain s (wordB s r)) ≡ []
+      none header e = refl
+      none (typeOf q) e = refl
+      none (expression constant) e = refl
+      none (expression name) e = refl
+      none (expression tuple) e = refl
+      none (expression first) e = refl
+      none (expression second) e = refl
+      none (expression letIn) e = refl
+      none (expression feedback) e = refl
+      none (expression ifMatches) e = refl
+      none (expression delay) e = absurd (f (ek ∙ delay-number (word s r 0) e))
+      none (pattern q) e = refl
+      none leaf e = refl
+      none unknown e = refl
+
+  -- and a delay's are those of its chain
+  pub delay-copied : (r : ℕ) → kindAt s r ≡ expression delay → (x : ℕ) → x ≡ word s r 3 → (now : List ℕ) → now ≡ copied h (chain s x) before
+      → now ≡ copied h (leavesOf (kindAt s r) (chain s (wordB s r))) before
+  delay-copied r e x ex now c = c ∙ rw (e, ex) refl
+
+module _ (s : List ℕ) (n : ℕ) (before : List ℕ) (g : Copying s n before) where
+  pub delay-leaves : (r : ℕ) → r < n → kindAt s r ≡ expression delay → (x : ℕ) → x ≡ word s r 3 → (x < n) × (sortAt s x ≡ leafs)
+  delay-leaves r k e x ex =
+      let c = g .sized .counted in
+      let p = part-of-kind (g .written) r (expression delay) leafs (omega arith) e 3 refl (unfold askOfKind in refl) in
+      (omega (arith, p .1, ex), rw ex (p .2))
+
+copied-both : (h ls ms s : List ℕ) → copied h (ls ++ ms) s ≡ copied h ms (copied h ls s)
+copied-both h [] ms s = refl
+copied-both h (l ∷ ls) ms s = copied-both h ls ms (putWord l (getD h l 0) s)
+
+pub copied-long : (h ls s : List ℕ) → length (copied h ls s) ≡ length s
+copied-long h [] s = refl
+copied-long h (l ∷ ls) s =
+    copied-long h ls (putWord l (getD h l 0) s) ∙ length-set (set s (12 * l + 4) (getD h l 0)) (12 * l + 5) 0 ∙ length-set s (12 * l + 4) (getD h l 0)
+
+-- the records below r are copied to
+pub record Below (first h before : List ℕ) (n r : ℕ) (now : List ℕ) : Type 0 where
+  pub few : r ≤ n
+  pub so-far : now ≡ copied h (delayChains first r) before
+
+module _ (s h before : List ℕ) (n : ℕ) where
+  pub none-below : Below s h before n 0 before
+  none-below = record { few = omega arith; so-far = refl }
+
+  module _ (r : ℕ) (now : List ℕ) (b : Below s h before n r now) where
+    pub below-long : length now ≡ length before
+    below-long = rw (b .so-far) (copied-long h (delayChains s r) before)
+
+    pub below-copying : Copying s n before → Copying s n now
+    below-copying g = record { sized = g .sized; written = g .written; long = below-long ∙ g .long }
+
+    pub below-next : r < n → (now′ : List ℕ) → now′ ≡ copied h (leavesOf (kindAt s r) (chain s (wordB s r))) now
+        → Below s h before n (r + 1) now′
+    below-next k now′ e =
+        record {
+          few = omega arith;
+          so-far =
+              e
+              ∙ rw (b .so-far, add-one r)
+              (sym (copied-both h (delayChains s r) (leavesOf (kindAt s r) (chain s (wordB s r))) before));
+        }
+
+    pub all-below : n ≤ r → now ≡ copied h (delayChains s n) before
+    all-below k = let f = b .few in let e : r ≡ n = omega arith in rw e at (b .so-far)

@@ -1,0 +1,149 @@
+-- A cycle: the root is ready to be evaluated with the input as its one name, its value is the output, and the table copied along the
+-- delays' chains makes the sheet after the cycle.
+-- Assumes nothing.
+use Prim.Native.Nat.{ℕ, zero, suc, _+_, _*_, _≤_, _<_}
+use mathlib.Core.List.{List, [], _∷_, _++_, map, List·Memᴰ}
+use mathlib.Core.Path.{_≡_, refl, sym, ap, ap₂, _∙_}
+use native.Mathlib.Omega.{arith}
+use lib.ListN.{length, getD, take}
+use Rattle.picoella.specs.Types.{leaves, OfType}
+use Rattle.records.specs.Words.{word, wordA, wordB, count}
+use Rattle.records.specs.Kinds.{Kind, header, typeOf, expression, pattern, leaf, unknown, delay, leafs}
+use Rattle.records.specs.Says.{kindAt, sortAt}
+use Rattle.records.specs.Sized.{Sized}
+use Rattle.records.specs.TypeRecords.{typeAt}
+use Rattle.records.specs.Trees.{chain, treeAt, circuit}
+use Rattle.records.specs.Held.{delayLeaves}
+use Rattle.records.specs.Written.{Written}
+use Rattle.records.specs.Rewritten.{OnlyLeaves}
+use Rattle.records.proofs.Rewritten.{same-count, same-kind, same-chain, same-type}
+use Rattle.records.proofs.Types.{few-leaves}
+use Rattle.records.proofs.TypeRecords.{input-type}
+use Rattle.layout.proofs.Passes.{written, types-fit}
+use Rattle.typing.specs.Verdict.{verdict, inputs}
+use Rattle.typing.specs.Scopes.{Scope, root}
+use Rattle.typing.specs.Widths.{Widths}
+use Rattle.typing.specs.declared.Verdict.the-variants.{Accepted}
+use Rattle.typing.proofs.Exact.{exact, accepted-judged}
+use Rattle.meaning.specs.Values.{ValuesOf, no-values, more-values}
+use Rattle.meaning.specs.Undecided.{undefinedLeaves}
+use Rattle.meaning.specs.Evaluation.{next}
+use Rattle.meaning.proofs.Order.{value-length}
+use Rattle.meaning.proofs.UndefinedLeavesLawful.{undefined-lawful}
+use Rattle.cycles.specs.Terms.{circuitTerm}
+use Rattle.cycles.specs.Delays.{store}
+use Rattle.cycles.specs.Sheets.{write}
+use Rattle.cycles.specs.Copies.{copied, leavesOf, delayChains}
+use Rattle.cycles.specs.Cycle.{output, after, afterBy}
+use Rattle.cycles.specs.Evaluated.{valueAt, storedAt}
+use Rattle.cycles.proofs.Evaluated.{root-value, root-stored}
+use Rattle.cycles.proofs.Cycle.{cycle-writable}
+use Rattle.cycles.proofs.Stores.{leaves-in-table}
+use Rattle.cycles.proofs.DelayRecords.{write-copied-chains}
+use Rattle.values.specs.Slots.{slot, entered, frames}
+use Rattle.evaluator.specs.Evaluating.{Ready, Done, Evaluates}
+use Rattle.evaluator.proofs.Frames.{entered-slot, entered-long}
+use Rattle.stepper.specs.Cycling.{Copying, Cycling, Cycled}
+use Rattle.stepper.proofs.WidthsAgain.{sized-again, widths-again}
+
+module _ (s : List ℕ) (n : ℕ) (W env held input current out : List ℕ) (g : Cycling s n W env held input current out) where
+  abbrev o : OnlyLeaves s current
+  o = g .leaves-alone
+
+  first-written : Written s
+  first-written = written (exact s (g .type) .0 (g .accepted) .0)
+
+  -- the header is no leaf
+  header-word : (k : ℕ) → k < 6 → word current 0 k ≡ word s 0 k
+  header-word = o .others 0 (λ e. let h = first-written .headed in let z : _≡_ {A = ℕ} 0 1 = cc in omega arith)
+
+  pub first-sized : Sized s n × (0 < n) × (3 < 6)
+  first-sized = (g .sized, g .sized .some, omega arith)
+
+  pub copying : Copying s n current
+  copying = record { sized = g .sized; written = first-written; long = o .length }
+
+  input-typed : OfType (typeAt current (wordA current 0)) input
+  input-typed = rw (header-word 2 (omega arith), same-type s current o (wordA s 0)) (g .typed)
+
+  input-few : length input ≤ 64
+  input-few =
+      let l = value-length (typeAt s (wordA s 0)) (g .typed) in
+      let c = few-leaves-of in
+      omega arith
+    where
+      few-leaves-of : leaves (typeAt s (wordA s 0)) ≤ 64
+      few-leaves-of =
+          let u = input-type first-written in few-leaves (types-fit (exact s (g .type) .0 (g .accepted) .0)) (wordA s 0) (u .there) (u .sort)
+
+  pub input-room : (64 * 0 + length input ≤ length env) × (length env ≤ 4096)
+  input-room = let f = input-few in let w = g .wide in (omega arith, omega arith)
+
+  module _ (x : ℕ) (ex : x ≡ word s 0 3) (env₁ : List ℕ) (e : env₁ ≡ entered 0 input env) where
+    at-root : x ≡ wordB current 0
+    at-root = ex ∙ sym (header-word 3 (omega arith))
+
+    framed : frames current (inputs current) env₁ ≡ input ∷ []
+    framed =
+        let l = value-length (typeAt current (wordA current 0)) input-typed in
+        ap (λ v. v ∷ []) (rw (e, ← l) (entered-slot 0 input env (omega arith)))
+
+    table : Widths current W
+    table = widths-again s current o (g .type) (g .accepted) (g .again) W (g .table)
+
+    root-entry : length out ≡ getD W (wordB current 0) 0
+    unfolding circuit
+    root-entry =
+        let j = accepted-judged (g .type) (exact current (g .type) .0 (g .again) .0) (g .again) in
+        g .room ∙ sym (table .expressions root ∙ rw (j .1, same-type s current o (g .type)) refl)
+
+    pub root-ready : Ready current n W env₁ 1 x out (inputs current)
+    root-ready =
+        record {
+          sized = sized-again s current o n (g .sized);
+          type = g .type;
+          accepted = g .again;
+          table = table;
+          scope = rw at-root root;
+          many = refl;
+          wide = rw e (entered-long 0 input env (omega arith) (input-room .0) ∙ g .wide);
+          room = rw at-root root-entry;
+          values = rw framed (more-values input-typed no-values);
+        }
+
+    -- the chains are where they were
+    same-leaves : (r : ℕ) (k : Kind) → kindAt s r ≡ k → leavesOf k (chain s (wordB s r)) ≡ leavesOf k (chain current (wordB current r))
+    same-leaves r k ek =
+        ap (leavesOf k) (sym (same-chain s current o (wordB s r)) ∙ ap (chain current) (sym (o .leaves r 3 (omega arith) (λ z. omega arith))))
+
+    same-chains : (m : ℕ) → delayChains s m ≡ delayChains current m
+    same-chains zero = refl
+    same-chains (suc r) =
+        ap₂ _++_ (same-chains r)
+        (same-leaves r (kindAt s r) refl ∙ ap (λ k. leavesOf k (chain current (wordB current r))) (sym (same-kind s current o r)))
+
+    room : (l : ℕ) → List·Memᴰ l (delayLeaves (circuit current)) → l < length held
+    room l m = let h = leaves-in-table current (g .type) (g .again) l m in let w = g .long in omega arith
+
+    written-after : after current input
+        ≡ copied (store (next undefinedLeaves (input ∷ []) (circuitTerm current)) held) (delayChains current (count current)) current
+    unfolding afterBy
+    written-after =
+        write-copied-chains current (g .type) (g .again) (next undefinedLeaves (input ∷ []) (circuitTerm current))
+        (cycle-writable undefinedLeaves undefined-lawful current (g .type) (g .again) input input-typed) held room
+
+    pub cycle-done : (env₂ held₁ o₁ : List ℕ) → Evaluates current n W env₁ 1 x held out env₂ held₁ o₁
+        → (current′ : List ℕ) → current′ ≡ copied held₁ (delayChains s n) current → Cycled input current current′ o₁
+    cycle-done env₂ held₁ o₁ p current′ c =
+        let d = p .done (inputs current) root-ready in
+        let v : o₁ ≡ valueAt undefinedLeaves current (inputs current) (input ∷ []) (wordB current 0) = rw (framed, at-root) at (d .value) in
+        let h : held₁ ≡ store (next undefinedLeaves (input ∷ []) (circuitTerm current)) held =
+        rw (framed, at-root) at (d .stored) ∙ sym (root-stored undefinedLeaves current input held) in
+        let counted : n ≡ count current = sized-again s current o n (g .sized) .counted in
+        record {
+          value = v ∙ sym (root-value undefinedLeaves current input);
+          next =
+              c
+              ∙ rw (h, same-chains n, counted)
+              (sym written-after);
+        }

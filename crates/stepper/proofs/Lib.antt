@@ -1,0 +1,4 @@
+-- Laws of a cycle.
+pub mod Copies
+pub mod WidthsAgain
+pub mod Cycling

@@ -1,0 +1,90 @@
+-- Where only leaves are rewritten the table of an accepted sheet stays: expressions, patterns and types are where they were, with
+-- the same scopes and types.
+-- Assumes nothing.
+use Prim.Native.Nat.{ℕ, _<_}
+use mathlib.Core.List.{List}
+use mathlib.Core.Path.{_≡_, refl, sym, ap, ap₂, _∙_}
+use native.Mathlib.Omega.{arith}
+use lib.ListN.{length, getD}
+use Rattle.picoella.specs.Types.{leaves}
+use Rattle.records.specs.Words.{count}
+use Rattle.records.specs.Kinds.{patterns, sortOf}
+use Rattle.records.specs.Says.{kindAt, sortAt}
+use Rattle.records.specs.Sized.{Sized}
+use Rattle.records.specs.TypeRecords.{typeAt, TypeRecord}
+use Rattle.records.specs.Trees.{
+  Alternatives,
+  end,
+  noPattern,
+  wholeType,
+  oneConstructor,
+  pairOfPatterns,
+  alternatives,
+  treeAt,
+}
+use Rattle.records.specs.Rewritten.{OnlyLeaves}
+use Rattle.records.proofs.Rewritten.{same-count, same-kind, same-type, same-alternatives, same-tree}
+use Rattle.records.proofs.Grown.{grown-tree}
+use Rattle.layout.proofs.Passes.{written}
+use Rattle.typing.specs.Judgements.{typeOf}
+use Rattle.typing.specs.Judging.{width}
+use Rattle.typing.specs.Verdict.{verdict}
+use Rattle.typing.specs.Scopes.{Scope}
+use Rattle.typing.specs.Widths.{patternLeaves, patternEntry, hasEntry, Widths}
+use Rattle.typing.specs.declared.Verdict.the-variants.{Accepted}
+use Rattle.typing.proofs.Exact.{exact}
+use Rattle.accepted.proofs.Scopes.{scope-checked}
+use Rattle.cycles.proofs.TermsAgain.{type-of-same}
+use Rattle.cycles.proofs.ScopesAgain.{scope-again}
+
+-- and back
+pub leaves-back : (s s′ : List ℕ) → OnlyLeaves s s′ → OnlyLeaves s′ s
+leaves-back s s′ o =
+    record {
+      length = sym (o .length);
+      others = λ r f k h. sym (o .others r (λ e. f (same-kind s s′ o r ∙ e)) k h);
+      leaves = λ r k h f. sym (o .leaves r k h f);
+    }
+
+module _ (s s′ : List ℕ) (o : OnlyLeaves s s′) where
+  pub sized-again : (n : ℕ) → Sized s n → Sized s′ n
+  sized-again n z =
+      record { counted = z .counted ∙ sym (same-count s s′ o); whole = o .length ∙ z .whole; some = z .some; few = z .few }
+
+  same-sort : (r : ℕ) → sortAt s′ r ≡ sortAt s r
+  same-sort r = ap sortOf (same-kind s s′ o r)
+
+  type-back : (t : ℕ) → TypeRecord s′ t → TypeRecord s t
+  type-back t u =
+      let c = same-count s s′ o in
+      record { past = u .past; there = let h = u .there in omega arith; sort = sym (same-sort t) ∙ u .sort }
+
+  same-pattern : (p : Alternatives) → patternLeaves s′ p ≡ patternLeaves s p
+  same-pattern end = refl
+  same-pattern noPattern = refl
+  same-pattern (wholeType r t m) = ap leaves (same-type s s′ o t)
+  same-pattern (oneConstructor r t k m) = refl
+  same-pattern (pairOfPatterns r p q m) = rw (same-pattern p, same-pattern q) refl
+
+  same-entry : (p : ℕ) → patternEntry s′ p ≡ patternEntry s p
+  same-entry p = rw (same-alternatives s s′ o p, same-pattern (alternatives s p)) refl
+
+  module _ (t : ℕ) (v : verdict s ≡ Accepted t) (v′ : verdict s′ ≡ Accepted t) where
+    same-width : {q : ℕ} {Γ : List ℕ} → Scope s q Γ → width s′ Γ (treeAt s′ q) ≡ width s Γ (treeAt s q)
+    same-width {q} {Γ} c =
+        let p = exact s t .0 v .0 in
+        let k = scope-checked t p v c in
+        let w = written p in
+        let e = type-of-same s s′ o w Γ (treeAt s q) (grown-tree w q (k .there) (k .sort)) (k .context) (k .judged) in
+        rw (same-tree s s′ o q, e, same-type s s′ o (typeOf s Γ (treeAt s q))) refl
+
+    pub widths-again : (table : List ℕ) → Widths s table → Widths s′ table
+    widths-again table w =
+        let c = same-count s s′ o in
+        record {
+          long = w .long;
+          types = λ u k. w .types u (type-back u k) ∙ ap leaves (sym (same-type s s′ o u));
+          expressions = λ k. let b = scope-again s′ s (leaves-back s s′ o) t v′ k in w .expressions b ∙ sym (same-width b);
+          patterns = λ p h e. w .patterns p (omega arith) (sym (same-sort p) ∙ e) ∙ sym (same-entry p);
+          elsewhere = λ r h f. w .elsewhere r h (λ k. rw (← same-sort r) (f (omega arith)));
+        }

@@ -1,0 +1,73 @@
+-- Assumes nothing.
+use borrow.Author.Needs.{needs}
+use native.Mathlib.Omega.{arith}
+use Rattle.records.specs.Trees.{chain}
+use Rattle.values.proofs.Matches.{left}
+use Rattle.stepper.specs.Cycling.{Copying}
+use Rattle.stepper.proofs.Copies.{Left, all-left, leaf-there, leaf-bytes, high-byte, next-left, next-falls, none-left}
+use Rattle.stepper.proofs.copy_chain.Statement.{statement}
+use Rattle.stepper.proofs.copy_chain.Tie as tie
+use Rattle.stepper.proofs.copy_chain.Reads as reads
+use Rattle.stepper.proofs.copy_chain.Lts as lts
+use Rattle.records.proofs.word.Reads as word-reads
+
+abbrev Inv-loop : tie.InvT-loop
+Inv-loop sheet n first held current₀ leaf₀ current leaf = (g : Copying sheet n current₀) → Left sheet held (chain sheet first) current₀ leaf current
+
+abbrev μ-loop : tie.MeasureT-loop
+μ-loop sheet n first held current₀ leaf₀ current leaf = left n leaf
+
+loop-holds : tie.Need-loop-holds Inv-loop μ-loop
+loop-holds c = λ g. all-left _ _ _ _ g _ (c .before .before .pre .1) (c .before .before .pre .2)
+
+mul-at : tie.Need-mul-at Inv-loop μ-loop
+mul-at c = let h = leaf-there _ _ _ _ (c .before .before .before .before .pre .0) _ _ _ (c .before .loop .inv (c .before .before .before .before .pre .0)) (c .loop-test .taken) in let f = c .before .before .before .before .pre .0 .sized .few in omega arith
+
+add-at : tie.Need-add-at Inv-loop μ-loop
+add-at c = let h = leaf-there _ _ _ _ (c .before .before .before .before .pre .0) _ _ _ (c .before .loop .inv (c .before .before .before .before .pre .0)) (c .loop-test .taken) in let f = c .before .before .before .before .pre .0 .sized .few in omega arith
+
+element-copy-out-current : tie.Need-element-copy-out-current Inv-loop μ-loop
+element-copy-out-current c = let h = leaf-there _ _ _ _ (c .before .before .before .before .pre .0) _ _ _ (c .before .loop .inv (c .before .before .before .before .pre .0)) (c .loop-test .taken) in let f = c .before .before .before .before .pre .0 .sized .few in omega arith
+
+slice-write-current : tie.Need-slice-write-current Inv-loop μ-loop
+slice-write-current c = let h = leaf-bytes _ _ _ _ (c .before .before .before .before .before .pre .0) _ _ _ (c .before .before .loop .inv (c .before .before .before .before .before .pre .0)) (c .before .loop-test .taken) in omega arith
+
+add-current : tie.Need-add-current Inv-loop μ-loop
+add-current c = let h = leaf-there _ _ _ _ (c .before .before .before .before .before .pre .0) _ _ _ (c .before .before .loop .inv (c .before .before .before .before .before .pre .0)) (c .before .loop-test .taken) in let f = c .before .before .before .before .before .pre .0 .sized .few in omega arith
+
+slice-write-current-2 : tie.Need-slice-write-current-2 Inv-loop μ-loop
+slice-write-current-2 c = high-byte _ _ _ _ (c .before .before .before .before .before .pre .0) _ _ _ (c .before .before .loop .inv (c .before .before .before .before .before .pre .0)) (c .before .loop-test .taken)
+
+word-requires : tie.Need-word-requires Inv-loop μ-loop
+word-requires c κs = (c .before .before .before .before .before .pre .0 .sized, leaf-there _ _ _ _ (c .before .before .before .before .before .pre .0) _ _ _ (c .before .before .loop .inv (c .before .before .before .before .before .pre .0)) (c .before .loop-test .taken), omega arith)
+
+loop-less : tie.Need-loop-less Inv-loop μ-loop
+loop-less c = next-falls _ _ _ _ (c .before .before .before .before .before .before .pre .0) _ _ _ (c .before .before .before .loop .inv (c .before .before .before .before .before .before .pre .0)) (c .before .before .loop-test .taken) _ (c .word .ensures .0)
+
+loop-again : tie.Need-loop-again Inv-loop μ-loop
+loop-again c = λ g. next-left _ _ _ _ g _ _ _ (c .before .before .before .loop .inv g) (c .before .before .loop-test .taken) _ (c .word .ensures .0)
+
+same-length : tie.Need-same-length Inv-loop μ-loop
+same-length c = c .before .loop .inv (c .before .before .before .before .pre .0) .long
+
+returns : tie.Need-returns Inv-loop μ-loop
+returns c = none-left _ _ _ _ (c .before .before .before .before .pre .0) _ _ _ (c .before .loop .inv (c .before .before .before .before .pre .0)) (c .loop-test .left)
+
+pub copy-chain-spec : {M : Type 1} → statement M
+copy-chain-spec =
+    tie.close
+    (tie.spec
+    Inv-loop
+    μ-loop
+    loop-holds
+    mul-at
+    add-at
+    element-copy-out-current
+    slice-write-current
+    add-current
+    slice-write-current-2
+    word-requires
+    loop-less
+    loop-again
+    same-length
+    returns)

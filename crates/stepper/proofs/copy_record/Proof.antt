@@ -1,0 +1,35 @@
+-- Assumes nothing.
+use mathlib.Core.Path.{refl}
+use Rattle.records.specs.Kinds.{expression, delay, kindOf}
+use Rattle.typing.proofs.KindNumbers.{numbered}
+use Rattle.stepper.proofs.Copies.{no-delay, delay-leaves, delay-copied}
+use borrow.Author.Needs.{needs}
+use Rattle.stepper.proofs.copy_record.Statement.{statement}
+use Rattle.stepper.proofs.copy_record.Tie as tie
+use Rattle.stepper.proofs.copy_record.Reads as reads
+use Rattle.stepper.proofs.copy_record.Lts as lts
+use Rattle.records.proofs.word.Reads as word-reads
+use Rattle.stepper.proofs.copy_chain.Reads as copy-chain-reads
+
+word-requires : tie.Need-word-requires
+word-requires c κs = search needs
+
+returns : tie.Need-returns
+returns c = no-delay _ _ _ _ (c .before .before .before .before .pre .0) _ _ (c .before .word .ensures .0) (c .if1 .taken)
+
+word-requires-2 : tie.Need-word-requires-2
+word-requires-2 c κs = search needs
+
+copy-chain-requires : tie.Need-copy-chain-requires
+copy-chain-requires c κs = let p = delay-leaves _ _ _ (c .before .before .before .before .before .before .pre .0) _ (c .before .before .before .before .before .before .pre .1) (numbered _ _ _ 40 (expression delay) (c .before .before .before .word .ensures .0) (c .before .before .if1 .left) (unfold kindOf in refl)) _ (c .before .word2 .ensures .0) in (c .before .before .before .before .before .before .pre .0, p .0, p .1)
+
+same-length : tie.Need-same-length
+same-length c = search needs
+
+returns-2 : tie.Need-returns-2
+returns-2 c = delay-copied _ _ _ _ (c .before .before .before .before .before .before .before .before .before .pre .0) _ (numbered _ _ _ 40 (expression delay) (c .before .before .before .before .before .before .word .ensures .0) (c .before .before .before .before .before .if1 .left) (unfold kindOf in refl)) _ (c .before .before .before .before .word2 .ensures .0) _ (c .before .before .copy-chain .ensures)
+
+pub copy-record-spec : {M : Type 1} → statement M
+copy-record-spec =
+    tie.close
+    (tie.spec word-requires returns word-requires-2 copy-chain-requires same-length returns-2)

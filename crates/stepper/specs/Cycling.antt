@@ -1,0 +1,42 @@
+-- One cycle of a sheet. `first` is the sheet that was checked, `current` the one that the cycle begins from: the two differ in leaves
+-- alone, and are accepted with the same type.
+use Prim.Native.Nat.{ℕ, _<_}
+use mathlib.Core.Path.{_≡_}
+use mathlib.Core.List.{List}
+use lib.ListN.{length}
+use Rattle.picoella.specs.Types.{leaves, OfType}
+use Rattle.records.specs.Words.{wordA}
+use Rattle.records.specs.Kinds.{leafs}
+use Rattle.records.specs.Says.{sortAt}
+use Rattle.records.specs.Sized.{Sized}
+use Rattle.records.specs.TypeRecords.{typeAt}
+use Rattle.records.specs.Written.{Written}
+use Rattle.records.specs.Rewritten.{OnlyLeaves}
+use Rattle.typing.specs.Verdict.{verdict}
+use Rattle.typing.specs.Widths.{Widths}
+use Rattle.typing.specs.declared.Verdict.the-variants.{Accepted}
+use Rattle.cycles.specs.Cycle.{output, after}
+
+-- a table is copied to a sheet, along chains of the first one
+pub record Copying (first : List ℕ) (n : ℕ) (current : List ℕ) : Type 0 where
+  pub sized : Sized first n
+  pub written : Written first
+  pub long : length current ≡ length first
+
+-- a cycle is run
+pub record Cycling (first : List ℕ) (n : ℕ) (widths env held input current out : List ℕ) : Type 0 where
+  pub sized : Sized first n
+  pub type : ℕ
+  pub accepted : verdict first ≡ Accepted type
+  pub table : Widths first widths
+  pub leaves-alone : OnlyLeaves first current
+  pub again : verdict current ≡ Accepted type
+  pub wide : length env ≡ 4096
+  pub long : length held ≡ 4096
+  pub typed : OfType (typeAt first (wordA first 0)) input
+  pub room : length out ≡ leaves (typeAt first type)
+
+-- and this is what comes of it
+pub record Cycled (input current current′ out′ : List ℕ) : Type 0 where
+  pub value : out′ ≡ output current input
+  pub next : current′ ≡ after current input

@@ -1,0 +1,70 @@
+// One cycle of a sheet: the root's value for an input, and the sheet with every delay holding its next value.
+ghost use mathlib.Core.Path.{_≡_};
+ghost use Prim.Native.Nat.{ℕ, _<_};
+ghost use Rattle.records.specs.Words.{wordB};
+ghost use Rattle.records.specs.Kinds.{leafs};
+ghost use Rattle.records.specs.Says.{kindAt, sortAt};
+ghost use Rattle.records.specs.Trees.{chain};
+ghost use Rattle.cycles.specs.Copies.{copied, leavesOf, delayChains};
+ghost use Rattle.stepper.specs.Cycling.{Copying, Cycling, Cycled};
+use evaluator::eval;
+use records::word;
+use values::enter_value;
+
+// Copies a table's entries to the leaves from `first`: word a, low byte first.
+fn copy_chain(sheet: &[u8], n: usize, first: usize, held: &[u8; 4096], current: &mut [u8])
+    requires { ⌜ Copying (now sheet) n (now current) × (first < n) × (sortAt (now sheet) first ≡ leafs) ⌝ }
+    ensures { λ _. ⌜ now (current .exit) ≡ copied (now (held .entry)) (chain (now (sheet .entry)) first) (now (current .entry)) ⌝ }
+{
+    let mut leaf = first;
+    while leaf != 0 {
+        let at = 12 * leaf + 4;
+        current[at] = held[leaf];
+        current[at + 1] = 0;
+        leaf = word(sheet, n, leaf, 1);
+    }
+}
+
+// Copies a table's entries to the leaves of rec, where that is a delay.
+fn copy_record(sheet: &[u8], n: usize, rec: usize, held: &[u8; 4096], current: &mut [u8])
+    requires { ⌜ Copying (now sheet) n (now current) × (rec < n) ⌝ }
+    ensures { λ _. ⌜ now (current .exit) ≡ copied (now (held .entry)) (leavesOf (kindAt (now (sheet .entry)) rec) (chain (now (sheet .entry)) (wordB (now (sheet .entry)) rec))) (now (current .entry)) ⌝ }
+{
+    if word(sheet, n, rec, 0) != 40 {
+        return;
+    }
+    copy_chain(sheet, n, word(sheet, n, rec, 3), held, current);
+}
+
+// Copies a table's entries to the leaves of every delay.
+fn copy_all(sheet: &[u8], n: usize, held: &[u8; 4096], current: &mut [u8])
+    requires { ⌜ Copying (now sheet) n (now current) ⌝ }
+    ensures { λ _. ⌜ now (current .exit) ≡ copied (now (held .entry)) (delayChains (now (sheet .entry)) n) (now (current .entry)) ⌝ }
+{
+    let mut rec = 0;
+    while rec < n {
+        copy_record(sheet, n, rec, held, current);
+        rec += 1;
+    }
+}
+
+// One cycle from the sheet in `current`: the output goes to `out`, and the sheet after the cycle to `current`. The sheet that was
+// checked is read for its records alone; `env` and `held` are room.
+pub fn cycle(
+    sheet: &[u8],
+    n: usize,
+    widths: &[u8; 4096],
+    env: &mut [u8],
+    held: &mut [u8; 4096],
+    input: &[u8],
+    current: &mut [u8],
+    out: &mut [u8],
+)
+    requires { ⌜ Cycling (now sheet) n (now widths) (now env) (now held) (now input) (now current) (now out) ⌝ }
+    ensures { λ _. ⌜ Cycled (now (input .entry)) (now (current .entry)) (now (current .exit)) (now (out .exit)) ⌝ }
+{
+    enter_value(env, 0, input);
+    let root = word(sheet, n, 0, 3);
+    eval(current, n, widths, env, 1, held, root, out);
+    copy_all(sheet, n, held, current);
+}
