@@ -5,6 +5,7 @@ pub mod Chains
 pub mod Closings
 pub mod Exact
 pub mod Failing
+pub mod FirstFailure
 pub mod Judged
 pub mod Judgings
 pub mod KindNumbers

@@ -27,7 +27,7 @@ use Rattle.typing.specs.declared.Verdict.the-variants.{
   IllTyped,
 }
 use Rattle.layout.proofs.Lowest.{lowest-some-passes}
-use Rattle.typing.proofs.Failing.{none-fails, first-failure}
+use Rattle.typing.proofs.FirstFailure.{none-fails, first-failure}
 
 tested : (P : Verdict → Type 0) (b : Bool) (v w : Verdict) → (b ≡ true → P v) → (b ≡ false → P w) → P (unless b v w)
 tested P true v w passed failed = passed refl
