@@ -7,7 +7,7 @@ use mathlib.Core.List.{List, [], _∷_, List·Memᴰ·head, List·Memᴰ·tail}
 use mathlib.Core.Option.{none, some}
 use mathlib.Core.Path.{_≡_, refl, sym, ap}
 use native.Mathlib.Omega.{arith}
-use Rattle.typing.specs.Judgements.{Judgement, holds, firstFailing}
+use Rattle.judging.specs.Judgements.{Judgement, holds, firstFailing}
 use Rattle.typing.specs.Promises.{AllHold, FailsFirst}
 
 some-is-not-none : (r : ℕ) → some r ≡ none → ⊥

@@ -11,7 +11,7 @@ use Rattle.records.specs.Words.{count}
 use Rattle.records.specs.Trees.{circuit}
 use Rattle.layout.specs.Lowest.{lowest}
 use Rattle.layout.specs.Rules.{wrongLength, wrongHeader, wrongRecord, wrongNaming, wrongType, tooDeep}
-use Rattle.typing.specs.Judgements.{judgements, typeOf, firstFailing}
+use Rattle.judging.specs.Judgements.{judgements, typeOf, firstFailing}
 use Rattle.layout.specs.Passes.{Passes}
 use Rattle.typing.specs.Verdict.{unless, refusing, inputs, byTypes, byRecords, verdict}
 use Rattle.typing.specs.Promises.{Says, Places}
