@@ -34,8 +34,8 @@ use Rattle.records.proofs.TypeRecords.{first-part, second-part}
 use Rattle.records.proofs.Grown.{GrownPattern, grown-pattern}
 use Rattle.layout.specs.Passes.{Passes}
 use Rattle.layout.proofs.Passes.{written, types-fit}
-use Rattle.typing.specs.Judgements.{patternFits, typeOf}
-use Rattle.typing.specs.Judging.{width}
+use Rattle.judging.specs.Judgements.{patternFits, typeOf}
+use Rattle.judging.specs.Judging.{width}
 use Rattle.typing.specs.Verdict.{verdict}
 use Rattle.typing.specs.Scopes.{Scope, if-tested}
 use Rattle.typing.specs.Widths.{patternLeaves, Widths}

@@ -19,7 +19,7 @@ use Rattle.layout.specs.NamerTable.{summary, Holds}
 use Rattle.layout.specs.LeafTable.{typeLeaves, Counts}
 use Rattle.layout.specs.DepthTable.{Capped, Placed, Placing}
 use Rattle.layout.proofs.Passes.{written, named-once, length-fits}
-use Rattle.typing.specs.Judging.{Ground, Ready, Closing, scopeOf}
+use Rattle.judging.specs.Judging.{Ground, Ready, Closing, scopeOf}
 use Rattle.typing.specs.Stages.{Measured, Recorded, NamedAll, Fitted}
 use Rattle.typing.specs.Widths.{PatternsFrom}
 use Rattle.typing.proofs.Stages.{root-ready}

@@ -21,7 +21,7 @@ use native.Mathlib.Omega.{arith}
 use lib.ListN.{length}
 use Rattle.records.specs.Sized.{Sized}
 use Rattle.layout.specs.DepthTable.{Placed, Placing}
-use Rattle.typing.specs.Judging.{Ready, Closing, Matching}
+use Rattle.judging.specs.Judging.{Ready, Closing, Matching}
 use Rattle.typing.specs.Stages.{Fitted}
 use Rattle.typing.specs.Widths.{PatternsFrom}
 use Rattle.accepted.proofs.Requirements.{sized, fitted, placing, placed, ready, closing, patterns}

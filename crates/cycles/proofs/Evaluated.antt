@@ -27,7 +27,7 @@ use Rattle.records.specs.Trees.{chain, alternatives, treeAt, circuit}
 use Rattle.records.specs.Decoding.{leafValues, patternOf}
 use Rattle.records.specs.Written.{Written}
 use Rattle.records.proofs.Trees.{tree-of}
-use Rattle.typing.specs.Judgements.{typeOf}
+use Rattle.judging.specs.Judgements.{typeOf}
 use Rattle.typing.specs.Verdict.{inputs}
 use Rattle.meaning.specs.Values.{undefined}
 use Rattle.meaning.specs.Matching.{matches}

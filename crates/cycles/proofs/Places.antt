@@ -30,7 +30,7 @@ use Rattle.records.specs.Trees.{
 }
 use Rattle.records.specs.Held.{listed, held, delayLeaves, Distinct}
 use Rattle.records.specs.Decoding.{leafValues}
-use Rattle.typing.specs.Judgements.{typeOf as typeRecordOf}
+use Rattle.judging.specs.Judgements.{typeOf as typeRecordOf}
 use Rattle.cycles.specs.Terms.{term}
 use Rattle.cycles.specs.Delays.{Entry, assigned, entries, places}
 use Rattle.cycles.proofs.Entries.{placesOf, places-append}

@@ -13,7 +13,7 @@ use Rattle.records.specs.Rewritten.{OnlyLeaves}
 use Rattle.records.proofs.Grown.{grown-tree}
 use Rattle.records.proofs.Rewritten.{same-kind, same-tree}
 use Rattle.layout.proofs.Passes.{written}
-use Rattle.typing.specs.Judgements.{typeOf}
+use Rattle.judging.specs.Judgements.{typeOf}
 use Rattle.typing.specs.Verdict.{inputs, verdict}
 use Rattle.typing.specs.Scopes.{
   Scope,

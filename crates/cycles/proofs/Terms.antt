@@ -37,14 +37,14 @@ use Rattle.records.proofs.TypeRecords.{found-pair}
 use Rattle.records.proofs.Grown.{Grown, grown-tree, grown-circuit}
 use Rattle.layout.specs.Passes.{Passes}
 use Rattle.layout.proofs.Passes.{written}
-use Rattle.typing.specs.Judgements.{typeOf}
-use Rattle.typing.specs.Judging.{Context}
+use Rattle.judging.specs.Judgements.{typeOf}
+use Rattle.judging.specs.Judging.{Context}
 use Rattle.typing.specs.Verdict.{inputs, verdict}
 use Rattle.typing.specs.declared.Verdict.the-variants.{Accepted}
-use Rattle.typing.proofs.Judged.{Judged}
-use Rattle.typing.proofs.TypeRecordsOf.{type-of-record}
-use Rattle.typing.proofs.PatternTypes.{fits-typed}
-use Rattle.typing.proofs.Typings.{within-fits}
+use Rattle.judging.proofs.Judged.{Judged}
+use Rattle.judging.proofs.TypeRecordsOf.{type-of-record}
+use Rattle.judging.proofs.PatternTypes.{fits-typed}
+use Rattle.judging.proofs.Typings.{within-fits}
 use Rattle.typing.proofs.Places.{accepted-by-types}
 use Rattle.typing.proofs.Exact.{input-context, accepted-judged}
 use Rattle.accepted.proofs.Scopes.{Checked}

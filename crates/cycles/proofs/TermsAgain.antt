@@ -47,10 +47,10 @@ use Rattle.records.specs.Rewritten.{OnlyLeaves}
 use Rattle.records.specs.Written.{Written}
 use Rattle.records.proofs.Rewritten.{same-type, same-pair-of}
 use Rattle.records.proofs.Grown.{Alternative, Grown}
-use Rattle.typing.specs.Judgements.{typeOf}
-use Rattle.typing.specs.Judging.{Context}
-use Rattle.typing.proofs.Judged.{Judged}
-use Rattle.typing.proofs.TypeRecordsOf.{type-of-record}
+use Rattle.judging.specs.Judgements.{typeOf}
+use Rattle.judging.specs.Judging.{Context}
+use Rattle.judging.proofs.Judged.{Judged}
+use Rattle.judging.proofs.TypeRecordsOf.{type-of-record}
 use Rattle.meaning.specs.Elaboration.{Constant, Pair, First, Second, LetIn, Feedback, IfThenElse, Delayed}
 use Rattle.cycles.specs.Terms.{term}
 use Rattle.cycles.proofs.Frames.{fill}

@@ -43,7 +43,7 @@ use Rattle.records.proofs.Asked.{as-kind-asks}
 use Rattle.records.proofs.Types.{pair-parts, flat-type, pair-type}
 use Rattle.records.proofs.TypeRecords.{first-part, second-part}
 use Rattle.records.proofs.Grown.{Grown}
-use Rattle.typing.specs.Judgements.{typeOf}
+use Rattle.judging.specs.Judgements.{typeOf}
 use Rattle.accepted.proofs.Scopes.{as-many-leaves}
 use Rattle.accepted.proofs.AcceptedAgain.{Fitting}
 use Rattle.cycles.specs.Terms.{term}

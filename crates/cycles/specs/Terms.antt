@@ -21,7 +21,7 @@ use Rattle.records.specs.Trees.{
   circuit,
 }
 use Rattle.records.specs.Decoding.{leafValues, patternOf}
-use Rattle.typing.specs.Judgements.{typeOf}
+use Rattle.judging.specs.Judgements.{typeOf}
 use Rattle.typing.specs.Verdict.{inputs}
 use Rattle.meaning.specs.Elaboration.{
   Term,

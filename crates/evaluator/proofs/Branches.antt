@@ -17,7 +17,7 @@ use Rattle.records.specs.Decoding.{leafValues}
 use Rattle.records.proofs.Table.{askOfKind}
 use Rattle.records.proofs.Asked.{part-of-kind}
 use Rattle.records.proofs.Trees.{tree-of}
-use Rattle.typing.specs.Judgements.{typeOf}
+use Rattle.judging.specs.Judgements.{typeOf}
 use Rattle.typing.specs.Scopes.{Scope, if-tested, if-then, if-else, of-delay}
 use Rattle.accepted.proofs.Scopes.{judged-by-kind}
 use Rattle.meaning.specs.Undecided.{undefinedLeaves}

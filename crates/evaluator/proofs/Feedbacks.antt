@@ -14,7 +14,7 @@ use Rattle.records.specs.Says.{kindAt}
 use Rattle.records.specs.TypeRecords.{typeAt, Declared}
 use Rattle.records.specs.Written.{Written}
 use Rattle.records.specs.Trees.{treeAt}
-use Rattle.typing.specs.Judgements.{typeOf}
+use Rattle.judging.specs.Judgements.{typeOf}
 use Rattle.typing.specs.Scopes.{Scope, feedback-defining, feedback-body}
 use Rattle.accepted.proofs.Scopes.{judged-by-kind}
 use Rattle.meaning.specs.Values.{undefined, zeros, ValuesOf, more-values}

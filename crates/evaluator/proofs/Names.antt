@@ -15,7 +15,7 @@ use Rattle.records.specs.TypeRecords.{typeAt}
 use Rattle.records.specs.Trees.{treeAt}
 use Rattle.records.specs.Written.{Written}
 use Rattle.records.proofs.Trees.{tree-of}
-use Rattle.typing.specs.Judgements.{typeOf}
+use Rattle.judging.specs.Judgements.{typeOf}
 use Rattle.typing.specs.Scopes.{Scope, let-defining, let-body}
 use Rattle.accepted.proofs.Scopes.{judged-by-kind}
 use Rattle.meaning.specs.Values.{ValuesOf, more-values}

@@ -16,7 +16,7 @@ use Rattle.records.specs.Trees.{treeAt, chain}
 use Rattle.records.specs.Decoding.{leafValues}
 use Rattle.records.proofs.Table.{askOfKind}
 use Rattle.records.proofs.Asked.{part-of-kind}
-use Rattle.typing.specs.Judgements.{typeOf}
+use Rattle.judging.specs.Judgements.{typeOf}
 use Rattle.typing.specs.Scopes.{Scope, tuple-first, tuple-second, of-first, of-second}
 use Rattle.meaning.specs.Undecided.{undefinedLeaves}
 use Rattle.cycles.specs.Evaluated.{valueAt, storedAt}

@@ -22,7 +22,7 @@ use Rattle.records.proofs.Asked.{part-of-kind}
 use Rattle.records.proofs.Types.{few-leaves}
 use Rattle.layout.specs.Passes.{Passes}
 use Rattle.layout.proofs.Passes.{written, types-fit}
-use Rattle.typing.specs.Judgements.{typeOf}
+use Rattle.judging.specs.Judgements.{typeOf}
 use Rattle.typing.specs.Scopes.{Scope}
 use Rattle.typing.proofs.Exact.{exact}
 use Rattle.accepted.proofs.Scopes.{Checked, scope-checked, few-names, small-names, checked-type}

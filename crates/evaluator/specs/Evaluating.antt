@@ -8,7 +8,7 @@ use Rattle.picoella.specs.Types.{Ty, bounds, leaves}
 use Rattle.records.specs.Sized.{Sized}
 use Rattle.records.specs.TypeRecords.{typeAt}
 use Rattle.records.specs.Trees.{treeAt}
-use Rattle.typing.specs.Judgements.{typeOf}
+use Rattle.judging.specs.Judgements.{typeOf}
 use Rattle.typing.specs.Verdict.{verdict}
 use Rattle.typing.specs.Scopes.{Scope}
 use Rattle.typing.specs.Widths.{Widths}

@@ -26,8 +26,8 @@ use Rattle.records.specs.Rewritten.{OnlyLeaves}
 use Rattle.records.proofs.Rewritten.{same-count, same-kind, same-type, same-alternatives, same-tree}
 use Rattle.records.proofs.Grown.{grown-tree}
 use Rattle.layout.proofs.Passes.{written}
-use Rattle.typing.specs.Judgements.{typeOf}
-use Rattle.typing.specs.Judging.{width}
+use Rattle.judging.specs.Judgements.{typeOf}
+use Rattle.judging.specs.Judging.{width}
 use Rattle.typing.specs.Verdict.{verdict}
 use Rattle.typing.specs.Scopes.{Scope}
 use Rattle.typing.specs.Widths.{patternLeaves, patternEntry, hasEntry, Widths}

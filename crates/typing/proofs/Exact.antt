@@ -13,17 +13,17 @@ use Rattle.records.specs.Decoding.{expressionOf}
 use Rattle.records.proofs.TypeRecords.{input-type, same-type-same-record}
 use Rattle.records.proofs.Grown.{grown-circuit}
 use Rattle.records.proofs.Decoding.{decodes}
-use Rattle.typing.specs.Judgements.{judgements, typeOf, firstFailing}
+use Rattle.judging.specs.Judgements.{judgements, typeOf, firstFailing}
 use Rattle.layout.specs.Passes.{Passes}
 use Rattle.typing.specs.Verdict.{inputs, refusing, byTypes, verdict}
 use Rattle.typing.specs.Promises.{WellTyped, Exact}
 use Rattle.typing.specs.declared.Verdict.the-variants.{Accepted, IllTyped}
 use Rattle.layout.proofs.Passes.{written, types-fit}
 use Rattle.typing.proofs.Places.{accepted-by-types}
-use Rattle.typing.proofs.Judged.{Judged, Passed, passed-judged, judged-passed}
-use Rattle.typing.specs.Judging.{Context}
-use Rattle.typing.proofs.TypeRecordsOf.{type-of-record}
-use Rattle.typing.proofs.Typings.{judged-typed, typed-judged}
+use Rattle.judging.proofs.Judged.{Judged, Passed, passed-judged, judged-passed}
+use Rattle.judging.specs.Judging.{Context}
+use Rattle.judging.proofs.TypeRecordsOf.{type-of-record}
+use Rattle.judging.proofs.Typings.{judged-typed, typed-judged}
 
 -- the type rules accept exactly where no judgement of the circuit fails, with the type of the circuit
 pub types-accept : (s : List ℕ) (t : ℕ)

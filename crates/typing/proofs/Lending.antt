@@ -14,7 +14,7 @@ use Rattle.records.specs.Trees.{circuit}
 use Rattle.layout.specs.Passes.{Passes}
 use Rattle.layout.specs.Rules.{wrongLength, wrongHeader}
 use Rattle.layout.specs.LeafTable.{Counts}
-use Rattle.typing.specs.Judging.{noted}
+use Rattle.judging.specs.Judging.{noted}
 use Rattle.typing.specs.Stages.{Measured}
 use Rattle.typing.specs.Verdict.{inputs, verdict, unless, byRecords, Tabled}
 use Rattle.typing.specs.Widths.{PatternsFrom, Widths, Lent, accepts}

@@ -1,24 +1,10 @@
 -- Laws that belong to no one function.
-pub mod Alternatives
-pub mod Bounds
-pub mod Chains
-pub mod Closings
 pub mod Exact
-pub mod Failing
-pub mod Judged
-pub mod Judgings
-pub mod KindNumbers
+pub mod FirstFailure
 pub mod Lending
 pub mod Noted
-pub mod Outcomes
-pub mod Parts
-pub mod PatternNumbers
-pub mod PatternTypes
 pub mod Places
 pub mod PlacesSmall
-pub mod Readiness
 pub mod Stages
 pub mod Stores
-pub mod TypeRecordsOf
-pub mod Typings
 pub mod Widths

@@ -45,8 +45,8 @@ use Rattle.records.proofs.Table.{askOfKind, kind-of-sort}
 use Rattle.records.proofs.Asked.{part-of-kind, root-is}
 use Rattle.records.proofs.Trees.{from-above, tree-of}
 use Rattle.records.proofs.Distinct.{circuit-distinct}
-use Rattle.typing.specs.Judgements.{typeOf}
-use Rattle.typing.specs.Judging.{width, noted}
+use Rattle.judging.specs.Judgements.{typeOf}
+use Rattle.judging.specs.Judging.{width, noted}
 use Rattle.typing.specs.Verdict.{inputs}
 use Rattle.typing.specs.Scopes.{
   Scope,

@@ -11,7 +11,7 @@ use Rattle.records.specs.Words.{count}
 use Rattle.records.specs.Trees.{circuit}
 use Rattle.layout.specs.Lowest.{lowest}
 use Rattle.layout.specs.Rules.{wrongLength, wrongHeader, wrongRecord, wrongNaming, wrongType, tooDeep}
-use Rattle.typing.specs.Judgements.{judgements, typeOf, firstFailing}
+use Rattle.judging.specs.Judgements.{judgements, typeOf, firstFailing}
 use Rattle.layout.specs.Passes.{Passes}
 use Rattle.typing.specs.Verdict.{unless, refusing, inputs, byTypes, byRecords, verdict}
 use Rattle.typing.specs.Promises.{Says, Places}
@@ -27,7 +27,7 @@ use Rattle.typing.specs.declared.Verdict.the-variants.{
   IllTyped,
 }
 use Rattle.layout.proofs.Lowest.{lowest-some-passes}
-use Rattle.typing.proofs.Failing.{none-fails, first-failure}
+use Rattle.typing.proofs.FirstFailure.{none-fails, first-failure}
 
 tested : (P : Verdict → Type 0) (b : Bool) (v w : Verdict) → (b ≡ true → P v) → (b ≡ false → P w) → P (unless b v w)
 tested P true v w passed failed = passed refl

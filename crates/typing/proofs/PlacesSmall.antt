@@ -19,7 +19,7 @@ use Rattle.records.proofs.Trees.{from-above, tree-of}
 use Rattle.layout.specs.Passes.{Passes}
 use Rattle.layout.specs.Rules.{wrongLength}
 use Rattle.layout.proofs.Passes.{written, length-fits}
-use Rattle.typing.specs.Judgements.{Judgement, Rule, leavesFit, inScope, pairDeclared, pairType, sameType, patternHas, holds, judge, judgements, typeOf, firstFailing}
+use Rattle.judging.specs.Judgements.{Judgement, Rule, leavesFit, inScope, pairDeclared, pairType, sameType, patternHas, holds, judge, judgements, typeOf, firstFailing}
 use Rattle.typing.specs.Promises.{Says}
 use Rattle.typing.specs.Verdict.{inputs, place, verdict, byTypes, refusing}
 use Rattle.typing.specs.declared.Verdict.{Verdict}
@@ -33,7 +33,7 @@ use Rattle.typing.specs.declared.Verdict.the-variants.{
   TooDeep,
   IllTyped,
 }
-use Rattle.typing.proofs.Failing.{orElse, first-of-both}
+use Rattle.judging.proofs.Failing.{orElse, first-of-both}
 use Rattle.typing.proofs.Exact.{exact}
 use Rattle.typing.proofs.Places.{places, passes-by-types}
 

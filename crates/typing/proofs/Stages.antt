@@ -26,12 +26,12 @@ use Rattle.layout.specs.declared.Found.the-variants.{At, Nothing}
 use Rattle.layout.proofs.Passes.{written, written-by, once-by, named-once}
 use Rattle.layout.proofs.Depths.{depth-of-root}
 use Rattle.layout.proofs.DepthCounts.{depth-of-header, nesting-of-header}
-use Rattle.typing.specs.Judgements.{judgements, typeOf, firstFailing}
-use Rattle.typing.specs.Judging.{Ground, Ready, Done, Context, scopeOf, noted}
+use Rattle.judging.specs.Judgements.{judgements, typeOf, firstFailing}
+use Rattle.judging.specs.Judging.{Ground, Ready, Done, Context, scopeOf, noted}
 use Rattle.typing.specs.Stages.{Measured, Recorded, NamedAll, Fitted}
 use Rattle.typing.specs.Verdict.{inputs, refusing, unless, byTypes, byDepths, byTypeRecords, byNamings, byRecords, Checked, Tabled, code}
-use Rattle.typing.specs.declared.Outcome.{Outcome}
-use Rattle.typing.specs.declared.Outcome.the-variants.{Typed, Fault}
+use Rattle.judging.specs.declared.Outcome.{Outcome}
+use Rattle.judging.specs.declared.Outcome.the-variants.{Typed, Fault}
 use Rattle.typing.specs.declared.Verdict.{Verdict}
 use Rattle.typing.specs.declared.Verdict.the-variants.{
   Accepted,
@@ -42,7 +42,7 @@ use Rattle.typing.specs.declared.Verdict.the-variants.{
   TooDeep,
   IllTyped,
 }
-use Rattle.typing.proofs.Outcomes.{Passed, passed, faulted}
+use Rattle.judging.proofs.Outcomes.{Passed, passed, faulted}
 
 -- the type rules
 module _ (s : List ℕ) (n : ℕ) (table : List ℕ) (g : Ground s n table) (stack widths : List ℕ) (x y : ℕ) (ex : x ≡ word s 0 2)

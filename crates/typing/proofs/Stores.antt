@@ -34,8 +34,8 @@ use Rattle.records.specs.Trees.{
   delayOf,
 }
 use Rattle.records.specs.Held.{expressionRecords, Distinct}
-use Rattle.typing.specs.Judgements.{typeOf}
-use Rattle.typing.specs.Judging.{width, noted}
+use Rattle.judging.specs.Judgements.{typeOf}
+use Rattle.judging.specs.Judging.{width, noted}
 
 -- a record and the width stored there
 pub record Note : Type 0 where

@@ -43,10 +43,10 @@ use Rattle.records.proofs.TypeRecords.{type-word}
 use Rattle.layout.specs.LeafTable.{Counts}
 use Rattle.layout.specs.Passes.{Passes}
 use Rattle.layout.proofs.Passes.{written, named-once, types-fit}
-use Rattle.typing.specs.Judging.{width, noted}
+use Rattle.judging.specs.Judging.{width, noted}
 use Rattle.typing.specs.Verdict.{inputs}
 use Rattle.typing.specs.Widths.{patternLeaves, patternEntry, hasEntry, Widths, PatternsFrom}
-use Rattle.typing.proofs.PatternNumbers.{pattern-kind, no-pattern}
+use Rattle.judging.proofs.PatternNumbers.{pattern-kind, no-pattern}
 use Rattle.typing.proofs.Stores.{notes, Stored}
 use Rattle.typing.proofs.Noted.{circuit-expressions, scope-noting, scope-noted, circuit-stored}
 

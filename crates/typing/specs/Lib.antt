@@ -1,6 +1,4 @@
--- The check of document 01: the type rules and the verdict on a byte string.
-pub mod Judgements
-pub mod Judging
+-- The check of document 01: the verdict on a byte string, what it promises, and the table of an accepted sheet.
 pub mod Stages
 pub mod Verdict
 pub mod Promises

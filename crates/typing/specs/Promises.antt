@@ -13,7 +13,7 @@ use Rattle.records.specs.Decoding.{decode}
 use Rattle.records.specs.Trees.{circuit}
 use Rattle.layout.specs.Lowest.{lowest}
 use Rattle.layout.specs.Rules.{wrongLength, wrongHeader, wrongRecord, wrongNaming, wrongType, tooDeep}
-use Rattle.typing.specs.Judgements.{Judgement, holds, judgements, typeOf}
+use Rattle.judging.specs.Judgements.{Judgement, holds, judgements, typeOf}
 use Rattle.layout.specs.Passes.{Passes}
 use Rattle.typing.specs.Verdict.{inputs, verdict}
 use Rattle.typing.specs.declared.Verdict.{Verdict}

@@ -7,7 +7,7 @@ use Rattle.records.specs.Words.{wordA, wordB, wordC}
 use Rattle.records.specs.Kinds.{tuple, first, second, letIn, feedback, ifMatches, delay, expression}
 use Rattle.records.specs.Says.{kindAt}
 use Rattle.records.specs.Trees.{treeAt}
-use Rattle.typing.specs.Judgements.{typeOf}
+use Rattle.judging.specs.Judgements.{typeOf}
 use Rattle.typing.specs.Verdict.{inputs}
 
 -- record q is an expression of the circuit, with the names of Γ in scope there: the root, or a part of such a record

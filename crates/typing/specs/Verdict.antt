@@ -11,8 +11,8 @@ use Rattle.records.specs.Trees.{circuit}
 use Rattle.layout.specs.LeafTable.{Counts}
 use Rattle.layout.specs.Lowest.{lowest}
 use Rattle.layout.specs.Rules.{wrongLength, wrongHeader, wrongRecord, wrongNaming, wrongType, tooDeep}
-use Rattle.typing.specs.Judgements.{judgements, typeOf, firstFailing}
-use Rattle.typing.specs.Judging.{noted}
+use Rattle.judging.specs.Judgements.{judgements, typeOf, firstFailing}
+use Rattle.judging.specs.Judging.{noted}
 use Rattle.typing.specs.declared.Verdict.{Verdict}
 use Rattle.typing.specs.declared.Verdict.the-variants.{
   Accepted,

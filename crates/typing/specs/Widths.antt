@@ -21,7 +21,7 @@ use Rattle.records.specs.Trees.{
   alternatives,
   treeAt,
 }
-use Rattle.typing.specs.Judging.{width}
+use Rattle.judging.specs.Judging.{width}
 use Rattle.typing.specs.Verdict.{verdict}
 use Rattle.typing.specs.declared.Verdict.{Verdict}
 use Rattle.typing.specs.declared.Verdict.the-variants.{

@@ -20,8 +20,8 @@ use Rattle.records.specs.Trees.{
   follow,
 }
 use Rattle.records.specs.Decoding.{patternOf}
-use Rattle.typing.specs.Judgements.{patternFits}
-use Rattle.typing.specs.Judging.{Matching}
+use Rattle.judging.specs.Judgements.{patternFits}
+use Rattle.judging.specs.Judging.{Matching}
 use Rattle.typing.specs.Widths.{patternEntry}
 use Rattle.meaning.specs.Matching.{Answer, chainAnswer, matches}
 use Rattle.meaning.specs.Undecided.{undefinedLeaves}
