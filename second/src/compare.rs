@@ -10,6 +10,7 @@ use second::table::read;
 
 use crate::external;
 use crate::tally::Tally;
+use crate::workers::Halt;
 
 /// A sheet on which the two checks differ.
 pub struct Difference {
@@ -53,14 +54,8 @@ fn lend(sheet: &[u8], offset: usize) -> (u64, bool) {
     (archive, black_box(lent) != sheet || !kept(before) || !kept(after))
 }
 
-fn hex(bytes: &[u8]) -> String {
+pub fn hex(bytes: &[u8]) -> String {
     bytes.iter().map(|byte| format!("{byte:02x}")).collect()
-}
-
-/// Why a job ends early: it found a difference, or another job did.
-pub enum Halt {
-    Difference(Box<Difference>),
-    Stopped,
 }
 
 pub struct Comparer<'a> {
@@ -71,7 +66,7 @@ pub struct Comparer<'a> {
 
 impl Comparer<'_> {
     /// Compares both verdicts on a sheet; hands back the verdict.
-    pub fn compare(&mut self, source: &str, sheet: &[u8]) -> Result<Verdict, Halt> {
+    pub fn compare(&mut self, source: &str, sheet: &[u8]) -> Result<Verdict, Halt<Difference>> {
         if self.stop.load(Ordering::Relaxed) {
             return Err(Halt::Stopped);
         }

@@ -2,7 +2,9 @@
 
 pub mod boundary;
 pub mod expressions;
+pub mod network;
 pub mod patterns;
+pub mod small;
 pub mod types;
 
 use crate::draft::{Draft, Term};

@@ -11,9 +11,10 @@ use second::layout::{layout, sheet};
 use second::rng::Rng;
 use second::table::{bytes, read, Record, KIND, KINDS};
 
-use crate::compare::{Comparer, Halt};
+use crate::compare::{Comparer, Difference};
 use crate::fixed;
 use crate::tally::{self, quota, CODES};
+use crate::workers;
 
 /// Into how many shards the random sheets are divided.
 pub const SHARDS: u64 = 8;
@@ -57,7 +58,7 @@ pub fn extra(sheets: u64) -> Job {
     Job::Extra(sheets)
 }
 
-pub type Ended = Result<(), Halt>;
+pub type Ended = workers::Ended<Difference>;
 
 impl Job {
     pub fn run(&self, to: &mut Comparer, categories: &[Category], rng: &mut Rng) -> Ended {

@@ -16,16 +16,25 @@ pub enum Order {
     TypesLate,
 }
 
+/// Every order, as in `Order`, in words.
+pub const ORDERS: [&str; 5] =
+    ["in random order", "oldest first", "newest first", "types first", "types late"];
+
+impl Order {
+    pub fn any(rng: &mut Rng) -> Order {
+        match rng.below(10) {
+            0 => Order::Oldest,
+            1 => Order::Newest,
+            2 => Order::TypesFirst,
+            3 => Order::TypesLate,
+            _ => Order::Random,
+        }
+    }
+}
+
 /// The records of a draft in a random layout.
 pub fn layout(draft: &Draft, rng: &mut Rng) -> Vec<Record> {
-    let order = match rng.below(10) {
-        0 => Order::Oldest,
-        1 => Order::Newest,
-        2 => Order::TypesFirst,
-        3 => Order::TypesLate,
-        _ => Order::Random,
-    };
-    layout_in(draft, order, rng)
+    layout_in(draft, Order::any(rng), rng)
 }
 
 /// The bytes of a draft in a random layout.

@@ -1,5 +1,5 @@
-//! A second implementation of the type check, and generators of sheets to
-//! compare it with another one.
+//! A second implementation of the type check and of the run, and generators of
+//! sheets to compare them with another one.
 
 pub mod check;
 pub mod draft;
@@ -11,6 +11,7 @@ pub mod mistake;
 pub mod rng;
 pub mod samples;
 pub mod shapes;
+pub mod simulate;
 pub mod structure;
 pub mod survey;
 pub mod table;

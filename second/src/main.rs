@@ -1,5 +1,5 @@
-//! Compares the second implementation of the type check with the one in the
-//! archive, on generated sheets; times both; writes named sheets.
+//! Compares the second implementations of the type check and of the run with
+//! those in the archives, on generated sheets; times both; writes named sheets.
 
 mod bench;
 mod compare;
@@ -7,7 +7,9 @@ mod external;
 mod fixed;
 mod jobs;
 mod plan;
+mod run;
 mod tally;
+mod workers;
 
 use std::process::ExitCode;
 
@@ -23,7 +25,7 @@ fn main() -> ExitCode {
     let arguments: Vec<String> = std::env::args().skip(1).collect();
     let words: Vec<&str> = arguments.iter().map(String::as_str).collect();
     match words.as_slice() {
-        ["check", options @ ..] => match plan::Options::read(options) {
+        ["check", options @ ..] => match plan::Options::read(options, "--sheets", mistake::named) {
             Some(options) => plan::run(&options),
             None => usage(),
         },
@@ -33,17 +35,17 @@ fn main() -> ExitCode {
         }
         ["bench"] => bench::run(),
         ["shapes"] => {
-            let all = shapes::SMALL.iter().chain(&shapes::LARGE);
-            all.for_each(|(name, _)| println!("{name}"));
+            shapes::all().for_each(|(name, _)| println!("{name}"));
             ExitCode::SUCCESS
         }
         ["emit", name, file] => emit(name, file),
-        _ => usage(),
+        words => run::command(words).unwrap_or_else(usage),
     }
 }
 
 fn usage() -> ExitCode {
     eprintln!("{USAGE}");
+    eprintln!("{}", run::USAGE);
     ExitCode::from(2)
 }
 

@@ -3,6 +3,7 @@
 
 mod large;
 mod limits;
+mod running;
 
 use crate::draft::Draft;
 use crate::layout::{layout_in, record_count, Order};
@@ -10,7 +11,7 @@ use crate::rng::Rng;
 use crate::samples;
 use crate::table::{bytes, MAX_RECORDS};
 
-type Make = fn() -> Vec<u8>;
+pub type Make = fn() -> Vec<u8>;
 
 /// Small sheets and sheets at the limits.
 pub const SMALL: [(&str, Make); 15] = [
@@ -54,9 +55,23 @@ pub const LARGE: [(&str, Make); 19] = [
     ("doubled-types", large::doubled_types),
 ];
 
+/// Sheets for runs.
+pub const RUNNING: [(&str, Make); 5] = [
+    ("T-64-times", running::side_by_side),
+    ("slow-feedback-64", running::one_slow),
+    ("three-slow-feedbacks-8", running::three_slow_8),
+    ("three-slow-feedbacks-64", running::three_slow_64),
+    ("random-4000", running::random_4000),
+];
+
+/// Every named sheet.
+pub fn all() -> impl Iterator<Item = &'static (&'static str, Make)> {
+    SMALL.iter().chain(&LARGE).chain(&RUNNING)
+}
+
 /// The named sheet.
 pub fn named(name: &str) -> Option<Vec<u8>> {
-    SMALL.iter().chain(&LARGE).find(|(n, _)| *n == name).map(|(_, make)| make())
+    all().find(|(n, _)| *n == name).map(|(_, make)| make())
 }
 
 /// The bytes of a draft in a layout of the given order.

@@ -5,6 +5,8 @@ use std::collections::BTreeMap;
 use second::faults::Category;
 use second::table::KINDS;
 
+use crate::workers::Count;
+
 /// Sheets of one category: made, and with the code that the category aims at.
 #[derive(Clone, Copy, Default)]
 pub struct Hits {
@@ -118,26 +120,6 @@ impl Tally {
         self.named.entry(name).or_default().add(hit);
     }
 
-    pub fn merge(&mut self, other: &Tally) {
-        self.compared += other.compared;
-        let sum = |mine: &mut [u64], theirs: &[u64]| {
-            mine.iter_mut().zip(theirs).for_each(|(m, t)| *m += t);
-        };
-        sum(&mut self.codes, &other.codes);
-        sum(&mut self.kinds, &other.kinds);
-        for (mine, theirs) in self.two_codes.iter_mut().zip(&other.two_codes) {
-            sum(mine, theirs);
-        }
-        let join = |mine: &mut Hits, theirs: &Hits| {
-            mine.made += theirs.made;
-            mine.hit += theirs.hit;
-        };
-        self.faults.iter_mut().zip(&other.faults).for_each(|(m, t)| join(m, t));
-        for (name, hits) in &other.named {
-            join(self.named.entry(name).or_default(), hits);
-        }
-    }
-
     /// Prints every quota; hands back those that are not met.
     pub fn print(&self, categories: &[Category]) -> Vec<String> {
         let mut unmet = Vec::new();
@@ -183,5 +165,29 @@ impl Tally {
                 format!("{name}: only {} of {} sheets hit the code", hits.hit, hits.made)
             })
             .collect()
+    }
+}
+
+impl Count for Tally {
+    fn merge(&mut self, other: &Tally) {
+        self.compared += other.compared;
+        let sum = |mine: &mut [u64], theirs: &[u64]| {
+            mine.iter_mut().zip(theirs).for_each(|(m, t)| *m += t);
+        };
+        sum(&mut self.codes, &other.codes);
+        sum(&mut self.kinds, &other.kinds);
+        for (mine, theirs) in self.two_codes.iter_mut().zip(&other.two_codes) {
+            sum(mine, theirs);
+        }
+        let join = |mine: &mut Hits, theirs: &Hits| {
+            mine.made += theirs.made;
+            mine.hit += theirs.hit;
+        };
+        let categories = self.faults.len().max(other.faults.len());
+        self.faults.resize(categories, Hits::default());
+        self.faults.iter_mut().zip(&other.faults).for_each(|(m, t)| join(m, t));
+        for (name, hits) in &other.named {
+            join(self.named.entry(name).or_default(), hits);
+        }
     }
 }
