@@ -1,11 +1,11 @@
-/* Sheets whose verdict was worked out by hand from document 01. */
+/* Sheets whose verdict was worked out by hand from document 01, and runs whose outputs were. */
 #ifndef CASES_H
 #define CASES_H
 
 #include "draft.h"
 
 /* Sheet T of document 01. */
-enum { T_RECORDS = 17 };
+enum { T_RECORDS = 17, T_BYTES = T_RECORDS * RECORD_BYTES };
 extern const uint16_t sheet_t[T_RECORDS][WORDS];
 
 /* T with one to three words changed: codes 2, 3, 4 and 7. */
@@ -13,6 +13,33 @@ void changed_cases(void);
 
 /* Small sheets written out in full: codes 3, 4, 5 and 7. */
 void written_cases(void);
+
+/* T in one call, in pieces through the next slice, and on the longest stimulus. */
+void runs_of_t(void);
+
+/* Small sheets written out in full, with their outputs and what their delays hold at the end. */
+void written_runs(void);
+
+/* Runs refused with codes 8 to 11, and with several that apply. */
+void refused_runs(void);
+
+/* What a run of a sheet at a limit gives in each cycle. The input is flat or has as many leaves as the output, if not said. */
+enum answer {
+    /* The sheet is refused. */
+    NO_RUN,
+    INPUT,
+    UNDEFINED,
+    /* The output is flat. */
+    FIRST_LEAF,
+    /* The input is flat, and is each leaf of the output. */
+    EACH_LEAF,
+    /* The input, undefined in every leaf where its first leaf is. */
+    INPUT_DECIDED,
+    /* The input of so many cycles before as there are delays; of two delays the one with the lower number holds the older
+     * one, or the newer one. */
+    DELAYED_INSIDE,
+    DELAYED_IN_A_ROW
+};
 
 /* Sheets at a limit of document 01 and just past it, among them the deepest and the longest. */
 struct limit_case {
@@ -24,6 +51,7 @@ struct limit_case {
     enum kind kind;
     enum word inner;
     uint32_t code, place;
+    enum answer answer;
 };
 extern const struct limit_case limit_cases[];
 extern const size_t limit_count;
@@ -32,5 +60,8 @@ extern const size_t limit_count;
 size_t limit_sheet(const struct limit_case *one, uint8_t *bytes);
 
 void limits_checked(void);
+
+/* Runs of the accepted ones, and the longest output. */
+void limits_run(void);
 
 #endif

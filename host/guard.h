@@ -1,4 +1,4 @@
-/* Calls of the check on slices that lie against unreadable pages, and the tally of what they gave. */
+/* Calls of the check and of the run on slices that lie against unreadable pages, and the tally of what they gave. */
 #ifndef GUARD_H
 #define GUARD_H
 
@@ -8,7 +8,7 @@
 /* Maps the pages; called once, before all else. Stops the program where they can't be had. */
 void guard_open(void);
 
-/* Has a fault on this thread, a slice overrun or a stack overflow, reported with the name of the sheet. */
+/* Has a fault on this thread, a slice overrun or a stack overflow, reported with the name of the call. */
 void guard_thread(void);
 
 /* Counts one passed or failed, and says what failed. */
@@ -19,17 +19,51 @@ int tally_end(void);
 
 /*
  * Calls the check twice: on a slice that ends at an unreadable page, and on one that begins after one. The pages of the slice are
- * read-only meanwhile. Gives the result; counts one failed where the two differ or the bytes are altered.
+ * read-only meanwhile. Gives the result; counts one failed where the two differ.
  */
-uint64_t guarded_check(const char *name, const uint8_t *bytes, size_t length);
+uint64_t guarded_check(const char *name, const uint8_t *sheet, size_t length);
 
-/* The same, and the verdict must be this one. */
-void expect(const char *name, const uint8_t *bytes, size_t length, uint32_t code, uint32_t place);
+/* What a run is lent: two slices to read, and the lengths of two to fill. */
+struct run_call {
+    const uint8_t *sheet;
+    size_t sheet_length;
+    const uint8_t *stim;
+    size_t stim_length;
+    size_t out_length, next_length;
+};
 
-/* The same, and the verdict must be one that a sheet of this length can get. */
-void expect_possible(const char *name, const uint8_t *bytes, size_t length);
+/* What a run gave. The slices stand until the next call. */
+struct run_answer {
+    uint64_t result;
+    const uint8_t *out, *next;
+    /* No byte of the two slices was changed. */
+    int untouched;
+};
 
-/* Copies bytes to end at the unreadable page and gives their address there: for calls of another kind. */
-const uint8_t *guarded_copy(const uint8_t *bytes, size_t length);
+/*
+ * Calls the run twice: all four slices end at unreadable pages, or all begin after one. The sheet's pages and the stimulus's are
+ * read-only meanwhile. The other two slices are filled beforehand, with another byte for each call. Counts one failed where the
+ * two calls differ, or bytes beyond a slice are altered.
+ */
+struct run_answer guarded_run(const char *name, const struct run_call *call);
+
+/* The run must be refused with this code at this place, and leave both slices as they are. */
+void expect_refused(const char *name, const struct run_call *call, uint32_t code, uint32_t place);
+
+/* The run must do so many cycles and fill the two slices with these bytes. */
+void expect_run(const char *name, const struct run_call *call, uint32_t cycles, const uint8_t *out, const uint8_t *next);
+
+/*
+ * The verdict must be this one. A run whose stimulus and lengths are wrong too must be refused with the same, or with 8 at 0 where
+ * the verdict is to accept.
+ */
+void expect(const char *name, const uint8_t *sheet, size_t length, uint32_t code, uint32_t place);
+
+/*
+ * The verdict must be one that a sheet of this length can get, and the run on 1 2 1 must give the same where it is a refusal.
+ * Where it is none, the input and the output have one leaf: the run does three cycles and changes no byte of the sheet but of
+ * leaves, or it refuses one of the three bytes.
+ */
+void expect_possible(const char *name, const uint8_t *sheet, size_t length);
 
 #endif

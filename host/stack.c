@@ -3,6 +3,7 @@
 #include "stack.h"
 
 #include <pthread.h>
+#include <stdint.h>
 #include <stdio.h>
 #include <stdlib.h>
 #include <string.h>
@@ -10,7 +11,6 @@
 #include <unistd.h>
 
 #include "guard.h"
-#include "sheet.h"
 
 /* Left between the frame that makes the measured call and the filled part, for the frames that fill and look. */
 enum { GAP = 512 };
@@ -56,8 +56,7 @@ void on_small_stack(void (*work)(void))
 }
 
 struct measured {
-    const uint8_t *sheet;
-    size_t length;
+    void (*call)(void);
     uint8_t pattern;
     size_t used;
 };
@@ -69,20 +68,20 @@ static void *measured_call(void *argument)
     volatile uint8_t here = 0;
     size_t above = (size_t)((uintptr_t)&here - (uintptr_t)stack), lowest = 0;
     memset(stack, measured->pattern, above - GAP);
-    sheet_check(measured->sheet, measured->length);
+    measured->call();
     while (lowest < above - GAP && stack[lowest] == measured->pattern)
         lowest++;
     measured->used = above - lowest;
     return NULL;
 }
 
-size_t stack_used(const uint8_t *sheet, size_t length)
+size_t stack_used(void (*call)(void))
 {
     size_t most = 0;
     /* A byte that happens to be written with one pattern shows with the other. */
     static const uint8_t patterns[] = {0xa5, 0x5a};
     for (size_t k = 0; k < sizeof patterns; k++) {
-        struct measured measured = {sheet, length, patterns[k], 0};
+        struct measured measured = {call, patterns[k], 0};
         run(measured_call, &measured);
         most = measured.used > most ? measured.used : most;
     }

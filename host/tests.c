@@ -1,5 +1,6 @@
 /*
- * Tests of the check as a host in C calls it: verdicts worked out by hand, slices against unreadable pages, and a small stack.
+ * Tests of the check and the run as a host in C calls them: verdicts and outputs worked out by hand, slices against unreadable
+ * pages, and a small stack.
  * Prints what failed, what was measured, and at last `N passed, M failed`; status 0 only where none failed.
  */
 #include <stdio.h>
@@ -90,27 +91,49 @@ static void all_calls(void)
     changed_cases();
     written_cases();
     limits_checked();
+    runs_of_t();
+    written_runs();
+    refused_runs();
+    limits_run();
     lengths();
     damaged_bytes();
     random_sheets();
 }
 
-/* The most stack that the check uses on the sheets at the limits, against the figure in sheet.h. */
-static void measure(void)
+/* Calls on a sheet at a limit, which stands in `bytes`. */
+static size_t limit_length;
+static uint8_t stim[64], out[64], next[MOST_BYTES];
+
+static void one_check(void)
+{
+    sheet_check(bytes, limit_length);
+}
+
+/* The run of one cycle: the stimulus and the output have one leaf, or 64. */
+static void one_run(void)
+{
+    for (size_t inputs = 1; inputs <= 64; inputs += 63)
+        for (size_t outputs = 1; outputs <= 64; outputs += 63)
+            sheet_run(bytes, limit_length, stim, inputs, out, outputs, next, limit_length);
+}
+
+/* The most stack that a call uses on the sheets at the limits, against the figure in sheet.h. */
+static void measure(const char *name, void (*call)(void), size_t figure)
 {
     size_t most = 0;
     const char *worst = "";
+    memset(stim, 1, sizeof stim);
     for (size_t k = 0; k < limit_count; k++) {
-        size_t length = limit_sheet(&limit_cases[k], bytes);
-        size_t used = stack_used(guarded_copy(bytes, length), length);
+        limit_length = limit_sheet(&limit_cases[k], bytes);
+        size_t used = stack_used(call);
         if (used > most) {
             most = used;
             worst = limit_cases[k].name;
         }
     }
-    printf("stack: the check used at most %zu bytes (%s); sheet.h says %d\n", most, worst, SHEET_CHECK_STACK);
-    tally(most <= SHEET_CHECK_STACK, "stack", "the check uses more than sheet.h says");
-    tally(most >= SHEET_CHECK_STACK / 2, "stack", "the check never uses half of what sheet.h says");
+    printf("stack: the %s used at most %zu bytes (%s); sheet.h says %zu\n", name, most, worst, figure);
+    tally(most <= figure, name, "the call uses more stack than sheet.h says");
+    tally(most >= figure / 2, name, "the call never uses half of the stack that sheet.h says");
 }
 
 /* Codes and places are taken apart, and each code has its own sentence. */
@@ -132,6 +155,7 @@ int main(void)
     puts("all calls were made on the program's own stack");
     on_small_stack(all_calls);
     printf("all calls were made on a stack of %d bytes\n", (int)SMALL_STACK);
-    measure();
+    measure("check", one_check, SHEET_CHECK_STACK);
+    measure("run", one_run, SHEET_RUN_STACK);
     return tally_end();
 }

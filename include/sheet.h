@@ -23,6 +23,9 @@ extern "C" {
 /* The most bytes that a sheet may have: 4,096 records of 12. */
 #define SHEET_LONGEST 49152
 
+/* The most bytes that a stimulus may have. */
+#define SHEET_LONGEST_STIMULUS 65535
+
 /*
  * A result is code * 2^32 + place. The lowest code that applies is returned, with its place. Above each code stands what its
  * place says; `sheet_sentence` has a sentence on it for people.
@@ -100,6 +103,21 @@ static inline const char *sheet_sentence(uint32_t code)
  */
 #define SHEET_CHECK_STACK 65536
 uint64_t sheet_check(const uint8_t *sheet, size_t length);
+
+/*
+ * The run, in libsimulator.a, which is linked before libtyping.a. Codes 0 to 11.
+ *
+ * Each cycle takes as many bytes of the stimulus as the input has leaves. On success `out` holds the output's leaves of each cycle
+ * after those of the cycle before, and `next` the sheet after the last cycle: the sheet with what its delays then hold. A run that
+ * begins from there goes on where this one ended, so many cycles may be run in one call or in several. `out` is as long as the
+ * cycles times the output's leaves, and `next` as long as the sheet; where a length is wrong, the place of codes 10 and 11 says
+ * the one that is needed.
+ *
+ * Its stack need, as above: on the same sheets, in one cycle and in 64.
+ */
+#define SHEET_RUN_STACK 131072
+uint64_t sheet_run(const uint8_t *sheet, size_t sheet_length, const uint8_t *stim, size_t stim_length, uint8_t *out,
+                   size_t out_length, uint8_t *next, size_t next_length);
 
 #ifdef __cplusplus
 }
