@@ -1,0 +1,90 @@
+-- The digits of a number by their equations, an induction over them, and how many there are.
+-- Assumes nothing.
+use Prim.Native.Nat.{ℕ, zero, suc, _+_, _*_, _/_, _%_, _^_, _≤_, _<_}
+use mathlib.Core.Path.{_≡_, refl, sym, ap, subst}
+use mathlib.Core.List.{List, [], _∷_, _++_}
+use native.Mathlib.Omega.{arith}
+use native.Mathlib.Nat.{pow-succ'}
+use native.Mathlib.Decide.{decLt}
+use lib.ListN.{length, length-append}
+use Rattle.listing.specs.Digits.{digit, digitsWithin, digits}
+
+-- ---- the equations
+
+-- any bound that is large enough gives the same digits
+bound-is-free : (most more n : ℕ) → n ≤ most → n ≤ more → digitsWithin most n ≡ digitsWithin more n
+bound-is-free zero zero n h k = refl
+bound-is-free zero (suc more) zero h k = refl
+bound-is-free zero (suc more) (suc n) h k = absurd (omega arith)
+bound-is-free (suc most) zero zero h k = refl
+bound-is-free (suc most) zero (suc n) h k = absurd (omega arith)
+bound-is-free (suc most) (suc more) zero h k = refl
+bound-is-free (suc most) (suc more) (suc n) h k =
+    ap (λ ds. ds ++ (digit (suc n % 10) ∷ [])) (bound-is-free most more (suc n / 10) (omega arith) (omega arith))
+
+no-digits : (most : ℕ) → digitsWithin most 0 ≡ []
+no-digits zero = refl
+no-digits (suc most) = refl
+
+within-bound : (most n : ℕ) → 0 < n → n ≤ most → digitsWithin most n ≡ digits n
+unfolding digits
+within-bound most zero z h = absurd (omega arith)
+within-bound most (suc n) z h = bound-is-free most (suc n) (suc n) h (omega arith)
+
+pub digits-one : (n : ℕ) → n < 10 → digits n ≡ digit n ∷ []
+unfolding digits
+digits-one zero h = refl
+digits-one (suc n) h =
+    let e : suc n / 10 ≡ 0 = omega arith in
+    let f : suc n % 10 ≡ suc n = omega arith in
+    rw (e, f, no-digits n) refl
+
+pub digits-more : (n : ℕ) → 10 ≤ n → digits n ≡ digits (n / 10) ++ (digit (n % 10) ∷ [])
+unfolding digits
+digits-more zero h = absurd (omega arith)
+digits-more (suc n) h = ap (λ ds. ds ++ (digit (suc n % 10) ∷ [])) (within-bound n (suc n / 10) (omega arith) (omega arith))
+
+-- what holds of one digit, and still holds with a digit more, holds of all digits
+module _ (P : ℕ → List ℕ → Type 0)
+    (one : (d : ℕ) → d < 10 → P d (digit d ∷ []))
+    (more : (n d : ℕ) → 0 < n → d < 10 → P n (digits n) → P (10 * n + d) (digits n ++ (digit d ∷ []))) where
+  within : (most n : ℕ) → n ≤ most → P n (digits n)
+  within zero n h = let z : n < 10 = omega arith in subst (P n) (sym (digits-one n z)) (one n z)
+  within (suc most) n h = go (decLt n 10) (within most (n / 10) (omega arith))
+    where
+      go : Dec (n < 10) → P (n / 10) (digits (n / 10)) → P n (digits n)
+      go (yes z) p = subst (P n) (sym (digits-one n z)) (one n z)
+      go (no z) p =
+          let e : 10 * (n / 10) + n % 10 ≡ n = omega arith in
+          let t : 10 ≤ n = omega arith in
+          subst (P n) (sym (digits-more n t))
+          (subst (λ m. P m (digits (n / 10) ++ (digit (n % 10) ∷ []))) e
+          (more (n / 10) (n % 10) (omega arith) (omega arith) p))
+
+  pub by-digits : (n : ℕ) → P n (digits n)
+  by-digits n = within n n (omega arith)
+
+-- ---- how many
+
+digits-few : (n k : ℕ) → n < 10 ^ suc k → length (digits n) ≤ suc k
+digits-few n k h = by-digits (λ n ds. (k : ℕ) → n < 10 ^ suc k → length ds ≤ suc k) (λ d z k h. omega arith) longer n k h
+  where
+    longer :
+        (n d : ℕ) →
+        0 < n →
+        d < 10 →
+        ((k : ℕ) → n < 10 ^ suc k → length (digits n) ≤ suc k) →
+        (k : ℕ) →
+        10 * n + d < 10 ^ suc k →
+        length (digits n ++ (digit d ∷ [])) ≤ suc k
+    longer n d s z few zero h = absurd (omega arith)
+    longer n d s z few (suc k) h =
+        let p : 10 ^ suc (suc k) ≡ 10 * 10 ^ suc k = pow-succ' 10 (suc k) in
+        let f : length (digits n) ≤ suc k = few k (omega arith) in
+        rw length-append (omega arith)
+
+pub number-few : (n : ℕ) → n < 2 ^ 64 → length (digits n) ≤ 20
+number-few n h = digits-few n 19 (omega arith)
+
+pub byte-few : (n : ℕ) → n < 256 → length (digits n) ≤ 3
+byte-few n h = digits-few n 2 (omega arith)

@@ -1,0 +1,3 @@
+-- Laws of texts.
+pub mod Digits
+pub mod Numerals
