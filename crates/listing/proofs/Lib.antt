@@ -5,3 +5,5 @@ pub mod Written
 pub mod Items
 pub mod Numbers
 pub mod Lines
+pub mod Filling
+pub mod Requirements

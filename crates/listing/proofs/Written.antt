@@ -1,6 +1,6 @@
 -- Texts written one after the other are their concatenation, written at once; a byte is a text.
 -- Assumes nothing.
-use Prim.Native.Nat.{ℕ, suc, _+_, _≤_, _<_}
+use Prim.Native.Nat.{ℕ, _+_, _-_, _≤_, _<_}
 use mathlib.Core.Path.{_≡_, refl, sym, ap, _∙_}
 use mathlib.Core.List.{List, [], _∷_, _++_, append-assoc, append-nil}
 use native.Mathlib.Omega.{arith}
@@ -50,6 +50,21 @@ module _ (buffer : List ℕ) (at : ℕ) (text : List ℕ) (room : at + length te
         bytes = w .bytes ∙ rw (v .bytes, v .place) (written-then more);
         place = rw (w .place, v .place, length-append) (omega arith);
       }
+
+-- what leaves the buffer as long as it was stands inside it
+pub wrote-inside :
+    (buffer : List ℕ) (at : ℕ) (text after : List ℕ) (place : ℕ) →
+    at ≤ length buffer →
+    length after ≡ length buffer →
+    Wrote buffer at text after place →
+    place ≤ length buffer
+unfolding written
+wrote-inside buffer at text after place h l w =
+    let p = w .place in
+    let e : length after ≡ at + length text + (length buffer - (at + length text)) =
+    ap length (w .bytes) ∙ rw (length-append, length-append, length-take-le at buffer h, length-drop) refl
+    in
+    omega arith
 
 pub wrote-none : (buffer : List ℕ) (at : ℕ) → Wrote buffer at [] buffer at
 unfolding written

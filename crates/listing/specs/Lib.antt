@@ -2,4 +2,5 @@
 pub mod Digits
 pub mod Lines
 pub mod Wrote
+pub mod Fills
 pub mod Examples

@@ -7,6 +7,7 @@ ghost use lib.ListN.{length};
 ghost use Rattle.listing.specs.Digits.{digits};
 ghost use Rattle.listing.specs.Lines.{wordLine, typeLine, cyclesLine, refusedLine, leafText, leafTexts, cycleLine};
 ghost use Rattle.listing.specs.Wrote.{Wrote};
+ghost use Rattle.listing.specs.Fills.{Fillable, Fills};
 
 fn put_byte(buffer: &mut [u8], at: usize, b: u8) -> usize
     requires { ⌜ at < length (now buffer) ⌝ }
@@ -108,4 +109,38 @@ pub fn put_cycle(buffer: &mut [u8], at: usize, k: usize, leaves: &[u8]) -> usize
     let first = put_byte(buffer, colon, b':');
     let end = put_leaves(buffer, first, leaves);
     put_byte(buffer, end, b'\n')
+}
+
+// How far lines were written: so many of them, up to the leaf `next`, and the place after them.
+pub struct Filled {
+    pub count: usize,
+    pub next: usize,
+    pub end: usize,
+}
+
+// The lines of cycles from k on, whose leaves begin at `first`: all that are left, or as many as surely have room.
+pub fn put_lines(
+    buffer: &mut [u8],
+    at: usize,
+    k: usize,
+    w: usize,
+    outputs: &[u8],
+    first: usize,
+) -> Filled
+    requires { ⌜ Fillable (now buffer) at k w (now outputs) first ⌝ }
+    ensures { λ r. ⌜ Fills (now (buffer .entry)) at k w (now (outputs .entry)) first (now (buffer .exit)) (r .count) (r .next) (r .end) ⌝ }
+{
+    let mut count = 0;
+    let mut next = first;
+    let mut end = at;
+    while w <= outputs.len() - next {
+        if buffer.len() - end < 280 {
+            return Filled { count, next, end };
+        }
+        let until = next + w;
+        end = put_cycle(buffer, end, k + count, &outputs[next..until]);
+        count += 1;
+        next = until;
+    }
+    Filled { count, next, end }
 }
