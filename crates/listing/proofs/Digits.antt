@@ -1,7 +1,7 @@
 -- The digits of a number by their equations, an induction over them, and how many there are.
 -- Assumes nothing.
 use Prim.Native.Nat.{ℕ, zero, suc, _+_, _*_, _/_, _%_, _^_, _≤_, _<_}
-use mathlib.Core.Path.{_≡_, refl, sym, ap, subst}
+use mathlib.Core.Path.{_≡_, refl, sym, subst}
 use mathlib.Core.List.{List, [], _∷_, _++_}
 use native.Mathlib.Omega.{arith}
 use native.Mathlib.Nat.{pow-succ'}
@@ -20,7 +20,7 @@ bound-is-free (suc most) zero zero h k = refl
 bound-is-free (suc most) zero (suc n) h k = absurd (omega arith)
 bound-is-free (suc most) (suc more) zero h k = refl
 bound-is-free (suc most) (suc more) (suc n) h k =
-    ap (λ ds. ds ++ (digit (suc n % 10) ∷ [])) (bound-is-free most more (suc n / 10) (omega arith) (omega arith))
+    rw (bound-is-free most more (suc n / 10) (omega arith) (omega arith)) refl
 
 no-digits : (most : ℕ) → digitsWithin most 0 ≡ []
 no-digits zero = refl
@@ -42,7 +42,7 @@ digits-one (suc n) h =
 pub digits-more : (n : ℕ) → 10 ≤ n → digits n ≡ digits (n / 10) ++ (digit (n % 10) ∷ [])
 unfolding digits
 digits-more zero h = absurd (omega arith)
-digits-more (suc n) h = ap (λ ds. ds ++ (digit (suc n % 10) ∷ [])) (within-bound n (suc n / 10) (omega arith) (omega arith))
+digits-more (suc n) h = rw (within-bound n (suc n / 10) (omega arith) (omega arith)) refl
 
 -- what holds of one digit, and still holds with a digit more, holds of all digits
 module _ (P : ℕ → List ℕ → Type 0)

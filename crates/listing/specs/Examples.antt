@@ -1,9 +1,9 @@
--- Worked examples, each by computation: document 01's listing of sheet T on the stimulus 1 2 1, a refusal, a line of two leaves, and
--- some numbers.
+-- Worked examples, each by computation: document 01's listing of sheet T on the stimulus 1 2 1, a refusal, two cycles of two leaves,
+-- and some numbers.
 use mathlib.Core.Path.{_≡_, refl}
 use mathlib.Core.List.{[], _∷_}
 use Rattle.listing.specs.Digits.{digits}
-use Rattle.listing.specs.Lines.{ascii, refusedLine, cycleLine, listing}
+use Rattle.listing.specs.Lines.{ascii, refusedLine, listing}
 
 sheet-T : listing 1 1 (2 ∷ 1 ∷ 1 ∷ []) ≡ ascii "type 1\n0: 2\n1: 1\n2: 1\ncycles 3\n"
 unfolding digits
@@ -13,9 +13,9 @@ no-sheet : refusedLine 12 1 ≡ ascii "refused 12 at 1\n"
 unfolding digits
 no-sheet = refl
 
-two-leaves : cycleLine 65534 (0 ∷ 255 ∷ []) ≡ ascii "65534: 0 255\n"
+two-cycles : listing 3 2 (1 ∷ 2 ∷ 0 ∷ 255 ∷ []) ≡ ascii "type 3\n0: 1 2\n1: 0 255\ncycles 2\n"
 unfolding digits
-two-leaves = refl
+two-cycles = refl
 
 zero-in-decimal : digits 0 ≡ ascii "0"
 unfolding digits
