@@ -1,15 +1,11 @@
--- The digits of a number by their equations, an induction over them, and how many there are.
+-- The digits of a number by their equations, and an induction over them.
 -- Assumes nothing.
-use Prim.Native.Nat.{ℕ, zero, suc, _+_, _*_, _/_, _%_, _^_, _≤_, _<_}
+use Prim.Native.Nat.{ℕ, zero, suc, _+_, _*_, _/_, _%_, _≤_, _<_}
 use mathlib.Core.Path.{_≡_, refl, sym, subst}
 use mathlib.Core.List.{List, [], _∷_, _++_}
 use native.Mathlib.Omega.{arith}
-use native.Mathlib.Nat.{pow-succ'}
 use native.Mathlib.Decide.{decLt}
-use lib.ListN.{length, length-append}
 use Rattle.listing.specs.Digits.{digit, digitsWithin, digits}
-
--- ---- the equations
 
 -- any bound that is large enough gives the same digits
 bound-is-free : (most more n : ℕ) → n ≤ most → n ≤ more → digitsWithin most n ≡ digitsWithin more n
@@ -63,28 +59,3 @@ module _ (P : ℕ → List ℕ → Type 0)
 
   pub by-digits : (n : ℕ) → P n (digits n)
   by-digits n = within n n (omega arith)
-
--- ---- how many
-
-digits-few : (n k : ℕ) → n < 10 ^ suc k → length (digits n) ≤ suc k
-digits-few n k h = by-digits (λ n ds. (k : ℕ) → n < 10 ^ suc k → length ds ≤ suc k) (λ d z k h. omega arith) longer n k h
-  where
-    longer :
-        (n d : ℕ) →
-        0 < n →
-        d < 10 →
-        ((k : ℕ) → n < 10 ^ suc k → length (digits n) ≤ suc k) →
-        (k : ℕ) →
-        10 * n + d < 10 ^ suc k →
-        length (digits n ++ (digit d ∷ [])) ≤ suc k
-    longer n d s z few zero h = absurd (omega arith)
-    longer n d s z few (suc k) h =
-        let p : 10 ^ suc (suc k) ≡ 10 * 10 ^ suc k = pow-succ' 10 (suc k) in
-        let f : length (digits n) ≤ suc k = few k (omega arith) in
-        rw length-append (omega arith)
-
-pub number-few : (n : ℕ) → n < 2 ^ 64 → length (digits n) ≤ 20
-number-few n h = digits-few n 19 (omega arith)
-
-pub byte-few : (n : ℕ) → n < 256 → length (digits n) ≤ 3
-byte-few n h = digits-few n 2 (omega arith)

@@ -11,7 +11,7 @@ use lib.Seq.{drop-drop}
 use Rattle.listing.specs.Lines.{cycleLine, cycleLines}
 use Rattle.listing.specs.Wrote.{Wrote}
 use Rattle.listing.specs.Fills.{Fillable, Filling, Fills, Printed, nothing, piece, Whole}
-use Rattle.listing.proofs.Written.{wrote-none, wrote-then, wrote-long, wrote-inside}
+use Rattle.listing.proofs.Written.{wrote-none, wrote-then}
 
 -- the lines of m cycles and then of n more
 pub lines-join :
@@ -32,75 +32,54 @@ line-more :
     cycleLines w (count + 1) k leaves ≡ cycleLines w count k leaves ++ cycleLine (k + count) (take w (drop (count * w) leaves))
 line-more w count k leaves = lines-join w count 1 k leaves ∙ rw append-nil refl
 
-module _ (buffer : List ℕ) (at k w : ℕ) (outputs : List ℕ) (first : ℕ) (asked : Fillable buffer at k w outputs first) where
+module _ {buffer : List ℕ} {at k w : ℕ} {outputs : List ℕ} {first : ℕ} (asked : Fillable buffer at k w outputs first) where
   pub none-filled : Filling buffer at k w outputs first buffer 0 first at
   none-filled =
       record {
-        wrote = wrote-none buffer at;
+        wrote = wrote-none buffer at (asked .room);
         taken = rw (zero-mul w) (omega arith);
         numbered = let n = asked .numbered in omega arith;
         inside = asked .inside;
-        fits = asked .room;
       }
 
-  module _ (now : List ℕ) (count next end : ℕ) (f : Filling buffer at k w outputs first now count next end) where
-    text : List ℕ
-    text = cycleLines w count k (drop first outputs)
-
-    text-inside : at + length text ≤ length buffer
-    unfolding text
-    text-inside = let p = f .wrote .place in let h = f .fits in omega arith
-
-    pub as-long : length now ≡ length buffer
-    unfolding text
-    as-long = wrote-long buffer at text text-inside now end (f .wrote)
-
-    pub one-filled :
-        (after : List ℕ) (place : ℕ) →
-        w ≤ length outputs - next →
-        length after ≡ length now →
-        Wrote now end (cycleLine (k + count) (take (next + w - next) (drop next outputs))) after place →
-        Filling buffer at k w outputs first after (count + 1) (next + w) place
-    unfolding text
-    one-filled after place left long v =
-        let l = as-long in
-        let i = f .inside in
-        let n = f .numbered in
-        let s = asked .some in
-        let width : next + w - next ≡ w = omega arith in
-        let leaves : drop next outputs ≡ drop (count * w) (drop first outputs) =
-        ap (λ i. drop i outputs) (f .taken) ∙ sym (drop-drop (count * w) first outputs)
-        in
-        let e = f .taken in
-        let m : (count + 1) * w ≡ count * w + w = ap (λ c. c * w) (add-one count) ∙ suc-mul count w in
-        record {
-          wrote = rw (line-more w count k (drop first outputs))
-              (wrote-then buffer at text text-inside
-              (cycleLine (k + count) (take w (drop (count * w) (drop first outputs)))) now after end place (f .wrote)
-              (rw (width, leaves) at v));
-          taken = omega arith;
-          numbered = omega arith;
-          inside = omega arith;
-          fits = let h = wrote-inside now end (cycleLine (k + count) (take (next + w - next) (drop next outputs))) after place (let g = f .fits in omega arith) long v in omega arith;
-        }
+  pub one-filled :
+      {now after : List ℕ} {count next end place : ℕ} →
+      Filling buffer at k w outputs first now count next end →
+      w ≤ length outputs - next →
+      Wrote now end (cycleLine (k + count) (take (next + w - next) (drop next outputs))) after place →
+      Filling buffer at k w outputs first after (count + 1) (next + w) place
+  one-filled {count = count} {next = next} f left v =
+      let i = f .inside in
+      let n = f .numbered in
+      let s = asked .some in
+      let e = f .taken in
+      let m : (count + 1) * w ≡ count * w + w = ap (λ c. c * w) (add-one count) ∙ suc-mul count w in
+      let width : next + w - next ≡ w = omega arith in
+      let leaves : drop next outputs ≡ drop (count * w) (drop first outputs) =
+      ap (λ i. drop i outputs) e ∙ sym (drop-drop (count * w) first outputs)
+      in
+      record {
+        wrote = rw (line-more w count k (drop first outputs)) (wrote-then (f .wrote) (rw (width, leaves) at v));
+        taken = omega arith;
+        numbered = omega arith;
+        inside = omega arith;
+      }
 
 -- where a line surely has room and a cycle is left, lines are written
 pub filled-some :
-    (buffer : List ℕ) (at k w : ℕ) (outputs : List ℕ) (first : ℕ) (after : List ℕ) (count next end : ℕ) →
+    {buffer : List ℕ} {at k w : ℕ} {outputs : List ℕ} {first : ℕ} {after : List ℕ} (count : ℕ) {next end : ℕ} →
+    Fills buffer at k w outputs first after count next end →
     0 < w →
     at + 280 ≤ length buffer →
     first + w ≤ length outputs →
-    Fills buffer at k w outputs first after count next end →
     first < next
-filled-some buffer at k w outputs first after zero next end s room left f =
-    let e : next ≡ first = f .lines .taken ∙ rw (zero-mul w) (omega arith) in
-    let p : end ≡ at = f .lines .wrote .place ∙ omega arith in
+filled-some {w = w} zero f some room left =
+    let e = f .lines .taken in
+    let z = zero-mul w in
+    let p = f .lines .wrote .place in
     let h = f .full (omega arith) in
     absurd (omega arith)
-filled-some buffer at k w outputs first after (suc count) next end s room left f =
-    let e = f .lines .taken in
-    let m = suc-mul count w in
-    omega arith
+filled-some {w = w} (suc count) f some room left = let e = f .lines .taken in let m = suc-mul count w in omega arith
 
 -- what is printed are the lines of the first k cycles
 printed-lines :

@@ -35,51 +35,42 @@ module _ {texts : List ℕ → List ℕ} {item : ℕ → List ℕ} (each : Each 
   one-text : (x : ℕ) → texts (x ∷ []) ≡ item x
   one-text x = each .more x [] ∙ rw (each .none, append-nil) refl
 
-  module _ (buffer : List ℕ) (at : ℕ) (items : List ℕ) (room : at + length (texts items) ≤ length buffer) where
-    next-text : (i : ℕ) → i < length items → texts (take (suc i) items) ≡ texts (take i items) ++ item (getD items i 0)
-    next-text i h = rw (take-suc items i 0 h, texts-append, one-text) refl
+  module _ (items : List ℕ) (i : ℕ) where
+    next-text : i < length items → texts (take (suc i) items) ≡ texts (take i items) ++ item (getD items i 0)
+    next-text h = rw (take-suc items i 0 h, texts-append, one-text) refl
 
-    front-short : (i : ℕ) → length (texts (take i items)) ≤ length (texts items)
-    front-short i =
-        let e : length (texts items) ≡ length (texts (take i items)) + length (texts (drop i items)) =
+    front-short : length (texts (take i items)) ≤ length (texts items)
+    front-short =
+        let e =
         ap (λ l. length (texts l)) (sym (take-append-drop i items))
         ∙ ap length (texts-append (take i items) (drop i items))
         ∙ length-append (texts (take i items)) (texts (drop i items))
         in
         omega arith
 
-    pub begin : Begun texts buffer at items 0 buffer at
-    begin = record { few = omega arith; so-far = rw (each .none) (wrote-none buffer at) }
+  pub begin : (buffer : List ℕ) (at : ℕ) (items : List ℕ) → at ≤ length buffer → Begun texts buffer at items 0 buffer at
+  begin buffer at items h = record { few = omega arith; so-far = rw (each .none) (wrote-none buffer at h) }
 
-    module _ (i : ℕ) (now : List ℕ) (place : ℕ) (b : Begun texts buffer at items i now place) where
-      pub as-long : length now ≡ length buffer
-      as-long = let f = front-short i in wrote-long buffer at (texts (take i items)) (omega arith) now place (b .so-far)
+  module _ {buffer : List ℕ} {at : ℕ} {items : List ℕ} {i : ℕ} {now : List ℕ} {place : ℕ} (b : Begun texts buffer at items i now place) where
+    pub next-room :
+        at + length (texts items) ≤ length buffer → i < length items → place + length (item (getD items i 0)) ≤ length now
+    next-room room h =
+        let f = front-short items (suc i) in
+        let l = wrote-long (b .so-far) in
+        let p = b .so-far .place in
+        let e = ap length (next-text items i h) ∙ length-append (texts (take i items)) (item (getD items i 0)) in
+        omega arith
 
-      pub next-room : i < length items → place + length (item (getD items i 0)) ≤ length now
-      next-room h =
-          let f = front-short (suc i) in
-          let l = as-long in
-          let p = b .so-far .place in
-          let e : length (texts (take (suc i) items)) ≡ length (texts (take i items)) + length (item (getD items i 0)) =
-          ap length (next-text i h) ∙ length-append (texts (take i items)) (item (getD items i 0))
-          in
-          omega arith
+    pub next-item :
+        {after : List ℕ} {end : ℕ} →
+        i < length items →
+        Wrote now place (item (getD items i 0)) after end →
+        Begun texts buffer at items (i + 1) after end
+    next-item h w =
+        record { few = omega arith; so-far = rw (add-one i, next-text items i h) (wrote-then (b .so-far) w) }
 
-      pub next-item :
-          (after : List ℕ) (end : ℕ) →
-          i < length items →
-          Wrote now place (item (getD items i 0)) after end →
-          Begun texts buffer at items (i + 1) after end
-      next-item after end h w =
-          let f = front-short i in
-          record {
-            few = omega arith;
-            so-far = rw (add-one i, next-text i h)
-                (wrote-then buffer at (texts (take i items)) (omega arith) (item (getD items i 0)) now after place end (b .so-far) w);
-          }
-
-      pub all-written : length items ≤ i → Wrote buffer at (texts items) now place
-      all-written h =
-          let few = b .few in
-          let e : i ≡ length items = omega arith in
-          rw (e, take-length items) at (b .so-far)
+    pub all-written : length items ≤ i → Wrote buffer at (texts items) now place
+    all-written h =
+        let few = b .few in
+        let e : i ≡ length items = omega arith in
+        rw (e, take-length items) at (b .so-far)

@@ -22,21 +22,18 @@ module _ (size at n : ℕ) (room : at + length (digits n) ≤ size) where
       in
       omega arith
 
-module _ (buffer : List ℕ) (at n : ℕ) (room : at + length (digits n) ≤ length buffer) where
+module _ {buffer : List ℕ} {at : ℕ} (n : ℕ) where
   pub one-digit :
-      (after : List ℕ) (place : ℕ) →
+      {after : List ℕ} {place : ℕ} →
       n < 10 →
       Wrote buffer at (digit (n % 10) ∷ []) after place →
       Wrote buffer at (digits n) after place
-  one-digit after place h w = let e : n % 10 ≡ n = omega arith in rw (digits-one n h) (rw e at w)
+  one-digit h w = let e : n % 10 ≡ n = omega arith in rw (digits-one n h) (rw e at w)
 
   pub last-digit :
-      (between after : List ℕ) (middle place : ℕ) →
+      {between after : List ℕ} {middle place : ℕ} →
       10 ≤ n →
       Wrote buffer at (digits (n / 10)) between middle →
       Wrote between middle (digit (n % 10) ∷ []) after place →
       Wrote buffer at (digits n) after place
-  last-digit between after middle place h v w =
-      let f = front-room (length buffer) at n room h in
-      rw (digits-more n h)
-      (wrote-then buffer at (digits (n / 10)) (omega arith) (digit (n % 10) ∷ []) between after middle place v w)
+  last-digit h v w = rw (digits-more n h) (wrote-then v w)

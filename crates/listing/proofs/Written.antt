@@ -1,6 +1,6 @@
 -- Texts written one after the other are their concatenation, written at once; a byte is a text.
 -- Assumes nothing.
-use Prim.Native.Nat.{ℕ, _+_, _-_, _≤_, _<_}
+use Prim.Native.Nat.{ℕ, _+_, _≤_, _<_}
 use mathlib.Core.Path.{_≡_, refl, sym, ap, _∙_}
 use mathlib.Core.List.{List, [], _∷_, _++_, append-assoc, append-nil}
 use native.Mathlib.Omega.{arith}
@@ -15,12 +15,12 @@ module _ (buffer : List ℕ) (at : ℕ) (text : List ℕ) (room : at + length te
   head-length : length (take at buffer ++ text) ≡ at + length text
   head-length = rw (length-append, length-take-le at buffer (omega arith)) refl
 
-  pub written-length : length (written buffer at text) ≡ length buffer
+  written-length : length (written buffer at text) ≡ length buffer
   unfolding written
   written-length =
       rw (length-append, head-length, length-drop) (omega arith)
 
-  pub written-then :
+  written-then :
       (more : List ℕ) →
       written (written buffer at text) (at + length text) more ≡ written buffer at (text ++ more)
   unfolding written
@@ -37,41 +37,29 @@ module _ (buffer : List ℕ) (at : ℕ) (text : List ℕ) (room : at + length te
       let far : at + length (text ++ more) ≡ end + length more = rw length-append (omega arith) in
       rw (front, back, far, append-assoc (take at buffer) text more) refl
 
-  pub wrote-long : (after : List ℕ) (place : ℕ) → Wrote buffer at text after place → length after ≡ length buffer
-  wrote-long after place w = rw (w .bytes) written-length
+module _ {buffer : List ℕ} {at : ℕ} {text after : List ℕ} {place : ℕ} (w : Wrote buffer at text after place) where
+  wrote-room : at + length text ≤ length buffer
+  wrote-room = let p = w .place in let i = w .inside in omega arith
+
+  pub wrote-long : length after ≡ length buffer
+  wrote-long = rw (w .bytes) (written-length buffer at text wrote-room)
 
   pub wrote-then :
-      (more between after : List ℕ) (middle place : ℕ) →
-      Wrote buffer at text between middle →
-      Wrote between middle more after place →
-      Wrote buffer at (text ++ more) after place
-  wrote-then more between after middle place v w =
+      {more final : List ℕ} {end : ℕ} → Wrote after place more final end → Wrote buffer at (text ++ more) final end
+  wrote-then {more} v =
       record {
-        bytes = w .bytes ∙ rw (v .bytes, v .place) (written-then more);
-        place = rw (w .place, v .place, length-append) (omega arith);
+        bytes = v .bytes ∙ rw (w .bytes, w .place) (written-then buffer at text wrote-room more);
+        place = rw (v .place, w .place, length-append) (omega arith);
+        inside = let i = v .inside in let l = wrote-long in omega arith;
       }
 
--- what leaves the buffer as long as it was stands inside it
-pub wrote-inside :
-    (buffer : List ℕ) (at : ℕ) (text after : List ℕ) (place : ℕ) →
-    at ≤ length buffer →
-    length after ≡ length buffer →
-    Wrote buffer at text after place →
-    place ≤ length buffer
+pub wrote-none : (buffer : List ℕ) (at : ℕ) → at ≤ length buffer → Wrote buffer at [] buffer at
 unfolding written
-wrote-inside buffer at text after place h l w =
-    let p = w .place in
-    let e : length after ≡ at + length text + (length buffer - (at + length text)) =
-    ap length (w .bytes) ∙ rw (length-append, length-append, length-take-le at buffer h, length-drop) refl
-    in
-    omega arith
-
-pub wrote-none : (buffer : List ℕ) (at : ℕ) → Wrote buffer at [] buffer at
-unfolding written
-wrote-none buffer at =
+wrote-none buffer at h =
     record {
       bytes = rw (add-zero, append-nil) (sym (take-append-drop at buffer));
       place = omega arith;
+      inside = h;
     }
 
 pub wrote-byte : (buffer : List ℕ) (at b : ℕ) → at < length buffer → Wrote buffer at (b ∷ []) (set buffer at b) (at + 1)
@@ -80,4 +68,5 @@ wrote-byte buffer at b h =
     record {
       bytes = rw (add-one at, append-snoc) (set-split buffer at b h);
       place = refl;
+      inside = omega arith;
     }

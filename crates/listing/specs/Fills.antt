@@ -21,7 +21,6 @@ pub record Filling (buffer : List ℕ) (at k w : ℕ) (outputs : List ℕ) (firs
   pub taken : next ≡ first + count * w
   pub numbered : k + count ≤ next
   pub inside : next ≤ length outputs
-  pub fits : end ≤ length buffer
 
 -- what is given: it stops only where no cycle is left or a line might not fit
 pub record Fills (buffer : List ℕ) (at k w : ℕ) (outputs : List ℕ) (first : ℕ) (after : List ℕ) (count next end : ℕ) : Type 0 where

@@ -1,5 +1,5 @@
 -- What a function that writes a text to a lent buffer gives.
-use Prim.Native.Nat.{ℕ, _+_}
+use Prim.Native.Nat.{ℕ, _+_, _≤_}
 use mathlib.Core.Path.{_≡_}
 use mathlib.Core.List.{List, _++_}
 use lib.ListN.{length, take, drop}
@@ -8,7 +8,8 @@ use lib.ListN.{length, take, drop}
 unfoldable pub written : (buffer : List ℕ) (at : ℕ) (text : List ℕ) → List ℕ
 written buffer at text = take at buffer ++ text ++ drop (at + length text) buffer
 
--- the text is written at the place, and the result is the place after it
+-- the text stands at the place, and the result is the place after it, inside the buffer
 pub record Wrote (buffer : List ℕ) (at : ℕ) (text after : List ℕ) (result : ℕ) : Type 0 where
   pub bytes : after ≡ written buffer at text
   pub place : result ≡ at + length text
+  pub inside : result ≤ length buffer

@@ -37,7 +37,7 @@ same-length : (t : ℕ) → put-number-lts.Need-same-length (claims t) (put-numb
 same-length t c = search needs
 
 returns : (t : ℕ) → put-number-lts.Need-returns (claims t) (put-number-at t) put-number.Post
-returns t c = one-digit _ _ _ (c .before .before .before .before .before .before .pre .1) _ _ (c .before .before .before .before .if1 .taken) (c .before .before .put-byte .ensures)
+returns t c = one-digit _ (c .before .before .before .before .if1 .taken) (c .before .before .put-byte .ensures)
 
 put-number-requires : (t : ℕ) → put-number-lts.Need-put-number-requires (claims t) (put-number-at t) put-number.Post
 put-number-requires t c κs =
@@ -55,7 +55,7 @@ same-length-2 t c = search needs
 
 returns-2 : (t : ℕ) → put-number-lts.Need-returns-2 (claims t) (put-number-at t) put-number.Post
 returns-2 t c =
-    last-digit _ _ _ (c .before .before .before .before .before .before .before .before .before .before .pre .1) _ _ _ _ (c .before .before .before .before .before .before .before .before .if1 .left) (c .before .before .before .before .before .before .put-number .ensures) (c .before .before .put-byte2 .ensures)
+    last-digit _ (c .before .before .before .before .before .before .before .before .if1 .left) (c .before .before .before .before .before .before .put-number .ensures) (c .before .before .put-byte2 .ensures)
 
 pub +put-number-spec : {M : Type 1} → statement M
 +put-number-spec = close μ-put-number λ t. put-number-lts.spec (claims t)

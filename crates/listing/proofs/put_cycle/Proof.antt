@@ -1,8 +1,8 @@
 -- The cycle's number, a colon, the leaves, of which there are at most 64 of at most 4 bytes, and the line's end. Assumes nothing.
 use borrow.Author.Needs.{needs}
 use native.Mathlib.Omega.{arith}
-use Rattle.listing.proofs.Digits.{number-few}
-use Rattle.listing.proofs.Lines.{leaf-texts-short, cycle-line}
+use Rattle.listing.proofs.Lengths.{number-few, leaf-texts-short}
+use Rattle.listing.proofs.Written.{wrote-then}
 use Rattle.listing.proofs.put_cycle.Statement.{statement}
 use Rattle.listing.proofs.put_cycle.Tie as tie
 
@@ -45,7 +45,7 @@ same-length c = search needs
 
 returns : tie.Need-returns
 returns c =
-    cycle-line _ _ _ (c .before .before .before .before .before .before .before .before .before .before .before .before .before .before .before .before .before .before .args .leaves .now) (c .before .before .before .before .before .before .before .before .before .before .before .before .before .before .before .before .before .before .fits .k .fits) (λ i. c .before .before .before .before .before .before .before .before .before .before .before .before .before .before .before .before .shared-slice-known .given i .fits) (c .before .before .before .before .before .before .before .before .before .before .before .before .before .before .before .before .before .before .pre .0) (c .before .before .before .before .before .before .before .before .before .before .before .before .before .before .before .before .before .before .pre .1) _ _ _ _ _ _ _ _ (c .before .before .before .before .before .before .before .before .before .before .before .before .before .before .put-number .ensures) (c .before .before .before .before .before .before .before .before .before .before .put-byte .ensures) (c .before .before .before .before .before .before .put-leaves .ensures) (c .before .before .put-byte2 .ensures)
+    wrote-then (wrote-then (wrote-then (c .before .before .before .before .before .before .before .before .before .before .before .before .before .before .put-number .ensures) (c .before .before .before .before .before .before .before .before .before .before .put-byte .ensures)) (c .before .before .before .before .before .before .put-leaves .ensures)) (c .before .before .put-byte2 .ensures)
 
 pub put-cycle-spec : {M : Type 1} → statement M
 put-cycle-spec =

@@ -4,7 +4,8 @@ use Prim.Native.Nat.{_-_}
 use native.Mathlib.Omega.{arith}
 use lib.ListN.{length}
 use Rattle.listing.specs.Lines.{leafTexts}
-use Rattle.listing.proofs.Items.{Begun, each-leaf, begin, as-long, next-room, next-item, all-written}
+use Rattle.listing.proofs.Written.{wrote-long}
+use Rattle.listing.proofs.Items.{Begun, each-leaf, begin, next-room, next-item, all-written}
 use Rattle.listing.proofs.put_leaves.Statement.{statement}
 use Rattle.listing.proofs.put_leaves.Tie as tie
 
@@ -15,16 +16,14 @@ abbrev μ-loop : tie.MeasureT-loop
 μ-loop buffer₀ at leaves place₀ i₀ buffer place i = length leaves - i
 
 loop-holds : tie.Need-loop-holds Inv-loop μ-loop
-loop-holds c = begin each-leaf _ _ _ (c .before .before .pre)
+loop-holds c = begin each-leaf _ _ _ (search needs)
 
 shared-slice-read-put-leaf : tie.Need-shared-slice-read-put-leaf Inv-loop μ-loop
 shared-slice-read-put-leaf c = search needs
 
 put-leaf-requires : tie.Need-put-leaf-requires Inv-loop μ-loop
 put-leaf-requires c κs =
-    let room = c .before .before .before .before .before .before .pre in
-    let next = next-room each-leaf _ _ _ room _ _ _ (c .before .before .before .loop .inv) (c .before .before .loop-test .taken) in
-    omega arith
+    let next = next-room each-leaf (c .before .before .before .loop .inv) (c .before .before .before .before .before .before .pre) (c .before .before .loop-test .taken) in omega arith
 
 add-i : tie.Need-add-i Inv-loop μ-loop
 add-i c = search needs
@@ -33,14 +32,13 @@ loop-less : tie.Need-loop-less Inv-loop μ-loop
 loop-less c = search needs
 
 loop-again : tie.Need-loop-again Inv-loop μ-loop
-loop-again c =
-    next-item each-leaf _ _ _ (c .before .before .before .before .before .before .before .before .before .pre) _ _ _ (c .before .before .before .before .before .before .loop .inv) _ _ (c .before .before .before .before .before .loop-test .taken) (c .before .before .put-leaf .ensures)
+loop-again c = next-item each-leaf (c .before .before .before .before .before .before .loop .inv) (c .before .before .before .before .before .loop-test .taken) (c .before .before .put-leaf .ensures)
 
 same-length : tie.Need-same-length Inv-loop μ-loop
-same-length c = as-long each-leaf _ _ _ (c .before .before .before .before .pre) _ _ _ (c .before .loop .inv)
+same-length c = wrote-long (c .before .loop .inv .so-far)
 
 returns : tie.Need-returns Inv-loop μ-loop
-returns c = all-written each-leaf _ _ _ (c .before .before .before .before .pre) _ _ _ (c .before .loop .inv) (c .loop-test .left)
+returns c = all-written each-leaf (c .before .loop .inv) (c .loop-test .left)
 
 pub put-leaves-spec : {M : Type 1} → statement M
 put-leaves-spec =

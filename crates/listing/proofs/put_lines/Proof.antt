@@ -5,7 +5,8 @@ use Prim.Native.Nat.{_-_}
 use native.Mathlib.Omega.{arith}
 use lib.ListN.{length, length-take}
 use Rattle.listing.specs.Fills.{Filling}
-use Rattle.listing.proofs.Filling.{none-filled, as-long, one-filled}
+use Rattle.listing.proofs.Filling.{none-filled, one-filled}
+use Rattle.listing.proofs.Written.{wrote-long}
 use Rattle.listing.proofs.put_lines.Statement.{statement}
 use Rattle.listing.proofs.put_lines.Tie as tie
 
@@ -17,21 +18,21 @@ abbrev μ-loop : tie.MeasureT-loop
 μ-loop buffer₀ at k w outputs first count₀ next₀ end₀ buffer count next end = length outputs - next
 
 loop-holds : tie.Need-loop-holds Inv-loop μ-loop
-loop-holds c = none-filled _ _ _ _ _ _ (c .before .before .pre)
+loop-holds c = none-filled (c .before .before .pre)
 
 sub-loop : tie.Need-sub-loop Inv-loop μ-loop
 sub-loop c = search needs
 
 sub-if1 : tie.Need-sub-if1 Inv-loop μ-loop
-sub-if1 c = let l = as-long _ _ _ _ _ _ (c .before .before .before .before .pre) _ _ _ _ (c .before .loop .inv) in let h = c .before .loop .inv .fits in omega arith
+sub-if1 c = let l = wrote-long (c .before .loop .inv .wrote) in let h = c .before .loop .inv .wrote .inside in omega arith
 
 same-length : tie.Need-same-length Inv-loop μ-loop
-same-length c = as-long _ _ _ _ _ _ (c .before .before .before .before .before .pre) _ _ _ _ (c .before .before .loop .inv)
+same-length c = wrote-long (c .before .before .loop .inv .wrote)
 
 returns : tie.Need-returns Inv-loop μ-loop
 returns c =
-    let l = as-long _ _ _ _ _ _ (c .before .before .before .before .before .pre) _ _ _ _ (c .before .before .loop .inv) in
-    let h = c .before .before .loop .inv .fits in
+    let l = wrote-long (c .before .before .loop .inv .wrote) in
+    let h = c .before .before .loop .inv .wrote .inside in
     record { lines = c .before .before .loop .inv; full = λ left. omega arith }
 
 add-until : tie.Need-add-until Inv-loop μ-loop
@@ -52,9 +53,9 @@ part-put-cycle-end c = search needs
 put-cycle-requires : tie.Need-put-cycle-requires Inv-loop μ-loop
 put-cycle-requires c κs =
     let few = c .before .before .before .before .before .before .before .pre .few in
-    let long = as-long _ _ _ _ _ _ (c .before .before .before .before .before .before .before .pre) _ _ _ _ (c .before .before .before .before .loop .inv) in
+    let long = wrote-long (c .before .before .before .before .loop .inv .wrote) in
     let room = c .before .before .if1 .left in
-    let fits = c .before .before .before .before .loop .inv .fits in
+    let fits = c .before .before .before .before .loop .inv .wrote .inside in
     (omega arith, rw length-take (omega arith))
 
 add-count : tie.Need-add-count Inv-loop μ-loop
@@ -65,10 +66,10 @@ loop-less c = search needs
 
 loop-again : tie.Need-loop-again Inv-loop μ-loop
 loop-again c =
-    one-filled _ _ _ _ _ _ (c .before .before .before .before .before .before .before .before .before .before .pre) _ _ _ _ (c .before .before .before .before .before .before .before .loop .inv) _ _ (c .before .before .before .before .before .before .loop-test .taken) (c .before .before .put-cycle .kept .0) (c .before .before .put-cycle .ensures)
+    one-filled (c .before .before .before .before .before .before .before .before .before .before .pre) (c .before .before .before .before .before .before .before .loop .inv) (c .before .before .before .before .before .before .loop-test .taken) (c .before .before .put-cycle .ensures)
 
 same-length-2 : tie.Need-same-length-2 Inv-loop μ-loop
-same-length-2 c = as-long _ _ _ _ _ _ (c .before .before .before .before .pre) _ _ _ _ (c .before .loop .inv)
+same-length-2 c = wrote-long (c .before .loop .inv .wrote)
 
 returns-2 : tie.Need-returns-2 Inv-loop μ-loop
 returns-2 c = record { lines = c .before .loop .inv; full = λ left. absurd (omega arith) }

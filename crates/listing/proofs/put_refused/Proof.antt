@@ -1,8 +1,8 @@
 -- The word, the code, and then the place as the end of a line. Assumes nothing.
 use borrow.Author.Needs.{needs}
 use native.Mathlib.Omega.{arith}
-use Rattle.listing.proofs.Digits.{number-few}
-use Rattle.listing.proofs.Lines.{refused-line}
+use Rattle.listing.proofs.Lengths.{number-few}
+use Rattle.listing.proofs.Written.{wrote-then}
 use Rattle.listing.proofs.put_refused.Statement.{statement}
 use Rattle.listing.proofs.put_refused.Tie as tie
 
@@ -36,7 +36,7 @@ same-length c = search needs
 
 returns : tie.Need-returns
 returns c =
-    refused-line _ _ _ _ (c .before .before .before .before .before .before .before .before .before .before .before .before .before .before .before .fits .code .fits) (c .before .before .before .before .before .before .before .before .before .before .before .before .before .before .before .pre) _ _ _ _ _ _ (c .before .before .before .before .before .before .before .before .before .before .before .put-text .ensures) (c .before .before .before .before .before .before .before .put-number .ensures) (c .before .before .put-word-line .ensures)
+    wrote-then (wrote-then (c .before .before .before .before .before .before .before .before .before .before .before .put-text .ensures) (c .before .before .before .before .before .before .before .put-number .ensures)) (c .before .before .put-word-line .ensures)
 
 pub put-refused-spec : {M : Type 1} → statement M
 put-refused-spec =

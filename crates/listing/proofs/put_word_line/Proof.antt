@@ -1,8 +1,8 @@
 -- A word, the digits of a number, of which there are at most 20, and the line's end. Assumes nothing.
 use borrow.Author.Needs.{needs}
 use native.Mathlib.Omega.{arith}
-use Rattle.listing.proofs.Digits.{number-few}
-use Rattle.listing.proofs.Lines.{word-line}
+use Rattle.listing.proofs.Lengths.{number-few}
+use Rattle.listing.proofs.Written.{wrote-then}
 use Rattle.listing.proofs.put_word_line.Statement.{statement}
 use Rattle.listing.proofs.put_word_line.Tie as tie
 
@@ -29,8 +29,7 @@ same-length : tie.Need-same-length
 same-length c = search needs
 
 returns : tie.Need-returns
-returns c =
-    word-line _ _ _ _ (c .before .before .before .before .before .before .before .before .before .before .before .before .before .before .fits .n .fits) (c .before .before .before .before .before .before .before .before .before .before .before .before .before .before .pre) _ _ _ _ _ _ (c .before .before .before .before .before .before .before .before .before .before .put-text .ensures) (c .before .before .before .before .before .before .put-number .ensures) (c .before .before .put-byte .ensures)
+returns c = wrote-then (wrote-then (c .before .before .before .before .before .before .before .before .before .before .put-text .ensures) (c .before .before .before .before .before .before .put-number .ensures)) (c .before .before .put-byte .ensures)
 
 pub put-word-line-spec : {M : Type 1} → statement M
 put-word-line-spec = tie.close (tie.spec put-text-requires put-number-requires put-byte-requires same-length returns)
