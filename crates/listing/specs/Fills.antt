@@ -12,6 +12,7 @@ pub record Fillable (buffer : List ℕ) (at k w : ℕ) (outputs : List ℕ) (fir
   pub room : at ≤ length buffer
   pub some : 0 < w
   pub few : w ≤ 64
+  -- every cycle has a leaf, so a cycle's number fits where a leaf's place does
   pub numbered : k ≤ first
   pub inside : first ≤ length outputs
 
