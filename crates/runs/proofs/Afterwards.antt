@@ -47,7 +47,7 @@ use Rattle.runs.proofs.Run.{
 }
 use Rattle.runs.proofs.Feedbacks.{feedback-kind, feedback-at}
 
-all-at : {τ : Ty} {vs : List (List ℕ)} → AllOf τ vs → (k : ℕ) → k < length vs → OfType τ (getD vs k [])
+pub all-at : {τ : Ty} {vs : List (List ℕ)} → AllOf τ vs → (k : ℕ) → k < length vs → OfType τ (getD vs k [])
 all-at all-none k h = absurd (omega arith)
 all-at (all-more h r) zero b = h
 all-at (all-more h r) (suc k) b = all-at r k (omega arith)
@@ -120,6 +120,8 @@ module _ (s stim out next : List ℕ) (t : ℕ) (h : WellFormed s stim out next 
     bytes = λ b k c.
         sheet-bytes undefinedLeaves undefined-lawful s t (h .accepted) (cycles s stim) inputs-typed b k;
     last = next-is ∙ sym (sheet-last undefinedLeaves s (cycles s stim)) ∙ ap sheet (cycles-counted s stim);
+    equals-first = rw (next-is, ← sheet-last undefinedLeaves s (cycles s stim))
+        (sheet-only-delays undefinedLeaves undefined-lawful s t (h .accepted) (cycles s stim) inputs-typed (length (cycles s stim)));
     outputs = λ k b. output-part k b
         ∙ output-at undefinedLeaves s (cycles s stim) k (in-list k b)
         ∙ ap (output (sheet k)) (cycle-at s stim k b);

@@ -91,6 +91,8 @@ pub record Afterwards (sheet stimulus : List ℕ) (t result : ℕ) (out next : L
   pub only-delays : (k : ℕ) → k < cycleCount sheet stimulus → OnlyDelays (sheets k) (sheets (suc k))
   pub bytes : Bytes sheet → (k : ℕ) → k ≤ cycleCount sheet stimulus → Bytes (sheets k)
   pub last : next ≡ sheets (cycleCount sheet stimulus)
+  -- which "equals the first in every byte but those of the values that delays hold"
+  pub equals-first : OnlyDelays sheet next
   -- each cycle's leaves in the output slice are the root's value for the sheet it begins from and its input
   pub outputs : (k : ℕ) → k < cycleCount sheet stimulus
       → outputIn sheet t out k ≡ output (sheets k) (inputOf sheet stimulus k)

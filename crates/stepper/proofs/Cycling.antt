@@ -38,7 +38,7 @@ use Rattle.cycles.specs.Cycle.{output, after, afterBy}
 use Rattle.cycles.specs.Evaluated.{valueAt, storedAt}
 use Rattle.cycles.proofs.Evaluated.{root-value, root-stored}
 use Rattle.cycles.proofs.Cycle.{cycle-writable}
-use Rattle.cycles.proofs.Stores.{leaves-in-table}
+use Rattle.cycles.proofs.Stores.{leaves-in-table, store-length}
 use Rattle.cycles.proofs.DelayRecords.{write-copied-chains}
 use Rattle.values.specs.Slots.{slot, entered, frames}
 use Rattle.evaluator.specs.Evaluating.{Ready, Done, Evaluates}
@@ -133,7 +133,7 @@ module _ (s : List ℕ) (n : ℕ) (W env held input current out : List ℕ) (g :
         (cycle-writable undefinedLeaves undefined-lawful current (g .type) (g .again) input input-typed) held room
 
     pub cycle-done : (env₂ held₁ o₁ : List ℕ) → Evaluates current n W env₁ 1 x held out env₂ held₁ o₁
-        → (current′ : List ℕ) → current′ ≡ copied held₁ (delayChains s n) current → Cycled input current current′ o₁
+        → (current′ : List ℕ) → current′ ≡ copied held₁ (delayChains s n) current → Cycled input current env₂ held₁ current′ o₁
     cycle-done env₂ held₁ o₁ p current′ c =
         let d = p .done (inputs current) root-ready in
         let v : o₁ ≡ valueAt undefinedLeaves current (inputs current) (input ∷ []) (wordB current 0) = rw (framed, at-root) at (d .value) in
@@ -141,6 +141,8 @@ module _ (s : List ℕ) (n : ℕ) (W env held input current out : List ℕ) (g :
         rw (framed, at-root) at (d .stored) ∙ sym (root-stored undefinedLeaves current input held) in
         let counted : n ≡ count current = sized-again s current o n (g .sized) .counted in
         record {
+          wide = d .wide;
+          long = rw h (store-length (next undefinedLeaves (input ∷ []) (circuitTerm current)) held ∙ g .long);
           value = v ∙ sym (root-value undefinedLeaves current input);
           next =
               c

@@ -36,7 +36,9 @@ pub record Cycling (first : List ℕ) (n : ℕ) (widths env held input current o
   pub typed : OfType (typeAt first (wordA first 0)) input
   pub room : length out ≡ leaves (typeAt first type)
 
--- and this is what comes of it
-pub record Cycled (input current current′ out′ : List ℕ) : Type 0 where
+-- and this is what comes of it; the room stays as long as it was
+pub record Cycled (input current env′ held′ current′ out′ : List ℕ) : Type 0 where
   pub value : out′ ≡ output current input
   pub next : current′ ≡ after current input
+  pub wide : length env′ ≡ 4096
+  pub long : length held′ ≡ 4096

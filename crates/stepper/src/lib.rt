@@ -61,7 +61,7 @@ pub fn cycle(
     out: &mut [u8],
 )
     requires { ⌜ Cycling (now sheet) n (now widths) (now env) (now held) (now input) (now current) (now out) ⌝ }
-    ensures { λ _. ⌜ Cycled (now (input .entry)) (now (current .entry)) (now (current .exit)) (now (out .exit)) ⌝ }
+    ensures { λ _. ⌜ Cycled (now (input .entry)) (now (current .entry)) (now (env .exit)) (now (held .exit)) (now (current .exit)) (now (out .exit)) ⌝ }
 {
     enter_value(env, 0, input);
     let root = word(sheet, n, 0, 3);

@@ -198,7 +198,7 @@ pub fn check_into(sheet: &[u8], table: &mut [u8; 4096]) -> Verdict
 }
 
 // Both numbers of a verdict in one.
-fn packed(v: Verdict) -> u64
+pub fn packed(v: Verdict) -> u64
     requires { ⌜ place v < 4294967296 ⌝ }
     ensures { λ r. ⌜ r ≡ packed v ⌝ }
 {

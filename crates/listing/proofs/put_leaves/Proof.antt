@@ -1,0 +1,56 @@
+-- The invariant: the leaves before the one at hand are written. Assumes nothing.
+use borrow.Author.Needs.{needs}
+use Prim.Native.Nat.{_-_}
+use native.Mathlib.Omega.{arith}
+use lib.ListN.{length}
+use Rattle.listing.specs.Lines.{leafTexts}
+use Rattle.listing.proofs.Written.{wrote-long}
+use Rattle.listing.proofs.Items.{Begun, each-leaf, begin, next-room, next-item, all-written}
+use Rattle.listing.proofs.put_leaves.Statement.{statement}
+use Rattle.listing.proofs.put_leaves.Tie as tie
+
+abbrev Inv-loop : tie.InvT-loop
+Inv-loop buffer₀ at leaves place₀ i₀ buffer place i = Begun leafTexts buffer₀ at leaves i buffer place
+
+abbrev μ-loop : tie.MeasureT-loop
+μ-loop buffer₀ at leaves place₀ i₀ buffer place i = length leaves - i
+
+loop-holds : tie.Need-loop-holds Inv-loop μ-loop
+loop-holds c = begin each-leaf _ _ _ (search needs)
+
+shared-slice-read-put-leaf : tie.Need-shared-slice-read-put-leaf Inv-loop μ-loop
+shared-slice-read-put-leaf c = search needs
+
+put-leaf-requires : tie.Need-put-leaf-requires Inv-loop μ-loop
+put-leaf-requires c κs =
+    let next = next-room each-leaf (c .before .before .before .loop .inv) (c .before .before .before .before .before .before .pre) (c .before .before .loop-test .taken) in omega arith
+
+add-i : tie.Need-add-i Inv-loop μ-loop
+add-i c = search needs
+
+loop-less : tie.Need-loop-less Inv-loop μ-loop
+loop-less c = search needs
+
+loop-again : tie.Need-loop-again Inv-loop μ-loop
+loop-again c = next-item each-leaf (c .before .before .before .before .before .before .loop .inv) (c .before .before .before .before .before .loop-test .taken) (c .before .before .put-leaf .ensures)
+
+same-length : tie.Need-same-length Inv-loop μ-loop
+same-length c = wrote-long (c .before .loop .inv .so-far)
+
+returns : tie.Need-returns Inv-loop μ-loop
+returns c = all-written each-leaf (c .before .loop .inv) (c .loop-test .left)
+
+pub put-leaves-spec : {M : Type 1} → statement M
+put-leaves-spec =
+    tie.close
+    (tie.spec
+    Inv-loop
+    μ-loop
+    loop-holds
+    shared-slice-read-put-leaf
+    put-leaf-requires
+    add-i
+    loop-less
+    loop-again
+    same-length
+    returns)

@@ -1,0 +1,15 @@
+-- What a function that writes a text to a lent buffer gives.
+use Prim.Native.Nat.{ℕ, _+_, _≤_}
+use mathlib.Core.Path.{_≡_}
+use mathlib.Core.List.{List, _++_}
+use lib.ListN.{length, take, drop}
+
+-- the buffer with a text at a place
+unfoldable pub written : (buffer : List ℕ) (at : ℕ) (text : List ℕ) → List ℕ
+written buffer at text = take at buffer ++ text ++ drop (at + length text) buffer
+
+-- the text stands at the place, and the result is the place after it, inside the buffer
+pub record Wrote (buffer : List ℕ) (at : ℕ) (text after : List ℕ) (result : ℕ) : Type 0 where
+  pub bytes : after ≡ written buffer at text
+  pub place : result ≡ at + length text
+  pub inside : result ≤ length buffer

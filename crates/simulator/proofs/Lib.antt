@@ -1,0 +1,4 @@
+-- Laws of the run.
+pub mod Stimulus
+pub mod Running
+pub mod Calls

@@ -1,0 +1,55 @@
+-- Assumes nothing.
+use native.Mathlib.Omega.{arith}
+use denote.Ref.{now}
+use Rattle.typing.proofs.PlacesSmall.{verdict-place}
+use Rattle.simulator.proofs.Calls.{refused-verdict, call-refused, accepted-call, call-runs}
+use borrow.Author.Needs.{needs}
+use Rattle.simulator.proofs.sheet_run.Statement.{statement}
+use Rattle.simulator.proofs.sheet_run.Tie as tie
+use Rattle.simulator.proofs.sheet_run.Reads as reads
+use Rattle.simulator.proofs.sheet_run.Lts as lts
+use Rattle.layout.proofs.no_leaves.Reads as no-leaves-reads
+use Rattle.simulator.proofs.run_accepted.Reads as run-accepted-reads
+use Rattle.typing.proofs.check_into.Reads as check-into-reads
+use Rattle.typing.proofs.packed.Reads as packed-reads
+
+no-leaves-requires : tie.Need-no-leaves-requires
+no-leaves-requires c κs = search needs
+
+check-into-requires : tie.Need-check-into-requires
+check-into-requires c κs = search needs
+
+enum-known-verdict : tie.Need-enum-known-verdict
+enum-known-verdict c = search needs
+
+packed-requires : tie.Need-packed-requires
+packed-requires c κs = rw (c .before .check-into .ensures .answered) (let h = verdict-place (now (c .before .before .before .before .before .before .before .before .args .sheet)) in omega arith)
+
+returns : tie.Need-returns
+returns c = call-refused _ _ _ _ (c .before .before .check-into .result) (c .before .before .check-into .ensures .answered) (refused-verdict (c .before .before .check-into .result) (c .before .match .keys2)) _ (c .packed .ensures)
+
+run-accepted-requires : tie.Need-run-accepted-requires
+run-accepted-requires c κs = accepted-call _ _ _ _ _ (c .before .before .before .before .before .before .check-into .ensures) (c .before .before .before .before .verdict .given .1)
+
+same-length : tie.Need-same-length
+same-length c = search needs
+
+same-length-2 : tie.Need-same-length-2
+same-length-2 c = search needs
+
+returns-2 : tie.Need-returns-2
+returns-2 c = call-runs _ _ _ _ _ _ _ (c .before .before .before .before .run-accepted .ensures)
+
+pub sheet-run-spec : {M : Type 1} → statement M
+sheet-run-spec =
+    tie.close
+    (tie.spec
+    no-leaves-requires
+    check-into-requires
+    enum-known-verdict
+    packed-requires
+    returns
+    run-accepted-requires
+    same-length
+    same-length-2
+    returns-2)
