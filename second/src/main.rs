@@ -13,7 +13,7 @@ mod workers;
 
 use std::process::ExitCode;
 
-use second::{mistake, shapes};
+use second::{mistake, samples, shapes};
 
 const USAGE: &str = "usage: second check [--seed N] [--sheets N] [--threads N] [--mistake NAME]
        second mistakes
@@ -50,11 +50,15 @@ fn usage() -> ExitCode {
 }
 
 fn emit(name: &str, file: &str) -> ExitCode {
-    let Some(sheet) = shapes::named(name) else {
+    let bytes = match name {
+        "stim" => Some(samples::stimulus()),
+        name => shapes::named(name),
+    };
+    let Some(bytes) = bytes else {
         eprintln!("no sheet is named {name}; `second shapes` lists the names");
         return ExitCode::from(2);
     };
-    match std::fs::write(file, sheet) {
+    match std::fs::write(file, bytes) {
         Ok(()) => ExitCode::SUCCESS,
         Err(error) => {
             eprintln!("{file}: {error}");

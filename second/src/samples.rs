@@ -35,6 +35,11 @@ pub fn t() -> Vec<u8> {
     ]))
 }
 
+/// The stimulus on which the document runs T.
+pub fn stimulus() -> Vec<u8> {
+    vec![1, 2, 1]
+}
+
 /// AND: pattern (1,1), then 1, else 2.
 pub fn and() -> Vec<u8> {
     bytes(&records(&[

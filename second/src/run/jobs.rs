@@ -198,7 +198,7 @@ fn whole_call(draft: &Draft, rng: &mut Rng) -> Option<(Case, Frame)> {
 
 /// A call with faults of some codes; the ways in which those from 8 on were
 /// made. The faults of higher codes are made first.
-fn broken(
+pub fn broken(
     codes: &[u8],
     categories: &[Category],
     rng: &mut Rng,

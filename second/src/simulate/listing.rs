@@ -2,14 +2,19 @@
 
 use std::fmt::Write;
 
+use super::mistake::Mistake;
 use super::{ready, run, Call};
 use crate::check::Verdict;
 
 /// The listing and the next sheet, or the refusal.
-pub fn listing(sheet: &[u8], stim: &[u8]) -> Result<(String, Vec<u8>), Verdict> {
+pub fn listing(
+    sheet: &[u8],
+    stim: &[u8],
+    mistake: Option<Mistake>,
+) -> Result<(String, Vec<u8>), Verdict> {
     let ready = ready(sheet, stim)?;
     let call = Call { sheet, stim, out_len: ready.out_len, next_len: sheet.len() };
-    let outcome = run(&call, None);
+    let outcome = run(&call, mistake);
     let (Some(out), Some(next)) = (outcome.out, outcome.next) else {
         return Err(outcome.verdict);
     };
@@ -21,7 +26,7 @@ pub fn listing(sheet: &[u8], stim: &[u8]) -> Result<(String, Vec<u8>), Verdict> 
         }
         text.push('\n');
     }
-    let _ = writeln!(text, "cycles {}", ready.cycles);
+    let _ = writeln!(text, "cycles {}", outcome.verdict.place);
     Ok((text, next))
 }
 

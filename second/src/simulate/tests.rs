@@ -113,13 +113,15 @@ fn t() {
 fn t_listing() {
     let text = "type 1\n0: 2\n1: 1\n2: 1\ncycles 3\n";
     let t = samples::t();
-    assert!(matches!(listing(&t, &[1, 2, 1]), Ok((found, next)) if found == text && next == t));
-    let pairs = listing(&samples::pair_feedback(), &[2]);
+    assert!(
+        matches!(listing(&t, &[1, 2, 1], None), Ok((found, next)) if found == text && next == t)
+    );
+    let pairs = listing(&samples::pair_feedback(), &[2], None);
     assert!(matches!(pairs, Ok((found, _)) if found == "type 2\n0: 1 1\ncycles 1\n"));
     let refusals = [(&t[..], &[1, 3][..]), (&t[..], &[]), (&t[1..], &[1])];
     let lines = ["refused 9 at 1\n", "refused 8 at 0\n", "refused 1 at 0\n"];
     for ((sheet, stim), line) in refusals.into_iter().zip(lines) {
-        assert_eq!(listing(sheet, stim).map_err(refusal).err().as_deref(), Some(line));
+        assert_eq!(listing(sheet, stim, None).map_err(refusal).err().as_deref(), Some(line));
     }
 }
 
