@@ -115,7 +115,7 @@ uint64_t sheet_check(const uint8_t *sheet, size_t length);
  *
  * Its stack need, as above: on the same sheets, in one cycle and in 64.
  */
-#define SHEET_RUN_STACK 131072
+#define SHEET_RUN_STACK 73728
 uint64_t sheet_run(const uint8_t *sheet, size_t sheet_length, const uint8_t *stim, size_t stim_length, uint8_t *out,
                    size_t out_length, uint8_t *next, size_t next_length);
 
