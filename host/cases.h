@@ -31,7 +31,7 @@ enum answer {
     UNDEFINED,
     /* The output is flat. */
     FIRST_LEAF,
-    /* The input is flat, and is each leaf of the output. */
+    /* Each leaf of the output is the input's last one. */
     EACH_LEAF,
     /* The input, undefined in every leaf where its first leaf is. */
     INPUT_DECIDED,

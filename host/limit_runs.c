@@ -31,13 +31,15 @@ static size_t delays_in(size_t length)
 }
 
 /* The output of one cycle; `earlier` is the input that left the last delay, or NULL where there was none. */
-static void output(enum answer answer, const uint8_t *input, const uint8_t *earlier, uint8_t *given, size_t leaves)
+static void output(enum answer answer, const uint8_t *input, size_t inputs, const uint8_t *earlier, uint8_t *given, size_t leaves)
 {
     memset(given, 0, leaves);
     if (answer == INPUT || (answer == INPUT_DECIDED && input[0] != 0))
         memcpy(given, input, leaves);
-    if (answer == FIRST_LEAF || answer == EACH_LEAF)
-        memset(given, input[0], leaves);
+    if (answer == FIRST_LEAF)
+        given[0] = input[0];
+    if (answer == EACH_LEAF)
+        memset(given, input[inputs - 1], leaves);
     if ((answer == DELAYED_INSIDE || answer == DELAYED_IN_A_ROW) && earlier != NULL)
         memcpy(given, earlier, leaves);
 }
@@ -72,7 +74,7 @@ static void run_on_cycles(const struct limit_case *one, size_t cycles)
         stim[at] = (uint8_t)((at * at + at / 7) % 3);
     for (size_t cycle = 0; cycle < cycles; cycle++) {
         const uint8_t *earlier = cycle < delays ? NULL : stim + (cycle - delays) * inputs;
-        output(one->answer, stim + cycle * inputs, earlier, out + cycle * outputs, outputs);
+        output(one->answer, stim + cycle * inputs, inputs, earlier, out + cycle * outputs, outputs);
     }
     hold_all(one->answer, length, cycles, inputs);
     struct run_call call = {sheet, length, stim, cycles * inputs, cycles * outputs, length};

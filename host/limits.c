@@ -141,40 +141,38 @@ static void pair_types(struct draft *draft, const struct limit_case *one)
     name(draft, 0, B, 0);
 }
 
-/* A leaf of the feedback's name, type 7, as a part: down the halves in which it lies. */
-static void leaf_of_name(struct draft *draft, struct place at, size_t leaf)
-{
-    for (size_t half = 1; half < 64; half *= 2)
-        at = (struct place){draft_part(draft, at.namer, at.word, leaf & half ? SECOND_PART : FIRST_PART), A};
-    name(draft, at.namer, at.word, 0);
-}
-
-/* So many leaves from one on, in pairs of halves: the first of all is the input, each other one the leaf before it. */
-static void shifted(struct draft *draft, struct place at, size_t leaf, size_t count)
-{
-    if (count > 1) {
-        uint16_t pair = draft_part(draft, at.namer, at.word, PAIR);
-        shifted(draft, (struct place){pair, A}, leaf, count / 2);
-        shifted(draft, (struct place){pair, B}, leaf + count / 2, count / 2);
-    } else if (leaf > 0)
-        leaf_of_name(draft, at, leaf - 1);
-    else
-        name(draft, at.namer, at.word, 1);
-}
-
 /* A feedback of 64 leaves, type 7 by six doublings, that defines one leaf in each application. */
 static void slow_feedback(struct draft *draft, const struct limit_case *one)
 {
     (void)one;
     begin(draft);
-    for (uint16_t k = 1; k < 7; k++) {
-        uint16_t pair = draft_part(draft, k, NEXT, PAIR_TYPE);
-        draft->words[pair][A] = draft->words[pair][B] = k;
-    }
-    uint16_t feedback = draft_part(draft, 0, B, FEEDBACK);
-    draft->words[feedback][A] = 7;
-    shifted(draft, (struct place){feedback, B}, 0, 64);
+    uint16_t type = doubled(draft, 1, 1, 6), feedback = draft_part(draft, 0, B, FEEDBACK);
+    draft->words[feedback][A] = type;
+    shifted(draft, (struct place){feedback, B}, (struct shift){0, 1, LAST_OF_FLAT});
     name(draft, feedback, C, 0);
+}
+
+/*
+ * Three such feedbacks, each in the defining part of the one around it. The first leaf of the outermost is the input's last
+ * leaf; that of each other one is the last leaf of the one around it, so that they settle one after the other: while the
+ * innermost is applied for the 65th time, so are the two around it. In its defining part, besides, an IF at depth 63 with the
+ * deepest pattern, in LETs.
+ */
+static void three_slow_feedbacks(struct draft *draft, const struct limit_case *one)
+{
+    (void)one;
+    begin_pairs(draft, 64);
+    uint16_t type = doubled(draft, 2, 64, 5), feedbacks[3], namer = 0;
+    for (size_t k = 0; k < 3; k++) {
+        namer = feedbacks[k] = draft_part(draft, namer, B, FEEDBACK);
+        draft->words[namer][A] = type;
+    }
+    uint16_t let = draft_part(draft, namer, B, LET);
+    deepest_pattern(draft, nested(draft, (struct place){let, A}, LET, A, 58), 3);
+    shifted(draft, (struct place){let, B}, (struct shift){1, 2, LAST_OF_DOUBLED});
+    shifted(draft, (struct place){feedbacks[2], C}, (struct shift){1, 2, LAST_OF_DOUBLED});
+    shifted(draft, (struct place){feedbacks[1], C}, (struct shift){1, 2, LAST_OF_PAIRS});
+    name(draft, feedbacks[0], C, 0);
 }
 
 const struct limit_case limit_cases[] = {
@@ -231,6 +229,8 @@ const struct limit_case limit_cases[] = {
     {"three feedbacks, IF else parts", in_three_feedbacks, 64, IF, C, SHEET_ACCEPTED, 64, UNDEFINED},
     /* Leaf 0 is the input, and each other one the leaf before it: 64 applications. */
     {"a feedback of 64 applications", slow_feedback, 64, 0, 0, SHEET_ACCEPTED, 7, EACH_LEAF},
+    /* Type 69 is the last of five doublings after the 64 types. */
+    {"three feedbacks of 64 applications", three_slow_feedbacks, 64, 0, 0, SHEET_ACCEPTED, 69, EACH_LEAF},
 
     /* The longest. All names have type 1, the constants type 64; the one constant of record 2 has leaves too many. */
     {"4,096 records: names", wide, 4096, 0, 0, SHEET_ACCEPTED, 1, INPUT},

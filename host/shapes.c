@@ -87,3 +87,50 @@ void deepest_pattern(struct draft *draft, struct place at, size_t number)
     draft->words[last][A] = 1;
     draft->words[last][B] = 2;
 }
+
+uint16_t doubled(struct draft *draft, uint16_t type, uint16_t last, size_t times)
+{
+    for (size_t k = 0; k < times; k++) {
+        last = draft_part(draft, last, NEXT, PAIR_TYPE);
+        draft->words[last][A] = draft->words[last][B] = type;
+        type = last;
+    }
+    return last;
+}
+
+/* A leaf of a name of 64 by doubling: down the halves in which it lies. */
+static void leaf_of_name(struct draft *draft, struct place at, size_t leaf, size_t number)
+{
+    for (size_t half = 1; half < 64; half *= 2)
+        at = (struct place){draft_part(draft, at.namer, at.word, leaf & half ? SECOND_PART : FIRST_PART), A};
+    name(draft, at.namer, at.word, number);
+}
+
+static void first_leaf(struct draft *draft, struct place at, struct shift shift)
+{
+    if (shift.first == LAST_OF_DOUBLED) {
+        leaf_of_name(draft, at, 63, shift.from);
+        return;
+    }
+    if (shift.first == LAST_OF_PAIRS)
+        at = (struct place){draft_part(draft, at.namer, at.word, SECOND_PART), A};
+    name(draft, at.namer, at.word, shift.from);
+}
+
+/* So many leaves from one on, in pairs of halves. */
+static void shifted_from(struct draft *draft, struct place at, struct shift shift, size_t leaf, size_t count)
+{
+    if (count > 1) {
+        uint16_t pair = draft_part(draft, at.namer, at.word, PAIR);
+        shifted_from(draft, (struct place){pair, A}, shift, leaf, count / 2);
+        shifted_from(draft, (struct place){pair, B}, shift, leaf + count / 2, count / 2);
+    } else if (leaf > 0)
+        leaf_of_name(draft, at, leaf - 1, shift.name);
+    else
+        first_leaf(draft, at, shift);
+}
+
+void shifted(struct draft *draft, struct place at, struct shift shift)
+{
+    shifted_from(draft, at, shift, 0, 64);
+}

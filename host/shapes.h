@@ -38,4 +38,17 @@ struct place nested(struct draft *draft, struct place at, enum kind kind, enum w
  */
 void deepest_pattern(struct draft *draft, struct place at, size_t number);
 
+/* Adds so many pair types after a last one, each of twice the type before, the first of twice the given one. Gives the last. */
+uint16_t doubled(struct draft *draft, uint16_t type, uint16_t last, size_t times);
+
+/* A leaf: the name itself, which is flat; the last one of a name of `begin_pairs`; or the last one of 64 by doubling. */
+enum last_leaf { LAST_OF_FLAT, LAST_OF_PAIRS, LAST_OF_DOUBLED };
+
+/* The leaves of a name of 64 by doubling, each one place later; the first is a leaf of another name. */
+struct shift {
+    size_t name, from;
+    enum last_leaf first;
+};
+void shifted(struct draft *draft, struct place at, struct shift shift);
+
 #endif

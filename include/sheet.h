@@ -113,9 +113,10 @@ uint64_t sheet_check(const uint8_t *sheet, size_t length);
  * cycles times the output's leaves, and `next` as long as the sheet; where a length is wrong, the place of codes 10 and 11 says
  * the one that is needed.
  *
- * Its stack need, as above: on the same sheets, in one cycle and in 64.
+ * Its stack need, measured as above. It does not grow with the cycles, nor with the sheet beyond this: besides the bounds above,
+ * a feedback is applied at most 65 times, once more than a type has leaves, and lies in the defining parts of at most two others.
  */
-#define SHEET_RUN_STACK 73728
+#define SHEET_RUN_STACK 98304
 uint64_t sheet_run(const uint8_t *sheet, size_t sheet_length, const uint8_t *stim, size_t stim_length, uint8_t *out,
                    size_t out_length, uint8_t *next, size_t next_length);
 
