@@ -3,14 +3,18 @@
 use mathlib.Core.Path.{_≡_, refl, sym, _∙_, ap}
 use mathlib.Core.Bool.{cond, true, false}
 use mathlib.Core.List.{List, [], _∷_, _++_}
-use Prim.Native.Nat.{ℕ, zero, suc, min, _*_, _≤_, _<_}
+use Prim.Native.Nat.{ℕ, zero, suc, min, _+_, _*_, _≤_, _<_}
 use native.Mathlib.Omega.{arith}
 use native.Mathlib.Decide.{ℕ-discrete}
+use native.Mathlib.Numerals.{add-one}
 use borrow.Author.Tests.{lt-ltb, le-ltb}
 use lib.Dec.{ltb}
 use lib.ListN.{length, getD, length-append, List·getD-append}
 use lib.Seq.{getD-at}
 use Rattle.records.specs.Words.{count, wordA, wordB}
+use Rattle.records.specs.Kinds.{Sort, sortNumber}
+use Rattle.records.specs.Kinds as Kinds
+use Rattle.records.specs.Says.{sortAt}
 use Rattle.records.specs.Sized.{Sized}
 use Rattle.records.specs.Namings.{namings}
 use Rattle.layout.specs.Passes.{Passes}
@@ -21,9 +25,9 @@ use Rattle.layout.specs.DepthTable.{Capped, Placed, Placing}
 use Rattle.layout.proofs.Passes.{written, named-once, length-fits}
 use Rattle.judging.specs.Judging.{Ground, Ready, Closing, scopeOf}
 use Rattle.typing.specs.Stages.{Measured, Recorded, NamedAll, Fitted}
-use Rattle.typing.specs.Widths.{PatternsFrom}
+use Rattle.typing.specs.Widths.{PatternsFrom, patternEntry, Widths}
 use Rattle.typing.proofs.Stages.{root-ready}
-use Rattle.typing.proofs.Widths.{judged-widths}
+use Rattle.typing.proofs.Widths.{judged-widths, entry-stored, unpatterned, whole-table}
 
 -- a table of n entries with any entries
 tabulated : (f : ℕ → ℕ) (n : ℕ) → (t : List ℕ) × (length t ≡ n) × ((r : ℕ) → r < n → getD t r 0 ≡ f r)
@@ -124,3 +128,26 @@ module _ (s : List ℕ) (p : Passes s) (whole : length s ≡ 12 * count s) where
 
   pub patterns : (table : List ℕ) × PatternsFrom s (count s) table
   patterns = let c = counts in (_, judged-widths s (count s) (c .0) p refl (c .1))
+
+  -- the patterns' entries added one by one, the last record first
+  one-lower : (m : ℕ) → m < count s → (table : List ℕ) → PatternsFrom s (m + 1) table → (lower : List ℕ) × PatternsFrom s m lower
+  one-lower m h table o = go (sortAt s m) refl
+    where
+      other : (σ : Sort) → sortAt s m ≡ σ → (σ ≡ Kinds.patterns → ⊥) → (lower : List ℕ) × PatternsFrom s m lower
+      other σ e f = (table, unpatterned s (count s) m table p refl h o (λ z. f (sym e ∙ z)))
+
+      go : (σ : Sort) → sortAt s m ≡ σ → (lower : List ℕ) × PatternsFrom s m lower
+      go Kinds.patterns e = (_, entry-stored s (count s) m table p refl h o (patternEntry s m) e refl)
+      go Kinds.headers e = other Kinds.headers e (λ z. let y = ap sortNumber z in omega arith)
+      go Kinds.types e = other Kinds.types e (λ z. let y = ap sortNumber z in omega arith)
+      go Kinds.expressions e = other Kinds.expressions e (λ z. let y = ap sortNumber z in omega arith)
+      go Kinds.leafs e = other Kinds.leafs e (λ z. let y = ap sortNumber z in omega arith)
+      go Kinds.none e = other Kinds.none e (λ z. let y = ap sortNumber z in omega arith)
+
+  all-lower : (m : ℕ) → m ≤ count s → (table : List ℕ) → PatternsFrom s m table → (lower : List ℕ) × PatternsFrom s 0 lower
+  all-lower zero h table o = (table, o)
+  all-lower (suc m) h table o =
+      let x = one-lower m (omega arith) table (rw (add-one m) o) in all-lower m (omega arith) (x .0) (x .1)
+
+  pub widths : (table : List ℕ) × Widths s table
+  widths = let q = patterns in let x = all-lower (count s) (omega arith) (q .0) (q .1) in (x .0, whole-table (x .1))

@@ -180,9 +180,9 @@ fn of_feedback(
 {
     let d = word(sheet, n, rec, 3);
     let w = widths[d] as usize;
-    let mut value = room();
-    enter_value(env, names, &value[0..w]);
-    settle(sheet, n, widths, env, names, held, d, &mut value[0..w]);
+    let mut settled = room();
+    enter_value(env, names, &settled[0..w]);
+    settle(sheet, n, widths, env, names, held, d, &mut settled[0..w]);
     let b = word(sheet, n, rec, 4);
     eval(sheet, n, widths, env, names + 1, held, b, out);
 }
@@ -228,7 +228,7 @@ fn of_if(
     eval(sheet, n, widths, env, names, held, a, &mut tested[0..w]);
     let b = word(sheet, n, rec, 3);
     eval(sheet, n, widths, env, names, held, b, out);
-    let c = word(sheet, n, rec, 4);
+    let other = word(sheet, n, rec, 4);
     let all = out.len();
     let mut otherwise = room();
     eval(
@@ -238,7 +238,7 @@ fn of_if(
         env,
         names,
         held,
-        c,
+        other,
         &mut otherwise[0..all],
     );
     let p = word(sheet, n, rec, 5);

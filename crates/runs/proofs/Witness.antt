@@ -21,16 +21,16 @@ use Rattle.runs.specs.Afterwards.{WellFormed, Afterwards, FeedbackAt}
 use Rattle.runs.specs.Bench.{toggle}
 use Rattle.runs.proofs.Afterwards.{afterwards}
 
-abbrev ones : List ℕ
+abbrev pub ones : List ℕ
 ones = 1 ∷ 2 ∷ 1 ∷ []
 
-abbrev room : List ℕ
+abbrev pub room : List ℕ
 room = replicate 3 0
 
-abbrev lent : List ℕ
+abbrev pub lent : List ℕ
 lent = replicate 204 0
 
-toggle-formed : WellFormed toggle ones room lent 1
+pub toggle-formed : WellFormed toggle ones room lent 1
 unfolding verdict byRecords byTypes wrongLength wrongHeader wrongRecord wrongNaming wrongType tooDeep depth nesting ancestry ancestryWithin circuit treeAt treeWithin alternatives alternativesWithin chain chainWithin pairOf typeAt typeWithin namings wellSaid askOf kindOf rowOf word count wrongStimulus wrongByte
 toggle-formed = record { accepted = refl; whole = refl; fitting = refl; room = refl; long = refl }
 

@@ -105,13 +105,14 @@ module _ (s : List ℕ) (n t w : ℕ) (u : TypeRecord s t) (p : Passes s) (z : S
           → found r ≡ lowest (above (bounds (typeAt s t)) stim) (length stim)
       bounds-searched stim r f = rw part-is at f
 
-module _ (s W : List ℕ) (t : ℕ) (v : verdict s ≡ Verdicts.Accepted t) (k : Widths s W) where
+-- an accepted sheet passes codes 1 to 6, so its records are whole
+module _ (s : List ℕ) (t : ℕ) (v : verdict s ≡ Verdicts.Accepted t) where
   pub call-passes : Passes s
   call-passes = exact s t .0 v .0
 
-  whole-records : length s ≡ 12 * count s
+  pub call-records : length s ≡ 12 * count s
   unfolding wrongLength count
-  whole-records =
+  call-records =
       let e = call-passes .length in
       let few = ltb 49152 (length s) || not (eqb (length s % 12) 0) in
       let f = neither-right (ltb (length s) 12) few e in
@@ -121,9 +122,10 @@ module _ (s W : List ℕ) (t : ℕ) (v : verdict s ≡ Verdicts.Accepted t) (k :
       let d = div-add-mod' (length s) 12 in
       omega arith
 
+module _ (s W : List ℕ) (t : ℕ) (v : verdict s ≡ Verdicts.Accepted t) (k : Widths s W) where
   pub call-sized : Sized s (length s / 12)
   unfolding count
-  call-sized = sized s call-passes whole-records
+  call-sized = sized s (call-passes s t v) (call-records s t v)
 
   pub output-type : TypeRecord s t
   output-type = exact s t .0 v .1 .0
@@ -132,7 +134,7 @@ module _ (s W : List ℕ) (t : ℕ) (v : verdict s ≡ Verdicts.Accepted t) (k :
   small-number r u = let z = call-sized in let c = z .counted in let f = z .few in let h = u .there in omega arith
 
   few-of : (r : ℕ) → TypeRecord s r → getD W r 0 ≤ 64
-  few-of r u = let f = few-leaves (types-fit call-passes) r (u .there) (u .sort) in let e = k .types r u in omega arith
+  few-of r u = let f = few-leaves (types-fit (call-passes s t v)) r (u .there) (u .sort) in let e = k .types r u in omega arith
 
   pub output-there : t < 4096
   output-there = small-number t output-type
@@ -142,7 +144,7 @@ module _ (s W : List ℕ) (t : ℕ) (v : verdict s ≡ Verdicts.Accepted t) (k :
 
   module _ (a : ℕ) (ea : a ≡ word s 0 2) where
     pub call-input : TypeRecord s a
-    call-input = rw ea (input-type (written call-passes))
+    call-input = rw ea (input-type (written (call-passes s t v)))
 
     pub input-there : a < 4096
     input-there = small-number a call-input

@@ -2,3 +2,4 @@
 pub mod Stimulus
 pub mod Running
 pub mod Calls
+pub mod Witness

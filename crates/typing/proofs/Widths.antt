@@ -114,7 +114,7 @@ module _ (s : List ℕ) (n m : ℕ) (table : List ℕ) (p : Passes s) (counted :
     in-table = let f = written p .few in omega arith
 
     -- the pattern's entry is stored
-    entry-stored : (v : ℕ) → sortAt s m ≡ patterns → v ≡ patternEntry s m → PatternsFrom s m (set table m v)
+    pub entry-stored : (v : ℕ) → sortAt s m ≡ patterns → v ≡ patternEntry s m → PatternsFrom s m (set table m v)
     entry-stored v sort e = record {
       long = length-set table m v ∙ o .long;
       types = λ t r. other t (differs types (r .sort) (λ z. omega arith)) ∙ o .types t r;
@@ -134,21 +134,24 @@ module _ (s : List ℕ) (n m : ℕ) (table : List ℕ) (p : Passes s) (counted :
         filled q low l f (yes z) = let t = o .long in rw z (getD-set-same table m v 0 (omega (arith, in-table)) ∙ e)
         filled q low l f (no z) = other q z ∙ o .patterns q (omega arith) l f
 
+    -- a record that is no pattern
+    pub unpatterned : (sortAt s m ≡ patterns → ⊥) → PatternsFrom s m table
+    unpatterned other = record {
+      long = o .long;
+      types = o .types;
+      expressions = o .expressions;
+      waiting = λ q l f. o .waiting q (omega arith) f;
+      patterns = λ q low l f. filled q low l f (ℕ-discrete q m);
+      elsewhere = o .elsewhere;
+    }
+      where
+        filled : (q : ℕ) → m ≤ q → q < count s → sortAt s q ≡ patterns → Dec (q ≡ m) → getD table q 0 ≡ patternEntry s q
+        filled q low l f (yes z) = absurd (other (rw z at f))
+        filled q low l f (no z) = o .patterns q (omega arith) l f
+
     module _ (k : ℕ) (ek : k ≡ word s m 0) where
-      -- a record that is no pattern
       pub no-pattern-widths : (k ≡ 48 → ⊥) → (k ≡ 49 → ⊥) → (k ≡ 50 → ⊥) → PatternsFrom s m table
-      no-pattern-widths a b c = record {
-        long = o .long;
-        types = o .types;
-        expressions = o .expressions;
-        waiting = λ q l f. o .waiting q (omega arith) f;
-        patterns = λ q low l f. filled q low l f (ℕ-discrete q m);
-        elsewhere = o .elsewhere;
-      }
-        where
-          filled : (q : ℕ) → m ≤ q → q < count s → sortAt s q ≡ patterns → Dec (q ≡ m) → getD table q 0 ≡ patternEntry s q
-          filled q low l f (yes z) = absurd (no-pattern s m k ek a b c (rw z at f))
-          filled q low l f (no z) = o .patterns q (omega arith) l f
+      no-pattern-widths a b c = unpatterned (no-pattern s m k ek a b c)
 
       -- a whole type: the entry of its type
       module _ (e : k ≡ 48) (x : ℕ) (ex : x ≡ word s m 2) where

@@ -178,10 +178,10 @@ abbrev settle-claims : ℕ → settle-lts.Claims
 settle-claims t = (eval-below t, eval.Post, stands-at-reads.Asked, stands-at-reads.Learnt, enter-value-reads.Asked, enter-value-reads.Learnt, settle-below t, settle.Post)
 
 eval-word-requires : (t : ℕ) → eval-lts.Need-word-requires (eval-claims t) (eval-at t) eval.Post
-eval-word-requires t c κs = ready-word _ _ _ _ _ _ _ _ (c .before .before .before .pre .1 .1) 0 (omega arith)
+eval-word-requires t c κs = ready-word _ _ _ _ _ _ _ _ (c .before .before .before .pre .1 .1) _ (omega arith)
 
 eval-word-requires-2 : (t : ℕ) → eval-lts.Need-word-requires-2 (eval-claims t) (eval-at t) eval.Post
-eval-word-requires-2 t c κs = ready-word _ _ _ _ _ _ _ _ (c .before .before .before .before .before .pre .1 .1) 3 (omega arith)
+eval-word-requires-2 t c κs = ready-word _ _ _ _ _ _ _ _ (c .before .before .before .before .before .pre .1 .1) _ (omega arith)
 
 eval-read-leaves-requires : (t : ℕ) → eval-lts.Need-read-leaves-requires (eval-claims t) (eval-at t) eval.Post
 eval-read-leaves-requires t c κs = constant-chained _ _ _ _ _ _ _ _ (c .before .before .before .before .before .before .before .pre .1 .1) (numbered _ _ _ 32 (expression constant) (c .before .before .before .word .ensures .0) (c .before .before .if1 .taken) (unfold kindOf in refl)) _ (c .before .word2 .ensures .0)
@@ -289,13 +289,13 @@ eval-returns-9 : (t : ℕ) → eval-lts.Need-returns-9 (eval-claims t) (eval-at 
 eval-returns-9 t c = c .before .before .before .before .of-delay .ensures
 
 of-delay-word-requires : (t : ℕ) → of-delay-lts.Need-word-requires (of-delay-claims t) (of-delay-at t) of-delay.Post
-of-delay-word-requires t c κs = ready-word _ _ _ _ _ _ _ _ (c .before .before .before .pre .1 .0 .1) 4 (omega arith)
+of-delay-word-requires t c κs = ready-word _ _ _ _ _ _ _ _ (c .before .before .before .pre .1 .0 .1) _ (omega arith)
 
 of-delay-eval-requires : (t : ℕ) → of-delay-lts.Need-eval-requires (of-delay-claims t) (of-delay-at t) of-delay.Post
 of-delay-eval-requires t c κs = let h = (higher _ _ _ _ _ _ _ _ (c .before .before .before .before .before .before .before .pre .1 .0 .1) delay (c .before .before .before .before .before .before .before .pre .1 .1) 4 refl (unfold askOfKind in refl) _ (c .before .before .before .word .ensures .0)) in (omega (arith, c .before .before .before .before .before .before .before .pre .0, h .0, h .1), (c .before .before .before .before .before .before .before .pre .1 .0 .0, delayed-ready _ _ _ _ _ _ _ _ (c .before .before .before .before .before .before .before .pre .1 .0 .1) (c .before .before .before .before .before .before .before .pre .1 .1) _ (c .before .before .before .word .ensures .0) _ refl))
 
 of-delay-word-requires-2 : (t : ℕ) → of-delay-lts.Need-word-requires-2 (of-delay-claims t) (of-delay-at t) of-delay.Post
-of-delay-word-requires-2 t c κs = ready-word _ _ _ _ _ _ _ _ (c .before .before .before .before .before .before .before .before .before .before .before .before .pre .1 .0 .1) 3 (omega arith)
+of-delay-word-requires-2 t c κs = ready-word _ _ _ _ _ _ _ _ (c .before .before .before .before .before .before .before .before .before .before .before .before .pre .1 .0 .1) _ (omega arith)
 
 of-delay-hold-leaves-requires : (t : ℕ) → of-delay-lts.Need-hold-leaves-requires (of-delay-claims t) (of-delay-at t) of-delay.Post
 of-delay-hold-leaves-requires t c κs = delay-chained _ _ _ _ _ _ _ _ (c .before .before .before .before .before .before .before .before .before .before .before .before .before .before .before .pre .1 .0 .1) (c .before .before .before .before .before .before .before .before .before .before .before .before .before .before .before .pre .1 .1) _ (c .before .before .before .before .before .before .before .before .before .before .before .word .ensures .0) _ (c .before .before .word2 .ensures .0) _ _ _ _ (c .before .before .before .before .before .before .before .eval .ensures)
@@ -313,7 +313,7 @@ of-delay-returns : (t : ℕ) → of-delay-lts.Need-returns (of-delay-claims t) (
 of-delay-returns t c = record { done = λ Γ r. delay-done _ _ _ _ _ _ _ Γ r (c .before .before .before .before .before .before .before .before .before .before .before .before .before .before .before .before .before .before .before .before .pre .1 .1) _ (c .before .before .before .before .before .before .before .before .before .before .before .before .before .before .before .before .word .ensures .0) _ (c .before .before .before .before .before .before .before .word2 .ensures .0) _ _ _ _ _ _ (c .before .before .before .before .before .before .before .before .before .before .before .before .eval .ensures) (c .before .before .before .before .hold-leaves .ensures) (c .before .before .read-leaves .ensures) }
 
 of-feedback-word-requires : (t : ℕ) → of-feedback-lts.Need-word-requires (of-feedback-claims t) (of-feedback-at t) of-feedback.Post
-of-feedback-word-requires t c κs = ready-word _ _ _ _ _ _ _ _ (c .before .before .before .pre .1 .0 .1) 3 (omega arith)
+of-feedback-word-requires t c κs = ready-word _ _ _ _ _ _ _ _ (c .before .before .before .pre .1 .0 .1) _ (omega arith)
 
 of-feedback-element-copy-out-w : (t : ℕ) → of-feedback-lts.Need-element-copy-out-w (of-feedback-claims t) (of-feedback-at t) of-feedback.Post
 of-feedback-element-copy-out-w t c = entry-there _ _ _ _ _ _ _ _ (c .before .before .before .before .pre .1 .0 .1) feedback (c .before .before .before .before .pre .1 .1) 3 refl (unfold askOfKind in refl) _ (c .word .ensures .0)
@@ -339,17 +339,17 @@ of-feedback-enter-value-requires t c κs = start-room _ _ _ _ _ _ _ _ (c .before
 of-feedback-sub-settle : (t : ℕ) → of-feedback-lts.Need-sub-settle (of-feedback-claims t) (of-feedback-at t) of-feedback.Post
 of-feedback-sub-settle t c = from-none _
 
-of-feedback-part-value-start : (t : ℕ) → of-feedback-lts.Need-part-value-start (of-feedback-claims t) (of-feedback-at t) of-feedback.Post
-of-feedback-part-value-start t c = from-none _
+of-feedback-part-settled-start : (t : ℕ) → of-feedback-lts.Need-part-settled-start (of-feedback-claims t) (of-feedback-at t) of-feedback.Post
+of-feedback-part-settled-start t c = from-none _
 
-of-feedback-part-value-end : (t : ℕ) → of-feedback-lts.Need-part-value-end (of-feedback-claims t) (of-feedback-at t) of-feedback.Post
-of-feedback-part-value-end t c = feedback-fits _ _ _ _ _ _ _ _ (c .before .before .before .before .before .before .before .before .before .before .before .before .before .before .pre .1 .0 .1) (c .before .before .before .before .before .before .before .before .before .before .before .before .before .before .pre .1 .1) _ _ (c .before .before .before .before .before .before .before .before .before .before .word .ensures .0) refl _ refl _ (c .before .before .before .before .before .before .before .before .room .ensures)
+of-feedback-part-settled-end : (t : ℕ) → of-feedback-lts.Need-part-settled-end (of-feedback-claims t) (of-feedback-at t) of-feedback.Post
+of-feedback-part-settled-end t c = feedback-fits _ _ _ _ _ _ _ _ (c .before .before .before .before .before .before .before .before .before .before .before .before .before .before .pre .1 .0 .1) (c .before .before .before .before .before .before .before .before .before .before .before .before .before .before .pre .1 .1) _ _ (c .before .before .before .before .before .before .before .before .before .before .word .ensures .0) refl _ refl _ (c .before .before .before .before .before .before .before .before .room .ensures)
 
 of-feedback-settle-requires : (t : ℕ) → of-feedback-lts.Need-settle-requires (of-feedback-claims t) (of-feedback-at t) of-feedback.Post
 of-feedback-settle-requires t c κs = let h = (higher _ _ _ _ _ _ _ _ (c .before .before .before .before .before .before .before .before .before .before .before .before .before .before .before .pre .1 .0 .1) feedback (c .before .before .before .before .before .before .before .before .before .before .before .before .before .before .before .pre .1 .1) 3 refl (unfold askOfKind in refl) _ (c .before .before .before .before .before .before .before .before .before .before .before .word .ensures .0)) in let z = few-undefined _ _ _ _ _ _ _ _ (c .before .before .before .before .before .before .before .before .before .before .before .before .before .before .before .pre .1 .0 .1) (c .before .before .before .before .before .before .before .before .before .before .before .before .before .before .before .pre .1 .1) _ _ (c .before .before .before .before .before .before .before .before .before .before .before .word .ensures .0) refl _ refl _ (c .before .before .before .before .before .before .before .before .before .room .ensures) _ (c .before .before .before .before .before .enter-value .ensures) in (omega (arith, c .before .before .before .before .before .before .before .before .before .before .before .before .before .before .before .pre .0, h .0, h .1), (_, _, feedback-settling _ _ _ _ _ _ _ _ (c .before .before .before .before .before .before .before .before .before .before .before .before .before .before .before .pre .1 .0 .1) (c .before .before .before .before .before .before .before .before .before .before .before .before .before .before .before .pre .1 .1) _ _ (c .before .before .before .before .before .before .before .before .before .before .before .word .ensures .0) refl _ refl _ (c .before .before .before .before .before .before .before .before .before .room .ensures) _ (c .before .before .before .before .before .enter-value .ensures)))
 
 of-feedback-word-requires-2 : (t : ℕ) → of-feedback-lts.Need-word-requires-2 (of-feedback-claims t) (of-feedback-at t) of-feedback.Post
-of-feedback-word-requires-2 t c κs = ready-word _ _ _ _ _ _ _ _ (c .before .before .before .before .before .before .before .before .before .before .before .before .before .before .before .before .before .before .before .pre .1 .0 .1) 4 (omega arith)
+of-feedback-word-requires-2 t c κs = ready-word _ _ _ _ _ _ _ _ (c .before .before .before .before .before .before .before .before .before .before .before .before .before .before .before .before .before .before .before .pre .1 .0 .1) _ (omega arith)
 
 of-feedback-add-eval : (t : ℕ) → of-feedback-lts.Need-add-eval (of-feedback-claims t) (of-feedback-at t) of-feedback.Post
 of-feedback-add-eval t c = let f = ready-few _ _ _ _ _ _ _ _ (c .before .before .before .before .before .before .before .before .before .before .before .before .before .before .before .before .before .before .before .before .before .pre .1 .0 .1) in omega arith
@@ -367,7 +367,7 @@ of-feedback-returns : (t : ℕ) → of-feedback-lts.Need-returns (of-feedback-cl
 of-feedback-returns t c = record { done = λ Γ r. feedback-done _ _ _ _ _ _ _ Γ r (c .before .before .before .before .before .before .before .before .before .before .before .before .before .before .before .before .before .before .before .before .before .before .before .before .before .before .before .before .pre .1 .1) _ _ (c .before .before .before .before .before .before .before .before .before .before .before .before .before .before .before .before .before .before .before .before .before .before .before .before .word .ensures .0) (c .before .before .before .before .before .before .before .before .word2 .ensures .0) _ refl _ (c .before .before .before .before .before .before .before .before .before .before .before .before .before .before .before .before .before .before .before .before .before .before .room .ensures) _ (c .before .before .before .before .before .before .before .before .before .before .before .before .before .before .before .before .before .before .enter-value .ensures) _ _ _ (c .before .before .before .before .before .before .before .before .before .before .before .before .settle .ensures) _ _ _ (c .before .before .before .before .eval .ensures) }
 
 of-first-word-requires : (t : ℕ) → of-first-lts.Need-word-requires (of-first-claims t) (of-first-at t) of-first.Post
-of-first-word-requires t c κs = ready-word _ _ _ _ _ _ _ _ (c .before .before .before .pre .1 .0 .1) 2 (omega arith)
+of-first-word-requires t c κs = ready-word _ _ _ _ _ _ _ _ (c .before .before .before .pre .1 .0 .1) _ (omega arith)
 
 of-first-element-copy-out-w : (t : ℕ) → of-first-lts.Need-element-copy-out-w (of-first-claims t) (of-first-at t) of-first.Post
 of-first-element-copy-out-w t c = entry-there _ _ _ _ _ _ _ _ (c .before .before .before .before .pre .1 .0 .1) first (c .before .before .before .before .pre .1 .1) 2 refl (unfold askOfKind in refl) _ (c .word .ensures .0)
@@ -412,7 +412,7 @@ of-first-returns : (t : ℕ) → of-first-lts.Need-returns (of-first-claims t) (
 of-first-returns t c = record { done = λ Γ r. first-done _ _ _ _ _ _ _ Γ r (c .before .before .before .before .before .before .before .before .before .before .before .before .before .before .before .before .before .before .before .pre .1 .1) _ (c .before .before .before .before .before .before .before .before .before .before .before .before .before .before .before .word .ensures .0) _ refl _ (c .before .before .before .before .before .before .before .before .before .before .before .before .before .room .ensures) _ _ _ _ (c .before .before .before .before .before .before .before .before .before .eval .ensures) _ (c .before .before .put .ensures) }
 
 of-if-word-requires : (t : ℕ) → of-if-lts.Need-word-requires (of-if-claims t) (of-if-at t) of-if.Post
-of-if-word-requires t c κs = ready-word _ _ _ _ _ _ _ _ (c .before .before .before .pre .1 .0 .1) 2 (omega arith)
+of-if-word-requires t c κs = ready-word _ _ _ _ _ _ _ _ (c .before .before .before .pre .1 .0 .1) _ (omega arith)
 
 of-if-element-copy-out-w : (t : ℕ) → of-if-lts.Need-element-copy-out-w (of-if-claims t) (of-if-at t) of-if.Post
 of-if-element-copy-out-w t c = entry-there _ _ _ _ _ _ _ _ (c .before .before .before .before .pre .1 .0 .1) ifMatches (c .before .before .before .before .pre .1 .1) 2 refl (unfold askOfKind in refl) _ (c .word .ensures .0)
@@ -436,13 +436,13 @@ of-if-eval-requires : (t : ℕ) → of-if-lts.Need-eval-requires (of-if-claims t
 of-if-eval-requires t c κs = let h = (higher _ _ _ _ _ _ _ _ (c .before .before .before .before .before .before .before .before .before .pre .1 .0 .1) ifMatches (c .before .before .before .before .before .before .before .before .before .pre .1 .1) 2 refl (unfold askOfKind in refl) _ (c .before .before .before .before .before .word .ensures .0)) in (omega (arith, c .before .before .before .before .before .before .before .before .before .pre .0, h .0, h .1), (c .before .before .before .before .before .before .before .before .before .pre .1 .0 .0, room-ready _ _ _ _ _ _ _ _ (c .before .before .before .before .before .before .before .before .before .pre .1 .0 .1) _ (tested-scope _ _ _ _ _ _ _ _ (c .before .before .before .before .before .before .before .before .before .pre .1 .0 .1) (c .before .before .before .before .before .before .before .before .before .pre .1 .1) _ _ _ _ (c .before .before .before .before .before .word .ensures .0) refl refl refl _ refl _ refl) _ refl _ (c .before .before .before .room .ensures)))
 
 of-if-word-requires-2 : (t : ℕ) → of-if-lts.Need-word-requires-2 (of-if-claims t) (of-if-at t) of-if.Post
-of-if-word-requires-2 t c κs = ready-word _ _ _ _ _ _ _ _ (c .before .before .before .before .before .before .before .before .before .before .before .before .before .pre .1 .0 .1) 3 (omega arith)
+of-if-word-requires-2 t c κs = ready-word _ _ _ _ _ _ _ _ (c .before .before .before .before .before .before .before .before .before .before .before .before .before .pre .1 .0 .1) _ (omega arith)
 
 of-if-eval-requires-2 : (t : ℕ) → of-if-lts.Need-eval-requires-2 (of-if-claims t) (of-if-at t) of-if.Post
 of-if-eval-requires-2 t c κs = let h = (higher _ _ _ _ _ _ _ _ (c .before .before .before .before .before .before .before .before .before .before .before .before .before .before .before .before .before .pre .1 .0 .1) ifMatches (c .before .before .before .before .before .before .before .before .before .before .before .before .before .before .before .before .before .pre .1 .1) 3 refl (unfold askOfKind in refl) _ (c .before .before .before .word2 .ensures .0)) in (omega (arith, c .before .before .before .before .before .before .before .before .before .before .before .before .before .before .before .before .before .pre .0, h .0, h .1), (c .before .before .before .before .before .before .before .before .before .before .before .before .before .before .before .before .before .pre .1 .0 .0, then-ready _ _ _ _ _ _ _ _ (c .before .before .before .before .before .before .before .before .before .before .before .before .before .before .before .before .before .pre .1 .0 .1) (c .before .before .before .before .before .before .before .before .before .before .before .before .before .before .before .before .before .pre .1 .1) _ _ _ _ (c .before .before .before .before .before .before .before .before .before .before .before .before .before .word .ensures .0) (c .before .before .before .word2 .ensures .0) refl refl _ refl _ (c .before .before .before .before .before .before .before .before .before .before .before .room .ensures) _ _ _ _ (c .before .before .before .before .before .before .before .eval .ensures)))
 
 of-if-word-requires-3 : (t : ℕ) → of-if-lts.Need-word-requires-3 (of-if-claims t) (of-if-at t) of-if.Post
-of-if-word-requires-3 t c κs = ready-word _ _ _ _ _ _ _ _ (c .before .before .before .before .before .before .before .before .before .before .before .before .before .before .before .before .before .before .before .before .before .before .pre .1 .0 .1) 4 (omega arith)
+of-if-word-requires-3 t c κs = ready-word _ _ _ _ _ _ _ _ (c .before .before .before .before .before .before .before .before .before .before .before .before .before .before .before .before .before .before .before .before .before .before .pre .1 .0 .1) _ (omega arith)
 
 of-if-room-requires-2 : (t : ℕ) → of-if-lts.Need-room-requires-2 (of-if-claims t) (of-if-at t) of-if.Post
 of-if-room-requires-2 t c κs = tt
@@ -460,7 +460,7 @@ of-if-eval-requires-3 : (t : ℕ) → of-if-lts.Need-eval-requires-3 (of-if-clai
 of-if-eval-requires-3 t c κs = let h = (higher _ _ _ _ _ _ _ _ (c .before .before .before .before .before .before .before .before .before .before .before .before .before .before .before .before .before .before .before .before .before .before .before .before .before .before .before .pre .1 .0 .1) ifMatches (c .before .before .before .before .before .before .before .before .before .before .before .before .before .before .before .before .before .before .before .before .before .before .before .before .before .before .before .pre .1 .1) 4 refl (unfold askOfKind in refl) _ (c .before .before .before .before .word3 .ensures .0)) in (omega (arith, c .before .before .before .before .before .before .before .before .before .before .before .before .before .before .before .before .before .before .before .before .before .before .before .before .before .before .before .pre .0, h .0, h .1), (c .before .before .before .before .before .before .before .before .before .before .before .before .before .before .before .before .before .before .before .before .before .before .before .before .before .before .before .pre .1 .0 .0, else-ready _ _ _ _ _ _ _ _ (c .before .before .before .before .before .before .before .before .before .before .before .before .before .before .before .before .before .before .before .before .before .before .before .before .before .before .before .pre .1 .0 .1) (c .before .before .before .before .before .before .before .before .before .before .before .before .before .before .before .before .before .before .before .before .before .before .before .before .before .before .before .pre .1 .1) _ _ _ _ (c .before .before .before .before .before .before .before .before .before .before .before .before .before .before .before .before .before .before .before .before .before .before .before .word .ensures .0) (c .before .before .before .before .before .before .before .before .before .before .before .before .before .word2 .ensures .0) (c .before .before .before .before .word3 .ensures .0) refl _ refl _ (c .before .before .before .before .before .before .before .before .before .before .before .before .before .before .before .before .before .before .before .before .before .room .ensures) _ _ _ _ (c .before .before .before .before .before .before .before .before .before .before .before .before .before .before .before .before .before .eval .ensures) _ _ _ (c .before .before .before .before .before .before .before .before .before .eval2 .ensures) _ (c .before .before .before .room2 .ensures)))
 
 of-if-word-requires-4 : (t : ℕ) → of-if-lts.Need-word-requires-4 (of-if-claims t) (of-if-at t) of-if.Post
-of-if-word-requires-4 t c κs = ready-word _ _ _ _ _ _ _ _ (c .before .before .before .before .before .before .before .before .before .before .before .before .before .before .before .before .before .before .before .before .before .before .before .before .before .before .before .before .before .before .before .pre .1 .0 .1) 5 (omega arith)
+of-if-word-requires-4 t c κs = ready-word _ _ _ _ _ _ _ _ (c .before .before .before .before .before .before .before .before .before .before .before .before .before .before .before .before .before .before .before .before .before .before .before .before .before .before .before .before .before .before .before .pre .1 .0 .1) _ (omega arith)
 
 of-if-sub-choose-value : (t : ℕ) → of-if-lts.Need-sub-choose-value (of-if-claims t) (of-if-at t) of-if.Post
 of-if-sub-choose-value t c = from-none _
@@ -493,7 +493,7 @@ of-if-returns : (t : ℕ) → of-if-lts.Need-returns (of-if-claims t) (of-if-at 
 of-if-returns t c = record { done = λ Γ r. if-done _ _ _ _ _ _ _ Γ r (c .before .before .before .before .before .before .before .before .before .before .before .before .before .before .before .before .before .before .before .before .before .before .before .before .before .before .before .before .before .before .before .before .before .before .before .before .before .before .before .before .pre .1 .1) _ _ _ _ (c .before .before .before .before .before .before .before .before .before .before .before .before .before .before .before .before .before .before .before .before .before .before .before .before .before .before .before .before .before .before .before .before .before .before .before .before .word .ensures .0) (c .before .before .before .before .before .before .before .before .before .before .before .before .before .before .before .before .before .before .before .before .before .before .before .before .before .before .word2 .ensures .0) (c .before .before .before .before .before .before .before .before .before .before .before .before .before .before .before .before .before .word3 .ensures .0) (c .before .before .before .before .before .before .before .before .word4 .ensures .0) _ refl _ (c .before .before .before .before .before .before .before .before .before .before .before .before .before .before .before .before .before .before .before .before .before .before .before .before .before .before .before .before .before .before .before .before .before .before .room .ensures) _ _ _ _ (c .before .before .before .before .before .before .before .before .before .before .before .before .before .before .before .before .before .before .before .before .before .before .before .before .before .before .before .before .before .before .eval .ensures) _ _ _ (c .before .before .before .before .before .before .before .before .before .before .before .before .before .before .before .before .before .before .before .before .before .before .eval2 .ensures) _ (c .before .before .before .before .before .before .before .before .before .before .before .before .before .before .before .before .room2 .ensures) _ _ _ (c .before .before .before .before .before .before .before .before .before .before .before .before .eval3 .ensures) _ (c .before .before .choose-value .ensures) }
 
 of-let-word-requires : (t : ℕ) → of-let-lts.Need-word-requires (of-let-claims t) (of-let-at t) of-let.Post
-of-let-word-requires t c κs = ready-word _ _ _ _ _ _ _ _ (c .before .before .before .pre .1 .0 .1) 2 (omega arith)
+of-let-word-requires t c κs = ready-word _ _ _ _ _ _ _ _ (c .before .before .before .pre .1 .0 .1) _ (omega arith)
 
 of-let-element-copy-out-w : (t : ℕ) → of-let-lts.Need-element-copy-out-w (of-let-claims t) (of-let-at t) of-let.Post
 of-let-element-copy-out-w t c = entry-there _ _ _ _ _ _ _ _ (c .before .before .before .before .pre .1 .0 .1) letIn (c .before .before .before .before .pre .1 .1) 2 refl (unfold askOfKind in refl) _ (c .word .ensures .0)
@@ -529,7 +529,7 @@ of-let-enter-value-requires : (t : ℕ) → of-let-lts.Need-enter-value-requires
 of-let-enter-value-requires t c κs = let-room _ _ _ _ _ _ _ _ (c .before .before .before .before .before .before .before .before .before .before .before .before .before .before .before .before .pre .1 .0 .1) (c .before .before .before .before .before .before .before .before .before .before .before .before .before .before .before .before .pre .1 .1) _ _ (c .before .before .before .before .before .before .before .before .before .before .before .before .word .ensures .0) refl _ refl _ (c .before .before .before .before .before .before .before .before .before .before .room .ensures) _ _ _ _ (c .before .before .before .before .before .before .eval .ensures)
 
 of-let-word-requires-2 : (t : ℕ) → of-let-lts.Need-word-requires-2 (of-let-claims t) (of-let-at t) of-let.Post
-of-let-word-requires-2 t c κs = ready-word _ _ _ _ _ _ _ _ (c .before .before .before .before .before .before .before .before .before .before .before .before .before .before .before .before .before .before .before .pre .1 .0 .1) 3 (omega arith)
+of-let-word-requires-2 t c κs = ready-word _ _ _ _ _ _ _ _ (c .before .before .before .before .before .before .before .before .before .before .before .before .before .before .before .before .before .before .before .pre .1 .0 .1) _ (omega arith)
 
 of-let-add-eval : (t : ℕ) → of-let-lts.Need-add-eval (of-let-claims t) (of-let-at t) of-let.Post
 of-let-add-eval t c = let f = ready-few _ _ _ _ _ _ _ _ (c .before .before .before .before .before .before .before .before .before .before .before .before .before .before .before .before .before .before .before .before .before .pre .1 .0 .1) in omega arith
@@ -547,7 +547,7 @@ of-let-returns : (t : ℕ) → of-let-lts.Need-returns (of-let-claims t) (of-let
 of-let-returns t c = record { done = λ Γ r. let-done _ _ _ _ _ _ _ Γ r (c .before .before .before .before .before .before .before .before .before .before .before .before .before .before .before .before .before .before .before .before .before .before .before .before .before .before .before .before .pre .1 .1) _ _ (c .before .before .before .before .before .before .before .before .before .before .before .before .before .before .before .before .before .before .before .before .before .before .before .before .word .ensures .0) (c .before .before .before .before .before .before .before .before .word2 .ensures .0) _ refl _ (c .before .before .before .before .before .before .before .before .before .before .before .before .before .before .before .before .before .before .before .before .before .before .room .ensures) _ _ _ _ (c .before .before .before .before .before .before .before .before .before .before .before .before .before .before .before .before .before .before .eval .ensures) _ (c .before .before .before .before .before .before .before .before .before .before .before .enter-value .ensures) _ _ _ (c .before .before .before .before .eval2 .ensures) }
 
 of-pair-word-requires : (t : ℕ) → of-pair-lts.Need-word-requires (of-pair-claims t) (of-pair-at t) of-pair.Post
-of-pair-word-requires t c κs = ready-word _ _ _ _ _ _ _ _ (c .before .before .before .pre .1 .0 .1) 2 (omega arith)
+of-pair-word-requires t c κs = ready-word _ _ _ _ _ _ _ _ (c .before .before .before .pre .1 .0 .1) _ (omega arith)
 
 of-pair-element-copy-out-w : (t : ℕ) → of-pair-lts.Need-element-copy-out-w (of-pair-claims t) (of-pair-at t) of-pair.Post
 of-pair-element-copy-out-w t c = entry-there _ _ _ _ _ _ _ _ (c .before .before .before .before .pre .1 .0 .1) tuple (c .before .before .before .before .pre .1 .1) 2 refl (unfold askOfKind in refl) _ (c .word .ensures .0)
@@ -568,7 +568,7 @@ of-pair-eval-requires : (t : ℕ) → of-pair-lts.Need-eval-requires (of-pair-cl
 of-pair-eval-requires t c κs = let h = (higher _ _ _ _ _ _ _ _ (c .before .before .before .before .before .before .before .before .pre .1 .0 .1) tuple (c .before .before .before .before .before .before .before .before .pre .1 .1) 2 refl (unfold askOfKind in refl) _ (c .before .before .before .before .word .ensures .0)) in (omega (arith, c .before .before .before .before .before .before .before .before .pre .0, h .0, h .1), (c .before .before .before .before .before .before .before .before .pre .1 .0 .0, pair-first-ready _ _ _ _ _ _ _ _ (c .before .before .before .before .before .before .before .before .pre .1 .0 .1) (c .before .before .before .before .before .before .before .before .pre .1 .1) _ _ (c .before .before .before .before .word .ensures .0) refl _ refl))
 
 of-pair-word-requires-2 : (t : ℕ) → of-pair-lts.Need-word-requires-2 (of-pair-claims t) (of-pair-at t) of-pair.Post
-of-pair-word-requires-2 t c κs = ready-word _ _ _ _ _ _ _ _ (c .before .before .before .before .before .before .before .before .before .before .before .before .before .pre .1 .0 .1) 3 (omega arith)
+of-pair-word-requires-2 t c κs = ready-word _ _ _ _ _ _ _ _ (c .before .before .before .before .before .before .before .before .before .before .before .before .before .pre .1 .0 .1) _ (omega arith)
 
 of-pair-sub-eval-2 : (t : ℕ) → of-pair-lts.Need-sub-eval-2 (of-pair-claims t) (of-pair-at t) of-pair.Post
 of-pair-sub-eval-2 t c = pair-rest _ _ _ _ _ _ _ _ (c .before .before .before .before .before .before .before .before .before .before .before .before .before .before .before .before .pre .1 .0 .1) (c .before .before .before .before .before .before .before .before .before .before .before .before .before .before .before .before .pre .1 .1) _ _ (c .before .before .before .before .before .before .before .before .before .before .before .before .word .ensures .0) refl _ refl _ _ _ _ (c .before .before .before .before .before .before .before .eval .ensures)
@@ -592,7 +592,7 @@ of-pair-returns : (t : ℕ) → of-pair-lts.Need-returns (of-pair-claims t) (of-
 of-pair-returns t c = record { done = λ Γ r. pair-done _ _ _ _ _ _ _ Γ r (c .before .before .before .before .before .before .before .before .before .before .before .before .before .before .before .before .before .before .before .before .before .before .pre .1 .1) _ _ (c .before .before .before .before .before .before .before .before .before .before .before .before .before .before .before .before .before .before .word .ensures .0) (c .before .before .before .before .before .before .before .before .word2 .ensures .0) _ refl _ _ _ _ (c .before .before .before .before .before .before .before .before .before .before .before .before .before .eval .ensures) _ _ _ (c .before .before .before .before .eval2 .ensures) }
 
 of-second-word-requires : (t : ℕ) → of-second-lts.Need-word-requires (of-second-claims t) (of-second-at t) of-second.Post
-of-second-word-requires t c κs = ready-word _ _ _ _ _ _ _ _ (c .before .before .before .pre .1 .0 .1) 2 (omega arith)
+of-second-word-requires t c κs = ready-word _ _ _ _ _ _ _ _ (c .before .before .before .pre .1 .0 .1) _ (omega arith)
 
 of-second-element-copy-out-w : (t : ℕ) → of-second-lts.Need-element-copy-out-w (of-second-claims t) (of-second-at t) of-second.Post
 of-second-element-copy-out-w t c = entry-there _ _ _ _ _ _ _ _ (c .before .before .before .before .pre .1 .0 .1) second (c .before .before .before .before .pre .1 .1) 2 refl (unfold askOfKind in refl) _ (c .word .ensures .0)
@@ -748,8 +748,8 @@ pub +eval+of-delay+of-feedback+of-first+of-if+of-let+of-pair+of-second+settle-sp
     (of-feedback-part-enter-value-end t)
     (of-feedback-enter-value-requires t)
     (of-feedback-sub-settle t)
-    (of-feedback-part-value-start t)
-    (of-feedback-part-value-end t)
+    (of-feedback-part-settled-start t)
+    (of-feedback-part-settled-end t)
     (of-feedback-settle-requires t)
     (of-feedback-word-requires-2 t)
     (of-feedback-add-eval t)

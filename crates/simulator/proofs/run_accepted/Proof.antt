@@ -35,7 +35,7 @@ returns : tie.Need-returns
 returns c = refused-stimulus _ _ _ (c .before .before .before .before .before .before .before .before .before .pre .0) (c .before .before .before .before .before .before .before .before .before .pre .1) _ (c .before .before .before .before .word .ensures .0) (now (c .before .before .before .before .before .before .before .before .before .args .stim)) (now (c .before .before .before .before .before .before .before .before .before .args .out)) (now (c .before .before .before .before .before .before .before .before .before .args .next)) _ (c .before .not-whole .ensures) (c .if1 .taken)
 
 first-above-requires : tie.Need-first-above-requires
-first-above-requires c κs = (call-sized _ _ _ (c .before .before .before .before .before .before .before .before .before .pre .0) (c .before .before .before .before .before .before .before .before .before .pre .1), call-passes _ _ _ (c .before .before .before .before .before .before .before .before .before .pre .0) (c .before .before .before .before .before .before .before .before .before .pre .1), call-input _ _ _ (c .before .before .before .before .before .before .before .before .before .pre .0) (c .before .before .before .before .before .before .before .before .before .pre .1) _ (c .before .before .before .before .word .ensures .0), input-takes _ _ _ (c .before .before .before .before .before .before .before .before .before .pre .0) (c .before .before .before .before .before .before .before .before .before .pre .1) _ (c .before .before .before .before .word .ensures .0))
+first-above-requires c κs = (call-sized _ _ _ (c .before .before .before .before .before .before .before .before .before .pre .0) (c .before .before .before .before .before .before .before .before .before .pre .1), call-passes _ _ (c .before .before .before .before .before .before .before .before .before .pre .0), call-input _ _ _ (c .before .before .before .before .before .before .before .before .before .pre .0) (c .before .before .before .before .before .before .before .before .before .pre .1) _ (c .before .before .before .before .word .ensures .0), input-takes _ _ _ (c .before .before .before .before .before .before .before .before .before .pre .0) (c .before .before .before .before .before .before .before .before .before .pre .1) _ (c .before .before .before .before .word .ensures .0))
 
 enum-known-wrong : tie.Need-enum-known-wrong
 enum-known-wrong c = search needs
