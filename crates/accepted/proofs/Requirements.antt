@@ -1,7 +1,7 @@
 -- What the functions of the check ask of their callers can be had: on every sheet that passes codes 1 to 6 there are tables, scopes and
 -- places with each of the records that a `requires` names. `Witness` has such a sheet. Assumes nothing.
 use mathlib.Core.Path.{_≡_, refl, sym, _∙_, ap}
-use mathlib.Core.Bool.{cond, true, false}
+use mathlib.Core.Bool.{cond}
 use mathlib.Core.List.{List, [], _∷_, _++_}
 use Prim.Native.Nat.{ℕ, zero, suc, min, _+_, _*_, _≤_, _<_}
 use native.Mathlib.Omega.{arith}
@@ -23,8 +23,8 @@ use Rattle.layout.specs.NamerTable.{summary, Holds}
 use Rattle.layout.specs.LeafTable.{typeLeaves, Counts}
 use Rattle.layout.specs.DepthTable.{Capped, Placed, Placing}
 use Rattle.layout.proofs.Passes.{written, named-once, length-fits}
-use Rattle.judging.specs.Judging.{Ground, Ready, Closing, scopeOf}
-use Rattle.typing.specs.Stages.{Measured, Recorded, NamedAll, Fitted}
+use Rattle.judging.specs.Judging.{Ground, Ready, Closing}
+use Rattle.typing.specs.Stages.{Fitted}
 use Rattle.typing.specs.Widths.{PatternsFrom, patternEntry, Widths}
 use Rattle.typing.proofs.Stages.{root-ready}
 use Rattle.typing.proofs.Widths.{judged-widths, entry-stored, unpatterned, whole-table}

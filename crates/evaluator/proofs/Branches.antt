@@ -1,18 +1,18 @@
 -- IFs and delays: an IF evaluates all three parts, and a delay gives the value it holds and next holds its part's value.
 -- Assumes nothing.
-use Prim.Native.Nat.{ℕ, suc, _+_, _-_, _*_, _≤_, _<_}
-use mathlib.Core.List.{List, _++_, map}
+use Prim.Native.Nat.{ℕ, _+_, _-_, _*_, _≤_, _<_}
+use mathlib.Core.List.{List, _++_}
 use mathlib.Core.Path.{_≡_, refl, sym, ap, _∙_}
 use native.Mathlib.Omega.{arith}
 use borrow.Author.Tests.{eqb-true}
 use lib.ListN.{length, getD, take, drop, replicate, length-map}
 use Rattle.picoella.specs.Types.{leaves}
-use Rattle.records.specs.Words.{word, wordA, wordB, wordC, wordD, count}
+use Rattle.records.specs.Words.{word, wordA, wordB, wordC, count}
 use Rattle.records.specs.Kinds.{expression, ifMatches, delay, leafs, patterns}
 use Rattle.records.specs.Says.{kindAt}
 use Rattle.records.specs.TypeRecords.{typeAt}
 use Rattle.records.specs.Written.{Written}
-use Rattle.records.specs.Trees.{treeAt, chain, alternatives}
+use Rattle.records.specs.Trees.{treeAt, chain}
 use Rattle.records.specs.Decoding.{leafValues}
 use Rattle.records.proofs.Table.{askOfKind}
 use Rattle.records.proofs.Asked.{part-of-kind}
@@ -43,7 +43,7 @@ use Rattle.evaluator.proofs.Readiness.{
   same-frames,
   same-values,
 }
-use Rattle.evaluator.proofs.Parts.{fits-room, room-ready, room-done, room-wide}
+use Rattle.evaluator.proofs.Parts.{fits-room, room-done, room-wide}
 
 module _ (s : List ℕ) (n : ℕ) (W env : List ℕ) (names rec : ℕ) (out Γ : List ℕ) (r : Ready s n W env names rec out Γ) where
   abbrev ρ : List (List ℕ)

@@ -1,6 +1,6 @@
 -- Names and LETs: the value of a name stands in its slot, and a LET's body is evaluated with one name more.
 -- Assumes nothing.
-use Prim.Native.Nat.{ℕ, suc, _+_, _-_, _*_, _≤_, _<_}
+use Prim.Native.Nat.{ℕ, _+_, _-_, _*_, _≤_, _<_}
 use mathlib.Core.List.{List, [], _∷_, _++_, map}
 use mathlib.Core.Path.{_≡_, refl, sym, ap, _∙_}
 use native.Mathlib.Omega.{arith}
@@ -18,7 +18,7 @@ use Rattle.records.proofs.Trees.{tree-of}
 use Rattle.judging.specs.Judgements.{typeOf}
 use Rattle.typing.specs.Scopes.{Scope, let-defining, let-body}
 use Rattle.accepted.proofs.Scopes.{judged-by-kind}
-use Rattle.meaning.specs.Values.{ValuesOf, more-values}
+use Rattle.meaning.specs.Values.{ValuesOf}
 use Rattle.meaning.specs.Undecided.{undefinedLeaves}
 use Rattle.cycles.specs.Evaluated.{valueAt, storedAt}
 use Rattle.cycles.proofs.Evaluated.{name-value, name-stored, let-value, let-stored}

@@ -1,62 +1,30 @@
 -- Constants, names, pairs and their parts: from what evaluating the parts gives.
 -- Assumes nothing.
-use Prim.Native.Nat.{ℕ, suc, _+_, _-_, _*_, _≤_, _<_}
-use mathlib.Core.List.{List, _++_, map}
+use Prim.Native.Nat.{ℕ, _+_, _-_, _≤_, _<_}
+use mathlib.Core.List.{List, _++_}
 use mathlib.Core.Path.{_≡_, refl, sym, ap, _∙_}
 use native.Mathlib.Omega.{arith}
-use lib.ListN.{length, getD, take, drop, replicate, length-append, length-drop, length-map}
-use lib.Seq.{take-take, length-take-le, take-all, drop-length}
-use mathlib.Core.List.{append-nil}
+use lib.ListN.{length, getD, take, drop, replicate, length-append, length-map}
 use Rattle.picoella.specs.Types.{leaves}
-use Rattle.records.specs.Words.{word, wordA, wordB}
-use Rattle.records.specs.Kinds.{expression, constant, name, tuple, first, second, leafs, expressions, part}
+use Rattle.records.specs.Words.{word, wordA, wordB, count}
+use Rattle.records.specs.Kinds.{expression, constant, tuple, first, second, leafs, part}
 use Rattle.records.specs.Says.{kindAt}
 use Rattle.records.specs.TypeRecords.{typeAt}
 use Rattle.records.specs.Trees.{treeAt, chain}
 use Rattle.records.specs.Decoding.{leafValues}
+use Rattle.records.specs.Written.{Written}
 use Rattle.records.proofs.Table.{askOfKind}
 use Rattle.records.proofs.Asked.{part-of-kind}
 use Rattle.judging.specs.Judgements.{typeOf}
 use Rattle.typing.specs.Scopes.{Scope, tuple-first, tuple-second, of-first, of-second}
 use Rattle.meaning.specs.Undecided.{undefinedLeaves}
 use Rattle.cycles.specs.Evaluated.{valueAt, storedAt}
-use Rattle.cycles.proofs.Evaluated.{
-  constant-value,
-  constant-stored,
-  tuple-value,
-  tuple-stored,
-  first-value,
-  first-stored,
-  second-value,
-  second-stored,
-}
+use Rattle.cycles.proofs.Evaluated.{constant-value, constant-stored, tuple-value, tuple-stored, first-value, first-stored, second-value, second-stored}
 use Rattle.values.specs.Chained.{Chained}
 use Rattle.values.specs.Slots.{frames}
 use Rattle.evaluator.specs.Evaluating.{Ready, Done, Evaluates}
-use Rattle.evaluator.proofs.Frames.{
-  back-long,
-  rest-long,
-  both-back,
-  lent-long,
-  zeros-long,
-  front-own,
-  front-few,
-  end-own,
-  end-few,
-  front-of-back,
-  end-of-back,
-  put-whole,
-}
-use Rattle.evaluator.proofs.Readiness.{
-  ready-written,
-  ready-there,
-  ready-value,
-  ready-at,
-  value-long,
-  same-frames,
-  same-values,
-  entry-few,
-}
+use Rattle.evaluator.proofs.Frames.{back-long, rest-long, both-back, lent-long, zeros-long, front-own, front-few, end-own, end-few, front-of-back, end-of-back, put-whole}
+use Rattle.evaluator.proofs.Readiness.{ready-written, ready-there, ready-value, ready-at, value-long, same-frames, same-values, entry-few}
 
 module _ (s : List ℕ) (n : ℕ) (W env : List ℕ) (names rec : ℕ) (out Γ : List ℕ) (r : Ready s n W env names rec out Γ) where
   abbrev ρ : List (List ℕ)
@@ -65,19 +33,25 @@ module _ (s : List ℕ) (n : ℕ) (W env : List ℕ) (names rec : ℕ) (out Γ :
   abbrev val : ℕ → List ℕ
   val x = valueAt undefinedLeaves s Γ ρ x
 
+  sheet-written : Written s
+  sheet-written = ready-written s n W env names rec out Γ r
+
+  record-there : rec < count s
+  record-there = ready-there s n W env names rec out Γ r
+
   -- a chain of leaves in a word of the record
   module _ (e : kindAt s rec ≡ expression constant) where
     pub constant-chained : (x : ℕ) → x ≡ word s rec 3 → Chained s n x (length out)
     constant-chained x ex =
-        let p = part-of-kind (ready-written s n W env names rec out Γ r) rec (expression constant) leafs (ready-there s n W env names rec out Γ r) e 3 refl
+        let p = part-of-kind sheet-written rec (expression constant) leafs record-there e 3 refl
         (unfold askOfKind in refl) in
         let c = r .sized .counted in
         record {
           sized = r .sized;
-          written = ready-written s n W env names rec out Γ r;
+          written = sheet-written;
           there = omega (arith, p .1, ex);
           sort = rw ex (p .2);
-          many = rw ex (sym (long (chain s (wordB s rec))) ∙ ap length (sym (constant-value undefinedLeaves s (ready-written s n W env names rec out Γ r) Γ ρ rec (ready-there s n W env names rec out Γ r) e)) ∙ ready-value s n W env names rec out Γ r);
+          many = rw ex (sym (long (chain s (wordB s rec))) ∙ ap length (sym (constant-value undefinedLeaves s sheet-written Γ ρ rec record-there e)) ∙ ready-value s n W env names rec out Γ r);
         }
       where
         long : (ls : List ℕ) → length (leafValues s ls) ≡ length ls
@@ -86,11 +60,9 @@ module _ (s : List ℕ) (n : ℕ) (W env : List ℕ) (names rec : ℕ) (out Γ :
     pub constant-done : (x : ℕ) → x ≡ word s rec 3 → (held out′ : List ℕ) → out′ ≡ leafValues s (chain s x)
         → Done s Γ env names rec held env held out′
     constant-done x ex held out′ g =
-        let w = ready-written s n W env names rec out Γ r in
-        let b = ready-there s n W env names rec out Γ r in
         record {
-          value = g ∙ rw ex (sym (constant-value undefinedLeaves s w Γ ρ rec b e));
-          stored = sym (constant-stored undefinedLeaves s w Γ ρ rec b e held);
+          value = g ∙ rw ex (sym (constant-value undefinedLeaves s sheet-written Γ ρ rec record-there e));
+          stored = sym (constant-stored undefinedLeaves s sheet-written Γ ρ rec record-there e held);
           wide = r .wide;
           kept = refl;
         }
@@ -103,7 +75,7 @@ module _ (s : List ℕ) (n : ℕ) (W env : List ℕ) (names rec : ℕ) (out Γ :
     scope-b = rw ey (tuple-second e (r .scope))
 
     parts : val rec ≡ val x ++ val y
-    parts = rw (ex, ey) (tuple-value undefinedLeaves s (ready-written s n W env names rec out Γ r) Γ ρ rec (ready-there s n W env names rec out Γ r) e)
+    parts = rw (ex, ey) (tuple-value undefinedLeaves s sheet-written Γ ρ rec record-there e)
 
     pub pair-small : getD W x 0 ≤ 64
     pair-small = entry-few s n W env names rec out Γ r x Γ scope-a
@@ -152,13 +124,11 @@ module _ (s : List ℕ) (n : ℕ) (W env : List ℕ) (names rec : ℕ) (out Γ :
         pair-done env₂ held₂ o₂ p₂ =
             let d₂ = p₂ .done Γ pair-second-ready in
             let f = same-frames s n W env names rec out Γ r env₁ (d₁ .kept) in
-            let wr = ready-written s n W env names rec out Γ r in
-            let th = ready-there s n W env names rec out Γ r in
             let v₂ : o₂ ≡ val y = rw f at (d₂ .value) in
             let h₂ : held₂ ≡ storedAt undefinedLeaves s Γ ρ y held₁ = rw f at (d₂ .stored) in
             record {
               value = both-back w out o₁ first-wide pair-cut o₂ ∙ rw (d₁ .value, v₂) (sym parts);
-              stored = h₂ ∙ rw (d₁ .stored, ex, ey) (sym (tuple-stored undefinedLeaves s wr Γ ρ rec th e held));
+              stored = h₂ ∙ rw (d₁ .stored, ex, ey) (sym (tuple-stored undefinedLeaves s sheet-written Γ ρ rec record-there e held));
               wide = d₂ .wide;
               kept = d₂ .kept ∙ d₁ .kept;
             }
@@ -193,7 +163,7 @@ module _ (s : List ℕ) (n : ℕ) (W env : List ℕ) (names rec : ℕ) (out Γ :
 
       front : val rec ≡ take cut o₁
       front =
-          first-value undefinedLeaves s (ready-written s n W env names rec out Γ r) Γ ρ rec (ready-there s n W env names rec out Γ r) e
+          first-value undefinedLeaves s sheet-written Γ ρ rec record-there e
           ∙ ap (take cut) (rw ex at (sym (room-done x first-scope w ew R eR held env₁ held₁ o₁ p₁ .value)))
 
       cut-long : length out ≡ length (take cut o₁)
@@ -226,11 +196,9 @@ module _ (s : List ℕ) (n : ℕ) (W env : List ℕ) (names rec : ℕ) (out Γ :
           → Done s Γ env names rec held env₁ held₁ out′
       first-done out′ g =
           let d = room-done x first-scope w ew R eR held env₁ held₁ o₁ p₁ in
-          let wr = ready-written s n W env names rec out Γ r in
-          let th = ready-there s n W env names rec out Γ r in
           record {
             value = put-whole (take (length out - 0) (o₁ ++ drop (w - 0) R)) out out′ first-fits g ∙ part-is ∙ sym front;
-            stored = d .stored ∙ rw ex (sym (first-stored undefinedLeaves s wr Γ ρ rec th e held));
+            stored = d .stored ∙ rw ex (sym (first-stored undefinedLeaves s sheet-written Γ ρ rec record-there e held));
             wide = d .wide;
             kept = d .kept;
           }
@@ -246,7 +214,7 @@ module _ (s : List ℕ) (n : ℕ) (W env : List ℕ) (names rec : ℕ) (out Γ :
 
       end : val rec ≡ drop cut′ o₁
       end =
-          second-value undefinedLeaves s (ready-written s n W env names rec out Γ r) Γ ρ rec (ready-there s n W env names rec out Γ r) e
+          second-value undefinedLeaves s sheet-written Γ ρ rec record-there e
           ∙ ap (drop cut′) (rw ex at (sym (room-done x second-scope w ew R eR held env₁ held₁ o₁ p₁ .value)))
 
       end-long : length out ≡ length (drop cut′ o₁)
@@ -282,11 +250,9 @@ module _ (s : List ℕ) (n : ℕ) (W env : List ℕ) (names rec : ℕ) (out Γ :
       pub second-done : (out′ : List ℕ) → out′ ≡ piece ++ drop (length piece) out → Done s Γ env names rec held env₁ held₁ out′
       second-done out′ g =
           let d = room-done x second-scope w ew R eR held env₁ held₁ o₁ p₁ in
-          let wr = ready-written s n W env names rec out Γ r in
-          let th = ready-there s n W env names rec out Γ r in
           record {
             value = put-whole piece out out′ second-fits g ∙ piece-is ∙ sym end;
-            stored = d .stored ∙ rw ex (sym (second-stored undefinedLeaves s wr Γ ρ rec th e held));
+            stored = d .stored ∙ rw ex (sym (second-stored undefinedLeaves s sheet-written Γ ρ rec record-there e held));
             wide = d .wide;
             kept = d .kept;
           }

@@ -4,7 +4,7 @@ use Prim.Native.Nat.{ℕ, _+_, _*_}
 use mathlib.Core.Path.{_≡_}
 use mathlib.Core.List.{List, _∷_, map}
 use lib.ListN.{length, getD, take}
-use Rattle.picoella.specs.Types.{Ty, bounds, leaves}
+use Rattle.picoella.specs.Types.{bounds, leaves}
 use Rattle.records.specs.Sized.{Sized}
 use Rattle.records.specs.TypeRecords.{typeAt}
 use Rattle.records.specs.Trees.{treeAt}

@@ -1,9 +1,9 @@
 -- The call: what an accepted sheet's tables say of the stimulus and the slices, and what each way out gives.
 -- Assumes nothing.
-use Prim.Native.Nat.{ℕ, zero, suc, _+_, _-_, _*_, _/_, _%_, _^_, _≤_, _<_}
+use Prim.Native.Nat.{ℕ, _+_, _-_, _*_, _/_, _%_, _≤_, _<_}
 use mathlib.Core.Bool.{Bool, true, false, not, _||_}
 use mathlib.Core.List.{List, [], _∷_, _++_}
-use mathlib.Core.Option.{Option, none, some}
+use mathlib.Core.Option.{none, some}
 use mathlib.Core.Path.{_≡_, refl, sym, ap, _∙_}
 use mathlib.Core.Logic.{_≢_}
 use native.Mathlib.Omega.{arith}
@@ -17,7 +17,6 @@ use Rattle.picoella.specs.Types.{bounds, leaves}
 use Rattle.records.specs.Words.{word, wordA, count}
 use Rattle.records.specs.Sized.{Sized}
 use Rattle.records.specs.TypeRecords.{typeAt, TypeRecord}
-use Rattle.records.specs.Written.{Written}
 use Rattle.records.proofs.Types.{few-leaves, some-leaves, leaves-of-bounds}
 use Rattle.records.proofs.TypeRecords.{input-type}
 use Rattle.records.proofs.Tests.{neither-right}

@@ -1,14 +1,14 @@
 -- Cycle after cycle: before cycle k the sheet is the one that it begins from, and the outputs of the cycles before it stand at the
 -- front of the output slice.
 -- Assumes nothing.
-use Prim.Native.Nat.{ℕ, zero, suc, _+_, _-_, _*_, _≤_, _<_}
+use Prim.Native.Nat.{ℕ, _+_, _-_, _*_, _≤_, _<_}
 use mathlib.Core.List.{List, [], _∷_, _++_, append-assoc, append-nil}
-use mathlib.Core.Path.{_≡_, refl, sym, ap, ap₂, _∙_}
+use mathlib.Core.Path.{_≡_, refl, sym, ap, _∙_}
 use native.Mathlib.Omega.{arith}
 use native.Mathlib.Numerals.{add-one}
 use native.Mathlib.Nat.{zero-mul, mul-le-mul-left, mul-le-mul-right}
 use lib.ListN.{length, getD, take, drop, length-append, length-drop}
-use lib.Seq.{take-all, take-length, take-suc, take-append-add, take-at, length-take-le, drop-drop}
+use lib.Seq.{take-all, take-length, take-suc, take-at, length-take-le, drop-drop}
 use Rattle.picoella.specs.Types.{leaves, OfType}
 use Rattle.records.specs.Words.{wordA}
 use Rattle.records.specs.TypeRecords.{typeAt}
@@ -19,7 +19,7 @@ use Rattle.layout.proofs.Passes.{types-fit}
 use Rattle.typing.proofs.Exact.{exact}
 use Rattle.typing.specs.Verdict.{verdict}
 use Rattle.typing.specs.declared.Verdict.the-variants.{Accepted}
-use Rattle.meaning.specs.Values.{AllOf, all-none, all-more}
+use Rattle.meaning.specs.Values.{AllOf}
 use Rattle.meaning.specs.Undecided.{undefinedLeaves}
 use Rattle.meaning.proofs.UndefinedLeavesLawful.{undefined-lawful}
 use Rattle.meaning.proofs.Order.{value-length}
@@ -27,19 +27,10 @@ use Rattle.cycles.specs.Sheets.{OnlyDelays}
 use Rattle.cycles.specs.Cycle.{output, after}
 use Rattle.cycles.proofs.Cycle.{output-typed}
 use Rattle.cycles.proofs.Sheets.{only-leaves, header-same, accepted-written}
-use Rattle.runs.specs.Stimulus.{inputType, inputLeaves, cycleCount, endToEnd, cycles}
-use Rattle.runs.specs.Run.{outputsBy, sheetBefore, sheetAfter}
+use Rattle.runs.specs.Stimulus.{inputType, endToEnd, cycles}
+use Rattle.runs.specs.Run.{outputsBy, sheetBefore}
 use Rattle.runs.proofs.Stimulus.{stimulus-whole, cycles-typed, cycles-counted, cycle-at}
-use Rattle.runs.proofs.Run.{
-  sheet-last,
-  sheet-first,
-  sheet-next,
-  output-at,
-  outputs-counted,
-  outputs-typed,
-  sheet-accepted,
-  sheet-only-delays,
-}
+use Rattle.runs.proofs.Run.{sheet-last, sheet-first, sheet-next, output-at, outputs-counted, sheet-accepted, sheet-only-delays}
 use Rattle.runs.proofs.Afterwards.{all-at}
 use Rattle.stepper.specs.Cycling.{Cycling, Cycled}
 use Rattle.simulator.specs.Running.{Lending, Lent, Running, Ran}

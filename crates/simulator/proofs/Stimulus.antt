@@ -1,27 +1,21 @@
 -- The stimulus held against the counts of the input type's leaves, which are filled in leaf by leaf.
 -- Assumes nothing.
-use Prim.Native.Nat.{ℕ, zero, suc, _+_, _-_, _*_, _/_, _%_, _≤_, _<_}
-use mathlib.Core.Bool.{Bool, true, false, not, _||_}
-use mathlib.Core.List.{List, [], _∷_, _++_, List·Memᴰ, List·Memᴰ·head, List·Memᴰ·tail}
-use mathlib.Core.Path.{_≡_, refl, sym, ap, _∙_}
+use Prim.Native.Nat.{ℕ, zero, suc, _+_, _-_, _%_, _≤_, _<_}
+use mathlib.Core.Bool.{true, false, not}
+use mathlib.Core.List.{List, [], _∷_, List·Memᴰ, List·Memᴰ·head, List·Memᴰ·tail}
+use mathlib.Core.Path.{_≡_, refl, sym, _∙_}
 use native.Mathlib.Omega.{arith}
 use native.Mathlib.Numerals.{add-one}
 use borrow.Author.Tests.{eq-eqb, ne-eqb, lt-ltb, le-ltb}
-use lib.Dec.{eqb, ltb}
-use lib.ListN.{length, getD, set, take, drop, replicate, length-set}
+use lib.Dec.{eqb}
+use lib.ListN.{length, getD, set, take, length-set}
 use lib.Seq.{take-length, take-suc, take-suc-set}
 use Rattle.picoella.specs.Types.{bounds, leaves}
-use Rattle.records.specs.Words.{wordA}
-use Rattle.records.specs.Sized.{Sized}
 use Rattle.records.specs.TypeRecords.{typeAt, TypeRecord}
-use Rattle.records.specs.Written.{Written}
-use Rattle.records.proofs.Types.{few-leaves, leaves-of-bounds}
-use Rattle.layout.specs.Passes.{Passes}
-use Rattle.layout.specs.LeafTable.{Counts}
-use Rattle.layout.proofs.Passes.{written, types-fit}
+use Rattle.records.proofs.Types.{leaves-of-bounds}
+use Rattle.layout.proofs.Passes.{written}
 use Rattle.judging.specs.Judging.{Ground}
 use Rattle.cycles.proofs.Values.{bounds-small}
-use Rattle.evaluator.proofs.Frames.{back-part, back-long, lent-long, zeros-long}
 use Rattle.simulator.specs.Running.{notWhole, above}
 
 -- empty, too long, or not whole cycles

@@ -1,6 +1,6 @@
 -- The run of an accepted sheet: its stimulus held against the leaves' counts, one cycle lent its parts of the slices, all cycles, and
 -- the call as a whole.
-use Prim.Native.Nat.{ℕ, zero, suc, _+_, _*_, _%_, _≤_, _<_}
+use Prim.Native.Nat.{ℕ, _+_, _*_, _%_, _≤_}
 use mathlib.Core.Path.{_≡_}
 use mathlib.Core.Bool.{Bool, false, not, _||_}
 use mathlib.Core.List.{List, _++_}

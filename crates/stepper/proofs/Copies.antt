@@ -1,7 +1,7 @@
 -- A table copied along a chain leaf by leaf, and along the chains of the delays record by record.
 -- Assumes nothing.
 use Prim.Native.Nat.{ℕ, zero, suc, _+_, _-_, _*_, _≤_, _<_}
-use mathlib.Core.List.{List, [], _∷_, _++_, append-nil}
+use mathlib.Core.List.{List, [], _∷_, _++_}
 use mathlib.Core.Path.{_≡_, refl, sym, ap, _∙_}
 use mathlib.Core.Bool.{Bool, true, false}
 use native.Mathlib.Omega.{arith}
@@ -33,7 +33,6 @@ use Rattle.records.specs.Kinds.{
 }
 use Rattle.records.specs.Says.{kindAt, sortAt}
 use Rattle.records.specs.Trees.{chain, follow}
-use Rattle.records.specs.Written.{Written}
 use Rattle.records.proofs.CodeTable.{only-kind}
 use Rattle.records.proofs.Trees.{chain-of, next-leaf}
 use Rattle.records.proofs.Table.{askOfKind}

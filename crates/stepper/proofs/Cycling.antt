@@ -2,46 +2,44 @@
 -- delays' chains makes the sheet after the cycle.
 -- Assumes nothing.
 use Prim.Native.Nat.{ℕ, zero, suc, _+_, _*_, _≤_, _<_}
-use mathlib.Core.List.{List, [], _∷_, _++_, map, List·Memᴰ}
+use mathlib.Core.List.{List, [], _∷_, _++_, List·Memᴰ}
 use mathlib.Core.Path.{_≡_, refl, sym, ap, ap₂, _∙_}
 use native.Mathlib.Omega.{arith}
-use lib.ListN.{length, getD, take}
+use lib.ListN.{length, getD}
 use Rattle.picoella.specs.Types.{leaves, OfType}
 use Rattle.records.specs.Words.{word, wordA, wordB, count}
-use Rattle.records.specs.Kinds.{Kind, header, typeOf, expression, pattern, leaf, unknown, delay, leafs}
-use Rattle.records.specs.Says.{kindAt, sortAt}
+use Rattle.records.specs.Kinds.{Kind, header, leaf}
+use Rattle.records.specs.Says.{kindAt}
 use Rattle.records.specs.Sized.{Sized}
 use Rattle.records.specs.TypeRecords.{typeAt}
-use Rattle.records.specs.Trees.{chain, treeAt, circuit}
+use Rattle.records.specs.Trees.{chain, circuit}
 use Rattle.records.specs.Held.{delayLeaves}
 use Rattle.records.specs.Written.{Written}
 use Rattle.records.specs.Rewritten.{OnlyLeaves}
-use Rattle.records.proofs.Rewritten.{same-count, same-kind, same-chain, same-type}
+use Rattle.records.proofs.Rewritten.{same-kind, same-chain, same-type}
 use Rattle.records.proofs.Types.{few-leaves}
 use Rattle.records.proofs.TypeRecords.{input-type}
 use Rattle.layout.proofs.Passes.{written, types-fit}
-use Rattle.typing.specs.Verdict.{verdict, inputs}
-use Rattle.typing.specs.Scopes.{Scope, root}
+use Rattle.typing.specs.Verdict.{inputs}
+use Rattle.typing.specs.Scopes.{root}
 use Rattle.typing.specs.Widths.{Widths}
-use Rattle.typing.specs.declared.Verdict.the-variants.{Accepted}
 use Rattle.typing.proofs.Exact.{exact, accepted-judged}
-use Rattle.meaning.specs.Values.{ValuesOf, no-values, more-values}
+use Rattle.meaning.specs.Values.{no-values, more-values}
 use Rattle.meaning.specs.Undecided.{undefinedLeaves}
 use Rattle.meaning.specs.Evaluation.{next}
 use Rattle.meaning.proofs.Order.{value-length}
 use Rattle.meaning.proofs.UndefinedLeavesLawful.{undefined-lawful}
 use Rattle.cycles.specs.Terms.{circuitTerm}
 use Rattle.cycles.specs.Delays.{store}
-use Rattle.cycles.specs.Sheets.{write}
 use Rattle.cycles.specs.Copies.{copied, leavesOf, delayChains}
 use Rattle.cycles.specs.Cycle.{output, after, afterBy}
-use Rattle.cycles.specs.Evaluated.{valueAt, storedAt}
+use Rattle.cycles.specs.Evaluated.{valueAt}
 use Rattle.cycles.proofs.Evaluated.{root-value, root-stored}
 use Rattle.cycles.proofs.Cycle.{cycle-writable}
 use Rattle.cycles.proofs.Stores.{leaves-in-table, store-length}
 use Rattle.cycles.proofs.DelayRecords.{write-copied-chains}
-use Rattle.values.specs.Slots.{slot, entered, frames}
-use Rattle.evaluator.specs.Evaluating.{Ready, Done, Evaluates}
+use Rattle.values.specs.Slots.{entered, frames}
+use Rattle.evaluator.specs.Evaluating.{Ready, Evaluates}
 use Rattle.evaluator.proofs.Frames.{entered-slot, entered-long}
 use Rattle.stepper.specs.Cycling.{Copying, Cycling, Cycled}
 use Rattle.stepper.proofs.WidthsAgain.{sized-again, widths-again}

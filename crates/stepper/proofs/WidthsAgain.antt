@@ -1,17 +1,16 @@
 -- Where only leaves are rewritten the table of an accepted sheet stays: expressions, patterns and types are where they were, with
 -- the same scopes and types.
 -- Assumes nothing.
-use Prim.Native.Nat.{ℕ, _<_}
+use Prim.Native.Nat.{ℕ}
 use mathlib.Core.List.{List}
-use mathlib.Core.Path.{_≡_, refl, sym, ap, ap₂, _∙_}
+use mathlib.Core.Path.{_≡_, refl, sym, ap, _∙_}
 use native.Mathlib.Omega.{arith}
-use lib.ListN.{length, getD}
+use lib.ListN.{length}
 use Rattle.picoella.specs.Types.{leaves}
-use Rattle.records.specs.Words.{count}
 use Rattle.records.specs.Kinds.{patterns, sortOf}
-use Rattle.records.specs.Says.{kindAt, sortAt}
+use Rattle.records.specs.Says.{sortAt}
 use Rattle.records.specs.Sized.{Sized}
-use Rattle.records.specs.TypeRecords.{typeAt, TypeRecord}
+use Rattle.records.specs.TypeRecords.{TypeRecord}
 use Rattle.records.specs.Trees.{
   Alternatives,
   end,
@@ -30,7 +29,7 @@ use Rattle.judging.specs.Judgements.{typeOf}
 use Rattle.judging.specs.Judging.{width}
 use Rattle.typing.specs.Verdict.{verdict}
 use Rattle.typing.specs.Scopes.{Scope}
-use Rattle.typing.specs.Widths.{patternLeaves, patternEntry, hasEntry, Widths}
+use Rattle.typing.specs.Widths.{patternLeaves, patternEntry, Widths}
 use Rattle.typing.specs.declared.Verdict.the-variants.{Accepted}
 use Rattle.typing.proofs.Exact.{exact}
 use Rattle.accepted.proofs.Scopes.{scope-checked}

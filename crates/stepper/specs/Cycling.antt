@@ -1,13 +1,11 @@
 -- One cycle of a sheet. `first` is the sheet that was checked, `current` the one that the cycle begins from: the two differ in leaves
 -- alone, and are accepted with the same type.
-use Prim.Native.Nat.{ℕ, _<_}
+use Prim.Native.Nat.{ℕ}
 use mathlib.Core.Path.{_≡_}
 use mathlib.Core.List.{List}
 use lib.ListN.{length}
 use Rattle.picoella.specs.Types.{leaves, OfType}
 use Rattle.records.specs.Words.{wordA}
-use Rattle.records.specs.Kinds.{leafs}
-use Rattle.records.specs.Says.{sortAt}
 use Rattle.records.specs.Sized.{Sized}
 use Rattle.records.specs.TypeRecords.{typeAt}
 use Rattle.records.specs.Written.{Written}

@@ -4,7 +4,7 @@ use Prim.Native.Nat.{ℕ, zero, suc, _+_, _-_, _≤_, _<_}
 use mathlib.Core.Bool.{Bool, true, _&&_}
 use lib.Dec.{eqb}
 use mathlib.Core.List.{List}
-use mathlib.Core.Path.{_≡_, refl, sym, ap, ap₂, _∙_}
+use mathlib.Core.Path.{_≡_, refl, sym, _∙_}
 use native.Mathlib.Omega.{arith}
 use native.Mathlib.Decide.{ℕ-discrete}
 use borrow.Author.Tests.{eqb-true}
@@ -14,7 +14,7 @@ use Rattle.picoella.specs.Types.{Ty, Flat, TyTuple, leaves}
 use Rattle.picoella.specs.Patterns.{Pattern, Whole, Constructor, Parts}
 use Rattle.records.specs.Words.{count, next, word, wordA, wordB}
 use Rattle.records.specs.Kinds.{PatternKind, pattern, whole, constructor, parts, patterns, isPair}
-use Rattle.records.specs.Says.{kindAt, sortAt}
+use Rattle.records.specs.Says.{kindAt}
 use Rattle.records.specs.TypeRecords.{typeAt}
 use Rattle.records.specs.Trees.{
   Alternatives,

@@ -5,10 +5,6 @@ use Rattle.evaluator.proofs.Names.{name-in-scope, name-room, name-done}
 use borrow.Author.Needs.{needs}
 use Rattle.evaluator.proofs.of_name.Statement.{statement}
 use Rattle.evaluator.proofs.of_name.Tie as tie
-use Rattle.evaluator.proofs.of_name.Reads as reads
-use Rattle.evaluator.proofs.of_name.Lts as lts
-use Rattle.records.proofs.word.Reads as word-reads
-use Rattle.values.proofs.copy_value.Reads as copy-value-reads
 
 word-requires : tie.Need-word-requires
 word-requires c κs = ready-word _ _ _ _ _ _ _ _ (c .before .before .before .pre .0 .1) 2 (omega arith)

@@ -9,9 +9,6 @@ use Rattle.records.specs.TypeRecords.{typeAt}
 use Rattle.simulator.proofs.Stimulus.{bound-small, Filled, none-filled, fill-next, all-filled, type-bounds}
 use Rattle.simulator.proofs.fill_bounds.Statement.{statement}
 use Rattle.simulator.proofs.fill_bounds.Tie as tie
-use Rattle.simulator.proofs.fill_bounds.Reads as reads
-use Rattle.simulator.proofs.fill_bounds.Lts as lts
-use Rattle.judging.proofs.bound_at.Reads as bound-at-reads
 
 abbrev Inv-loop : tie.InvT-loop
 Inv-loop sheet n table t out₀ all i₀ out i = Filled (bounds (typeAt sheet t)) i out

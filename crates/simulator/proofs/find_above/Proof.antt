@@ -13,8 +13,6 @@ use Rattle.simulator.specs.Running.{above}
 use Rattle.simulator.proofs.Stimulus.{is-above, is-not-above}
 use Rattle.simulator.proofs.find_above.Statement.{statement}
 use Rattle.simulator.proofs.find_above.Tie as tie
-use Rattle.simulator.proofs.find_above.Reads as reads
-use Rattle.simulator.proofs.find_above.Lts as lts
 
 abbrev Inv-loop : tie.InvT-loop
 Inv-loop bounds stim w all i₀ i = (i ≤ all) × ((q : ℕ) → q < i → above bounds stim q ≡ false)

@@ -5,13 +5,6 @@ use Rattle.simulator.proofs.Calls.{bounds-fit, bounds-ground, bounds-in
 use borrow.Author.Needs.{needs}
 use Rattle.simulator.proofs.first_above.Statement.{statement}
 use Rattle.simulator.proofs.first_above.Tie as tie
-use Rattle.simulator.proofs.first_above.Reads as reads
-use Rattle.simulator.proofs.first_above.Lts as lts
-use Rattle.layout.proofs.count_types.Reads as count-types-reads
-use Rattle.layout.proofs.no_leaves.Reads as no-leaves-reads
-use Rattle.simulator.proofs.fill_bounds.Reads as fill-bounds-reads
-use Rattle.simulator.proofs.find_above.Reads as find-above-reads
-use Rattle.values.proofs.room.Reads as room-reads
 
 no-leaves-requires : tie.Need-no-leaves-requires
 no-leaves-requires c κs = search needs

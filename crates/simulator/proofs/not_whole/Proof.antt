@@ -3,8 +3,6 @@ use Rattle.simulator.proofs.Stimulus.{empty-refused, long-refused, whol
 use borrow.Author.Needs.{needs}
 use Rattle.simulator.proofs.not_whole.Statement.{statement}
 use Rattle.simulator.proofs.not_whole.Tie as tie
-use Rattle.simulator.proofs.not_whole.Reads as reads
-use Rattle.simulator.proofs.not_whole.Lts as lts
 
 returns : tie.Need-returns
 returns c = empty-refused _ _ (c .if1 .taken)

@@ -5,13 +5,6 @@ use Rattle.simulator.proofs.Calls.{call-sized, call-passes, call-input,
 use borrow.Author.Needs.{needs}
 use Rattle.simulator.proofs.run_accepted.Statement.{statement}
 use Rattle.simulator.proofs.run_accepted.Tie as tie
-use Rattle.simulator.proofs.run_accepted.Reads as reads
-use Rattle.simulator.proofs.run_accepted.Lts as lts
-use Rattle.records.proofs.word.Reads as word-reads
-use Rattle.simulator.proofs.first_above.Reads as first-above-reads
-use Rattle.simulator.proofs.not_whole.Reads as not-whole-reads
-use Rattle.simulator.proofs.run_from.Reads as run-from-reads
-use Rattle.values.proofs.put.Reads as put-reads
 
 word-requires : tie.Need-word-requires
 word-requires c κs = (call-sized _ _ _ (c .before .before .before .before .pre .0) (c .before .before .before .before .pre .1), call-sized _ _ _ (c .before .before .before .before .pre .0) (c .before .before .before .before .pre .1) .some, omega arith)

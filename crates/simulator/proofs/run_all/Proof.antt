@@ -5,9 +5,6 @@ use mathlib.Core.Path.{refl, sym, _∙_}
 use Rattle.simulator.proofs.Running.{Before, count-small, at-first, lending, gone-on, sheet-long, ended}
 use Rattle.simulator.proofs.run_all.Statement.{statement}
 use Rattle.simulator.proofs.run_all.Tie as tie
-use Rattle.simulator.proofs.run_all.Reads as reads
-use Rattle.simulator.proofs.run_all.Lts as lts
-use Rattle.simulator.proofs.run_cycle.Reads as run-cycle-reads
 
 abbrev Inv-loop : tie.InvT-loop
 Inv-loop sheet n widths env₀ held₀ stim wi wo count current₀ out₀ from₀ at₀ k₀ env held current out from at k = Before sheet stim wi wo count out₀ k from at env held current out

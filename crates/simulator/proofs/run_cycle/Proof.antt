@@ -4,9 +4,6 @@ use Rattle.simulator.proofs.Running.{lent-cycling, lent-back}
 use borrow.Author.Needs.{needs}
 use Rattle.simulator.proofs.run_cycle.Statement.{statement}
 use Rattle.simulator.proofs.run_cycle.Tie as tie
-use Rattle.simulator.proofs.run_cycle.Reads as reads
-use Rattle.simulator.proofs.run_cycle.Lts as lts
-use Rattle.stepper.proofs.cycle.Reads as cycle-reads
 
 add-cycle : tie.Need-add-cycle
 add-cycle c = let i = c .before .before .before .before .before .before .before .pre .inside in let f = c .before .before .before .before .before .before .before .pre .few in omega arith

@@ -6,12 +6,6 @@ use Rattle.simulator.proofs.Calls.{refused-verdict, call-refused, accep
 use borrow.Author.Needs.{needs}
 use Rattle.simulator.proofs.sheet_run.Statement.{statement}
 use Rattle.simulator.proofs.sheet_run.Tie as tie
-use Rattle.simulator.proofs.sheet_run.Reads as reads
-use Rattle.simulator.proofs.sheet_run.Lts as lts
-use Rattle.layout.proofs.no_leaves.Reads as no-leaves-reads
-use Rattle.simulator.proofs.run_accepted.Reads as run-accepted-reads
-use Rattle.typing.proofs.check_into.Reads as check-into-reads
-use Rattle.typing.proofs.packed.Reads as packed-reads
 
 no-leaves-requires : tie.Need-no-leaves-requires
 no-leaves-requires c κs = search needs

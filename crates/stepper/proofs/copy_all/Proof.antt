@@ -1,13 +1,9 @@
 -- Assumes nothing.
-use borrow.Author.Needs.{needs}
 use native.Mathlib.Omega.{arith}
 use Prim.Native.Nat.{_-_}
 use Rattle.stepper.proofs.Copies.{Below, none-below, below-copying, below-long, below-next, all-below}
 use Rattle.stepper.proofs.copy_all.Statement.{statement}
 use Rattle.stepper.proofs.copy_all.Tie as tie
-use Rattle.stepper.proofs.copy_all.Reads as reads
-use Rattle.stepper.proofs.copy_all.Lts as lts
-use Rattle.stepper.proofs.copy_record.Reads as copy-record-reads
 
 abbrev Inv-loop : tie.InvT-loop
 Inv-loop sheet n held current₀ rec₀ current rec = Below sheet held current₀ n rec current

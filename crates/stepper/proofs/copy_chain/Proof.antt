@@ -1,5 +1,4 @@
 -- Assumes nothing.
-use borrow.Author.Needs.{needs}
 use native.Mathlib.Omega.{arith}
 use Rattle.records.specs.Trees.{chain}
 use Rattle.values.proofs.Matches.{left}
@@ -7,9 +6,6 @@ use Rattle.stepper.specs.Cycling.{Copying}
 use Rattle.stepper.proofs.Copies.{Left, all-left, leaf-there, leaf-bytes, high-byte, next-left, next-falls, none-left}
 use Rattle.stepper.proofs.copy_chain.Statement.{statement}
 use Rattle.stepper.proofs.copy_chain.Tie as tie
-use Rattle.stepper.proofs.copy_chain.Reads as reads
-use Rattle.stepper.proofs.copy_chain.Lts as lts
-use Rattle.records.proofs.word.Reads as word-reads
 
 abbrev Inv-loop : tie.InvT-loop
 Inv-loop sheet n first held current₀ leaf₀ current leaf = (g : Copying sheet n current₀) → Left sheet held (chain sheet first) current₀ leaf current

@@ -6,10 +6,6 @@ use Rattle.stepper.proofs.Copies.{no-delay, delay-leaves, delay-copied}
 use borrow.Author.Needs.{needs}
 use Rattle.stepper.proofs.copy_record.Statement.{statement}
 use Rattle.stepper.proofs.copy_record.Tie as tie
-use Rattle.stepper.proofs.copy_record.Reads as reads
-use Rattle.stepper.proofs.copy_record.Lts as lts
-use Rattle.records.proofs.word.Reads as word-reads
-use Rattle.stepper.proofs.copy_chain.Reads as copy-chain-reads
 
 word-requires : tie.Need-word-requires
 word-requires c κs = search needs

@@ -3,12 +3,6 @@ use Rattle.stepper.proofs.Cycling.{input-room, first-sized, root-ready,
 use borrow.Author.Needs.{needs}
 use Rattle.stepper.proofs.cycle.Statement.{statement}
 use Rattle.stepper.proofs.cycle.Tie as tie
-use Rattle.stepper.proofs.cycle.Reads as reads
-use Rattle.stepper.proofs.cycle.Lts as lts
-use Rattle.evaluator.proofs.eval.Reads as eval-reads
-use Rattle.records.proofs.word.Reads as word-reads
-use Rattle.stepper.proofs.copy_all.Reads as copy-all-reads
-use Rattle.values.proofs.enter_value.Reads as enter-value-reads
 
 enter-value-requires : tie.Need-enter-value-requires
 enter-value-requires c κs = input-room _ _ _ _ _ _ _ _ (c .before .before .before .before .before .before .pre)

@@ -3,10 +3,6 @@ use Rattle.values.proofs.Slots.{otherwise-chosen, undefined-chosen}
 use borrow.Author.Needs.{needs}
 use Rattle.values.proofs.by_answer.Statement.{statement}
 use Rattle.values.proofs.by_answer.Tie as tie
-use Rattle.values.proofs.by_answer.Reads as reads
-use Rattle.values.proofs.by_answer.Lts as lts
-use Rattle.values.proofs.clear.Reads as clear-reads
-use Rattle.values.proofs.put.Reads as put-reads
 
 enum-told : tie.Need-enum-told
 enum-told c = search needs

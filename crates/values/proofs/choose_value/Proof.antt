@@ -3,10 +3,6 @@ use Rattle.values.proofs.Matches.{chosen}
 use borrow.Author.Needs.{needs}
 use Rattle.values.proofs.choose_value.Statement.{statement}
 use Rattle.values.proofs.choose_value.Tie as tie
-use Rattle.values.proofs.choose_value.Reads as reads
-use Rattle.values.proofs.choose_value.Lts as lts
-use Rattle.values.proofs.by_answer.Reads as by-answer-reads
-use Rattle.values.proofs.match_all.Reads as match-all-reads
 
 match-all-requires : tie.Need-match-all-requires
 match-all-requires c κs = search needs

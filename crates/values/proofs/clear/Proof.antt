@@ -5,8 +5,6 @@ use Prim.Native.Nat.{_-_}
 use Rattle.values.proofs.Slots.{Cleared, none-cleared, clear-next, all-cleared}
 use Rattle.values.proofs.clear.Statement.{statement}
 use Rattle.values.proofs.clear.Tie as tie
-use Rattle.values.proofs.clear.Reads as reads
-use Rattle.values.proofs.clear.Lts as lts
 
 abbrev Inv-loop : tie.InvT-loop
 Inv-loop out₀ all i₀ out i = Cleared out₀ i out

@@ -5,10 +5,6 @@ use Rattle.values.proofs.Slots.{looked-up-long, looked-up-copied}
 use borrow.Author.Needs.{needs}
 use Rattle.values.proofs.copy_value.Statement.{statement}
 use Rattle.values.proofs.copy_value.Tie as tie
-use Rattle.values.proofs.copy_value.Reads as reads
-use Rattle.values.proofs.copy_value.Lts as lts
-use Rattle.values.proofs.look_up.Reads as look-up-reads
-use Rattle.values.proofs.put.Reads as put-reads
 
 look-up-requires : tie.Need-look-up-requires
 look-up-requires c κs = search needs

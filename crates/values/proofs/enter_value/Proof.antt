@@ -5,9 +5,6 @@ use Rattle.values.proofs.Slots.{entered-there}
 use borrow.Author.Needs.{needs}
 use Rattle.values.proofs.enter_value.Statement.{statement}
 use Rattle.values.proofs.enter_value.Tie as tie
-use Rattle.values.proofs.enter_value.Reads as reads
-use Rattle.values.proofs.enter_value.Lts as lts
-use Rattle.values.proofs.put.Reads as put-reads
 
 mul-at : tie.Need-mul-at
 mul-at c = search needs

@@ -1,9 +1,8 @@
 -- The invariant: the value is held at the leaves before the one at hand. Assumes nothing.
 use borrow.Author.Needs.{needs}
 use native.Mathlib.Omega.{arith}
-use Prim.Native.Nat.{ℕ, _-_, _≤_, _<_}
-use mathlib.Core.Path.{_≡_, refl, sym, _∙_}
-use lib.ListN as ListN
+use Prim.Native.Nat.{_-_, _≤_}
+use mathlib.Core.Path.{refl}
 use Rattle.values.specs.Chained.{Chained}
 use Rattle.values.proofs.Leaves.{Along, from-first, along-next, Held, held-next, all-held}
 use Rattle.values.proofs.hold_leaves.Statement.{statement}

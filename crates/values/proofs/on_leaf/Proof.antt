@@ -1,8 +1,6 @@
 -- Assumes nothing.
 use borrow.Author.Needs.{needs}
-use native.Mathlib.Omega.{arith}
-use Prim.Native.Nat.{ℕ, _-_, _≤_}
-use lib.ListN.{length}
+use Prim.Native.Nat.{_-_}
 use Rattle.values.proofs.Slots.{leaf-is, leaf-is-other}
 use borrow.Author.Needs.{needs}
 use Rattle.values.proofs.on_leaf.Statement.{statement}

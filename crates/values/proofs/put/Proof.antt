@@ -1,7 +1,7 @@
 -- The invariant: the leaves before the one at hand are copied. Assumes nothing.
 use borrow.Author.Needs.{needs}
 use native.Mathlib.Omega.{arith}
-use Prim.Native.Nat.{ℕ, _-_, _≤_}
+use Prim.Native.Nat.{_-_, _≤_}
 use lib.ListN.{length}
 use Rattle.values.proofs.Slots.{Copied, none-copied, copy-next, copy-long, all-copied}
 use Rattle.values.proofs.put.Statement.{statement}

@@ -1,9 +1,8 @@
 -- The invariant: the leaves before the one at hand are read. Assumes nothing.
 use borrow.Author.Needs.{needs}
 use native.Mathlib.Omega.{arith}
-use Prim.Native.Nat.{ℕ, _-_, _≤_, _<_}
-use mathlib.Core.Path.{_≡_, refl, sym, _∙_}
-use lib.ListN as ListN
+use Prim.Native.Nat.{_-_, _≤_}
+use mathlib.Core.Path.{_∙_}
 use Rattle.values.specs.Chained.{Chained}
 use Rattle.values.proofs.Leaves.{leaf-byte, Along, from-first, along-next, Read, none-read, read-next, all-read}
 use Rattle.values.proofs.read_leaves.Statement.{statement}

@@ -1,7 +1,7 @@
 -- The invariant: the leaves before the one at hand are the same. Assumes nothing.
 use borrow.Author.Needs.{needs}
 use native.Mathlib.Omega.{arith}
-use Prim.Native.Nat.{ℕ, _-_, _≤_}
+use Prim.Native.Nat.{_-_, _≤_}
 use mathlib.Core.Path.{refl}
 use lib.ListN.{length}
 use Rattle.values.proofs.Slots.{Same, same-next, all-same, one-differs}

@@ -8,10 +8,6 @@ use Rattle.values.proofs.Slots.{looked-up-long, looked-up-stands}
 use borrow.Author.Needs.{needs}
 use Rattle.values.proofs.stands_at.Statement.{statement}
 use Rattle.values.proofs.stands_at.Tie as tie
-use Rattle.values.proofs.stands_at.Reads as reads
-use Rattle.values.proofs.stands_at.Lts as lts
-use Rattle.values.proofs.look_up.Reads as look-up-reads
-use Rattle.values.proofs.stands.Reads as stands-reads
 
 look-up-requires : tie.Need-look-up-requires
 look-up-requires c κs = search needs
