@@ -105,7 +105,8 @@ static inline const char *sheet_sentence(uint32_t code)
 uint64_t sheet_check(const uint8_t *sheet, size_t length);
 
 /*
- * The run, in libsimulator.a, which is linked before libtyping.a. Codes 0 to 11.
+ * The run, in libsimulator.a. The check is in it, so a host that does not call `sheet_check` needs no other archive. Codes 0 to
+ * 11.
  *
  * Each cycle takes as many bytes of the stimulus as the input has leaves. On success `out` holds the output's leaves of each cycle
  * after those of the cycle before, and `next` the sheet after the last cycle: the sheet with what its delays then hold. A run that

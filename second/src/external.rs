@@ -1,6 +1,5 @@
 //! The check and the run in the archives under test.
 
-// The simulator's archive comes first, since it may call the other one.
 #[link(name = "simulator", kind = "static")]
 extern "C" {
     /// Reads the sheet and the stimulus, fills the output and the next slice;
