@@ -59,8 +59,8 @@ module _ (s stim out next : List ℕ) (t : ℕ) (h : WellFormed s stim out next 
       rw (
         h .accepted,
         h .whole,
-        h .fitting,
         eq-eqb (length out) (outputNeeded s t stim) (h .room),
+        h .fitting,
         eq-eqb (length next) (length s) (h .long),
       )
 

@@ -131,6 +131,19 @@ toggle-running
     (cycleCount toggle ones) toggle room
 toggle-running = running toggle ones room lent 1 toggle-formed
 
+toggle-lending
+    : Lending toggle (count toggle) (table toggle ones room lent 1 toggle-formed) names names ones 0 (inputLeaves toggle) toggle room 0
+    (leaves (typeAt toggle 1))
+toggle-lending = first-lending toggle ones room lent 1 toggle-formed
+
+toggle-cycling
+    : Cycling toggle (count toggle) (table toggle ones room lent 1 toggle-formed) names names (input toggle ones room lent 1 toggle-formed) toggle
+    (part toggle ones room lent 1 toggle-formed)
+toggle-cycling = first-cycling toggle ones room lent 1 toggle-formed
+
+toggle-copying : Copying toggle (count toggle) toggle
+toggle-copying = first-copying toggle ones room lent 1 toggle-formed
+
 toggle-ready
     : Ready toggle (count toggle) (table toggle ones room lent 1 toggle-formed) (entered 0 (input toggle ones room lent 1 toggle-formed) names) 1
     (wordB toggle 0) (part toggle ones room lent 1 toggle-formed) (inputs toggle)
