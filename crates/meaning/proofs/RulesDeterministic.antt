@@ -80,8 +80,9 @@ module _ (undecided : ConstantTree → ConstantTree → ConstantTree) where
     iterates-one (i-unchanged x) (i-unchanged y) = reduces-one x y
     iterates-one (i-unchanged x) (i-again y differs z) = absurd (differs ((reduces-one x y) .0))
     iterates-one (i-again x differs y) (i-unchanged z) = absurd (differs (sym ((reduces-one x z) .0)))
-    iterates-one (i-again {l} {e} x differs y) (i-again {f} {b} z changes w) =
-        iterates-one y (subst (λ c. Iterates undecided l e c b f) (sym ((reduces-one x z) .0)) w)
+    iterates-one (i-again x differs y) (i-again z changes w) =
+        let (p, q) = reduces-one x z in
+        iterates-one y (search (p, q, w))
 
   pub reduces-seq-one
       : {l inputs : List ConstantTree} {e f g : Expr} {cs ds : List ConstantTree}

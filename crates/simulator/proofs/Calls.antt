@@ -11,6 +11,8 @@ use native.Mathlib.Nat.{mul-le-mul-left, div-add-mod'}
 use borrow.Author.Tests.{eqb-true, not-false}
 use denote.Enum.Declared.{tagOf}
 use types.Run.{OneOf, miss}
+use mir.Syntax.{w8}
+use mir.Val.{Fits}
 use lib.Dec.{eqb, ltb}
 use lib.ListN.{length, getD, take, drop, replicate}
 use Rattle.picoella.specs.Types.{bounds, leaves}
@@ -281,18 +283,18 @@ same-number (Verdicts.WrongType r) rest f = (λ e. omega arith, refl)
 same-number (Verdicts.TooDeep r) rest f = (λ e. omega arith, refl)
 same-number (Verdicts.IllTyped r) rest f = (λ e. omega arith, refl)
 
-pub call-runs : (s stim out next : List ℕ) (result : ℕ) (out′ next′ : List ℕ) → Gives s stim out next result out′ next′
-    → Runs s stim out next result out′ next′
-call-runs s stim out next result out′ next′ g =
-    record { gives = g; afterwards = λ t h. gives-afterwards s stim out next t result out′ next′ g h }
+pub call-runs : (s stim out next : List ℕ) (result : ℕ) (out′ next′ : List ℕ) → ((i : ℕ) → Fits w8 (getD s i 0))
+    → Gives s stim out next result out′ next′ → Runs s stim out next result out′ next′
+call-runs s stim out next result out′ next′ b g =
+    record { gives = g; bytes = λ i. let f = b i in omega arith; afterwards = λ t h. gives-afterwards s stim out next t result out′ next′ g h }
 
-pub call-refused : (s stim out next : List ℕ) (w : Verdict) → w ≡ verdict s → ((t : ℕ) → w ≡ Verdicts.Accepted t → ⊥) → (result : ℕ)
+pub call-refused : (s stim out next : List ℕ) → ((i : ℕ) → Fits w8 (getD s i 0)) → (w : Verdict) → w ≡ verdict s → ((t : ℕ) → w ≡ Verdicts.Accepted t → ⊥) → (result : ℕ)
     → result ≡ Checks.packed w → Runs s stim out next result out next
-call-refused s stim out next w e f result g =
+call-refused s stim out next b w e f result g =
     let rest : ℕ → Answer = λ t. bySlices s t stim out next in
     let n = same-number w rest f in
     let a : answer s stim out next ≡ byVerdict w rest = refused-by-verdict s stim out next ∙ rw e refl in
-    call-runs s stim out next result out next (rw (g, n .1) (gives-refusal s stim out next (byVerdict w rest) a (n .0)))
+    call-runs s stim out next result out next b (rw (g, n .1) (gives-refusal s stim out next (byVerdict w rest) a (n .0)))
 
 -- and one that does not
 pub accepted-call : (s : List ℕ) (w : Verdict) (before table : List ℕ) (t : ℕ) → Lent s w before table → w ≡ Verdicts.Accepted t

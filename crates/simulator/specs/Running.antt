@@ -15,6 +15,7 @@ use Rattle.typing.specs.Verdict.{verdict}
 use Rattle.typing.specs.Widths.{Widths}
 use Rattle.typing.specs.declared.Verdict.the-variants.{Accepted}
 use Rattle.meaning.specs.Undecided.{undefinedLeaves}
+use Rattle.cycles.specs.Sheets.{Bytes}
 use Rattle.cycles.specs.Cycle.{output, after}
 use Rattle.runs.specs.Stimulus.{inputLeaves, cycleCount, endToEnd, cycles, wrongStimulus, wrongByte}
 use Rattle.runs.specs.Run.{outputsBy, sheetAfter, Gives}
@@ -70,7 +71,8 @@ pub record Ran (s stim current′ out′ : List ℕ) : Type 0 where
   pub outputs : out′ ≡ endToEnd (outputsBy undefinedLeaves s (cycles s stim))
   pub next : current′ ≡ sheetAfter undefinedLeaves s (cycles s stim)
 
--- the call: what it gives, and demand 3
+-- the call: what it gives, and demand 3; the sheet handed in is one of bytes, and so, by demand 3, is each after it
 pub record Runs (sheet stimulus out next : List ℕ) (result : ℕ) (out′ next′ : List ℕ) : Type 0 where
   pub gives : Gives sheet stimulus out next result out′ next′
+  pub bytes : Bytes sheet
   pub afterwards : (t : ℕ) → WellFormed sheet stimulus out next t → Afterwards sheet stimulus t result out′ next′
