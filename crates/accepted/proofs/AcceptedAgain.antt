@@ -37,15 +37,15 @@ use Rattle.records.specs.Decoding.{leafValues}
 use Rattle.records.specs.Rewritten.{OnlyLeaves}
 use Rattle.records.proofs.Table.{is-pair}
 use Rattle.records.proofs.Rewritten.{SameWords, same-kind, same-pair-of, same-circuit, leaf-or-same}
-use Rattle.judging.specs.Judgements.{patternFits, typeOf}
-use Rattle.layout.specs.Passes.{Passes}
-use Rattle.typing.specs.Verdict.{inputs, verdict}
-use Rattle.typing.specs.declared.Verdict.the-variants.{Accepted}
-use Rattle.layout.proofs.Passes.{written}
-use Rattle.typing.proofs.Places.{accepted-by-types}
-use Rattle.judging.proofs.Judged.{Judged, judged-passed}
-use Rattle.judging.proofs.Typings.{within-fits, fits-within}
-use Rattle.typing.proofs.Exact.{types-accept, accepted-judged}
+use Rattle.typing.specs.Judgements.{patternFits, typeOf}
+use Rattle.structure.specs.Passes.{Passes}
+use Rattle.verdict.specs.Verdict.{inputs, verdict}
+use Rattle.verdict.specs.declared.Verdict.the-variants.{Accepted}
+use Rattle.structure.proofs.Passes.{written}
+use Rattle.verdict.proofs.Places.{accepted-by-types}
+use Rattle.typing.proofs.Judged.{Judged, judged-passed}
+use Rattle.typing.proofs.Typings.{within-fits, fits-within}
+use Rattle.verdict.proofs.Exact.{types-accept, accepted-judged}
 use Rattle.accepted.proofs.PassesAgain.{passes-again}
 
 -- the leaves of each constant and each delay fit its type

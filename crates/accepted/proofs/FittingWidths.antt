@@ -32,14 +32,14 @@ use Rattle.records.proofs.Asked.{part-of-kind}
 use Rattle.records.proofs.Types.{flat-type, pair-type, few-leaves}
 use Rattle.records.proofs.TypeRecords.{first-part, second-part}
 use Rattle.records.proofs.Grown.{GrownPattern, grown-pattern}
-use Rattle.layout.specs.Passes.{Passes}
-use Rattle.layout.proofs.Passes.{written, types-fit}
-use Rattle.judging.specs.Judgements.{patternFits, typeOf}
-use Rattle.judging.specs.Judging.{width}
-use Rattle.typing.specs.Verdict.{verdict}
-use Rattle.typing.specs.Scopes.{Scope, if-tested}
-use Rattle.typing.specs.Widths.{patternLeaves, Widths}
-use Rattle.typing.specs.declared.Verdict.the-variants.{Accepted}
+use Rattle.structure.specs.Passes.{Passes}
+use Rattle.structure.proofs.Passes.{written, types-fit}
+use Rattle.typing.specs.Judgements.{patternFits, typeOf}
+use Rattle.typing.specs.Judging.{width}
+use Rattle.verdict.specs.Verdict.{verdict}
+use Rattle.verdict.specs.Scopes.{Scope, if-tested}
+use Rattle.verdict.specs.Widths.{patternLeaves, Widths}
+use Rattle.verdict.specs.declared.Verdict.the-variants.{Accepted}
 use Rattle.accepted.proofs.Scopes.{scope-checked, judged-by-kind, checked-type}
 
 pub fitting-leaves : {s : List ℕ} → Written s → (p : Alternatives) (t : ℕ) → TypeRecord s t → GrownPattern s p

@@ -17,17 +17,17 @@ use Rattle.records.specs.Kinds as Kinds
 use Rattle.records.specs.Says.{sortAt}
 use Rattle.records.specs.Sized.{Sized}
 use Rattle.records.specs.Namings.{namings}
-use Rattle.layout.specs.Passes.{Passes}
-use Rattle.layout.specs.Depth.{depth, nesting}
-use Rattle.layout.specs.NamerTable.{summary, Holds}
-use Rattle.layout.specs.LeafTable.{typeLeaves, Counts}
-use Rattle.layout.specs.DepthTable.{Capped, Placed, Placing}
-use Rattle.layout.proofs.Passes.{written, named-once, length-fits}
-use Rattle.judging.specs.Judging.{Ground, Ready, Closing}
-use Rattle.typing.specs.Stages.{Fitted}
-use Rattle.typing.specs.Widths.{PatternsFrom, patternEntry, Widths}
-use Rattle.typing.proofs.Stages.{root-ready}
-use Rattle.typing.proofs.Widths.{judged-widths, entry-stored, unpatterned, whole-table}
+use Rattle.structure.specs.Passes.{Passes}
+use Rattle.structure.specs.Depth.{depth, nesting}
+use Rattle.structure.specs.NamerTable.{summary, Holds}
+use Rattle.structure.specs.LeafTable.{typeLeaves, Counts}
+use Rattle.structure.specs.DepthTable.{Capped, Placed, Placing}
+use Rattle.structure.proofs.Passes.{written, named-once, length-fits}
+use Rattle.typing.specs.Judging.{Ground, Ready, Closing}
+use Rattle.verdict.specs.Stages.{Fitted}
+use Rattle.verdict.specs.Widths.{PatternsFrom, patternEntry, Widths}
+use Rattle.verdict.proofs.Stages.{root-ready}
+use Rattle.verdict.proofs.Widths.{judged-widths, entry-stored, unpatterned, whole-table}
 
 -- a table of n entries with any entries
 tabulated : (f : ℕ → ℕ) (n : ℕ) → (t : List ℕ) × (length t ≡ n) × ((r : ℕ) → r < n → getD t r 0 ≡ f r)

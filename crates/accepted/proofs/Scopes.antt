@@ -37,11 +37,11 @@ use Rattle.records.proofs.Types.{few-leaves, leaves-of-bounds}
 use Rattle.records.proofs.TypeRecords.{type-word}
 use Rattle.records.proofs.Trees.{tree-of}
 use Rattle.records.proofs.Grown.{grown-tree}
-use Rattle.layout.specs.Depth.{depth}
-use Rattle.judging.specs.Judgements.{typeOf}
-use Rattle.layout.specs.Passes.{Passes}
-use Rattle.typing.specs.Verdict.{verdict}
-use Rattle.typing.specs.Scopes.{
+use Rattle.structure.specs.Depth.{depth}
+use Rattle.typing.specs.Judgements.{typeOf}
+use Rattle.structure.specs.Passes.{Passes}
+use Rattle.verdict.specs.Verdict.{verdict}
+use Rattle.verdict.specs.Scopes.{
   Scope,
   root,
   tuple-first,
@@ -57,14 +57,14 @@ use Rattle.typing.specs.Scopes.{
   if-else,
   of-delay,
 }
-use Rattle.typing.specs.declared.Verdict.the-variants.{Accepted}
-use Rattle.layout.proofs.Passes.{written, named-once, types-fit, not-deep}
-use Rattle.layout.proofs.Depths.{depth-of-part, depth-of-root}
-use Rattle.judging.proofs.Judged.{Judged}
-use Rattle.judging.specs.Judging.{Context}
-use Rattle.judging.proofs.TypeRecordsOf.{in-context, type-of-record}
-use Rattle.judging.proofs.Typings.{within-fits, judged-typed}
-use Rattle.typing.proofs.Exact.{input-context, accepted-judged}
+use Rattle.verdict.specs.declared.Verdict.the-variants.{Accepted}
+use Rattle.structure.proofs.Passes.{written, named-once, types-fit, not-deep}
+use Rattle.structure.proofs.Depths.{depth-of-part, depth-of-root}
+use Rattle.typing.proofs.Judged.{Judged}
+use Rattle.typing.specs.Judging.{Context}
+use Rattle.typing.proofs.TypeRecordsOf.{in-context, type-of-record}
+use Rattle.typing.proofs.Typings.{within-fits, judged-typed}
+use Rattle.verdict.proofs.Exact.{input-context, accepted-judged}
 
 -- what holds at an expression of an accepted circuit
 pub record Checked (s : List ℕ) (q : ℕ) (Γ : List ℕ) : Type 0 where

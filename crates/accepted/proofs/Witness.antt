@@ -10,22 +10,22 @@ use Rattle.records.specs.Says.{wellSaid}
 use Rattle.records.specs.Namings.{namings}
 use Rattle.records.specs.TypeRecords.{typeWithin, typeAt, pairOf}
 use Rattle.records.specs.Trees.{chainWithin, chain, alternativesWithin, alternatives, treeWithin, treeAt, circuit}
-use Rattle.layout.specs.Depth.{ancestryWithin, ancestry, depth, nesting}
-use Rattle.layout.specs.Rules.{wrongLength, wrongHeader, wrongRecord, wrongNaming, wrongType, tooDeep}
-use Rattle.layout.specs.Passes.{Passes}
-use Rattle.typing.specs.Verdict.{inputs, byTypes, byRecords, verdict}
-use Rattle.typing.specs.Promises.{WellTyped}
-use Rattle.typing.specs.Scopes.{root}
-use Rattle.typing.specs.declared.Verdict.the-variants.{Accepted}
+use Rattle.structure.specs.Depth.{ancestryWithin, ancestry, depth, nesting}
+use Rattle.structure.specs.Rules.{wrongLength, wrongHeader, wrongRecord, wrongNaming, wrongType, tooDeep}
+use Rattle.structure.specs.Passes.{Passes}
+use Rattle.verdict.specs.Verdict.{inputs, byTypes, byRecords, verdict}
+use Rattle.verdict.specs.Promises.{WellTyped}
+use Rattle.verdict.specs.Scopes.{root}
+use Rattle.verdict.specs.declared.Verdict.the-variants.{Accepted}
 use native.Mathlib.Omega.{arith}
 use lib.ListN.{length}
 use Rattle.records.specs.Sized.{Sized}
-use Rattle.layout.specs.DepthTable.{Placed, Placing}
-use Rattle.judging.specs.Judging.{Ready, Closing, Matching}
-use Rattle.typing.specs.Stages.{Fitted}
-use Rattle.typing.specs.Widths.{PatternsFrom}
+use Rattle.structure.specs.DepthTable.{Placed, Placing}
+use Rattle.typing.specs.Judging.{Ready, Closing, Matching}
+use Rattle.verdict.specs.Stages.{Fitted}
+use Rattle.verdict.specs.Widths.{PatternsFrom}
 use Rattle.accepted.proofs.Requirements.{sized, fitted, placing, placed, ready, closing, patterns}
-use Rattle.typing.proofs.Exact.{exact}
+use Rattle.verdict.proofs.Exact.{exact}
 use Rattle.accepted.proofs.Scopes.{Checked, scope-checked}
 
 -- the bytes of words, low byte first

@@ -17,13 +17,13 @@ use Rattle.records.specs.Decoding.{leafValues}
 use Rattle.records.proofs.Table.{askOfKind}
 use Rattle.records.proofs.Asked.{part-of-kind}
 use Rattle.records.proofs.Trees.{tree-of}
-use Rattle.judging.specs.Judgements.{typeOf}
-use Rattle.typing.specs.Scopes.{Scope, if-tested, if-then, if-else, of-delay}
+use Rattle.typing.specs.Judgements.{typeOf}
+use Rattle.verdict.specs.Scopes.{Scope, if-tested, if-then, if-else, of-delay}
 use Rattle.accepted.proofs.Scopes.{judged-by-kind}
 use Rattle.meaning.specs.Undecided.{undefinedLeaves}
-use Rattle.cycles.specs.Delays.{assigned, putAll, enter}
-use Rattle.cycles.specs.Evaluated.{valueAt, storedAt}
-use Rattle.cycles.proofs.Evaluated.{if-value, if-stored, delay-value, delay-stored}
+use Rattle.behaviour.specs.Delays.{assigned, putAll, enter}
+use Rattle.behaviour.specs.Evaluated.{valueAt, storedAt}
+use Rattle.behaviour.proofs.Evaluated.{if-value, if-stored, delay-value, delay-stored}
 use Rattle.values.specs.Chained.{Chained}
 use Rattle.values.specs.Matchings.{Matched, Chosen}
 use Rattle.values.specs.Slots.{frames}

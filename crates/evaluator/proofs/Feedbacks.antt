@@ -14,8 +14,8 @@ use Rattle.records.specs.Says.{kindAt}
 use Rattle.records.specs.TypeRecords.{typeAt, Declared}
 use Rattle.records.specs.Written.{Written}
 use Rattle.records.specs.Trees.{treeAt}
-use Rattle.judging.specs.Judgements.{typeOf}
-use Rattle.typing.specs.Scopes.{Scope, feedback-defining, feedback-body}
+use Rattle.typing.specs.Judgements.{typeOf}
+use Rattle.verdict.specs.Scopes.{Scope, feedback-defining, feedback-body}
 use Rattle.accepted.proofs.Scopes.{judged-by-kind}
 use Rattle.meaning.specs.Values.{undefined, zeros, ValuesOf, more-values}
 use Rattle.meaning.specs.Elaboration.{Term, Elaborated}
@@ -24,9 +24,9 @@ use Rattle.meaning.specs.Evaluation.{application, settled}
 use Rattle.meaning.proofs.Order.{value-length, zeros-length, undefined-typed}
 use Rattle.meaning.proofs.UndefinedLeavesLawful.{undefined-lawful}
 use Rattle.meaning.proofs.FeedbackLeast.{undefined-rises, feedback-typed}
-use Rattle.cycles.specs.Terms.{term}
-use Rattle.cycles.specs.Evaluated.{valueAt, storedAt}
-use Rattle.cycles.proofs.Evaluated.{feedback-value, feedback-stored}
+use Rattle.behaviour.specs.Terms.{term}
+use Rattle.behaviour.specs.Evaluated.{valueAt, storedAt}
+use Rattle.behaviour.proofs.Evaluated.{feedback-value, feedback-stored}
 use Rattle.values.specs.Slots.{slot, entered, frames}
 use Rattle.evaluator.specs.Evaluating.{Ready, Done, Evaluates, Settling, Settled, Settles, leadsTo}
 use Rattle.evaluator.proofs.Frames.{front-kept, frames-kept, lent-long, zeros-long, zeros-front}

@@ -15,11 +15,11 @@ use Rattle.records.specs.Decoding.{leafValues}
 use Rattle.records.specs.Written.{Written}
 use Rattle.records.proofs.Table.{askOfKind}
 use Rattle.records.proofs.Asked.{part-of-kind}
-use Rattle.judging.specs.Judgements.{typeOf}
-use Rattle.typing.specs.Scopes.{Scope, tuple-first, tuple-second, of-first, of-second}
+use Rattle.typing.specs.Judgements.{typeOf}
+use Rattle.verdict.specs.Scopes.{Scope, tuple-first, tuple-second, of-first, of-second}
 use Rattle.meaning.specs.Undecided.{undefinedLeaves}
-use Rattle.cycles.specs.Evaluated.{valueAt, storedAt}
-use Rattle.cycles.proofs.Evaluated.{constant-value, constant-stored, tuple-value, tuple-stored, first-value, first-stored, second-value, second-stored}
+use Rattle.behaviour.specs.Evaluated.{valueAt, storedAt}
+use Rattle.behaviour.proofs.Evaluated.{constant-value, constant-stored, tuple-value, tuple-stored, first-value, first-stored, second-value, second-stored}
 use Rattle.values.specs.Chained.{Chained}
 use Rattle.values.specs.Slots.{frames}
 use Rattle.evaluator.specs.Evaluating.{Ready, Done, Evaluates}

@@ -20,11 +20,11 @@ use Rattle.records.specs.Written.{Written}
 use Rattle.records.proofs.Table.{askOfKind}
 use Rattle.records.proofs.Asked.{part-of-kind}
 use Rattle.records.proofs.Types.{few-leaves}
-use Rattle.layout.specs.Passes.{Passes}
-use Rattle.layout.proofs.Passes.{written, types-fit}
-use Rattle.judging.specs.Judgements.{typeOf}
-use Rattle.typing.specs.Scopes.{Scope}
-use Rattle.typing.proofs.Exact.{exact}
+use Rattle.structure.specs.Passes.{Passes}
+use Rattle.structure.proofs.Passes.{written, types-fit}
+use Rattle.typing.specs.Judgements.{typeOf}
+use Rattle.verdict.specs.Scopes.{Scope}
+use Rattle.verdict.proofs.Exact.{exact}
 use Rattle.accepted.proofs.Scopes.{Checked, scope-checked, few-names, small-names, checked-type}
 use Rattle.meaning.specs.Values.{ValuesOf, more-values}
 use Rattle.meaning.specs.Elaboration.{Elaborated}
@@ -32,9 +32,9 @@ use Rattle.meaning.specs.Undecided.{undefinedLeaves}
 use Rattle.meaning.proofs.Order.{value-length}
 use Rattle.meaning.proofs.EvaluationMonotone.{eval-typed}
 use Rattle.meaning.proofs.UndefinedLeavesLawful.{undefined-lawful}
-use Rattle.cycles.specs.Terms.{term}
-use Rattle.cycles.specs.Evaluated.{valueAt}
-use Rattle.cycles.proofs.Terms.{checked-term}
+use Rattle.behaviour.specs.Terms.{term}
+use Rattle.behaviour.specs.Evaluated.{valueAt}
+use Rattle.behaviour.proofs.Terms.{checked-term}
 use Rattle.values.specs.Slots.{slot, entered, frames}
 use Rattle.evaluator.specs.Evaluating.{Ready}
 use Rattle.evaluator.proofs.Frames.{Small, frames-kept, entered-kept, entered-slot, entered-long}

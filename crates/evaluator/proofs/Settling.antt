@@ -19,9 +19,9 @@ use Rattle.meaning.specs.Evaluation.{application, iterate, settled}
 use Rattle.meaning.proofs.Order.{value-length}
 use Rattle.meaning.proofs.UndefinedLeavesLawful.{undefined-lawful}
 use Rattle.meaning.proofs.FeedbackLeast.{application-monotone, application-typed, application-falls, iterate-unchanged, iterate-again}
-use Rattle.cycles.specs.Terms.{term}
-use Rattle.cycles.specs.Evaluated.{valueAt, storedAt}
-use Rattle.cycles.proofs.Evaluated.{stored-again}
+use Rattle.behaviour.specs.Terms.{term}
+use Rattle.behaviour.specs.Evaluated.{valueAt, storedAt}
+use Rattle.behaviour.proofs.Evaluated.{stored-again}
 use Rattle.values.specs.Answers.{Agrees}
 use Rattle.values.specs.Slots.{slot, entered, frames}
 use Rattle.evaluator.specs.Evaluating.{Ready, Done, Evaluates, Settling, Settled, Settles, approximation, leadsTo}

@@ -8,16 +8,16 @@ use Rattle.picoella.specs.Types.{bounds, leaves}
 use Rattle.records.specs.Sized.{Sized}
 use Rattle.records.specs.TypeRecords.{typeAt}
 use Rattle.records.specs.Trees.{treeAt}
-use Rattle.judging.specs.Judgements.{typeOf}
-use Rattle.typing.specs.Verdict.{verdict}
-use Rattle.typing.specs.Scopes.{Scope}
-use Rattle.typing.specs.Widths.{Widths}
-use Rattle.typing.specs.declared.Verdict.the-variants.{Accepted}
+use Rattle.typing.specs.Judgements.{typeOf}
+use Rattle.verdict.specs.Verdict.{verdict}
+use Rattle.verdict.specs.Scopes.{Scope}
+use Rattle.verdict.specs.Widths.{Widths}
+use Rattle.verdict.specs.declared.Verdict.the-variants.{Accepted}
 use Rattle.meaning.specs.Values.{Both, ValuesOf}
 use Rattle.meaning.specs.Undecided.{undefinedLeaves}
 use Rattle.meaning.specs.Evaluation.{iterate}
-use Rattle.cycles.specs.Terms.{term}
-use Rattle.cycles.specs.Evaluated.{valueAt, storedAt}
+use Rattle.behaviour.specs.Terms.{term}
+use Rattle.behaviour.specs.Evaluated.{valueAt, storedAt}
 use Rattle.values.specs.Slots.{slot, frames}
 
 -- an expression is evaluated: record rec of an accepted sheet, with the names of Γ in scope, into a slice as wide as its type

@@ -1,6 +1,6 @@
 // The bench cases of document 01 that speak of the check, each sheet built here: the longest sheet and one record more, 64 and 65
 // leaves, depth 64 and 65, three and four nested feedbacks. Prints each verdict as its number and its place.
-use typing::sheet_check;
+use verdict::sheet_check;
 
 fn room() -> [u8; 49164] {
     [0; 49164]

@@ -9,7 +9,7 @@ use listing::put_lines;
 use listing::put_refused;
 use listing::put_type;
 use simulator::sheet_run;
-use typing::sheet_check;
+use verdict::sheet_check;
 
 // The longest sheet and a byte more, so that a longer file is refused for its length and not cut.
 fn sheet_room() -> [u8; 49153]

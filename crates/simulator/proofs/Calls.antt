@@ -22,26 +22,26 @@ use Rattle.records.specs.TypeRecords.{typeAt, TypeRecord}
 use Rattle.records.proofs.Types.{few-leaves, some-leaves, leaves-of-bounds}
 use Rattle.records.proofs.TypeRecords.{input-type}
 use Rattle.records.proofs.Tests.{neither-right}
-use Rattle.layout.specs.Lowest.{lowest}
-use Rattle.layout.specs.LeafTable.{Counts}
-use Rattle.layout.specs.Passes.{Passes}
-use Rattle.layout.specs.Rules.{wrongLength}
-use Rattle.layout.specs.Searches.{found}
-use Rattle.layout.specs.declared.Found.{Found}
-use Rattle.layout.specs.declared.Found.the-variants.{At, Nothing}
-use Rattle.layout.proofs.Lowest.{lowest-some-passes}
-use Rattle.layout.proofs.Passes.{written, types-fit}
-use Rattle.judging.specs.Judging.{Ground}
-use Rattle.typing.specs.Verdict.{verdict}
-use Rattle.typing.specs.Verdict as Checks
-use Rattle.typing.specs.Widths.{Widths, Lent}
-use Rattle.typing.specs.declared.Verdict.{Verdict}
-use Rattle.typing.specs.declared.Verdict.the-variants as Verdicts
-use Rattle.typing.proofs.Verdict as Verdict-type
-use Rattle.typing.proofs.Exact.{exact}
+use Rattle.structure.specs.Lowest.{lowest}
+use Rattle.structure.specs.LeafTable.{Counts}
+use Rattle.structure.specs.Passes.{Passes}
+use Rattle.structure.specs.Rules.{wrongLength}
+use Rattle.structure.specs.Searches.{found}
+use Rattle.structure.specs.declared.Found.{Found}
+use Rattle.structure.specs.declared.Found.the-variants.{At, Nothing}
+use Rattle.structure.proofs.Lowest.{lowest-some-passes}
+use Rattle.structure.proofs.Passes.{written, types-fit}
+use Rattle.typing.specs.Judging.{Ground}
+use Rattle.verdict.specs.Verdict.{verdict}
+use Rattle.verdict.specs.Verdict as Checks
+use Rattle.verdict.specs.Widths.{Widths, Lent}
+use Rattle.verdict.specs.declared.Verdict.{Verdict}
+use Rattle.verdict.specs.declared.Verdict.the-variants as Verdicts
+use Rattle.verdict.proofs.Verdict as Verdict-type
+use Rattle.verdict.proofs.Exact.{exact}
 use Rattle.accepted.proofs.Requirements.{sized}
-use Rattle.runs.specs.Stimulus.{inputLeaves, cycleCount, wrongStimulus, wrongByte}
-use Rattle.runs.specs.Run.{
+use Rattle.behaviour.specs.Stimulus.{inputLeaves, cycleCount, wrongStimulus, wrongByte}
+use Rattle.behaviour.specs.Run.{
   Answer,
   WrongStimulus,
   WrongByte,
@@ -55,9 +55,9 @@ use Rattle.runs.specs.Run.{
   answer,
   Gives,
 }
-use Rattle.runs.specs.Afterwards.{WellFormed}
-use Rattle.runs.proofs.Stimulus.{stimulus-whole}
-use Rattle.runs.proofs.Answers.{
+use Rattle.behaviour.specs.Afterwards.{WellFormed}
+use Rattle.behaviour.proofs.Stimulus.{stimulus-whole}
+use Rattle.behaviour.proofs.Answers.{
   gives-refusal,
   gives-done,
   gives-afterwards,

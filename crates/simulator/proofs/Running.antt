@@ -15,23 +15,23 @@ use Rattle.records.specs.TypeRecords.{typeAt}
 use Rattle.records.specs.Rewritten.{OnlyLeaves}
 use Rattle.records.proofs.Rewritten.{same-type}
 use Rattle.records.proofs.Types.{few-leaves, some-leaves}
-use Rattle.layout.proofs.Passes.{types-fit}
-use Rattle.typing.proofs.Exact.{exact}
-use Rattle.typing.specs.Verdict.{verdict}
-use Rattle.typing.specs.declared.Verdict.the-variants.{Accepted}
+use Rattle.structure.proofs.Passes.{types-fit}
+use Rattle.verdict.proofs.Exact.{exact}
+use Rattle.verdict.specs.Verdict.{verdict}
+use Rattle.verdict.specs.declared.Verdict.the-variants.{Accepted}
 use Rattle.meaning.specs.Values.{AllOf}
 use Rattle.meaning.specs.Undecided.{undefinedLeaves}
 use Rattle.meaning.proofs.UndefinedLeavesLawful.{undefined-lawful}
 use Rattle.meaning.proofs.Order.{value-length}
-use Rattle.cycles.specs.Sheets.{OnlyDelays}
-use Rattle.cycles.specs.Cycle.{output, after}
-use Rattle.cycles.proofs.Cycle.{output-typed}
-use Rattle.cycles.proofs.Sheets.{only-leaves, header-same, accepted-written}
-use Rattle.runs.specs.Stimulus.{inputType, endToEnd, cycles}
-use Rattle.runs.specs.Run.{outputsBy, sheetBefore}
-use Rattle.runs.proofs.Stimulus.{stimulus-whole, cycles-typed, cycles-counted, cycle-at}
-use Rattle.runs.proofs.Run.{sheet-last, sheet-first, sheet-next, output-at, outputs-counted, sheet-accepted, sheet-only-delays}
-use Rattle.runs.proofs.Afterwards.{all-at}
+use Rattle.behaviour.specs.Sheets.{OnlyDelays}
+use Rattle.behaviour.specs.Cycle.{output, after}
+use Rattle.behaviour.proofs.Cycle.{output-typed}
+use Rattle.behaviour.proofs.Sheets.{only-leaves, header-same, accepted-written}
+use Rattle.behaviour.specs.Stimulus.{inputType, endToEnd, cycles}
+use Rattle.behaviour.specs.Run.{outputsBy, sheetBefore}
+use Rattle.behaviour.proofs.Stimulus.{stimulus-whole, cycles-typed, cycles-counted, cycle-at}
+use Rattle.behaviour.proofs.Run.{sheet-last, sheet-first, sheet-next, output-at, outputs-counted, sheet-accepted, sheet-only-delays}
+use Rattle.behaviour.proofs.Afterwards.{all-at}
 use Rattle.stepper.specs.Cycling.{Cycling, Cycled}
 use Rattle.simulator.specs.Running.{Lending, Lent, Running, Ran}
 

@@ -13,9 +13,9 @@ use lib.Seq.{take-length, take-suc, take-suc-set}
 use Rattle.picoella.specs.Types.{bounds, leaves}
 use Rattle.records.specs.TypeRecords.{typeAt, TypeRecord}
 use Rattle.records.proofs.Types.{leaves-of-bounds}
-use Rattle.layout.proofs.Passes.{written}
-use Rattle.judging.specs.Judging.{Ground}
-use Rattle.cycles.proofs.Values.{bounds-small}
+use Rattle.structure.proofs.Passes.{written}
+use Rattle.typing.specs.Judging.{Ground}
+use Rattle.behaviour.proofs.Values.{bounds-small}
 use Rattle.simulator.specs.Running.{notWhole, above}
 
 -- empty, too long, or not whole cycles

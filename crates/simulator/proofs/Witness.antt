@@ -15,17 +15,17 @@ use Rattle.records.specs.Kinds.{rowOf, kindOf, expression, feedback, leafs, pat
 use Rattle.records.specs.Says.{kindAt, sortAt}
 use Rattle.records.specs.TypeRecords.{typeWithin, typeAt, TypeRecord}
 use Rattle.records.specs.Trees.{chainWithin, chain, alternativesWithin, alternatives}
-use Rattle.layout.specs.Passes.{Passes}
-use Rattle.layout.proofs.Passes.{written}
-use Rattle.judging.specs.Judgements.{patternFits}
-use Rattle.typing.specs.Verdict.{inputs}
+use Rattle.structure.specs.Passes.{Passes}
+use Rattle.structure.proofs.Passes.{written}
+use Rattle.typing.specs.Judgements.{patternFits}
+use Rattle.verdict.specs.Verdict.{inputs}
 use Rattle.accepted.proofs.Requirements.{widths}
 use Rattle.accepted.proofs.Requirements as Requirements
-use Rattle.runs.specs.Stimulus.{inputLeaves, cycleCount}
-use Rattle.runs.specs.Afterwards.{WellFormed}
-use Rattle.runs.specs.Bench.{toggle}
-use Rattle.runs.proofs.Stimulus.{stimulus-whole}
-use Rattle.runs.proofs.Witness.{ones, room, lent, toggle-formed}
+use Rattle.behaviour.specs.Stimulus.{inputLeaves, cycleCount}
+use Rattle.behaviour.specs.Afterwards.{WellFormed}
+use Rattle.behaviour.specs.Bench.{toggle}
+use Rattle.behaviour.proofs.Stimulus.{stimulus-whole}
+use Rattle.behaviour.proofs.Witness.{ones, room, lent, toggle-formed}
 use Rattle.values.specs.Chained.{Chained}
 use Rattle.values.specs.Matchings.{Matched}
 use Rattle.values.specs.Slots.{entered}

@@ -10,16 +10,16 @@ use lib.ListN.{length, getD, take, drop}
 use Rattle.picoella.specs.Types.{leaves}
 use Rattle.records.specs.Sized.{Sized}
 use Rattle.records.specs.TypeRecords.{typeAt}
-use Rattle.layout.specs.Lowest.{lowest}
-use Rattle.typing.specs.Verdict.{verdict}
-use Rattle.typing.specs.Widths.{Widths}
-use Rattle.typing.specs.declared.Verdict.the-variants.{Accepted}
+use Rattle.structure.specs.Lowest.{lowest}
+use Rattle.verdict.specs.Verdict.{verdict}
+use Rattle.verdict.specs.Widths.{Widths}
+use Rattle.verdict.specs.declared.Verdict.the-variants.{Accepted}
 use Rattle.meaning.specs.Undecided.{undefinedLeaves}
-use Rattle.cycles.specs.Sheets.{Bytes}
-use Rattle.cycles.specs.Cycle.{output, after}
-use Rattle.runs.specs.Stimulus.{inputLeaves, cycleCount, endToEnd, cycles, wrongStimulus, wrongByte}
-use Rattle.runs.specs.Run.{outputsBy, sheetAfter, Gives}
-use Rattle.runs.specs.Afterwards.{WellFormed, Afterwards}
+use Rattle.behaviour.specs.Sheets.{Bytes}
+use Rattle.behaviour.specs.Cycle.{output, after}
+use Rattle.behaviour.specs.Stimulus.{inputLeaves, cycleCount, endToEnd, cycles, wrongStimulus, wrongByte}
+use Rattle.behaviour.specs.Run.{outputsBy, sheetAfter, Gives}
+use Rattle.behaviour.specs.Afterwards.{WellFormed, Afterwards}
 use Rattle.stepper.specs.Cycling.{Cycling}
 
 -- a stimulus of so many bytes is refused, where a cycle takes w

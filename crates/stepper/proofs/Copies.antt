@@ -38,8 +38,8 @@ use Rattle.records.proofs.Trees.{chain-of, next-leaf}
 use Rattle.records.proofs.Table.{askOfKind}
 use Rattle.records.proofs.Asked.{past-header, part-of-kind}
 use Rattle.values.proofs.Matches.{left, left-falls}
-use Rattle.cycles.specs.Sheets.{putWord}
-use Rattle.cycles.specs.Copies.{copied, leavesOf, delayChains}
+use Rattle.behaviour.specs.Sheets.{putWord}
+use Rattle.behaviour.specs.Copies.{copied, leavesOf, delayChains}
 use Rattle.stepper.specs.Cycling.{Copying}
 
 abbrev isDelay : Kind → Bool

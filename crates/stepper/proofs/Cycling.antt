@@ -19,25 +19,25 @@ use Rattle.records.specs.Rewritten.{OnlyLeaves}
 use Rattle.records.proofs.Rewritten.{same-kind, same-chain, same-type}
 use Rattle.records.proofs.Types.{few-leaves}
 use Rattle.records.proofs.TypeRecords.{input-type}
-use Rattle.layout.proofs.Passes.{written, types-fit}
-use Rattle.typing.specs.Verdict.{inputs}
-use Rattle.typing.specs.Scopes.{root}
-use Rattle.typing.specs.Widths.{Widths}
-use Rattle.typing.proofs.Exact.{exact, accepted-judged}
+use Rattle.structure.proofs.Passes.{written, types-fit}
+use Rattle.verdict.specs.Verdict.{inputs}
+use Rattle.verdict.specs.Scopes.{root}
+use Rattle.verdict.specs.Widths.{Widths}
+use Rattle.verdict.proofs.Exact.{exact, accepted-judged}
 use Rattle.meaning.specs.Values.{no-values, more-values}
 use Rattle.meaning.specs.Undecided.{undefinedLeaves}
 use Rattle.meaning.specs.Evaluation.{next}
 use Rattle.meaning.proofs.Order.{value-length}
 use Rattle.meaning.proofs.UndefinedLeavesLawful.{undefined-lawful}
-use Rattle.cycles.specs.Terms.{circuitTerm}
-use Rattle.cycles.specs.Delays.{store}
-use Rattle.cycles.specs.Copies.{copied, leavesOf, delayChains}
-use Rattle.cycles.specs.Cycle.{output, after, afterBy}
-use Rattle.cycles.specs.Evaluated.{valueAt}
-use Rattle.cycles.proofs.Evaluated.{root-value, root-stored}
-use Rattle.cycles.proofs.Cycle.{cycle-writable}
-use Rattle.cycles.proofs.Stores.{leaves-in-table, store-length}
-use Rattle.cycles.proofs.DelayRecords.{write-copied-chains}
+use Rattle.behaviour.specs.Terms.{circuitTerm}
+use Rattle.behaviour.specs.Delays.{store}
+use Rattle.behaviour.specs.Copies.{copied, leavesOf, delayChains}
+use Rattle.behaviour.specs.Cycle.{output, after, afterBy}
+use Rattle.behaviour.specs.Evaluated.{valueAt}
+use Rattle.behaviour.proofs.Evaluated.{root-value, root-stored}
+use Rattle.behaviour.proofs.Cycle.{cycle-writable}
+use Rattle.behaviour.proofs.Stores.{leaves-in-table, store-length}
+use Rattle.behaviour.proofs.DelayRecords.{write-copied-chains}
 use Rattle.values.specs.Slots.{entered, frames}
 use Rattle.evaluator.specs.Evaluating.{Ready, Evaluates}
 use Rattle.evaluator.proofs.Frames.{entered-slot, entered-long}

@@ -24,17 +24,17 @@ use Rattle.records.specs.Trees.{
 use Rattle.records.specs.Rewritten.{OnlyLeaves}
 use Rattle.records.proofs.Rewritten.{same-count, same-kind, same-type, same-alternatives, same-tree}
 use Rattle.records.proofs.Grown.{grown-tree}
-use Rattle.layout.proofs.Passes.{written}
-use Rattle.judging.specs.Judgements.{typeOf}
-use Rattle.judging.specs.Judging.{width}
-use Rattle.typing.specs.Verdict.{verdict}
-use Rattle.typing.specs.Scopes.{Scope}
-use Rattle.typing.specs.Widths.{patternLeaves, patternEntry, Widths}
-use Rattle.typing.specs.declared.Verdict.the-variants.{Accepted}
-use Rattle.typing.proofs.Exact.{exact}
+use Rattle.structure.proofs.Passes.{written}
+use Rattle.typing.specs.Judgements.{typeOf}
+use Rattle.typing.specs.Judging.{width}
+use Rattle.verdict.specs.Verdict.{verdict}
+use Rattle.verdict.specs.Scopes.{Scope}
+use Rattle.verdict.specs.Widths.{patternLeaves, patternEntry, Widths}
+use Rattle.verdict.specs.declared.Verdict.the-variants.{Accepted}
+use Rattle.verdict.proofs.Exact.{exact}
 use Rattle.accepted.proofs.Scopes.{scope-checked}
-use Rattle.cycles.proofs.TermsAgain.{type-of-same}
-use Rattle.cycles.proofs.ScopesAgain.{scope-again}
+use Rattle.behaviour.proofs.TermsAgain.{type-of-same}
+use Rattle.behaviour.proofs.ScopesAgain.{scope-again}
 
 -- and back
 pub leaves-back : (s s′ : List ℕ) → OnlyLeaves s s′ → OnlyLeaves s′ s

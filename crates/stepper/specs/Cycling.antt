@@ -10,10 +10,10 @@ use Rattle.records.specs.Sized.{Sized}
 use Rattle.records.specs.TypeRecords.{typeAt}
 use Rattle.records.specs.Written.{Written}
 use Rattle.records.specs.Rewritten.{OnlyLeaves}
-use Rattle.typing.specs.Verdict.{verdict}
-use Rattle.typing.specs.Widths.{Widths}
-use Rattle.typing.specs.declared.Verdict.the-variants.{Accepted}
-use Rattle.cycles.specs.Cycle.{output, after}
+use Rattle.verdict.specs.Verdict.{verdict}
+use Rattle.verdict.specs.Widths.{Widths}
+use Rattle.verdict.specs.declared.Verdict.the-variants.{Accepted}
+use Rattle.behaviour.specs.Cycle.{output, after}
 
 -- a table is copied to a sheet, along chains of the first one
 pub record Copying (first : List ℕ) (n : ℕ) (current : List ℕ) : Type 0 where

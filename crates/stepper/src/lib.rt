@@ -5,7 +5,7 @@ ghost use Rattle.records.specs.Words.{wordB};
 ghost use Rattle.records.specs.Kinds.{leafs};
 ghost use Rattle.records.specs.Says.{kindAt, sortAt};
 ghost use Rattle.records.specs.Trees.{chain};
-ghost use Rattle.cycles.specs.Copies.{copied, leavesOf, delayChains};
+ghost use Rattle.behaviour.specs.Copies.{copied, leavesOf, delayChains};
 ghost use Rattle.stepper.specs.Cycling.{Copying, Cycling, Cycled};
 use evaluator::eval;
 use records::word;

@@ -34,12 +34,12 @@ use Rattle.records.proofs.CodeTable.{pair-number}
 use Rattle.records.proofs.Types.{pair-type, few-leaves}
 use Rattle.records.proofs.Trees.{alternatives-of}
 use Rattle.records.proofs.Grown.{GrownPattern, grown-pattern}
-use Rattle.typing.specs.Widths.{patternLeaves}
-use Rattle.layout.proofs.Passes.{written, types-fit}
-use Rattle.judging.specs.Judgements.{patternFits}
-use Rattle.judging.proofs.PatternNumbers.{pattern-kind, no-pattern}
-use Rattle.judging.proofs.Alternatives.{in-sheet, next-matching, first-matching, second-matching}
-use Rattle.judging.specs.Judging.{Matching}
+use Rattle.verdict.specs.Widths.{patternLeaves}
+use Rattle.structure.proofs.Passes.{written, types-fit}
+use Rattle.typing.specs.Judgements.{patternFits}
+use Rattle.typing.proofs.PatternNumbers.{pattern-kind, no-pattern}
+use Rattle.typing.proofs.Alternatives.{in-sheet, next-matching, first-matching, second-matching}
+use Rattle.typing.specs.Judging.{Matching}
 use Rattle.accepted.proofs.FittingWidths.{fitting-leaves}
 use Rattle.meaning.specs.Matching.{Answer, Yes, No, Undecided, pairAnswer, chainAnswer, constructorAnswer, width, matches}
 use Rattle.values.specs.Matchings.{Matched, withRest, MatchesAll, MatchesOne, Chosen}

@@ -20,9 +20,9 @@ use Rattle.records.specs.Trees.{
   follow,
 }
 use Rattle.records.specs.Decoding.{patternOf}
-use Rattle.judging.specs.Judgements.{patternFits}
-use Rattle.judging.specs.Judging.{Matching}
-use Rattle.typing.specs.Widths.{patternEntry}
+use Rattle.typing.specs.Judgements.{patternFits}
+use Rattle.typing.specs.Judging.{Matching}
+use Rattle.verdict.specs.Widths.{patternEntry}
 use Rattle.meaning.specs.Matching.{Answer, chainAnswer, matches}
 use Rattle.meaning.specs.Undecided.{undefinedLeaves}
 use Rattle.meaning.specs.Evaluation.{choose}

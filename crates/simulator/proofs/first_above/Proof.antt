@@ -1,6 +1,6 @@
 -- Assumes nothing.
 use denote.Ref.{now}
-use Rattle.layout.proofs.Passes.{written}
+use Rattle.structure.proofs.Passes.{written}
 use Rattle.simulator.proofs.Calls.{bounds-fit, bounds-ground, bounds-inside, some-bounds, bounds-searched}
 use borrow.Author.Needs.{needs}
 use Rattle.simulator.proofs.first_above.Statement.{statement}

@@ -1,0 +1,26 @@
+-- The check's answer, packed. Assumes nothing.
+use borrow.Author.Needs.{needs}
+use Rattle.verdict.proofs.sheet_check.Statement.{statement}
+use Rattle.verdict.proofs.sheet_check.Tie as tie
+use native.Mathlib.Omega.{arith}
+use mathlib.Core.Path.{refl, sym, _∙_, ap}
+use denote.Ref.{now}
+use Rattle.verdict.specs.Verdict.{packed}
+use Rattle.verdict.proofs.PlacesSmall.{verdict-place}
+
+no-leaves-requires : tie.Need-no-leaves-requires
+no-leaves-requires c κs = search needs
+
+check-into-requires : tie.Need-check-into-requires
+check-into-requires c κs = search needs
+
+packed-requires : tie.Need-packed-requires
+packed-requires c κs =
+    rw (c .check-into .ensures .answered) (let h = verdict-place (now (c .before .before .before .before .args .sheet)) in omega arith)
+
+returns : tie.Need-returns
+returns c = c .packed .ensures ∙ ap packed (c .before .check-into .ensures .answered)
+
+pub sheet-check-spec : {M : Type 1} → statement M
+sheet-check-spec =
+    tie.close (tie.spec no-leaves-requires check-into-requires packed-requires returns)

@@ -1,0 +1,225 @@
+// The check: whether a sheet is accepted, and with which type, or the number and the place of its first fault.
+ghost use mathlib.Core.Path.{_≡_};
+ghost use Prim.Native.Nat.{_+_, _<_};
+ghost use lib.ListN.{length};
+ghost use Rattle.records.specs.Sized.{Sized};
+ghost use Rattle.records.specs.Namings.{namings};
+ghost use Rattle.structure.specs.Rules.{wrongHeader};
+ghost use Rattle.structure.specs.Passes.{Passes};
+ghost use Rattle.structure.specs.NamerTable.{Holds};
+ghost use Rattle.structure.specs.LeafTable.{Counts};
+ghost use Rattle.typing.specs.Judging.{Ground};
+ghost use Rattle.verdict.specs.Verdict.{verdict, byTypes, byDepths, byTypeRecords, byNamings, byRecords, unless, Checked, Tabled, place, packed};
+ghost use Rattle.verdict.specs.Widths.{PatternsFrom, Widths, Lent, accepts};
+ghost use Rattle.verdict.specs.Stages.{Measured, Recorded, NamedAll, Fitted};
+ghost use Rattle.verdict.specs.declared.Verdict.the-variants.{WrongHeader};
+use typing::Outcome;
+use typing::input_scope;
+use typing::judge;
+use structure::Found;
+use structure::capped_sum;
+use structure::count_types;
+use structure::first_too_deep;
+use structure::first_wrong_naming;
+use structure::first_wrong_record;
+use structure::first_wrong_type;
+use structure::no_depths;
+use structure::no_leaves;
+use structure::no_namings;
+use structure::note_all;
+use structure::place_all;
+use structure::wrong_header;
+use records::word;
+
+// The answer of the check. `specs/Verdict.antt` gives document 01's number and place for each case.
+pub enum Verdict {
+    // The output type's record.
+    Accepted(usize),
+    WrongLength,
+    WrongHeader,
+    // Each of these holds the record at fault.
+    WrongRecord(usize),
+    WrongNaming(usize),
+    WrongType(usize),
+    TooDeep(usize),
+    IllTyped(usize),
+}
+
+// By the type rules: code 7.
+fn check_rules(sheet: &[u8], n: usize, table: &[u8; 4096], widths: &mut [u8; 4096]) -> Verdict
+    requires { ⌜ Ground (now sheet) n (now table) × (length (now widths) ≡ 4096) ⌝ }
+    ensures { λ r. ⌜ Checked (now (sheet .entry)) (byTypes (now (sheet .entry))) r (now (widths .entry)) (now (widths .exit)) ⌝ }
+{
+    let scope = input_scope(word(sheet, n, 0, 2));
+    let judged = judge(sheet, n, table, &scope, 1, word(sheet, n, 0, 3), widths);
+    match judged {
+        Outcome::Typed(t) => Verdict::Accepted(t),
+        Outcome::Fault(r) => Verdict::IllTyped(r),
+    }
+}
+
+// By the depth of expressions: code 6, and then by the type rules.
+fn check_depths(
+    sheet: &[u8],
+    n: usize,
+    namers: &[u16; 4096],
+    table: &[u8; 4096],
+    widths: &mut [u8; 4096],
+) -> Verdict
+    requires { ⌜ Fitted (now sheet) n × Holds (namings (now sheet)) (now namers) × Counts (now sheet) n (now table) × (length (now widths) ≡ 4096) ⌝ }
+    ensures { λ r. ⌜ Checked (now (sheet .entry)) (byDepths (now (sheet .entry))) r (now (widths .entry)) (now (widths .exit)) ⌝ }
+{
+    let mut depths = no_depths();
+    let mut nestings = no_depths();
+    place_all(sheet, n, namers, &mut depths, &mut nestings);
+    let deep = first_too_deep(sheet, n, &depths, &nestings);
+    if let Found::At(r) = deep {
+        return Verdict::TooDeep(r);
+    }
+    check_rules(sheet, n, table, widths)
+}
+
+// By the type records: code 5, and then by what comes after it. The leaf counts of types go to the table.
+fn check_types(sheet: &[u8], n: usize, namers: &[u16; 4096], widths: &mut [u8; 4096]) -> Verdict
+    requires { ⌜ NamedAll (now sheet) n × Holds (namings (now sheet)) (now namers) ⌝ }
+    ensures { λ r. ⌜ Tabled (now (sheet .entry)) n (byTypeRecords (now (sheet .entry))) r (now (widths .exit)) ⌝ }
+{
+    let mut table = no_leaves();
+    count_types(sheet, n, &mut table);
+    let wrong = first_wrong_type(sheet, n, &table);
+    if let Found::At(r) = wrong {
+        return Verdict::WrongType(r);
+    }
+    *widths = table;
+    check_depths(sheet, n, namers, &table, widths)
+}
+
+// By the namings: code 4, and then by what comes after it.
+fn check_names(sheet: &[u8], n: usize, widths: &mut [u8; 4096]) -> Verdict
+    requires { ⌜ Recorded (now sheet) n ⌝ }
+    ensures { λ r. ⌜ Tabled (now (sheet .entry)) n (byNamings (now (sheet .entry))) r (now (widths .exit)) ⌝ }
+{
+    let mut namers = no_namings();
+    note_all(sheet, n, &mut namers);
+    let wrong = first_wrong_naming(n, &namers);
+    if let Found::At(r) = wrong {
+        return Verdict::WrongNaming(r);
+    }
+    check_types(sheet, n, &namers, widths)
+}
+
+// By the header and the records: codes 2 and 3, and then by what comes after them.
+fn check_records(sheet: &[u8], n: usize, widths: &mut [u8; 4096]) -> Verdict
+    requires { ⌜ Measured (now sheet) n ⌝ }
+    ensures { λ r. ⌜ Tabled (now (sheet .entry)) n (unless (wrongHeader (now (sheet .entry))) WrongHeader (byRecords (now (sheet .entry)))) r (now (widths .exit)) ⌝ }
+{
+    if wrong_header(sheet, n) {
+        return Verdict::WrongHeader;
+    }
+    let wrong = first_wrong_record(sheet, n);
+    if let Found::At(r) = wrong {
+        return Verdict::WrongRecord(r);
+    }
+    check_names(sheet, n, widths)
+}
+
+// Notes the width of rec where it is a pattern, from the widths of its parts.
+fn note_pattern(sheet: &[u8], n: usize, rec: usize, widths: &mut [u8; 4096])
+    requires { ⌜ Sized (now sheet) n × Passes (now sheet) × (rec < n) × PatternsFrom (now sheet) (rec + 1) (now widths) ⌝ }
+    ensures { λ _. ⌜ PatternsFrom (now (sheet .entry)) rec (now (widths .exit)) ⌝ }
+{
+    let kind = word(sheet, n, rec, 0);
+    if kind == 48 {
+        let t = word(sheet, n, rec, 2);
+        widths[rec] = widths[t];
+        return;
+    }
+    if kind == 49 {
+        widths[rec] = 1;
+        return;
+    }
+    if kind == 50 {
+        let p = word(sheet, n, rec, 2);
+        let q = word(sheet, n, rec, 3);
+        widths[rec] = capped_sum(widths[p], widths[q]);
+    }
+}
+
+// Notes the width of every pattern, the last record first.
+fn note_patterns(sheet: &[u8], n: usize, widths: &mut [u8; 4096])
+    requires { ⌜ Sized (now sheet) n × Passes (now sheet) × PatternsFrom (now sheet) n (now widths) ⌝ }
+    ensures { λ _. ⌜ Widths (now (sheet .entry)) (now (widths .exit)) ⌝ }
+{
+    let mut rec = n;
+    while 0 < rec {
+        rec -= 1;
+        note_pattern(sheet, n, rec, widths);
+    }
+}
+
+fn is_accepted(v: Verdict) -> bool
+    ensures { λ r. ⌜ r ≡ accepts v ⌝ }
+{
+    match v {
+        Verdict::Accepted(_) => true,
+        Verdict::WrongLength => false,
+        Verdict::WrongHeader => false,
+        Verdict::WrongRecord(_) => false,
+        Verdict::WrongNaming(_) => false,
+        Verdict::WrongType(_) => false,
+        Verdict::TooDeep(_) => false,
+        Verdict::IllTyped(_) => false,
+    }
+}
+
+// The check, with the leaf counts of the types of expressions, patterns and types for an accepted sheet.
+pub fn check_into(sheet: &[u8], table: &mut [u8; 4096]) -> Verdict
+    ensures { λ r. ⌜ Lent (now (sheet .entry)) r (now (table .entry)) (now (table .exit)) ⌝ }
+{
+    let len = sheet.len();
+    if len < 12 {
+        return Verdict::WrongLength;
+    }
+    if 49152 < len {
+        return Verdict::WrongLength;
+    }
+    let n = len / 12;
+    if 12 * n != len {
+        return Verdict::WrongLength;
+    }
+    let mut widths = no_leaves();
+    let answer = check_records(sheet, n, &mut widths);
+    if !is_accepted(answer) {
+        return answer;
+    }
+    note_patterns(sheet, n, &mut widths);
+    *table = widths;
+    answer
+}
+
+// Both numbers of a verdict in one.
+pub fn packed(v: Verdict) -> u64
+    requires { ⌜ place v < 4294967296 ⌝ }
+    ensures { λ r. ⌜ r ≡ packed v ⌝ }
+{
+    match v {
+        Verdict::Accepted(t) => t as u64,
+        Verdict::WrongLength => 4294967296,
+        Verdict::WrongHeader => 8589934592,
+        Verdict::WrongRecord(r) => 12884901888 + r as u64,
+        Verdict::WrongNaming(r) => 17179869184 + r as u64,
+        Verdict::WrongType(r) => 21474836480 + r as u64,
+        Verdict::TooDeep(r) => 25769803776 + r as u64,
+        Verdict::IllTyped(r) => 30064771072 + r as u64,
+    }
+}
+
+// The check, for C: the verdict's number times 2^32, plus its place.
+#[no_mangle]
+pub extern "C" fn sheet_check(sheet: &[u8]) -> u64
+    ensures { λ r. ⌜ r ≡ packed (verdict (now (sheet .entry))) ⌝ }
+{
+    let mut table = no_leaves();
+    let answer = check_into(sheet, &mut table);
+    packed(answer)
+}
