@@ -23,8 +23,8 @@ use Rattle.structure.specs.NamerTable.{summary, Holds}
 use Rattle.structure.specs.LeafTable.{typeLeaves, Counts}
 use Rattle.structure.specs.DepthTable.{Capped, Placed, Placing}
 use Rattle.structure.proofs.Passes.{written, named-once, length-fits}
-use Rattle.typing.specs.Judging.{Ground, Ready, Closing}
-use Rattle.verdict.specs.Stages.{Fitted}
+use Rattle.typing.specs.Judging.{Ground, Judging, Closing}
+use Rattle.verdict.specs.Stages.{CheckingDepths}
 use Rattle.verdict.specs.Widths.{PatternsFrom, patternEntry, Widths}
 use Rattle.verdict.proofs.Stages.{root-ready}
 use Rattle.verdict.proofs.Widths.{judged-widths, entry-stored, unpatterned, whole-table}
@@ -49,7 +49,7 @@ module _ (s : List ℕ) (p : Passes s) (whole : length s ≡ 12 * count s) where
   pub sized : Sized s (count s)
   sized = record { counted = refl; whole = whole; some = length-fits s (p .length) .0; few = few }
 
-  pub fitted : Fitted s (count s)
+  pub fitted : CheckingDepths s (count s)
   fitted = record {
     named = record {
       recorded = record {
@@ -111,7 +111,7 @@ module _ (s : List ℕ) (p : Passes s) (whole : length s ≡ 12 * count s) where
   pub ground : (table : List ℕ) × Ground s (count s) table
   ground = let c = counts in (c .0, record { sized = sized; passes = p; counts = c .1 })
 
-  pub ready : (table : List ℕ) × (stack : List ℕ) × (widths : List ℕ) × Ready s (count s) table stack 1 (wordB s 0) widths
+  pub ready : (table : List ℕ) × (stack : List ℕ) × (widths : List ℕ) × Judging s (count s) table stack 1 (wordB s 0) widths
   ready =
       let g = ground in
       let t = tabulated (λ r. wordA s 0) 64 in
@@ -142,7 +142,7 @@ module _ (s : List ℕ) (p : Passes s) (whole : length s ≡ 12 * count s) where
       go Kinds.types e = other Kinds.types e (λ z. let y = ap sortNumber z in omega arith)
       go Kinds.expressions e = other Kinds.expressions e (λ z. let y = ap sortNumber z in omega arith)
       go Kinds.leafs e = other Kinds.leafs e (λ z. let y = ap sortNumber z in omega arith)
-      go Kinds.none e = other Kinds.none e (λ z. let y = ap sortNumber z in omega arith)
+      go Kinds.noSort e = other Kinds.noSort e (λ z. let y = ap sortNumber z in omega arith)
 
   all-lower : (m : ℕ) → m ≤ count s → (table : List ℕ) → PatternsFrom s m table → (lower : List ℕ) × PatternsFrom s 0 lower
   all-lower zero h table o = (table, o)

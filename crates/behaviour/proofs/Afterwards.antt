@@ -15,7 +15,7 @@ use Rattle.meaning.specs.Values.{AllOf, all-none, all-more}
 use Rattle.meaning.specs.Undecided.{undefinedLeaves}
 use Rattle.meaning.proofs.UndefinedLeavesLawful.{undefined-lawful}
 use Rattle.behaviour.specs.Sheets.{OnlyDelays}
-use Rattle.behaviour.specs.Cycle.{output, after}
+use Rattle.behaviour.specs.Cycle.{output, sheetAfterCycle}
 use Rattle.behaviour.proofs.Cycle.{after-only-delays}
 use Rattle.behaviour.specs.Stimulus.{inputType, cycleCount, endToEnd, cycles}
 use Rattle.behaviour.specs.Run.{
@@ -90,7 +90,7 @@ module _ (s stim out next : List ℕ) (t : ℕ) (h : WellFormed s stim out next 
   accepted : (k : ℕ) → verdict (sheet k) ≡ verdict s
   accepted k = sheet-accepted undefinedLeaves undefined-lawful s t (h .accepted) (cycles s stim) inputs-typed k
 
-  each-after : (k : ℕ) → k < cycleCount s stim → sheet (suc k) ≡ after (sheet k) (inputOf s stim k)
+  each-after : (k : ℕ) → k < cycleCount s stim → sheet (suc k) ≡ sheetAfterCycle (sheet k) (inputOf s stim k)
   each-after k b = rw (← cycle-at s stim k b) (sheet-next undefinedLeaves s (cycles s stim) k (in-list k b))
 
   only-delays : (k : ℕ) → k < cycleCount s stim → OnlyDelays (sheet k) (sheet (suc k))

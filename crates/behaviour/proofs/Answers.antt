@@ -50,7 +50,7 @@ use Rattle.behaviour.specs.Run.{
   Gives,
 }
 use Rattle.behaviour.specs.Afterwards.{WellFormed, Afterwards}
-use Rattle.behaviour.specs.Promises.{Says, LowestFirst, RefusalUnaltered}
+use Rattle.behaviour.specs.Promises.{SaysOfCall, LowestFirst, RefusalUnaltered}
 use Rattle.behaviour.proofs.Afterwards.{answer-done, afterwards}
 
 tested : (P : Answer → Type 0) (b : Bool) (a c : Answer) → (b ≡ true → P a) → (b ≡ false → P c) → P (unless b a c)
@@ -66,21 +66,21 @@ not-true : (b : Bool) → not b ≡ true → b ≡ false
 not-true true e = sym e
 not-true false e = refl
 
-slices-say : (s : List ℕ) (t : ℕ) (stim out next : List ℕ) → verdict s ≡ Accepted t → Says s stim out next (bySlices s t stim out next)
+slices-say : (s : List ℕ) (t : ℕ) (stim out next : List ℕ) → verdict s ≡ Accepted t → SaysOfCall s stim out next (bySlices s t stim out next)
 unfolding bySlices
 slices-say s t stim out next v =
     let needed = outputNeeded s t stim in
     let done = Done (cycleCount s stim) in
     let byNext = unless (not (eqb (length next) (length s))) (WrongNext (length s)) done in
     let byOut = unless (not (eqb (length out) needed)) (WrongOutput needed) byNext in
-    tested (Says s stim out next) (wrongStimulus s stim) WrongStimulus
+    tested (SaysOfCall s stim out next) (wrongStimulus s stim) WrongStimulus
     (refusing (lowest (wrongByte s stim) (length stim)) WrongByte byOut) (λ e. (t, v, e))
-    (λ whole. searched (Says s stim out next) (lowest (wrongByte s stim) (length stim)) WrongByte byOut
+    (λ whole. searched (SaysOfCall s stim out next) (lowest (wrongByte s stim) (length stim)) WrongByte byOut
     (λ i e. (t, v, whole, lowest-some-passes (wrongByte s stim) (length stim) i e))
-    (λ fitting. tested (Says s stim out next) (not (eqb (length out) needed)) (WrongOutput needed) byNext
+    (λ fitting. tested (SaysOfCall s stim out next) (not (eqb (length out) needed)) (WrongOutput needed) byNext
     (λ e. (t, v, whole, fitting, eqb-false (length out) needed (not-true (eqb (length out) needed) e), refl))
     (λ e. let room = eqb-true (length out) needed (not-false (eqb (length out) needed) e) in
-    tested (Says s stim out next) (not (eqb (length next) (length s))) (WrongNext (length s)) done
+    tested (SaysOfCall s stim out next) (not (eqb (length next) (length s))) (WrongNext (length s)) done
     (λ f. (t, v, whole, fitting, room, eqb-false (length next) (length s) (not-true (eqb (length next) (length s)) f), refl))
     (λ f. (
       t,
@@ -98,7 +98,7 @@ pub lowest-first : LowestFirst
 unfolding answer
 lowest-first s stim out next = go (verdict s) refl
   where
-    go : (w : Verdict) → verdict s ≡ w → Says s stim out next (byVerdict w (λ t. bySlices s t stim out next))
+    go : (w : Verdict) → verdict s ≡ w → SaysOfCall s stim out next (byVerdict w (λ t. bySlices s t stim out next))
     go (Verdicts.Accepted t) e = slices-say s t stim out next e
     go Verdicts.WrongLength e = e
     go Verdicts.WrongHeader e = e

@@ -16,9 +16,9 @@ use Rattle.behaviour.specs.Sheets.{write}
 use Rattle.behaviour.specs.Cycle.{outputBy, afterBy}
 use Rattle.behaviour.specs.Stimulus.{cycles, wrongStimulus, wrongByte}
 use Rattle.behaviour.specs.Run.{bySlices, answer, finalOut, finalNext}
-use Rattle.behaviour.specs.Bench.{AllHold, table}
+use Rattle.behaviour.specs.Bench.{AllCasesHold, benchCases}
 
-bench : AllHold table
+bench : AllCasesHold benchCases
 unfolding verdict byRecords byTypes wrongLength wrongHeader wrongRecord wrongNaming wrongType tooDeep depth nesting ancestry ancestryWithin circuit treeAt treeWithin alternatives alternativesWithin chain chainWithin pairOf typeAt typeWithin namings wellSaid askOf kindOf rowOf word count eval next circuitTerm write outputBy afterBy cycles wrongStimulus wrongByte bySlices answer finalOut finalNext
 bench = (
   (refl, refl, refl),

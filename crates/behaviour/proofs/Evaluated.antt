@@ -27,7 +27,7 @@ use Rattle.records.specs.Trees.{chain, alternatives, treeAt, circuit}
 use Rattle.records.specs.Decoding.{leafValues, patternOf}
 use Rattle.records.specs.Written.{Written}
 use Rattle.records.proofs.Trees.{tree-of}
-use Rattle.typing.specs.Judgements.{typeOf}
+use Rattle.typing.specs.Judgements.{typeRecordOf}
 use Rattle.verdict.specs.Verdict.{inputs}
 use Rattle.meaning.specs.Values.{undefined}
 use Rattle.meaning.specs.Matching.{matches}
@@ -89,7 +89,7 @@ module _ (undecided : List ℕ → List ℕ → List ℕ) where
 
     pub first-value : kindAt s r ≡ expression first
         → valueAt undecided s Γ ρ r
-        ≡ take (leaves (typeAt s (wordA s (typeOf s Γ (treeAt s (wordA s r)))))) (valueAt undecided s Γ ρ (wordA s r))
+        ≡ take (leaves (typeAt s (wordA s (typeRecordOf s Γ (treeAt s (wordA s r)))))) (valueAt undecided s Γ ρ (wordA s r))
     unfolding valueAt eval
     first-value e = rw (tree-of w r b (expression first) e)
 
@@ -100,7 +100,7 @@ module _ (undecided : List ℕ → List ℕ → List ℕ) where
 
     pub second-value : kindAt s r ≡ expression second
         → valueAt undecided s Γ ρ r
-        ≡ drop (leaves (typeAt s (wordA s (typeOf s Γ (treeAt s (wordA s r)))))) (valueAt undecided s Γ ρ (wordA s r))
+        ≡ drop (leaves (typeAt s (wordA s (typeRecordOf s Γ (treeAt s (wordA s r)))))) (valueAt undecided s Γ ρ (wordA s r))
     unfolding valueAt eval
     second-value e = rw (tree-of w r b (expression second) e)
 
@@ -111,13 +111,13 @@ module _ (undecided : List ℕ → List ℕ → List ℕ) where
 
     pub let-value : kindAt s r ≡ expression letIn
         → valueAt undecided s Γ ρ r
-        ≡ valueAt undecided s (typeOf s Γ (treeAt s (wordA s r)) ∷ Γ) (valueAt undecided s Γ ρ (wordA s r) ∷ ρ) (wordB s r)
+        ≡ valueAt undecided s (typeRecordOf s Γ (treeAt s (wordA s r)) ∷ Γ) (valueAt undecided s Γ ρ (wordA s r) ∷ ρ) (wordB s r)
     unfolding valueAt eval
     let-value e = rw (tree-of w r b (expression letIn) e)
 
     pub let-stored : kindAt s r ≡ expression letIn → (h : List ℕ)
         → storedAt undecided s Γ ρ r h
-        ≡ storedAt undecided s (typeOf s Γ (treeAt s (wordA s r)) ∷ Γ) (valueAt undecided s Γ ρ (wordA s r) ∷ ρ) (wordB s r)
+        ≡ storedAt undecided s (typeRecordOf s Γ (treeAt s (wordA s r)) ∷ Γ) (valueAt undecided s Γ ρ (wordA s r) ∷ ρ) (wordB s r)
         (storedAt undecided s Γ ρ (wordA s r) h)
     unfolding storedAt valueAt next
     let-stored e h =

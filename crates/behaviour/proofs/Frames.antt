@@ -19,7 +19,7 @@ use mathlib.Core.List.{
 use mathlib.Core.Path.{_≡_, refl, sym, ap, ap₂, subst, _∙_}
 use native.Mathlib.Omega.{arith}
 use lib.ListN.{length}
-use Rattle.picoella.specs.Types.{Ty, bounds, leaves, Within, none, leaf, OfType}
+use Rattle.picoella.specs.Types.{Ty, bounds, leaves, Within, within-none, within-leaf, OfType}
 use Rattle.meaning.specs.Elaboration.{
   Term,
   Constant,
@@ -219,8 +219,8 @@ small-cons l v es h rest e (List·Memᴰ·tail m) = rest e m
 assigned-small : (ls : List ℕ) {ns vs : List ℕ} → Within ns vs → ((n : ℕ) → List·Memᴰ n ns → n ≤ 255)
     → Small (assigned ls vs)
 assigned-small [] w small = λ e m. elim m [ ]
-assigned-small (l ∷ ls) none small = small-cons l 0 (assigned ls []) (omega arith) (assigned-small ls none small)
-assigned-small (l ∷ ls) (leaf {n = n} {v = v} {vs = vs} h w) small =
+assigned-small (l ∷ ls) within-none small = small-cons l 0 (assigned ls []) (omega arith) (assigned-small ls within-none small)
+assigned-small (l ∷ ls) (within-leaf {n = n} {v = v} {vs = vs} h w) small =
     let k = small n (List·Memᴰ·head refl) in
     small-cons l v (assigned ls vs) (omega arith) (assigned-small ls w (λ n m. small n (List·Memᴰ·tail m)))
 

@@ -3,14 +3,14 @@
 -- Assumes nothing.
 use Rattle.behaviour.proofs.Sheets.{write-only-delays, write-read, write-accepted}
 use Rattle.behaviour.proofs.Sheets as Sheets
-use Rattle.behaviour.specs.Promises.{AllPromises}
+use Rattle.behaviour.specs.Promises.{RunPromises}
 use Rattle.behaviour.proofs.Stimulus.{cycles-joined, cycles-counted}
 use Rattle.behaviour.proofs.Run.{run-outputs, run-sheet}
 use Rattle.behaviour.proofs.Reduces.{run-reduces}
 use Rattle.behaviour.proofs.Afterwards.{afterwards}
 use Rattle.behaviour.proofs.Answers.{lowest-first, refusal-unaltered}
 
-pub kept : AllPromises
+pub kept : RunPromises
 kept = record {
   lowest-first = lowest-first;
   refusal-unaltered = refusal-unaltered;

@@ -41,7 +41,7 @@ use Rattle.records.specs.Kinds.{
   zeroed,
   nextOf,
   part,
-  inputType,
+  anyType,
   lowerType,
   lowerFlat,
   constructorOf,
@@ -84,7 +84,7 @@ abbrev namesExpression : Ask → Bool
 namesExpression zeroed = false
 namesExpression (nextOf σ) = sameSort σ expressions
 namesExpression (part σ) = sameSort σ expressions
-namesExpression inputType = false
+namesExpression anyType = false
 namesExpression lowerType = false
 namesExpression lowerFlat = false
 namesExpression constructorOf = false
@@ -153,7 +153,7 @@ asks-expression : (s : List ℕ) (r : ℕ) (a : Ask) (w : ℕ) → names a ≡ t
 asks-expression s r (nextOf σ) w n m h e = rw (sym (m h .2) ∙ e)
 asks-expression s r (part σ) w n m h e = rw (sym (m .2) ∙ e)
 asks-expression s r zeroed w n m h e = n
-asks-expression s r inputType w n m h e = n
+asks-expression s r anyType w n m h e = n
 asks-expression s r lowerType w n m h e = n
 asks-expression s r lowerFlat w n m h e = n
 asks-expression s r constructorOf w n m h e = n

@@ -13,7 +13,7 @@ use Rattle.records.specs.Rewritten.{OnlyLeaves}
 use Rattle.records.proofs.Grown.{grown-tree}
 use Rattle.records.proofs.Rewritten.{same-kind, same-tree}
 use Rattle.structure.proofs.Passes.{written}
-use Rattle.typing.specs.Judgements.{typeOf}
+use Rattle.typing.specs.Judgements.{typeRecordOf}
 use Rattle.verdict.specs.Verdict.{inputs, verdict}
 use Rattle.verdict.specs.Scopes.{
   Scope,
@@ -50,12 +50,12 @@ module _ (s s′ : List ℕ) (o : OnlyLeaves s s′) (t : ℕ) (v : verdict s �
 
   -- the type of a LET's defining part
   defining-type : {q : ℕ} {Γ : List ℕ} → kindAt s q ≡ expression letIn → Scope s q Γ
-      → typeOf s′ Γ (treeAt s′ (wordA s′ q)) ≡ typeOf s Γ (treeAt s (wordA s q))
+      → typeRecordOf s′ Γ (treeAt s′ (wordA s′ q)) ≡ typeRecordOf s Γ (treeAt s (wordA s q))
   defining-type {q} {Γ} e c =
       let p = accepted-by-types s t .0 v .0 in
       let w = written p in
       let d = scope-checked t p v (let-defining e c) in
-      ap (typeOf s′ Γ) (ap (treeAt s′) (expression-words q letIn e 2 (omega arith)) ∙ same-tree s s′ o (wordA s q))
+      ap (typeRecordOf s′ Γ) (ap (treeAt s′) (expression-words q letIn e 2 (omega arith)) ∙ same-tree s s′ o (wordA s q))
       ∙ type-of-same s s′ o w Γ (treeAt s (wordA s q)) (grown-tree w (wordA s q) (d .there) (d .sort)) (d .context) (d .judged)
 
   pub scope-again : {q : ℕ} {Γ : List ℕ} → Scope s q Γ → Scope s′ q Γ

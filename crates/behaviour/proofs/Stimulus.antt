@@ -12,7 +12,7 @@ use lib.ListN.{length, getD, take, drop, length-drop}
 use lib.Seq.{getD-take, getD-drop, length-take-le}
 use lib.Dec.{eqb, ltb}
 use borrow.Author.Tests.{ltb-false, not-false, eqb-true, eqb-false}
-use Rattle.picoella.specs.Types.{Ty, bounds, leaves, Within, leaf}
+use Rattle.picoella.specs.Types.{Ty, bounds, leaves, Within, within-leaf}
 use Rattle.picoella.specs.Types as Types
 use Rattle.records.proofs.Tests.{neither-left, neither-right}
 use Rattle.records.proofs.Types.{leaves-of-bounds}
@@ -39,11 +39,11 @@ stimulus-whole s stim e =
 
 -- a value is within bounds where each leaf is
 within-by-leaf : (ns vs : List ℕ) → length vs ≡ length ns → ((j : ℕ) → j < length ns → getD vs j 0 ≤ getD ns j 0) → Within ns vs
-within-by-leaf [] [] e f = Types.none
+within-by-leaf [] [] e f = Types.within-none
 within-by-leaf [] (v ∷ vs) e f = absurd (omega arith)
 within-by-leaf (n ∷ ns) [] e f = absurd (omega arith)
 within-by-leaf (n ∷ ns) (v ∷ vs) e f =
-    leaf (f 0 (omega arith)) (within-by-leaf ns vs (omega arith) (λ j h. f (suc j) (omega arith)))
+    within-leaf (f 0 (omega arith)) (within-by-leaf ns vs (omega arith) (λ j h. f (suc j) (omega arith)))
 
 pieces-typed : (τ : Ty) (n : ℕ) (l : List ℕ) → length l ≡ n * leaves τ
     → ((i : ℕ) → i < length l → getD l i 0 ≤ getD (bounds τ) (i % leaves τ) 0) → AllOf τ (pieces (leaves τ) n l)

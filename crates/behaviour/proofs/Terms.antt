@@ -37,11 +37,11 @@ use Rattle.records.proofs.TypeRecords.{found-pair}
 use Rattle.records.proofs.Grown.{Grown, grown-tree, grown-circuit}
 use Rattle.structure.specs.Passes.{Passes}
 use Rattle.structure.proofs.Passes.{written}
-use Rattle.typing.specs.Judgements.{typeOf}
+use Rattle.typing.specs.Judgements.{typeRecordOf}
 use Rattle.typing.specs.Judging.{Context}
 use Rattle.verdict.specs.Verdict.{inputs, verdict}
 use Rattle.verdict.specs.declared.Verdict.the-variants.{Accepted}
-use Rattle.typing.proofs.Judged.{Judged}
+use Rattle.typing.proofs.Judged.{RulesHold}
 use Rattle.typing.proofs.TypeRecordsOf.{type-of-record}
 use Rattle.typing.proofs.PatternTypes.{fits-typed}
 use Rattle.typing.proofs.Typings.{within-fits}
@@ -70,7 +70,7 @@ erase-term s Γ (nameOf r k) = refl
 erase-term s Γ (tupleOf r a b) = ap₂ Tuple (erase-term s Γ a) (erase-term s Γ b)
 erase-term s Γ (firstOf r a) = ap Index1 (erase-term s Γ a)
 erase-term s Γ (secondOf r a) = ap Index2 (erase-term s Γ a)
-erase-term s Γ (letOf r a b) = ap₂ Let (erase-term s Γ a) (erase-term s (typeOf s Γ a ∷ Γ) b)
+erase-term s Γ (letOf r a b) = ap₂ Let (erase-term s Γ a) (erase-term s (typeRecordOf s Γ a ∷ Γ) b)
 erase-term s Γ (feedbackOf r t a b) = ap₂ (LetRec (typeAt s t)) (erase-term s (t ∷ Γ) a) (erase-term s (t ∷ Γ) b)
 erase-term s Γ (ifOf r a p b c) =
     λ i. If (erase-term s Γ a i) (patternOf s p) (erase-term s Γ b i) (erase-term s Γ c i)
@@ -85,43 +85,43 @@ name-typed s [] k h = absurd (omega arith)
 name-typed s (t ∷ Γ) zero h = here
 name-typed s (t ∷ Γ) (suc k) h = there (name-typed s Γ k (omega arith))
 
-pub term-typed : {s : List ℕ} → Written s → (Γ : List ℕ) (e : Tree) → Grown s e → Context s Γ → Judged s Γ e
-    → Elaborated (Declared s) (map (typeAt s) Γ) (term s Γ e) (typeAt s (typeOf s Γ e))
+pub term-typed : {s : List ℕ} → Written s → (Γ : List ℕ) (e : Tree) → Grown s e → Context s Γ → RulesHold s Γ e
+    → Elaborated (Declared s) (map (typeAt s) Γ) (term s Γ e) (typeAt s (typeRecordOf s Γ e))
 term-typed {s} w Γ noExpression g c j = absurd g
 term-typed {s} w Γ (constantOf r t ls) g c j = e-constant (within-fits (bounds (typeAt s t)) (leafValues s ls) j)
 term-typed {s} w Γ (nameOf r k) g c j = e-name (name-typed s Γ k (ltb-true k (length Γ) j))
 term-typed {s} w Γ (tupleOf r a b) g c j =
-    let h = ltb-true 0 (pairOf s (typeOf s Γ a) (typeOf s Γ b)) (j .2) in
-    let f = pair-of-found s (typeOf s Γ a) (typeOf s Γ b) (pairOf s (typeOf s Γ a) (typeOf s Γ b)) refl h in
-    let e : typeAt s (pairOf s (typeOf s Γ a) (typeOf s Γ b)) ≡ TyTuple (typeAt s (typeOf s Γ a)) (typeAt s (typeOf s Γ b)) =
-    pair-type w (pairOf s (typeOf s Γ a) (typeOf s Γ b)) (f .0) (f .1) ∙ rw (f .2, f .3) in
+    let h = ltb-true 0 (pairOf s (typeRecordOf s Γ a) (typeRecordOf s Γ b)) (j .2) in
+    let f = pair-of-found s (typeRecordOf s Γ a) (typeRecordOf s Γ b) (pairOf s (typeRecordOf s Γ a) (typeRecordOf s Γ b)) refl h in
+    let e : typeAt s (pairOf s (typeRecordOf s Γ a) (typeRecordOf s Γ b)) ≡ TyTuple (typeAt s (typeRecordOf s Γ a)) (typeAt s (typeRecordOf s Γ b)) =
+    pair-type w (pairOf s (typeRecordOf s Γ a) (typeRecordOf s Γ b)) (f .0) (f .1) ∙ rw (f .2, f .3) in
     rw e
     (e-pair (term-typed w Γ a (g .0) c (j .0)) (term-typed w Γ b (g .1) c (j .1))
-    (pairOf s (typeOf s Γ a) (typeOf s Γ b), found-pair w (typeOf s Γ a) (typeOf s Γ b) h, e))
+    (pairOf s (typeRecordOf s Γ a) (typeRecordOf s Γ b), found-pair w (typeRecordOf s Γ a) (typeRecordOf s Γ b) h, e))
 term-typed {s} w Γ (firstOf r a) g c j =
     let t = type-of-record w Γ a g c (j .0) in
-    e-first (rw (pair-type w (typeOf s Γ a) (t .there) (is-pair (kindAt s (typeOf s Γ a)) (j .1))) at (term-typed w Γ a g c (j .0)))
+    e-first (rw (pair-type w (typeRecordOf s Γ a) (t .there) (is-pair (kindAt s (typeRecordOf s Γ a)) (j .1))) at (term-typed w Γ a g c (j .0)))
 term-typed {s} w Γ (secondOf r a) g c j =
     let t = type-of-record w Γ a g c (j .0) in
-    e-second (rw (pair-type w (typeOf s Γ a) (t .there) (is-pair (kindAt s (typeOf s Γ a)) (j .1))) at (term-typed w Γ a g c (j .0)))
+    e-second (rw (pair-type w (typeRecordOf s Γ a) (t .there) (is-pair (kindAt s (typeRecordOf s Γ a)) (j .1))) at (term-typed w Γ a g c (j .0)))
 term-typed {s} w Γ (letOf r a b) g c j =
     e-let (term-typed w Γ a (g .0) c (j .0))
-    (term-typed w (typeOf s Γ a ∷ Γ) b (g .1) (type-of-record w Γ a (g .0) c (j .0), c) (j .1))
+    (term-typed w (typeRecordOf s Γ a ∷ Γ) b (g .1) (type-of-record w Γ a (g .0) c (j .0), c) (j .1))
 term-typed {s} w Γ (feedbackOf r t a b) g c j =
-    e-feedback (rw (eqb-true (typeOf s (t ∷ Γ) a) t (j .2)) at (term-typed w (t ∷ Γ) a (g .1) (g .0, c) (j .0)))
+    e-feedback (rw (eqb-true (typeRecordOf s (t ∷ Γ) a) t (j .2)) at (term-typed w (t ∷ Γ) a (g .1) (g .0, c) (j .0)))
     (term-typed w (t ∷ Γ) b (g .2) (g .0, c) (j .1))
 term-typed {s} w Γ (ifOf r a p b d) g c j =
     e-if (term-typed w Γ a (g .0) c (j .0))
-    (fits-typed w p (typeOf s Γ a) (type-of-record w Γ a (g .0) c (j .0)) (g .1) (j .1))
+    (fits-typed w p (typeRecordOf s Γ a) (type-of-record w Γ a (g .0) c (j .0)) (g .1) (j .1))
     (term-typed w Γ b (g .2) c (j .2))
-    (rw (← eqb-true (typeOf s Γ b) (typeOf s Γ d) (j .4)) at (term-typed w Γ d (g .3) c (j .3)))
+    (rw (← eqb-true (typeRecordOf s Γ b) (typeRecordOf s Γ d) (j .4)) at (term-typed w Γ d (g .3) c (j .3)))
 term-typed {s} w Γ (delayOf r t ls a) g c j =
     e-delay (within-fits (bounds (typeAt s t)) (leafValues s ls) (j .1))
-    (rw (eqb-true (typeOf s Γ a) t (j .2)) at (term-typed w Γ a (g .1) c (j .0)))
+    (rw (eqb-true (typeRecordOf s Γ a) t (j .2)) at (term-typed w Γ a (g .1) c (j .0)))
 
 -- at an expression of an accepted circuit
 pub checked-term : {s : List ℕ} {q : ℕ} {Γ : List ℕ} → Passes s → Checked s q Γ
-    → Elaborated (Declared s) (map (typeAt s) Γ) (term s Γ (treeAt s q)) (typeAt s (typeOf s Γ (treeAt s q)))
+    → Elaborated (Declared s) (map (typeAt s) Γ) (term s Γ (treeAt s q)) (typeAt s (typeRecordOf s Γ (treeAt s q)))
 checked-term {s} {q} {Γ} p o =
     term-typed (written p) Γ (treeAt s q) (grown-tree (written p) q (o .there) (o .sort)) (o .context) (o .judged)
 

@@ -47,9 +47,9 @@ use Rattle.records.specs.Rewritten.{OnlyLeaves}
 use Rattle.records.specs.Written.{Written}
 use Rattle.records.proofs.Rewritten.{same-type, same-pair-of}
 use Rattle.records.proofs.Grown.{Alternative, Grown}
-use Rattle.typing.specs.Judgements.{typeOf}
+use Rattle.typing.specs.Judgements.{typeRecordOf}
 use Rattle.typing.specs.Judging.{Context}
-use Rattle.typing.proofs.Judged.{Judged}
+use Rattle.typing.proofs.Judged.{RulesHold}
 use Rattle.typing.proofs.TypeRecordsOf.{type-of-record}
 use Rattle.meaning.specs.Elaboration.{Constant, Pair, First, Second, LetIn, Feedback, IfThenElse, Delayed}
 use Rattle.behaviour.specs.Terms.{term}
@@ -78,36 +78,36 @@ module _ (s s′ : List ℕ) (o : OnlyLeaves s s′) (w : Written s) where
       ap₂ (λ p q. orElse p m q) (ap₂ Parts (pattern-same ⊥ a (g .0)) (pattern-same ⊥ b (g .1)))
       (pattern-same (Unit {0}) m (g .2))
 
-  pub type-of-same : (Γ : List ℕ) (e : Tree) → Grown s e → Context s Γ → Judged s Γ e → typeOf s′ Γ e ≡ typeOf s Γ e
+  pub type-of-same : (Γ : List ℕ) (e : Tree) → Grown s e → Context s Γ → RulesHold s Γ e → typeRecordOf s′ Γ e ≡ typeRecordOf s Γ e
   type-of-same Γ noExpression g c j = refl
   type-of-same Γ (constantOf r t ls) g c j = refl
   type-of-same Γ (nameOf r k) g c j = refl
   type-of-same Γ (tupleOf r a b) g c j =
       ap₂ (pairOf s′) (type-of-same Γ a (g .0) c (j .0)) (type-of-same Γ b (g .1) c (j .1))
-      ∙ same-pair-of s s′ o (typeOf s Γ a) (typeOf s Γ b)
+      ∙ same-pair-of s s′ o (typeRecordOf s Γ a) (typeRecordOf s Γ b)
   type-of-same Γ (firstOf r a) g c j =
-      ap (wordA s′) (type-of-same Γ a g c (j .0)) ∙ type-words (typeOf s Γ a) (type-of-record w Γ a g c (j .0)) 2 (omega arith)
+      ap (wordA s′) (type-of-same Γ a g c (j .0)) ∙ type-words (typeRecordOf s Γ a) (type-of-record w Γ a g c (j .0)) 2 (omega arith)
   type-of-same Γ (secondOf r a) g c j =
-      ap (λ t. word s′ t 3) (type-of-same Γ a g c (j .0)) ∙ type-words (typeOf s Γ a) (type-of-record w Γ a g c (j .0)) 3 (omega arith)
+      ap (λ t. word s′ t 3) (type-of-same Γ a g c (j .0)) ∙ type-words (typeRecordOf s Γ a) (type-of-record w Γ a g c (j .0)) 3 (omega arith)
   type-of-same Γ (letOf r a b) g c j =
-      ap (λ t. typeOf s′ (t ∷ Γ) b) (type-of-same Γ a (g .0) c (j .0))
-      ∙ type-of-same (typeOf s Γ a ∷ Γ) b (g .1) (type-of-record w Γ a (g .0) c (j .0), c) (j .1)
+      ap (λ t. typeRecordOf s′ (t ∷ Γ) b) (type-of-same Γ a (g .0) c (j .0))
+      ∙ type-of-same (typeRecordOf s Γ a ∷ Γ) b (g .1) (type-of-record w Γ a (g .0) c (j .0), c) (j .1)
   type-of-same Γ (feedbackOf r t a b) g c j = type-of-same (t ∷ Γ) b (g .2) (g .0, c) (j .1)
   type-of-same Γ (ifOf r a p b d) g c j = type-of-same Γ b (g .2) c (j .2)
   type-of-same Γ (delayOf r t ls a) g c j = refl
 
   -- the type of the first part of a pair
-  first-same : (Γ : List ℕ) (a : Tree) → Grown s a → Context s Γ → Judged s Γ a
-      → typeAt s′ (wordA s′ (typeOf s′ Γ a)) ≡ typeAt s (wordA s (typeOf s Γ a))
+  first-same : (Γ : List ℕ) (a : Tree) → Grown s a → Context s Γ → RulesHold s Γ a
+      → typeAt s′ (wordA s′ (typeRecordOf s′ Γ a)) ≡ typeAt s (wordA s (typeRecordOf s Γ a))
   first-same Γ a g c j =
-      same-type s s′ o (wordA s′ (typeOf s′ Γ a))
-      ∙ ap (typeAt s) (ap (wordA s′) (type-of-same Γ a g c j) ∙ type-words (typeOf s Γ a) (type-of-record w Γ a g c j) 2 (omega arith))
+      same-type s s′ o (wordA s′ (typeRecordOf s′ Γ a))
+      ∙ ap (typeAt s) (ap (wordA s′) (type-of-same Γ a g c j) ∙ type-words (typeRecordOf s Γ a) (type-of-record w Γ a g c j) 2 (omega arith))
 
   -- the constants' leaves of a tree stayed
   abbrev pub Stayed : Tree → Type 0
   Stayed e = (x : ℕ) → List·Memᴰ x (held false true false e) → wordA s′ x ≡ wordA s x
 
-  pub term-again : (Γ : List ℕ) (e : Tree) → Grown s e → Context s Γ → Judged s Γ e
+  pub term-again : (Γ : List ℕ) (e : Tree) → Grown s e → Context s Γ → RulesHold s Γ e
       → Stayed e → term s′ Γ e ≡ fill (leafValues s′) (term s Γ e)
   term-again Γ noExpression g c j k = refl
   term-again Γ (constantOf r t ls) g c j k = ap₂ Constant (same-type s s′ o t) (same-values s s′ ls k)
@@ -120,7 +120,7 @@ module _ (s s′ : List ℕ) (o : OnlyLeaves s s′) (w : Written s) where
   term-again Γ (letOf r a b) g c j k =
       ap₂ LetIn (term-again Γ a (g .0) c (j .0) (λ x m. k x (Memᴰ·append-left _ m)))
       (ap (λ t. term s′ (t ∷ Γ) b) (type-of-same Γ a (g .0) c (j .0))
-      ∙ term-again (typeOf s Γ a ∷ Γ) b (g .1) (type-of-record w Γ a (g .0) c (j .0), c) (j .1)
+      ∙ term-again (typeRecordOf s Γ a ∷ Γ) b (g .1) (type-of-record w Γ a (g .0) c (j .0), c) (j .1)
       (λ x m. k x (Memᴰ·append-right (held false true false a) m)))
   term-again Γ (feedbackOf r t a b) g c j k =
       let ta = term-again (t ∷ Γ) a (g .1) (g .0, c) (j .0) (λ x m. k x (Memᴰ·append-left _ m)) in

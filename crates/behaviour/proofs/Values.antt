@@ -43,7 +43,7 @@ use Rattle.records.proofs.Asked.{as-kind-asks}
 use Rattle.records.proofs.Types.{pair-parts, flat-type, pair-type}
 use Rattle.records.proofs.TypeRecords.{first-part, second-part}
 use Rattle.records.proofs.Grown.{Grown}
-use Rattle.typing.specs.Judgements.{typeOf}
+use Rattle.typing.specs.Judgements.{typeRecordOf}
 use Rattle.accepted.proofs.Scopes.{as-many-leaves}
 use Rattle.accepted.proofs.AcceptedAgain.{Fitting}
 use Rattle.behaviour.specs.Terms.{term}
@@ -84,7 +84,7 @@ tree-has-places {s} w Γ (nameOf r k) g v = tt
 tree-has-places {s} w Γ (tupleOf r a b) g v = (tree-has-places w Γ a (g .0) (v .0), tree-has-places w Γ b (g .1) (v .1))
 tree-has-places {s} w Γ (firstOf r a) g v = tree-has-places w Γ a g v
 tree-has-places {s} w Γ (secondOf r a) g v = tree-has-places w Γ a g v
-tree-has-places {s} w Γ (letOf r a b) g v = (tree-has-places w Γ a (g .0) (v .0), tree-has-places w (typeOf s Γ a ∷ Γ) b (g .1) (v .1))
+tree-has-places {s} w Γ (letOf r a b) g v = (tree-has-places w Γ a (g .0) (v .0), tree-has-places w (typeRecordOf s Γ a ∷ Γ) b (g .1) (v .1))
 tree-has-places {s} w Γ (feedbackOf r t a b) g v = (tree-has-places w (t ∷ Γ) a (g .1) (v .0), tree-has-places w (t ∷ Γ) b (g .2) (v .1))
 tree-has-places {s} w Γ (ifOf r a p b c) g v =
     (tree-has-places w Γ a (g .0) (v .0), tree-has-places w Γ b (g .2) (v .1), tree-has-places w Γ c (g .3) (v .2))
@@ -111,7 +111,7 @@ tree-reads s Γ (tupleOf r a b) =
 tree-reads s Γ (firstOf r a) = tree-reads s Γ a
 tree-reads s Γ (secondOf r a) = tree-reads s Γ a
 tree-reads s Γ (letOf r a b) =
-    let Δ = typeOf s Γ a ∷ Γ in
+    let Δ = typeRecordOf s Γ a ∷ Γ in
     reads-both (wordA s) (entries (term s Γ a)) (entries (term s Δ b)) (tree-reads s Γ a) (tree-reads s Δ b)
 tree-reads s Γ (feedbackOf r t a b) =
     reads-both (wordA s) (entries (term s (t ∷ Γ) a)) (entries (term s (t ∷ Γ) b)) (tree-reads s (t ∷ Γ) a) (tree-reads s (t ∷ Γ) b)
@@ -129,7 +129,7 @@ valued-fitting s Γ (nameOf r k) v = tt
 valued-fitting s Γ (tupleOf r a b) v = (valued-fitting s Γ a (v .0), valued-fitting s Γ b (v .1))
 valued-fitting s Γ (firstOf r a) v = valued-fitting s Γ a v
 valued-fitting s Γ (secondOf r a) v = valued-fitting s Γ a v
-valued-fitting s Γ (letOf r a b) v = (valued-fitting s Γ a (v .0), valued-fitting s (typeOf s Γ a ∷ Γ) b (v .1))
+valued-fitting s Γ (letOf r a b) v = (valued-fitting s Γ a (v .0), valued-fitting s (typeRecordOf s Γ a ∷ Γ) b (v .1))
 valued-fitting s Γ (feedbackOf r t a b) v = (valued-fitting s (t ∷ Γ) a (v .0), valued-fitting s (t ∷ Γ) b (v .1))
 valued-fitting s Γ (ifOf r a p b c) v = (valued-fitting s Γ a (v .0), valued-fitting s Γ b (v .1), valued-fitting s Γ c (v .2))
 valued-fitting s Γ (delayOf r t ls a) v = (v .0, valued-fitting s Γ a (v .1))

@@ -22,7 +22,7 @@ use Rattle.meaning.specs.Undecided.{undefinedLeaves}
 use Rattle.meaning.specs.Evaluation.{iter, eval, application, settled}
 use Rattle.behaviour.specs.Terms.{term}
 use Rattle.behaviour.specs.Sheets.{Bytes, OnlyDelays}
-use Rattle.behaviour.specs.Cycle.{output, after}
+use Rattle.behaviour.specs.Cycle.{output, sheetAfterCycle}
 use Rattle.behaviour.specs.Stimulus.{inputLeaves, cycleCount, wrongStimulus, wrongByte}
 use Rattle.behaviour.specs.Run.{outputNeeded}
 
@@ -87,7 +87,7 @@ pub record Afterwards (sheet stimulus : List ℕ) (t result : ℕ) (out next : L
   -- the sheets s₀ … sₙ
   pub sheets : ℕ → List ℕ
   pub first : sheets 0 ≡ sheet
-  pub each-after : (k : ℕ) → k < cycleCount sheet stimulus → sheets (suc k) ≡ after (sheets k) (inputOf sheet stimulus k)
+  pub each-after : (k : ℕ) → k < cycleCount sheet stimulus → sheets (suc k) ≡ sheetAfterCycle (sheets k) (inputOf sheet stimulus k)
   pub only-delays : (k : ℕ) → k < cycleCount sheet stimulus → OnlyDelays (sheets k) (sheets (suc k))
   pub bytes : Bytes sheet → (k : ℕ) → k ≤ cycleCount sheet stimulus → Bytes (sheets k)
   pub last : next ≡ sheets (cycleCount sheet stimulus)

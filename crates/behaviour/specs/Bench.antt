@@ -10,7 +10,7 @@ use Rattle.records.specs.TypeRecords.{typeAt}
 use Rattle.records.specs.Trees.{alternatives, treeAt}
 use Rattle.records.specs.Decoding.{patternOf}
 use Rattle.verdict.specs.Verdict.{inputs}
-use Rattle.meaning.specs.Matching.{Answer, Yes, Undecided, matches}
+use Rattle.meaning.specs.Matching.{Decision, Yes, Undecided, matches}
 use Rattle.meaning.specs.Undecided.{undefinedLeaves}
 use Rattle.meaning.specs.Evaluation.{applications}
 use Rattle.behaviour.specs.Terms.{term}
@@ -27,7 +27,7 @@ pub data Case : Type 0 where
   -- the sheet on the stimulus gives these outputs, and next is this sheet
   runs : (sheet stimulus outputs next : List ℕ) → Case
   -- the pattern at this record of the sheet gives this answer on the value
-  says : (sheet : List ℕ) (pattern : ℕ) (value : List ℕ) → Answer → Case
+  says : (sheet : List ℕ) (pattern : ℕ) (value : List ℕ) → Decision → Case
   -- the feedback that is the sheet's root goes through these values, and to the last in as many applications
   goes : (sheet input : List ℕ) (chain : List (List ℕ)) (counted : ℕ) → Case
 
@@ -36,21 +36,21 @@ abbrev pub valuesBefore : (ℕ → List ℕ) → ℕ → List (List ℕ)
 valuesBefore value zero = []
 valuesBefore value (suc n) = valuesBefore value n ++ (value n ∷ [])
 
-abbrev pub Holds : Case → Type 0
-Holds (runs s stim outs next) =
+abbrev pub CaseHolds : Case → Type 0
+CaseHolds (runs s stim outs next) =
     (packed (answer s stim (replicate (length outs) 0) (replicate (length s) 0)) ≡ cycleCount s stim)
     × (finalOut s stim (replicate (length outs) 0) (replicate (length s) 0) ≡ outs)
     × (finalNext s stim (replicate (length outs) 0) (replicate (length s) 0) ≡ next)
-Holds (says s p v a) = matches (patternOf s (alternatives s p)) v ≡ a
-Holds (goes s i chain n) =
+CaseHolds (says s p v a) = matches (patternOf s (alternatives s p)) v ≡ a
+CaseHolds (goes s i chain n) =
     let q = wordB s 0 in
     let σ = typeAt s (wordA s q) in
     let part = term s (wordA s q ∷ inputs s) (treeAt s (wordB s q)) in
     (valuesBefore (applied (i ∷ []) σ part) (length chain) ≡ chain) × (applications undefinedLeaves (i ∷ []) σ part ≡ n)
 
-abbrev pub AllHold : List Case → Type 0
-AllHold [] = Unit {0}
-AllHold (c ∷ cs) = Holds c × AllHold cs
+abbrev pub AllCasesHold : List Case → Type 0
+AllCasesHold [] = Unit {0}
+AllCasesHold (c ∷ cs) = CaseHolds c × AllCasesHold cs
 
 -- AND: an IF on the pair of inputs, pattern (1,1), then 1, else 2
 abbrev pub gateAnd : List ℕ
@@ -189,8 +189,8 @@ toggle =
     ∷ 33 ∷ 0 ∷ 0 ∷ 0 ∷ 0 ∷ 0
     ∷ [])
 
-abbrev pub table : List Case
-table =
+abbrev pub benchCases : List Case
+benchCases =
     runs gateAnd (2 ∷ 0 ∷ []) (2 ∷ []) gateAnd
     ∷ runs gateAnd (1 ∷ 0 ∷ []) (0 ∷ []) gateAnd
     ∷ runs gateAnd (1 ∷ 1 ∷ []) (1 ∷ []) gateAnd

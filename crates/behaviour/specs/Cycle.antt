@@ -19,5 +19,5 @@ module _ (undecided : List ℕ → List ℕ → List ℕ) where
 abbrev pub output : (sheet input : List ℕ) → List ℕ
 output s i = outputBy undefinedLeaves s i
 
-abbrev pub after : (sheet input : List ℕ) → List ℕ
-after s i = afterBy undefinedLeaves s i
+abbrev pub sheetAfterCycle : (sheet input : List ℕ) → List ℕ
+sheetAfterCycle s i = afterBy undefinedLeaves s i

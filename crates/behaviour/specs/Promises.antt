@@ -51,29 +51,29 @@ use Rattle.behaviour.specs.Afterwards.{WellFormed, Afterwards}
 
 -- What each answer says of the call: its code applies at its place, at no place before, and no lower code applies. What each of
 -- the codes 1 to 7 says of the sheet is the verdict's promise.
-abbrev pub Says : (sheet stimulus out next : List ℕ) → Answer → Type 0
-Says s stim out next (Done n) = (t : ℕ) × WellFormed s stim out next t × (n ≡ cycleCount s stim)
-Says s stim out next WrongLength = verdict s ≡ Verdicts.WrongLength
-Says s stim out next WrongHeader = verdict s ≡ Verdicts.WrongHeader
-Says s stim out next (WrongRecord r) = verdict s ≡ Verdicts.WrongRecord r
-Says s stim out next (WrongNaming r) = verdict s ≡ Verdicts.WrongNaming r
-Says s stim out next (WrongType r) = verdict s ≡ Verdicts.WrongType r
-Says s stim out next (TooDeep r) = verdict s ≡ Verdicts.TooDeep r
-Says s stim out next (IllTyped r) = verdict s ≡ Verdicts.IllTyped r
-Says s stim out next WrongStimulus = (t : ℕ) × (verdict s ≡ Accepted t) × (wrongStimulus s stim ≡ true)
-Says s stim out next (WrongByte i) =
+abbrev pub SaysOfCall : (sheet stimulus out next : List ℕ) → Answer → Type 0
+SaysOfCall s stim out next (Done n) = (t : ℕ) × WellFormed s stim out next t × (n ≡ cycleCount s stim)
+SaysOfCall s stim out next WrongLength = verdict s ≡ Verdicts.WrongLength
+SaysOfCall s stim out next WrongHeader = verdict s ≡ Verdicts.WrongHeader
+SaysOfCall s stim out next (WrongRecord r) = verdict s ≡ Verdicts.WrongRecord r
+SaysOfCall s stim out next (WrongNaming r) = verdict s ≡ Verdicts.WrongNaming r
+SaysOfCall s stim out next (WrongType r) = verdict s ≡ Verdicts.WrongType r
+SaysOfCall s stim out next (TooDeep r) = verdict s ≡ Verdicts.TooDeep r
+SaysOfCall s stim out next (IllTyped r) = verdict s ≡ Verdicts.IllTyped r
+SaysOfCall s stim out next WrongStimulus = (t : ℕ) × (verdict s ≡ Accepted t) × (wrongStimulus s stim ≡ true)
+SaysOfCall s stim out next (WrongByte i) =
     (t : ℕ)
     × (verdict s ≡ Accepted t)
     × (wrongStimulus s stim ≡ false)
     × LowestBreaking (wrongByte s stim) (length stim) i
-Says s stim out next (WrongOutput n) =
+SaysOfCall s stim out next (WrongOutput n) =
     (t : ℕ)
     × (verdict s ≡ Accepted t)
     × (wrongStimulus s stim ≡ false)
     × (lowest (wrongByte s stim) (length stim) ≡ none)
     × (length out ≢ outputNeeded s t stim)
     × (n ≡ outputNeeded s t stim)
-Says s stim out next (WrongNext n) =
+SaysOfCall s stim out next (WrongNext n) =
     (t : ℕ)
     × (verdict s ≡ Accepted t)
     × (wrongStimulus s stim ≡ false)
@@ -83,7 +83,7 @@ Says s stim out next (WrongNext n) =
     × (n ≡ length s)
 
 abbrev pub LowestFirst : Type 0
-LowestFirst = (s stim out next : List ℕ) → Says s stim out next (answer s stim out next)
+LowestFirst = (s stim out next : List ℕ) → SaysOfCall s stim out next (answer s stim out next)
 
 -- A refusal leaves every lent slice unaltered.
 abbrev pub RefusalUnaltered : Type 0
@@ -136,7 +136,7 @@ HoldsAfterwards =
     → Afterwards s stim t (packed (answer s stim out next)) (finalOut s stim out next) (finalNext s stim out next)
 
 -- all of them
-pub record AllPromises : Type 0 where
+pub record RunPromises : Type 0 where
   pub lowest-first : LowestFirst
   pub refusal-unaltered : RefusalUnaltered
   pub write-reads : WriteReads

@@ -21,7 +21,7 @@ use Rattle.records.specs.Trees.{
   circuit,
 }
 use Rattle.records.specs.Decoding.{leafValues, patternOf}
-use Rattle.typing.specs.Judgements.{typeOf}
+use Rattle.typing.specs.Judgements.{typeRecordOf}
 use Rattle.verdict.specs.Verdict.{inputs}
 use Rattle.meaning.specs.Elaboration.{
   Term,
@@ -41,9 +41,9 @@ term s Γ noExpression = Name 0
 term s Γ (constantOf r t ls) = Constant (typeAt s t) (leafValues s ls)
 term s Γ (nameOf r k) = Name k
 term s Γ (tupleOf r a b) = Pair (term s Γ a) (term s Γ b)
-term s Γ (firstOf r a) = First (typeAt s (wordA s (typeOf s Γ a))) (term s Γ a)
-term s Γ (secondOf r a) = Second (typeAt s (wordA s (typeOf s Γ a))) (term s Γ a)
-term s Γ (letOf r a b) = LetIn (term s Γ a) (term s (typeOf s Γ a ∷ Γ) b)
+term s Γ (firstOf r a) = First (typeAt s (wordA s (typeRecordOf s Γ a))) (term s Γ a)
+term s Γ (secondOf r a) = Second (typeAt s (wordA s (typeRecordOf s Γ a))) (term s Γ a)
+term s Γ (letOf r a b) = LetIn (term s Γ a) (term s (typeRecordOf s Γ a ∷ Γ) b)
 term s Γ (feedbackOf r t a b) = Feedback (typeAt s t) (term s (t ∷ Γ) a) (term s (t ∷ Γ) b)
 term s Γ (ifOf r a p b c) = IfThenElse (term s Γ a) (patternOf s p) (term s Γ b) (term s Γ c)
 term s Γ (delayOf r t ls a) = Delayed ls (typeAt s t) (leafValues s ls) (term s Γ a)

@@ -5,7 +5,7 @@ ghost use mathlib.Core.List.{List};
 ghost use Prim.Native.Nat.{ℕ};
 ghost use Rattle.records.specs.Kinds.{expression, name, tuple, first, second, letIn, feedback, ifMatches, delay};
 ghost use Rattle.records.specs.Says.{kindAt};
-ghost use Rattle.evaluator.specs.Evaluating.{Ready, Evaluates, Settling, Settles};
+ghost use Rattle.evaluator.specs.Evaluating.{EvaluatingIn, Evaluated, SettlingIn, Settled};
 use records::word;
 use values::choose_value;
 use values::copy_value;
@@ -26,8 +26,8 @@ fn of_name(
     rec: usize,
     out: &mut [u8],
 )
-    requires { ⌜ ((Γ : List ℕ) × Ready (now sheet) n (now widths) (now env) names rec (now out) Γ) × (kindAt (now sheet) rec ≡ expression name) ⌝ }
-    ensures { λ _. ⌜ ((held : List ℕ) → Evaluates (now (sheet .entry)) n (now (widths .entry)) (now (env .entry)) names rec held (now (out .entry)) (now (env .entry)) held (now (out .exit))) ⌝ }
+    requires { ⌜ ((Γ : List ℕ) × EvaluatingIn (now sheet) n (now widths) (now env) names rec (now out) Γ) × (kindAt (now sheet) rec ≡ expression name) ⌝ }
+    ensures { λ _. ⌜ ((held : List ℕ) → Evaluated (now (sheet .entry)) n (now (widths .entry)) (now (env .entry)) names rec held (now (out .entry)) (now (env .entry)) held (now (out .exit))) ⌝ }
 {
     let k = word(sheet, n, rec, 2);
     copy_value(env, names - 1 - k, out);
@@ -44,8 +44,8 @@ pub fn eval(
     rec: usize,
     out: &mut [u8],
 )
-    requires { ⌜ ((Γ : List ℕ) × Ready (now sheet) n (now widths) (now env) names rec (now out) Γ) ⌝ }
-    ensures { λ _. ⌜ Evaluates (now (sheet .entry)) n (now (widths .entry)) (now (env .entry)) names rec (now (held .entry)) (now (out .entry)) (now (env .exit)) (now (held .exit)) (now (out .exit)) ⌝ }
+    requires { ⌜ ((Γ : List ℕ) × EvaluatingIn (now sheet) n (now widths) (now env) names rec (now out) Γ) ⌝ }
+    ensures { λ _. ⌜ Evaluated (now (sheet .entry)) n (now (widths .entry)) (now (env .entry)) names rec (now (held .entry)) (now (out .entry)) (now (env .exit)) (now (held .exit)) (now (out .exit)) ⌝ }
 {
     let kind = word(sheet, n, rec, 0);
     if kind == 32 {
@@ -93,8 +93,8 @@ fn of_pair(
     rec: usize,
     out: &mut [u8],
 )
-    requires { ⌜ ((Γ : List ℕ) × Ready (now sheet) n (now widths) (now env) names rec (now out) Γ) × (kindAt (now sheet) rec ≡ expression tuple) ⌝ }
-    ensures { λ _. ⌜ Evaluates (now (sheet .entry)) n (now (widths .entry)) (now (env .entry)) names rec (now (held .entry)) (now (out .entry)) (now (env .exit)) (now (held .exit)) (now (out .exit)) ⌝ }
+    requires { ⌜ ((Γ : List ℕ) × EvaluatingIn (now sheet) n (now widths) (now env) names rec (now out) Γ) × (kindAt (now sheet) rec ≡ expression tuple) ⌝ }
+    ensures { λ _. ⌜ Evaluated (now (sheet .entry)) n (now (widths .entry)) (now (env .entry)) names rec (now (held .entry)) (now (out .entry)) (now (env .exit)) (now (held .exit)) (now (out .exit)) ⌝ }
 {
     let a = word(sheet, n, rec, 2);
     let w = widths[a] as usize;
@@ -113,8 +113,8 @@ fn of_first(
     rec: usize,
     out: &mut [u8],
 )
-    requires { ⌜ ((Γ : List ℕ) × Ready (now sheet) n (now widths) (now env) names rec (now out) Γ) × (kindAt (now sheet) rec ≡ expression first) ⌝ }
-    ensures { λ _. ⌜ Evaluates (now (sheet .entry)) n (now (widths .entry)) (now (env .entry)) names rec (now (held .entry)) (now (out .entry)) (now (env .exit)) (now (held .exit)) (now (out .exit)) ⌝ }
+    requires { ⌜ ((Γ : List ℕ) × EvaluatingIn (now sheet) n (now widths) (now env) names rec (now out) Γ) × (kindAt (now sheet) rec ≡ expression first) ⌝ }
+    ensures { λ _. ⌜ Evaluated (now (sheet .entry)) n (now (widths .entry)) (now (env .entry)) names rec (now (held .entry)) (now (out .entry)) (now (env .exit)) (now (held .exit)) (now (out .exit)) ⌝ }
 {
     let a = word(sheet, n, rec, 2);
     let w = widths[a] as usize;
@@ -133,8 +133,8 @@ fn of_second(
     rec: usize,
     out: &mut [u8],
 )
-    requires { ⌜ ((Γ : List ℕ) × Ready (now sheet) n (now widths) (now env) names rec (now out) Γ) × (kindAt (now sheet) rec ≡ expression second) ⌝ }
-    ensures { λ _. ⌜ Evaluates (now (sheet .entry)) n (now (widths .entry)) (now (env .entry)) names rec (now (held .entry)) (now (out .entry)) (now (env .exit)) (now (held .exit)) (now (out .exit)) ⌝ }
+    requires { ⌜ ((Γ : List ℕ) × EvaluatingIn (now sheet) n (now widths) (now env) names rec (now out) Γ) × (kindAt (now sheet) rec ≡ expression second) ⌝ }
+    ensures { λ _. ⌜ Evaluated (now (sheet .entry)) n (now (widths .entry)) (now (env .entry)) names rec (now (held .entry)) (now (out .entry)) (now (env .exit)) (now (held .exit)) (now (out .exit)) ⌝ }
 {
     let a = word(sheet, n, rec, 2);
     let w = widths[a] as usize;
@@ -153,8 +153,8 @@ fn of_let(
     rec: usize,
     out: &mut [u8],
 )
-    requires { ⌜ ((Γ : List ℕ) × Ready (now sheet) n (now widths) (now env) names rec (now out) Γ) × (kindAt (now sheet) rec ≡ expression letIn) ⌝ }
-    ensures { λ _. ⌜ Evaluates (now (sheet .entry)) n (now (widths .entry)) (now (env .entry)) names rec (now (held .entry)) (now (out .entry)) (now (env .exit)) (now (held .exit)) (now (out .exit)) ⌝ }
+    requires { ⌜ ((Γ : List ℕ) × EvaluatingIn (now sheet) n (now widths) (now env) names rec (now out) Γ) × (kindAt (now sheet) rec ≡ expression letIn) ⌝ }
+    ensures { λ _. ⌜ Evaluated (now (sheet .entry)) n (now (widths .entry)) (now (env .entry)) names rec (now (held .entry)) (now (out .entry)) (now (env .exit)) (now (held .exit)) (now (out .exit)) ⌝ }
 {
     let a = word(sheet, n, rec, 2);
     let w = widths[a] as usize;
@@ -175,8 +175,8 @@ fn of_feedback(
     rec: usize,
     out: &mut [u8],
 )
-    requires { ⌜ ((Γ : List ℕ) × Ready (now sheet) n (now widths) (now env) names rec (now out) Γ) × (kindAt (now sheet) rec ≡ expression feedback) ⌝ }
-    ensures { λ _. ⌜ Evaluates (now (sheet .entry)) n (now (widths .entry)) (now (env .entry)) names rec (now (held .entry)) (now (out .entry)) (now (env .exit)) (now (held .exit)) (now (out .exit)) ⌝ }
+    requires { ⌜ ((Γ : List ℕ) × EvaluatingIn (now sheet) n (now widths) (now env) names rec (now out) Γ) × (kindAt (now sheet) rec ≡ expression feedback) ⌝ }
+    ensures { λ _. ⌜ Evaluated (now (sheet .entry)) n (now (widths .entry)) (now (env .entry)) names rec (now (held .entry)) (now (out .entry)) (now (env .exit)) (now (held .exit)) (now (out .exit)) ⌝ }
 {
     let d = word(sheet, n, rec, 3);
     let w = widths[d] as usize;
@@ -198,8 +198,8 @@ fn settle(
     d: usize,
     value: &mut [u8],
 )
-    requires { ⌜ ((t : ℕ) × (Γ : List ℕ) × Settling (now sheet) n (now widths) (now env) names d (now value) t Γ) ⌝ }
-    ensures { λ _. ⌜ Settles (now (sheet .entry)) n (now (widths .entry)) (now (env .entry)) names d (now (held .entry)) (now (value .entry)) (now (env .exit)) (now (held .exit)) ⌝ }
+    requires { ⌜ ((t : ℕ) × (Γ : List ℕ) × SettlingIn (now sheet) n (now widths) (now env) names d (now value) t Γ) ⌝ }
+    ensures { λ _. ⌜ Settled (now (sheet .entry)) n (now (widths .entry)) (now (env .entry)) names d (now (held .entry)) (now (value .entry)) (now (env .exit)) (now (held .exit)) ⌝ }
 {
     eval(sheet, n, widths, env, names + 1, held, d, value);
     if stands_at(env, names, value) {
@@ -219,8 +219,8 @@ fn of_if(
     rec: usize,
     out: &mut [u8],
 )
-    requires { ⌜ ((Γ : List ℕ) × Ready (now sheet) n (now widths) (now env) names rec (now out) Γ) × (kindAt (now sheet) rec ≡ expression ifMatches) ⌝ }
-    ensures { λ _. ⌜ Evaluates (now (sheet .entry)) n (now (widths .entry)) (now (env .entry)) names rec (now (held .entry)) (now (out .entry)) (now (env .exit)) (now (held .exit)) (now (out .exit)) ⌝ }
+    requires { ⌜ ((Γ : List ℕ) × EvaluatingIn (now sheet) n (now widths) (now env) names rec (now out) Γ) × (kindAt (now sheet) rec ≡ expression ifMatches) ⌝ }
+    ensures { λ _. ⌜ Evaluated (now (sheet .entry)) n (now (widths .entry)) (now (env .entry)) names rec (now (held .entry)) (now (out .entry)) (now (env .exit)) (now (held .exit)) (now (out .exit)) ⌝ }
 {
     let a = word(sheet, n, rec, 2);
     let w = widths[a] as usize;
@@ -255,8 +255,8 @@ fn of_delay(
     rec: usize,
     out: &mut [u8],
 )
-    requires { ⌜ ((Γ : List ℕ) × Ready (now sheet) n (now widths) (now env) names rec (now out) Γ) × (kindAt (now sheet) rec ≡ expression delay) ⌝ }
-    ensures { λ _. ⌜ Evaluates (now (sheet .entry)) n (now (widths .entry)) (now (env .entry)) names rec (now (held .entry)) (now (out .entry)) (now (env .exit)) (now (held .exit)) (now (out .exit)) ⌝ }
+    requires { ⌜ ((Γ : List ℕ) × EvaluatingIn (now sheet) n (now widths) (now env) names rec (now out) Γ) × (kindAt (now sheet) rec ≡ expression delay) ⌝ }
+    ensures { λ _. ⌜ Evaluated (now (sheet .entry)) n (now (widths .entry)) (now (env .entry)) names rec (now (held .entry)) (now (out .entry)) (now (env .exit)) (now (held .exit)) (now (out .exit)) ⌝ }
 {
     let c = word(sheet, n, rec, 4);
     eval(sheet, n, widths, env, names, held, c, out);

@@ -34,7 +34,7 @@ use Rattle.structure.proofs.Passes.{written, types-fit}
 use Rattle.typing.specs.Judging.{Ground}
 use Rattle.verdict.specs.Verdict.{verdict}
 use Rattle.verdict.specs.Verdict as Checks
-use Rattle.verdict.specs.Widths.{Widths, Lent}
+use Rattle.verdict.specs.Widths.{Widths, Checked}
 use Rattle.verdict.specs.declared.Verdict.{Verdict}
 use Rattle.verdict.specs.declared.Verdict.the-variants as Verdicts
 use Rattle.verdict.proofs.Verdict as Verdict-type
@@ -68,7 +68,7 @@ use Rattle.behaviour.proofs.Answers.{
   next-refused,
 }
 use Rattle.evaluator.proofs.Frames.{back-part, back-long, lent-long, zeros-long, put-whole}
-use Rattle.simulator.specs.Running.{notWhole, above, Running, Ran, Runs}
+use Rattle.simulator.specs.Running.{notWhole, above, RunningCycles, RanCycles, Ran}
 
 -- the counts of the input's leaves, in some room
 module _ (s : List ℕ) (n t w : ℕ) (u : TypeRecord s t) (p : Passes s) (z : Sized s n) (e : w ≡ leaves (typeAt s t)) (R : List ℕ)
@@ -247,7 +247,7 @@ module _ (s W : List ℕ) (t : ℕ) (v : verdict s ≡ Verdicts.Accepted t) (k :
                   record { accepted = v; whole = whole; fitting = fitting; room = y ∙ needed; long = x }
 
               pub call-running : (next₁ : List ℕ) → next₁ ≡ s ++ drop (length s) next
-                  → Running s (length s / 12) W stim (getD W a 0) (getD W t 0) cyclesOf next₁ out
+                  → RunningCycles s (length s / 12) W stim (getD W a 0) (getD W t 0) cyclesOf next₁ out
               call-running next₁ c =
                   record {
                     sized = call-sized;
@@ -263,7 +263,7 @@ module _ (s W : List ℕ) (t : ℕ) (v : verdict s ≡ Verdicts.Accepted t) (k :
                     start = put-whole s next next₁ (sym x) c;
                   }
 
-              pub call-done : (next₂ out₂ : List ℕ) → Ran s stim next₂ out₂ → Gives s stim out next cyclesOf out₂ next₂
+              pub call-done : (next₂ out₂ : List ℕ) → RanCycles s stim next₂ out₂ → Gives s stim out next cyclesOf out₂ next₂
               call-done next₂ out₂ g = rw (counted, g .outputs, g .next) (gives-done s stim out next t well-formed)
 
 -- a verdict that refuses
@@ -284,12 +284,12 @@ same-number (Verdicts.TooDeep r) rest f = (λ e. omega arith, refl)
 same-number (Verdicts.IllTyped r) rest f = (λ e. omega arith, refl)
 
 pub call-runs : (s stim out next : List ℕ) (result : ℕ) (out′ next′ : List ℕ) → ((i : ℕ) → Fits w8 (getD s i 0))
-    → Gives s stim out next result out′ next′ → Runs s stim out next result out′ next′
+    → Gives s stim out next result out′ next′ → Ran s stim out next result out′ next′
 call-runs s stim out next result out′ next′ b g =
     record { gives = g; bytes = λ i. let f = b i in omega arith; afterwards = λ t h. gives-afterwards s stim out next t result out′ next′ g h }
 
 pub call-refused : (s stim out next : List ℕ) → ((i : ℕ) → Fits w8 (getD s i 0)) → (w : Verdict) → w ≡ verdict s → ((t : ℕ) → w ≡ Verdicts.Accepted t → ⊥) → (result : ℕ)
-    → result ≡ Checks.packed w → Runs s stim out next result out next
+    → result ≡ Checks.packed w → Ran s stim out next result out next
 call-refused s stim out next b w e f result g =
     let rest : ℕ → Answer = λ t. bySlices s t stim out next in
     let n = same-number w rest f in
@@ -297,6 +297,6 @@ call-refused s stim out next b w e f result g =
     call-runs s stim out next result out next b (rw (g, n .1) (gives-refusal s stim out next (byVerdict w rest) a (n .0)))
 
 -- and one that does not
-pub accepted-call : (s : List ℕ) (w : Verdict) (before table : List ℕ) (t : ℕ) → Lent s w before table → w ≡ Verdicts.Accepted t
+pub accepted-call : (s : List ℕ) (w : Verdict) (before table : List ℕ) (t : ℕ) → Checked s w before table → w ≡ Verdicts.Accepted t
     → (verdict s ≡ Verdicts.Accepted t) × Widths s table
 accepted-call s w before table t l e = (sym (l .answered) ∙ e, l .accepted (rw e refl))

@@ -24,7 +24,7 @@ use Rattle.meaning.specs.Undecided.{undefinedLeaves}
 use Rattle.meaning.proofs.UndefinedLeavesLawful.{undefined-lawful}
 use Rattle.meaning.proofs.Order.{value-length}
 use Rattle.behaviour.specs.Sheets.{OnlyDelays}
-use Rattle.behaviour.specs.Cycle.{output, after}
+use Rattle.behaviour.specs.Cycle.{output, sheetAfterCycle}
 use Rattle.behaviour.proofs.Cycle.{output-typed}
 use Rattle.behaviour.proofs.Sheets.{only-leaves, header-same, accepted-written}
 use Rattle.behaviour.specs.Stimulus.{inputType, endToEnd, cycles}
@@ -33,7 +33,7 @@ use Rattle.behaviour.proofs.Stimulus.{stimulus-whole, cycles-typed, cycles-coun
 use Rattle.behaviour.proofs.Run.{sheet-last, sheet-first, sheet-next, output-at, outputs-counted, sheet-accepted, sheet-only-delays}
 use Rattle.behaviour.proofs.Afterwards.{all-at}
 use Rattle.stepper.specs.Cycling.{Cycling, Cycled}
-use Rattle.simulator.specs.Running.{Lending, Lent, Running, Ran}
+use Rattle.simulator.specs.Running.{Lending, Lent, RunningCycles, RanCycles}
 
 -- a part from a, of b bytes
 pub from-there : (a b : ℕ) → a + b - a ≡ b
@@ -75,7 +75,7 @@ pub record Before (s stim : List ℕ) (wi wo count : ℕ) (out₀ : List ℕ) (k
   pub outputs : take at out ≡ endToEnd (take k (outputsBy undefinedLeaves s (cycles s stim)))
 
 module _ (s : List ℕ) (n : ℕ) (W stim : List ℕ) (wi wo count : ℕ) (current₀ out₀ : List ℕ)
-    (r : Running s n W stim wi wo count current₀ out₀)
+    (r : RunningCycles s n W stim wi wo count current₀ out₀)
   where
     inputs-typed : AllOf (inputType s) (cycles s stim)
     inputs-typed = cycles-typed s stim (r .whole) (r .fitting)
@@ -255,7 +255,7 @@ module _ (s : List ℕ) (n : ℕ) (W stim : List ℕ) (wi wo count : ℕ) (curre
         ∙ ap length (sym (r .start))
 
     pub ended : (k from at : ℕ) (env held current out : List ℕ) → Before s stim wi wo count out₀ k from at env held current out → count ≤ k
-        → Ran s stim current out
+        → RanCycles s stim current out
     ended k from at env held current out b h =
         let f = b .few in
         let e : k ≡ count = omega arith in

@@ -16,7 +16,7 @@ use Rattle.verdict.specs.Widths.{Widths}
 use Rattle.verdict.specs.declared.Verdict.the-variants.{Accepted}
 use Rattle.meaning.specs.Undecided.{undefinedLeaves}
 use Rattle.behaviour.specs.Sheets.{Bytes}
-use Rattle.behaviour.specs.Cycle.{output, after}
+use Rattle.behaviour.specs.Cycle.{output, sheetAfterCycle}
 use Rattle.behaviour.specs.Stimulus.{inputLeaves, cycleCount, endToEnd, cycles, wrongStimulus, wrongByte}
 use Rattle.behaviour.specs.Run.{outputsBy, sheetAfter, Gives}
 use Rattle.behaviour.specs.Afterwards.{WellFormed, Afterwards}
@@ -49,12 +49,12 @@ pub record Lending
 -- and fills only that
 pub record Lent (stim : List ℕ) (from wi : ℕ) (current out : List ℕ) (at wo : ℕ) (env′ held′ current′ out′ : List ℕ) : Type 0 where
   pub filled : out′ ≡ take at out ++ (output current (take wi (drop from stim)) ++ drop (at + wo) out)
-  pub next : current′ ≡ after current (take wi (drop from stim))
+  pub next : current′ ≡ sheetAfterCycle current (take wi (drop from stim))
   pub wide : length env′ ≡ 4096
   pub long : length held′ ≡ 4096
 
 -- all cycles are run, into slices of the right lengths; `current` begins as the sheet
-pub record Running (s : List ℕ) (n : ℕ) (widths stim : List ℕ) (wi wo count : ℕ) (current out : List ℕ) : Type 0 where
+pub record RunningCycles (s : List ℕ) (n : ℕ) (widths stim : List ℕ) (wi wo count : ℕ) (current out : List ℕ) : Type 0 where
   pub sized : Sized s n
   pub type : ℕ
   pub accepted : verdict s ≡ Accepted type
@@ -67,12 +67,12 @@ pub record Running (s : List ℕ) (n : ℕ) (widths stim : List ℕ) (wi wo coun
   pub room : length out ≡ count * wo
   pub start : current ≡ s
 
-pub record Ran (s stim current′ out′ : List ℕ) : Type 0 where
+pub record RanCycles (s stim current′ out′ : List ℕ) : Type 0 where
   pub outputs : out′ ≡ endToEnd (outputsBy undefinedLeaves s (cycles s stim))
   pub next : current′ ≡ sheetAfter undefinedLeaves s (cycles s stim)
 
 -- the call: what it gives, and demand 3; the sheet handed in is one of bytes, and so, by demand 3, is each after it
-pub record Runs (sheet stimulus out next : List ℕ) (result : ℕ) (out′ next′ : List ℕ) : Type 0 where
+pub record Ran (sheet stimulus out next : List ℕ) (result : ℕ) (out′ next′ : List ℕ) : Type 0 where
   pub gives : Gives sheet stimulus out next result out′ next′
   pub bytes : Bytes sheet
   pub afterwards : (t : ℕ) → WellFormed sheet stimulus out next t → Afterwards sheet stimulus t result out′ next′

@@ -32,14 +32,14 @@ use Rattle.meaning.proofs.UndefinedLeavesLawful.{undefined-lawful}
 use Rattle.behaviour.specs.Terms.{circuitTerm}
 use Rattle.behaviour.specs.Delays.{store}
 use Rattle.behaviour.specs.Copies.{copied, leavesOf, delayChains}
-use Rattle.behaviour.specs.Cycle.{output, after, afterBy}
+use Rattle.behaviour.specs.Cycle.{output, sheetAfterCycle, afterBy}
 use Rattle.behaviour.specs.Evaluated.{valueAt}
 use Rattle.behaviour.proofs.Evaluated.{root-value, root-stored}
 use Rattle.behaviour.proofs.Cycle.{cycle-writable}
 use Rattle.behaviour.proofs.Stores.{leaves-in-table, store-length}
 use Rattle.behaviour.proofs.DelayRecords.{write-copied-chains}
 use Rattle.values.specs.Slots.{entered, frames}
-use Rattle.evaluator.specs.Evaluating.{Ready, Evaluates}
+use Rattle.evaluator.specs.Evaluating.{EvaluatingIn, Evaluated}
 use Rattle.evaluator.proofs.Frames.{entered-slot, entered-long}
 use Rattle.stepper.specs.Cycling.{Copying, Cycling, Cycled}
 use Rattle.stepper.proofs.WidthsAgain.{sized-again, widths-again}
@@ -95,7 +95,7 @@ module _ (s : List ℕ) (n : ℕ) (W env held input current out : List ℕ) (g :
         let j = accepted-judged (g .type) (exact current (g .type) .0 (g .again) .0) (g .again) in
         g .room ∙ sym (table .expressions root ∙ rw (j .1, same-type s current o (g .type)) refl)
 
-    pub root-ready : Ready current n W env₁ 1 x out (inputs current)
+    pub root-ready : EvaluatingIn current n W env₁ 1 x out (inputs current)
     root-ready =
         record {
           sized = sized-again s current o n (g .sized);
@@ -123,14 +123,14 @@ module _ (s : List ℕ) (n : ℕ) (W env held input current out : List ℕ) (g :
     room : (l : ℕ) → List·Memᴰ l (delayLeaves (circuit current)) → l < length held
     room l m = let h = leaves-in-table current (g .type) (g .again) l m in let w = g .long in omega arith
 
-    written-after : after current input
+    written-after : sheetAfterCycle current input
         ≡ copied (store (next undefinedLeaves (input ∷ []) (circuitTerm current)) held) (delayChains current (count current)) current
     unfolding afterBy
     written-after =
         write-copied-chains current (g .type) (g .again) (next undefinedLeaves (input ∷ []) (circuitTerm current))
         (cycle-writable undefinedLeaves undefined-lawful current (g .type) (g .again) input input-typed) held room
 
-    pub cycle-done : (env₂ held₁ o₁ : List ℕ) → Evaluates current n W env₁ 1 x held out env₂ held₁ o₁
+    pub cycle-done : (env₂ held₁ o₁ : List ℕ) → Evaluated current n W env₁ 1 x held out env₂ held₁ o₁
         → (current′ : List ℕ) → current′ ≡ copied held₁ (delayChains s n) current → Cycled input current env₂ held₁ current′ o₁
     cycle-done env₂ held₁ o₁ p current′ c =
         let d = p .done (inputs current) root-ready in

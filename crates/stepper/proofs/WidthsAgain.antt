@@ -25,7 +25,7 @@ use Rattle.records.specs.Rewritten.{OnlyLeaves}
 use Rattle.records.proofs.Rewritten.{same-count, same-kind, same-type, same-alternatives, same-tree}
 use Rattle.records.proofs.Grown.{grown-tree}
 use Rattle.structure.proofs.Passes.{written}
-use Rattle.typing.specs.Judgements.{typeOf}
+use Rattle.typing.specs.Judgements.{typeRecordOf}
 use Rattle.typing.specs.Judging.{width}
 use Rattle.verdict.specs.Verdict.{verdict}
 use Rattle.verdict.specs.Scopes.{Scope}
@@ -75,7 +75,7 @@ module _ (s s′ : List ℕ) (o : OnlyLeaves s s′) where
         let k = scope-checked t p v c in
         let w = written p in
         let e = type-of-same s s′ o w Γ (treeAt s q) (grown-tree w q (k .there) (k .sort)) (k .context) (k .judged) in
-        rw (same-tree s s′ o q, e, same-type s s′ o (typeOf s Γ (treeAt s q))) refl
+        rw (same-tree s s′ o q, e, same-type s s′ o (typeRecordOf s Γ (treeAt s q))) refl
 
     pub widths-again : (table : List ℕ) → Widths s table → Widths s′ table
     widths-again table w =

@@ -13,7 +13,7 @@ use Rattle.records.specs.Rewritten.{OnlyLeaves}
 use Rattle.verdict.specs.Verdict.{verdict}
 use Rattle.verdict.specs.Widths.{Widths}
 use Rattle.verdict.specs.declared.Verdict.the-variants.{Accepted}
-use Rattle.behaviour.specs.Cycle.{output, after}
+use Rattle.behaviour.specs.Cycle.{output, sheetAfterCycle}
 
 -- a table is copied to a sheet, along chains of the first one
 pub record Copying (first : List ℕ) (n : ℕ) (current : List ℕ) : Type 0 where
@@ -37,6 +37,6 @@ pub record Cycling (first : List ℕ) (n : ℕ) (widths env held input current o
 -- and this is what comes of it; the room stays as long as it was
 pub record Cycled (input current env′ held′ current′ out′ : List ℕ) : Type 0 where
   pub value : out′ ≡ output current input
-  pub next : current′ ≡ after current input
+  pub next : current′ ≡ sheetAfterCycle current input
   pub wide : length env′ ≡ 4096
   pub long : length held′ ≡ 4096

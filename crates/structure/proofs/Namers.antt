@@ -17,7 +17,7 @@ use Rattle.records.specs.Kinds.{
   zeroed,
   nextOf,
   part,
-  inputType,
+  anyType,
   lowerType,
   lowerFlat,
   constructorOf,
@@ -48,7 +48,7 @@ names-number : (x : Ask) → names x ≡ leb 16 (askNumber x)
 names-number zeroed = refl
 names-number (nextOf σ) = sym (le-leb 16 (16 + sortNumber σ) (omega arith))
 names-number (part σ) = sym (le-leb 16 (32 + sortNumber σ) (omega arith))
-names-number inputType = refl
+names-number anyType = refl
 names-number lowerType = refl
 names-number lowerFlat = refl
 names-number constructorOf = refl

@@ -6,7 +6,7 @@ use Prim.Native.Nat.{ℕ, zero, suc, _≤_, _<_}
 use native.Mathlib.Omega.{arith}
 use borrow.Author.Tests.{eq-eqb, ne-eqb}
 use lib.Dec.{eqb}
-use Rattle.records.specs.Words.{count, word, wordA, wordB, next}
+use Rattle.records.specs.Words.{count, word, wordA, wordB, nextWord}
 use Rattle.records.specs.Kinds.{
   Kind,
   header,
@@ -39,7 +39,7 @@ use Rattle.records.proofs.TypeRecords.{first-part, second-part}
 use Rattle.structure.proofs.Passes.{written}
 use Rattle.structure.proofs.LeafCounts.{pair-kind}
 use Rattle.typing.specs.Judgements.{patternFits}
-use Rattle.typing.specs.Judging.{Matching, FitsOne}
+use Rattle.typing.specs.Judging.{Fitting, FittedOne}
 
 abbrev isParts : Kind → Bool
 isParts header = false
@@ -60,7 +60,7 @@ is-parts whole e = absurd (never-both false e refl)
 is-parts constructor e = absurd (never-both false e refl)
 is-parts parts e = refl
 
-module _ (s : List ℕ) (n p t : ℕ) (m : Matching s n p t) where
+module _ (s : List ℕ) (n p t : ℕ) (m : Fitting s n p t) where
   w : Written s
   w = written (m .passes)
 
@@ -73,7 +73,7 @@ module _ (s : List ℕ) (n p t : ℕ) (m : Matching s n p t) where
   kind : (k : PatternKind) × (kindAt s p ≡ pattern k)
   kind = kind-of-sort patterns (kindAt s p) (m .sort)
 
-  pub next-matching : (x : ℕ) → x ≡ word s p 1 → (x ≡ 0 → ⊥) → (p < x) × Matching s n x t
+  pub next-matching : (x : ℕ) → x ≡ word s p 1 → (x ≡ 0 → ⊥) → (p < x) × Fitting s n x t
   next-matching x ex f =
       let q = next-of-kind w p (pattern (kind .0)) patterns in-sheet (kind .1) (asks (kind .0)) (omega arith) in
       let c = m .sized .counted in
@@ -86,10 +86,10 @@ module _ (s : List ℕ) (n p t : ℕ) (m : Matching s n p t) where
 
   module _ (k : ℕ) (ek : k ≡ word s p 0) where
     -- no pair pattern: the type in word a
-    pub fits-word : (x : ℕ) → (k ≡ 50 → ⊥) → x ≡ word s p 2 → FitsOne s p t (eqb x t)
+    pub fits-word : (x : ℕ) → (k ≡ 50 → ⊥) → x ≡ word s p 2 → FittedOne s p t (eqb x t)
     fits-word x f ex = go (kind .0) (kind .1)
       where
-        go : (q : PatternKind) → kindAt s p ≡ pattern q → FitsOne s p t (eqb x t)
+        go : (q : PatternKind) → kindAt s p ≡ pattern q → FittedOne s p t (eqb x t)
         go whole e = rw (alternatives-of w p in-sheet (pattern whole) e, ex)
         go constructor e = rw (alternatives-of w p in-sheet (pattern constructor) e, ex)
         go parts e =
@@ -104,10 +104,10 @@ module _ (s : List ℕ) (n p t : ℕ) (m : Matching s n p t) where
           (is-parts (kind .0) (sym (ap isParts (kind .1)) ∙ parts-number (word s p 0) ∙ eq-eqb (word s p 0) 50 (sym ek ∙ e)))
 
       both-parts : patternFits s (alternatives s p) t
-          ≡ (isPair (kindAt s t) && (patternFits s (alternatives s (wordA s p)) (wordA s t) && (patternFits s (alternatives s (wordB s p)) (wordB s t) && patternFits s (follow end (alternatives s) (next s p)) t)))
+          ≡ (isPair (kindAt s t) && (patternFits s (alternatives s (wordA s p)) (wordA s t) && (patternFits s (alternatives s (wordB s p)) (wordB s t) && patternFits s (follow end (alternatives s) (nextWord s p)) t)))
       both-parts = rw (alternatives-of w p in-sheet (pattern parts) pair-pattern)
 
-      pub no-pair-type : (q : ℕ) → q ≡ word s t 0 → (q ≡ 17 → ⊥) → FitsOne s p t false
+      pub no-pair-type : (q : ℕ) → q ≡ word s t 0 → (q ≡ 17 → ⊥) → FittedOne s p t false
       no-pair-type q eq f = both-parts ∙ rw (pair-number (word s t 0), ← eq, ne-eqb q 17 f)
 
       module _ (q : ℕ) (eq : q ≡ word s t 0) (e17 : q ≡ 17) where
@@ -115,37 +115,37 @@ module _ (s : List ℕ) (n p t : ℕ) (m : Matching s n p t) where
         pair-type-record = pair-kind s t q eq e17
 
         -- the two parts are matched in their turn
-        pub first-matching : (x u : ℕ) → x ≡ word s p 2 → u ≡ word s t 2 → (p < x) × Matching s n x u
+        pub first-matching : (x u : ℕ) → x ≡ word s p 2 → u ≡ word s t 2 → (p < x) × Fitting s n x u
         first-matching x u ex eu =
             let h = part-of-kind w p (pattern parts) patterns in-sheet pair-pattern 2 refl (unfold askOfKind in refl) in
             let c = m .sized .counted in
             (omega arith, record { sized = m .sized; passes = m .passes; there = omega arith; sort = rw ex (h .2); typed = rw eu (first-part w t (m .typed .there) pair-type-record) })
 
-        pub second-matching : (x u : ℕ) → x ≡ word s p 3 → u ≡ word s t 3 → (p < x) × Matching s n x u
+        pub second-matching : (x u : ℕ) → x ≡ word s p 3 → u ≡ word s t 3 → (p < x) × Fitting s n x u
         second-matching x u ex eu =
             let h = part-of-kind w p (pattern parts) patterns in-sheet pair-pattern 3 refl (unfold askOfKind in refl) in
             let c = m .sized .counted in
             (omega arith, record { sized = m .sized; passes = m .passes; there = omega arith; sort = rw ex (h .2); typed = rw eu (second-part w t (m .typed .there) pair-type-record) })
 
         pub first-fails : (x u : ℕ) (a : Bool) → x ≡ word s p 2 → u ≡ word s t 2 → a ≡ patternFits s (alternatives s x) u → a ≡ false
-            → FitsOne s p t false
+            → FittedOne s p t false
         first-fails x u a ex eu ea f =
             both-parts ∙ rw (pair-number (word s t 0), ← eq, e17, ← ex, ← eu, ← ea, f)
 
         pub second-decides : (x u y v : ℕ) (a b : Bool) → x ≡ word s p 2 → u ≡ word s t 2 → y ≡ word s p 3 → v ≡ word s t 3
-            → a ≡ patternFits s (alternatives s x) u → a ≡ true → b ≡ patternFits s (alternatives s y) v → FitsOne s p t b
+            → a ≡ patternFits s (alternatives s x) u → a ≡ true → b ≡ patternFits s (alternatives s y) v → FittedOne s p t b
         second-decides x u y v a b ex eu ey ev ea f eb =
             both-parts ∙ rw (pair-number (word s t 0), ← eq, e17, ← ex, ← eu, ← ea, f, ← ey, ← ev, ← eb)
 
 -- a chain
-pub chain-fails : (s : List ℕ) (p t : ℕ) (a : Bool) → FitsOne s p t a → a ≡ false → false ≡ patternFits s (alternatives s p) t
+pub chain-fails : (s : List ℕ) (p t : ℕ) (a : Bool) → FittedOne s p t a → a ≡ false → false ≡ patternFits s (alternatives s p) t
 chain-fails s p t a e f = sym (e ∙ rw f)
 
-pub chain-ends : (s : List ℕ) (p t x : ℕ) (a : Bool) → FitsOne s p t a → a ≡ true → x ≡ word s p 1 → x ≡ 0
+pub chain-ends : (s : List ℕ) (p t x : ℕ) (a : Bool) → FittedOne s p t a → a ≡ true → x ≡ word s p 1 → x ≡ 0
     → true ≡ patternFits s (alternatives s p) t
 chain-ends s p t x a e f ex z = sym (e ∙ rw (f, ← ex, z))
 
-pub chain-goes-on : (s : List ℕ) (p t x : ℕ) (a : Bool) → FitsOne s p t a → a ≡ true → x ≡ word s p 1 → (x ≡ 0 → ⊥)
+pub chain-goes-on : (s : List ℕ) (p t x : ℕ) (a : Bool) → FittedOne s p t a → a ≡ true → x ≡ word s p 1 → (x ≡ 0 → ⊥)
     → patternFits s (alternatives s p) t ≡ patternFits s (alternatives s x) t
 chain-goes-on s p t x a e f ex z = e ∙ rw (f, ← ex, follows x z)
   where

@@ -12,7 +12,7 @@ use lib.Dec.{leb, eqb}
 use lib.ListN.{length, getD, drop, length-drop}
 use lib.Seq.{drop-cons, drop-length}
 use Rattle.picoella.specs.Types.{bounds, leaves}
-use Rattle.records.specs.Words.{count, word, wordA, next}
+use Rattle.records.specs.Words.{count, word, wordA, nextWord}
 use Rattle.records.specs.Kinds.{leafs}
 use Rattle.records.specs.Says.{sortAt}
 use Rattle.records.specs.Trees.{chain, follow}
@@ -42,7 +42,7 @@ module _ (s ns : List ℕ) (w : Written s) (first : ℕ) where
   module _ (i leaf : ℕ) (l : Left i leaf) where
     -- one leaf and one bound taken off
     one-off : i < length ns
-        → within ns (values first) ≡ leb (wordA s leaf) (getD ns i 0) && within (drop (suc i) ns) (leafValues s (follow [] (chain s) (next s leaf)))
+        → within ns (values first) ≡ leb (wordA s leaf) (getD ns i 0) && within (drop (suc i) ns) (leafValues s (follow [] (chain s) (nextWord s leaf)))
     one-off h = l .same ∙ rw (drop-cons ns i 0 h, chain-of w leaf (l .there) (l .sort))
 
     pub too-great : (b v : ℕ) → i < length ns → b ≡ getD ns i 0 → v ≡ word s leaf 2 → b < v → false ≡ within ns (values first)

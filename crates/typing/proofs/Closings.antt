@@ -21,7 +21,7 @@ use Rattle.structure.proofs.LeafCounts.{pair-kind}
 use Rattle.typing.specs.Judgements.{Rule, holds, pairDeclared, pairType, sameType}
 use Rattle.typing.specs.Judging.{Ground, Closing, Closed, lastly, scopeOf}
 use Rattle.typing.specs.declared.Outcome.{Outcome}
-use Rattle.typing.specs.declared.Outcome.the-variants.{Typed, Fault}
+use Rattle.typing.specs.declared.Outcome.the-variants.{Sound, Fault}
 use Rattle.typing.proofs.Bounds.{ground-written, leaves-counted}
 
 -- a store above a stack's names leaves them
@@ -35,7 +35,7 @@ pub one-name-more : (stack : List ℕ) (n t : ℕ) → length stack ≡ 64 → n
 one-name-more stack n t long h =
     rw (add-one n, getD-set-same stack n t 0 (omega arith), below-store stack n t n (omega arith))
 
-not-typed : (r u : ℕ) → Fault r ≡ Typed u → ⊥
+not-typed : (r u : ℕ) → Fault r ≡ Sound u → ⊥
 not-typed r u e = let z : _≡_ {A = ℕ} 0 1 = cc in omega arith
 
 module _ (s : List ℕ) (n : ℕ) (table : List ℕ) (rec : ℕ) (before : List ℕ) (c : Closing s n table rec before) where
@@ -46,7 +46,7 @@ module _ (s : List ℕ) (n : ℕ) (table : List ℕ) (rec : ℕ) (before : List 
     notes = λ u q. absurd (not-typed rec u q);
   }
 
-  pub noted-closed : (rule : Rule) (t : ℕ) (answer : Outcome) (after : List ℕ) → holds s rule ≡ true → answer ≡ Typed t
+  pub noted-closed : (rule : Rule) (t : ℕ) (answer : Outcome) (after : List ℕ) → holds s rule ≡ true → answer ≡ Sound t
       → after ≡ set before rec (leaves (typeAt s t)) → Closed s rule rec t answer before after
   noted-closed rule t answer after e ea en = record {
     answered = ea ∙ rw e;
@@ -67,7 +67,7 @@ module _ (s : List ℕ) (n : ℕ) (table : List ℕ) (rec : ℕ) (before : List 
       let q = pair-found t u p e in
       rw q (found-pair (ground-written s n table (c .ground)) t u (rw (← q) (omega arith)))
 
-  pub pair-closed : (t u p : ℕ) (answer : Outcome) (after : List ℕ) → p ≡ pairBelow s t u n → (p ≡ 0 → ⊥) → answer ≡ Typed p
+  pub pair-closed : (t u p : ℕ) (answer : Outcome) (after : List ℕ) → p ≡ pairBelow s t u n → (p ≡ 0 → ⊥) → answer ≡ Sound p
       → after ≡ set before rec (leaves (typeAt s p)) → Closed s (pairDeclared t u) rec (pairOf s t u) answer before after
   pair-closed t u p answer after e f ea en =
       let q = pair-found t u p e in
@@ -86,7 +86,7 @@ module _ (s : List ℕ) (n : ℕ) (table : List ℕ) (rec : ℕ) (before : List 
       rw ey (second-part (ground-written s n table (c .ground)) t (r .there) (pair-kind s t x e f))
   part-is-type t (suc (suc (suc (suc k)))) x y r e f ey l h = absurd (omega arith)
 
-  pub part-closed : (t k x y : ℕ) (answer : Outcome) (after : List ℕ) → x ≡ word s t 0 → x ≡ 17 → y ≡ word s t k → answer ≡ Typed y
+  pub part-closed : (t k x y : ℕ) (answer : Outcome) (after : List ℕ) → x ≡ word s t 0 → x ≡ 17 → y ≡ word s t k → answer ≡ Sound y
       → after ≡ set before rec (leaves (typeAt s y)) → Closed s (pairType t) rec (word s t k) answer before after
   part-closed t k x y answer after e f ey ea en =
       noted-closed (pairType t) (word s t k) answer after (pair-number (word s t 0) ∙ rw (← e) (eq-eqb x 17 f)) (rw (← ey) ea) (rw (← ey) en)
@@ -94,12 +94,12 @@ module _ (s : List ℕ) (n : ℕ) (table : List ℕ) (rec : ℕ) (before : List 
   pub differ-closed : (x y t : ℕ) → (x ≡ y → ⊥) → Closed s (sameType x y) rec t (Fault rec) before before
   differ-closed x y t f = fails-closed (sameType x y) t (ne-eqb x y f)
 
-  pub same-closed : (x y t : ℕ) (answer : Outcome) (after : List ℕ) → x ≡ y → answer ≡ Typed t
+  pub same-closed : (x y t : ℕ) (answer : Outcome) (after : List ℕ) → x ≡ y → answer ≡ Sound t
       → after ≡ set before rec (leaves (typeAt s t)) → Closed s (sameType x y) rec t answer before after
   same-closed x y t answer after e ea en = noted-closed (sameType x y) t answer after (eq-eqb x y e) ea en
 
 -- a judgement that is no last one
-pub lastly-typed : (b : Bool) (rec t : ℕ) → b ≡ true → Typed t ≡ lastly b rec t
+pub lastly-typed : (b : Bool) (rec t : ℕ) → b ≡ true → Sound t ≡ lastly b rec t
 lastly-typed b rec t e = rw e
 
 pub lastly-fault : (b : Bool) (rec t : ℕ) → b ≡ false → Fault rec ≡ lastly b rec t

@@ -32,7 +32,7 @@ use Rattle.typing.specs.Judgements.{
   holds,
   judge,
   judgements,
-  typeOf,
+  typeRecordOf,
   firstFailing,
 }
 use Rattle.typing.proofs.Failing.{none-in-both, none-of-both, judged, judgement-holds}
@@ -41,53 +41,53 @@ use Rattle.typing.proofs.Failing.{none-in-both, none-of-both, judged, j
 abbrev pub Passed : List ℕ → List ℕ → Tree → Type 0
 Passed s Γ e = firstFailing s (judgements s Γ e) ≡ none
 
-abbrev pub Holds : List ℕ → Rule → Type 0
-Holds s rule = holds s rule ≡ true
+abbrev pub RuleHolds : List ℕ → Rule → Type 0
+RuleHolds s rule = holds s rule ≡ true
 
 -- the rules of the tree hold
-abbrev pub Judged : List ℕ → List ℕ → Tree → Type 0
-Judged s Γ noExpression = Holds s noRule
-Judged s Γ (constantOf r t ls) = Holds s (leavesFit t ls)
-Judged s Γ (nameOf r k) = Holds s (inScope k (length Γ))
-Judged s Γ (tupleOf r a b) = Judged s Γ a × Judged s Γ b × Holds s (pairDeclared (typeOf s Γ a) (typeOf s Γ b))
-Judged s Γ (firstOf r a) = Judged s Γ a × Holds s (pairType (typeOf s Γ a))
-Judged s Γ (secondOf r a) = Judged s Γ a × Holds s (pairType (typeOf s Γ a))
-Judged s Γ (letOf r a b) = Judged s Γ a × Judged s (typeOf s Γ a ∷ Γ) b
-Judged s Γ (feedbackOf r t a b) = Judged s (t ∷ Γ) a × Judged s (t ∷ Γ) b × Holds s (sameType (typeOf s (t ∷ Γ) a) t)
-Judged s Γ (ifOf r a p b c) =
-    Judged s Γ a
-    × Holds s (patternHas (typeOf s Γ a) p)
-    × Judged s Γ b
-    × Judged s Γ c
-    × Holds s (sameType (typeOf s Γ b) (typeOf s Γ c))
-Judged s Γ (delayOf r t ls a) = Judged s Γ a × Holds s (leavesFit t ls) × Holds s (sameType (typeOf s Γ a) t)
+abbrev pub RulesHold : List ℕ → List ℕ → Tree → Type 0
+RulesHold s Γ noExpression = RuleHolds s noRule
+RulesHold s Γ (constantOf r t ls) = RuleHolds s (leavesFit t ls)
+RulesHold s Γ (nameOf r k) = RuleHolds s (inScope k (length Γ))
+RulesHold s Γ (tupleOf r a b) = RulesHold s Γ a × RulesHold s Γ b × RuleHolds s (pairDeclared (typeRecordOf s Γ a) (typeRecordOf s Γ b))
+RulesHold s Γ (firstOf r a) = RulesHold s Γ a × RuleHolds s (pairType (typeRecordOf s Γ a))
+RulesHold s Γ (secondOf r a) = RulesHold s Γ a × RuleHolds s (pairType (typeRecordOf s Γ a))
+RulesHold s Γ (letOf r a b) = RulesHold s Γ a × RulesHold s (typeRecordOf s Γ a ∷ Γ) b
+RulesHold s Γ (feedbackOf r t a b) = RulesHold s (t ∷ Γ) a × RulesHold s (t ∷ Γ) b × RuleHolds s (sameType (typeRecordOf s (t ∷ Γ) a) t)
+RulesHold s Γ (ifOf r a p b c) =
+    RulesHold s Γ a
+    × RuleHolds s (patternHas (typeRecordOf s Γ a) p)
+    × RulesHold s Γ b
+    × RulesHold s Γ c
+    × RuleHolds s (sameType (typeRecordOf s Γ b) (typeRecordOf s Γ c))
+RulesHold s Γ (delayOf r t ls a) = RulesHold s Γ a × RuleHolds s (leavesFit t ls) × RuleHolds s (sameType (typeRecordOf s Γ a) t)
 
-pub passed-judged : (s Γ : List ℕ) (e : Tree) → Passed s Γ e → Judged s Γ e
+pub passed-judged : (s Γ : List ℕ) (e : Tree) → Passed s Γ e → RulesHold s Γ e
 passed-judged s Γ noExpression p = judged s 0 noRule p
 passed-judged s Γ (constantOf r t ls) p = judged s r (leavesFit t ls) p
 passed-judged s Γ (nameOf r k) p = judged s r (inScope k (length Γ)) p
 passed-judged s Γ (tupleOf r a b) p =
-    let rule = pairDeclared (typeOf s Γ a) (typeOf s Γ b) in
+    let rule = pairDeclared (typeRecordOf s Γ a) (typeRecordOf s Γ b) in
     let q = none-in-both s (judgements s Γ a) (judgements s Γ b ++ judge r rule) p in
     let h = none-in-both s (judgements s Γ b) (judge r rule) (q .1) in
     (passed-judged s Γ a (q .0), passed-judged s Γ b (h .0), judged s r rule (h .1))
 passed-judged s Γ (firstOf r a) p =
-    let q = none-in-both s (judgements s Γ a) (judge r (pairType (typeOf s Γ a))) p in
-    (passed-judged s Γ a (q .0), judged s r (pairType (typeOf s Γ a)) (q .1))
+    let q = none-in-both s (judgements s Γ a) (judge r (pairType (typeRecordOf s Γ a))) p in
+    (passed-judged s Γ a (q .0), judged s r (pairType (typeRecordOf s Γ a)) (q .1))
 passed-judged s Γ (secondOf r a) p =
-    let q = none-in-both s (judgements s Γ a) (judge r (pairType (typeOf s Γ a))) p in
-    (passed-judged s Γ a (q .0), judged s r (pairType (typeOf s Γ a)) (q .1))
+    let q = none-in-both s (judgements s Γ a) (judge r (pairType (typeRecordOf s Γ a))) p in
+    (passed-judged s Γ a (q .0), judged s r (pairType (typeRecordOf s Γ a)) (q .1))
 passed-judged s Γ (letOf r a b) p =
-    let q = none-in-both s (judgements s Γ a) (judgements s (typeOf s Γ a ∷ Γ) b) p in
-    (passed-judged s Γ a (q .0), passed-judged s (typeOf s Γ a ∷ Γ) b (q .1))
+    let q = none-in-both s (judgements s Γ a) (judgements s (typeRecordOf s Γ a ∷ Γ) b) p in
+    (passed-judged s Γ a (q .0), passed-judged s (typeRecordOf s Γ a ∷ Γ) b (q .1))
 passed-judged s Γ (feedbackOf r t a b) p =
-    let rule = sameType (typeOf s (t ∷ Γ) a) t in
+    let rule = sameType (typeRecordOf s (t ∷ Γ) a) t in
     let q = none-in-both s (judgements s (t ∷ Γ) a) (judgements s (t ∷ Γ) b ++ judge r rule) p in
     let h = none-in-both s (judgements s (t ∷ Γ) b) (judge r rule) (q .1) in
     (passed-judged s (t ∷ Γ) a (q .0), passed-judged s (t ∷ Γ) b (h .0), judged s r rule (h .1))
 passed-judged s Γ (ifOf r a m b c) p =
-    let has = patternHas (typeOf s Γ a) m in
-    let same = sameType (typeOf s Γ b) (typeOf s Γ c) in
+    let has = patternHas (typeRecordOf s Γ a) m in
+    let same = sameType (typeRecordOf s Γ b) (typeRecordOf s Γ c) in
     let q = none-in-both s (judgements s Γ a) (judge r has ++ (judgements s Γ b ++ (judgements s Γ c ++ judge r same))) p in
     let h = none-in-both s (judge r has) (judgements s Γ b ++ (judgements s Γ c ++ judge r same)) (q .1) in
     let k = none-in-both s (judgements s Γ b) (judgements s Γ c ++ judge r same) (h .1) in
@@ -100,35 +100,35 @@ passed-judged s Γ (ifOf r a m b c) p =
     )
 passed-judged s Γ (delayOf r t ls a) p =
     let fit = leavesFit t ls in
-    let same = sameType (typeOf s Γ a) t in
+    let same = sameType (typeRecordOf s Γ a) t in
     let q = none-in-both s (judgements s Γ a) (judge r fit ++ judge r same) p in
     let h = none-in-both s (judge r fit) (judge r same) (q .1) in
     (passed-judged s Γ a (q .0), judged s r fit (h .0), judged s r same (h .1))
 
-pub judged-passed : (s Γ : List ℕ) (e : Tree) → Judged s Γ e → Passed s Γ e
+pub judged-passed : (s Γ : List ℕ) (e : Tree) → RulesHold s Γ e → Passed s Γ e
 judged-passed s Γ noExpression j = judgement-holds s 0 noRule j
 judged-passed s Γ (constantOf r t ls) j = judgement-holds s r (leavesFit t ls) j
 judged-passed s Γ (nameOf r k) j = judgement-holds s r (inScope k (length Γ)) j
 judged-passed s Γ (tupleOf r a b) j =
-    let rule = pairDeclared (typeOf s Γ a) (typeOf s Γ b) in
+    let rule = pairDeclared (typeRecordOf s Γ a) (typeRecordOf s Γ b) in
     none-of-both s (judgements s Γ a) (judgements s Γ b ++ judge r rule) (judged-passed s Γ a (j .0))
     (none-of-both s (judgements s Γ b) (judge r rule) (judged-passed s Γ b (j .1)) (judgement-holds s r rule (j .2)))
 judged-passed s Γ (firstOf r a) j =
-    none-of-both s (judgements s Γ a) (judge r (pairType (typeOf s Γ a))) (judged-passed s Γ a (j .0))
-    (judgement-holds s r (pairType (typeOf s Γ a)) (j .1))
+    none-of-both s (judgements s Γ a) (judge r (pairType (typeRecordOf s Γ a))) (judged-passed s Γ a (j .0))
+    (judgement-holds s r (pairType (typeRecordOf s Γ a)) (j .1))
 judged-passed s Γ (secondOf r a) j =
-    none-of-both s (judgements s Γ a) (judge r (pairType (typeOf s Γ a))) (judged-passed s Γ a (j .0))
-    (judgement-holds s r (pairType (typeOf s Γ a)) (j .1))
+    none-of-both s (judgements s Γ a) (judge r (pairType (typeRecordOf s Γ a))) (judged-passed s Γ a (j .0))
+    (judgement-holds s r (pairType (typeRecordOf s Γ a)) (j .1))
 judged-passed s Γ (letOf r a b) j =
-    none-of-both s (judgements s Γ a) (judgements s (typeOf s Γ a ∷ Γ) b) (judged-passed s Γ a (j .0))
-    (judged-passed s (typeOf s Γ a ∷ Γ) b (j .1))
+    none-of-both s (judgements s Γ a) (judgements s (typeRecordOf s Γ a ∷ Γ) b) (judged-passed s Γ a (j .0))
+    (judged-passed s (typeRecordOf s Γ a ∷ Γ) b (j .1))
 judged-passed s Γ (feedbackOf r t a b) j =
-    let rule = sameType (typeOf s (t ∷ Γ) a) t in
+    let rule = sameType (typeRecordOf s (t ∷ Γ) a) t in
     none-of-both s (judgements s (t ∷ Γ) a) (judgements s (t ∷ Γ) b ++ judge r rule) (judged-passed s (t ∷ Γ) a (j .0))
     (none-of-both s (judgements s (t ∷ Γ) b) (judge r rule) (judged-passed s (t ∷ Γ) b (j .1)) (judgement-holds s r rule (j .2)))
 judged-passed s Γ (ifOf r a m b c) j =
-    let has = patternHas (typeOf s Γ a) m in
-    let same = sameType (typeOf s Γ b) (typeOf s Γ c) in
+    let has = patternHas (typeRecordOf s Γ a) m in
+    let same = sameType (typeRecordOf s Γ b) (typeRecordOf s Γ c) in
     none-of-both s (judgements s Γ a) (judge r has ++ (judgements s Γ b ++ (judgements s Γ c ++ judge r same)))
     (judged-passed s Γ a (j .0))
     (none-of-both s (judge r has) (judgements s Γ b ++ (judgements s Γ c ++ judge r same)) (judgement-holds s r has (j .1))
@@ -136,6 +136,6 @@ judged-passed s Γ (ifOf r a m b c) j =
     (none-of-both s (judgements s Γ c) (judge r same) (judged-passed s Γ c (j .3)) (judgement-holds s r same (j .4)))))
 judged-passed s Γ (delayOf r t ls a) j =
     let fit = leavesFit t ls in
-    let same = sameType (typeOf s Γ a) t in
+    let same = sameType (typeRecordOf s Γ a) t in
     none-of-both s (judgements s Γ a) (judge r fit ++ judge r same) (judged-passed s Γ a (j .0))
     (none-of-both s (judge r fit) (judge r same) (judgement-holds s r fit (j .1)) (judgement-holds s r same (j .2)))

@@ -33,24 +33,24 @@ use Rattle.typing.specs.Judgements.{
   pairType,
   sameType,
   patternHas,
-  typeOf,
+  typeRecordOf,
   judge,
   judgements,
   firstFailing,
 }
-use Rattle.typing.specs.Judging.{conclude, judged, width, noted, Done, lastly, Closed}
+use Rattle.typing.specs.Judging.{conclude, judged, width, noted, Judged, lastly, Closed}
 use Rattle.typing.specs.declared.Outcome.{Outcome}
-use Rattle.typing.specs.declared.Outcome.the-variants.{Typed, Fault}
+use Rattle.typing.specs.declared.Outcome.the-variants.{Sound, Fault}
 use Rattle.typing.proofs.Failing.{first-of-both}
 
 -- an expression that was judged without a fault
 pub record Passed (s Γ : List ℕ) (e : Tree) (t : ℕ) (before after : List ℕ) : Type 0 where
   pub none-fails : firstFailing s (judgements s Γ e) ≡ none
-  pub typed : typeOf s Γ e ≡ t
+  pub typed : typeRecordOf s Γ e ≡ t
   pub long : length after ≡ 4096
   pub notes : after ≡ noted s Γ e before
 
-typed-of : (o : Option ℕ) (u t : ℕ) → conclude o u ≡ Typed t → (o ≡ none) × (u ≡ t)
+typed-of : (o : Option ℕ) (u t : ℕ) → conclude o u ≡ Sound t → (o ≡ none) × (u ≡ t)
 typed-of none u t e = (refl, cc)
 typed-of (some r) u t e = let z : _≡_ {A = ℕ} 0 1 = cc in absurd (omega arith)
 
@@ -59,19 +59,19 @@ fault-of none u p e = let z : _≡_ {A = ℕ} 0 1 = cc in absurd (omega arith)
 fault-of (some r) u p e = cc
 
 module _ (s Γ : List ℕ) (e : Tree) (answer : Outcome) (before after : List ℕ) where
-  pub passed : (t : ℕ) → Done s Γ e answer before after → answer ≡ Typed t → Passed s Γ e t before after
+  pub passed : (t : ℕ) → Judged s Γ e answer before after → answer ≡ Sound t → Passed s Γ e t before after
   unfolding judged
   passed t d a =
-      let p = typed-of (firstFailing s (judgements s Γ e)) (typeOf s Γ e) t (sym (d .answered) ∙ a) in
+      let p = typed-of (firstFailing s (judgements s Γ e)) (typeRecordOf s Γ e) t (sym (d .answered) ∙ a) in
       record { none-fails = p .0; typed = p .1; long = d .long; notes = d .notes t a }
 
-  pub faulted : (p : ℕ) → Done s Γ e answer before after → answer ≡ Fault p → firstFailing s (judgements s Γ e) ≡ some p
+  pub faulted : (p : ℕ) → Judged s Γ e answer before after → answer ≡ Fault p → firstFailing s (judgements s Γ e) ≡ some p
   unfolding judged
-  faulted p d a = fault-of (firstFailing s (judgements s Γ e)) (typeOf s Γ e) p (sym (d .answered) ∙ a)
+  faulted p d a = fault-of (firstFailing s (judgements s Γ e)) (typeRecordOf s Γ e) p (sym (d .answered) ∙ a)
 
   -- a fault
   pub fault-done : (p : ℕ) → firstFailing s (judgements s Γ e) ≡ some p → answer ≡ Fault p → length after ≡ 4096
-      → Done s Γ e answer before after
+      → Judged s Γ e answer before after
   unfolding judged
   fault-done p f a l = record {
     answered = a ∙ rw f;
@@ -80,15 +80,15 @@ module _ (s Γ : List ℕ) (e : Tree) (answer : Outcome) (before after : List �
   }
 
   -- no fault
-  pub typed-done : firstFailing s (judgements s Γ e) ≡ none → answer ≡ Typed (typeOf s Γ e) → length after ≡ 4096
-      → after ≡ noted s Γ e before → Done s Γ e answer before after
+  pub typed-done : firstFailing s (judgements s Γ e) ≡ none → answer ≡ Sound (typeRecordOf s Γ e) → length after ≡ 4096
+      → after ≡ noted s Γ e before → Judged s Γ e answer before after
   unfolding judged
   typed-done f a l n = record { answered = a ∙ rw f; long = l; notes = λ t q. n }
 
   -- the last judgement decides
   pub closing-done : (rec : ℕ) (rule : Rule) (middle : List ℕ) → firstFailing s (judgements s Γ e) ≡ firstFailing s (judge rec rule)
-      → Closed s rule rec (typeOf s Γ e) answer middle after → set middle rec (width s Γ e) ≡ noted s Γ e before
-      → Done s Γ e answer before after
+      → Closed s rule rec (typeRecordOf s Γ e) answer middle after → set middle rec (width s Γ e) ≡ noted s Γ e before
+      → Judged s Γ e answer before after
   unfolding judged
   closing-done rec rule middle f c n = record {
     answered = c .answered ∙ rw f (concludes (holds s rule));
@@ -96,17 +96,17 @@ module _ (s Γ : List ℕ) (e : Tree) (answer : Outcome) (before after : List �
     notes = λ t q. c .notes t q ∙ n;
   }
     where
-      concludes : (b : Bool) → lastly b rec (typeOf s Γ e) ≡ conclude (cond b none (some rec)) (typeOf s Γ e)
+      concludes : (b : Bool) → lastly b rec (typeRecordOf s Γ e) ≡ conclude (cond b none (some rec)) (typeRecordOf s Γ e)
       concludes true = refl
       concludes false = refl
 
 -- a judgement that stands before others
 module _ (s : List ℕ) (rec : ℕ) where
-  pub lastly-holds : (rule : Rule) (t u : ℕ) (answer : Outcome) → answer ≡ lastly (holds s rule) rec t → answer ≡ Typed u
+  pub lastly-holds : (rule : Rule) (t u : ℕ) (answer : Outcome) → answer ≡ lastly (holds s rule) rec t → answer ≡ Sound u
       → (firstFailing s (judge rec rule) ≡ none) × (u ≡ t)
   lastly-holds rule t u answer a b = go (holds s rule) (sym a ∙ b)
     where
-      go : (h : Bool) → lastly h rec t ≡ Typed u → (cond h none (some rec) ≡ none) × (u ≡ t)
+      go : (h : Bool) → lastly h rec t ≡ Sound u → (cond h none (some rec) ≡ none) × (u ≡ t)
       go true q = (refl, cc)
       go false q = let z : _≡_ {A = ℕ} 0 1 = cc in absurd (omega arith)
 

@@ -22,12 +22,12 @@ use Rattle.records.proofs.TypeRecords.{type-word}
 use Rattle.structure.specs.Depth.{depth}
 use Rattle.structure.proofs.Passes.{written, named-once, not-deep}
 use Rattle.structure.proofs.Depths.{depth-of-part}
-use Rattle.typing.specs.Judging.{Ready, Closing, Matching, Context, scopeOf, PartAt, at-first, at-second}
+use Rattle.typing.specs.Judging.{Judging, Closing, Fitting, Context, scopeOf, PartAt, at-first, at-second}
 use Rattle.typing.proofs.Judged.{passed-judged}
 use Rattle.typing.proofs.TypeRecordsOf.{type-of-record}
 use Rattle.typing.proofs.Outcomes.{Passed}
 
-module _ (s : List ℕ) (n : ℕ) (table stack : List ℕ) (names rec : ℕ) (widths : List ℕ) (r : Ready s n table stack names rec widths) where
+module _ (s : List ℕ) (n : ℕ) (table stack : List ℕ) (names rec : ℕ) (widths : List ℕ) (r : Judging s n table stack names rec widths) where
   pub ready-written : Written s
   ready-written = written (r .ground .passes)
 
@@ -57,7 +57,7 @@ module _ (s : List ℕ) (n : ℕ) (table stack : List ℕ) (names rec : ℕ) (wi
         let l = r .deep in
         omega (arith, d .0)
 
-    pub part-ready : (after : List ℕ) → length after ≡ 4096 → (rec < x) × Ready s n table stack names x after
+    pub part-ready : (after : List ℕ) → length after ≡ 4096 → (rec < x) × Judging s n table stack names x after
     part-ready after l =
         let p = part-there in
         let c = r .ground .sized .counted in
@@ -76,7 +76,7 @@ module _ (s : List ℕ) (n : ℕ) (table stack : List ℕ) (names rec : ℕ) (wi
         )
 
     pub body-ready : (inner : List ℕ) (u : ℕ) (after : List ℕ) → length inner ≡ 64 → scopeOf (names + 1) inner ≡ u ∷ scopeOf names stack
-        → TypeRecord s u → length after ≡ 4096 → (rec < x) × Ready s n table inner (names + 1) x after
+        → TypeRecord s u → length after ≡ 4096 → (rec < x) × Judging s n table inner (names + 1) x after
     body-ready inner u after wide scope typed l =
         let p = part-there in
         let c = r .ground .sized .counted in
@@ -95,7 +95,7 @@ module _ (s : List ℕ) (n : ℕ) (table stack : List ℕ) (names rec : ℕ) (wi
         )
 
   pub pattern-ready : (x u : ℕ) (k : Kind) → kindAt s rec ≡ k → (j : ℕ) → (ltb 0 j && ltb j 6) ≡ true → askOfKind k j ≡ part patterns
-      → x ≡ word s rec j → TypeRecord s u → Matching s n x u
+      → x ≡ word s rec j → TypeRecord s u → Fitting s n x u
   pattern-ready x u k e j t a ex typed =
       let p = part-of-kind ready-written rec k patterns ready-there e j t a in
       let c = r .ground .sized .counted in
@@ -131,7 +131,7 @@ typed-word s n table rec w c k e j t a x ex =
     let h = c .there in
     rw ex (type-word (written (c .ground .passes)) rec k (omega arith) e j t a)
 
-module _ (s : List ℕ) (n : ℕ) (table stack : List ℕ) (names rec : ℕ) (widths : List ℕ) (r : Ready s n table stack names rec widths) where
+module _ (s : List ℕ) (n : ℕ) (table stack : List ℕ) (names rec : ℕ) (widths : List ℕ) (r : Judging s n table stack names rec widths) where
   pub few-names : names ≤ 64
   few-names =
       let c = r .ground .sized .counted in
@@ -156,7 +156,7 @@ module _ (s : List ℕ) (n : ℕ) (table stack : List ℕ) (names rec : ℕ) (wi
 
   -- the whole of which a first or second part is taken
   pub part-of-pair : (k : ℕ) → PartAt s rec k → (x : ℕ) → x ≡ word s rec 2 → (after : List ℕ) → length after ≡ 4096
-      → (rec < x) × Ready s n table stack names x after
+      → (rec < x) × Judging s n table stack names x after
   part-of-pair k (at-first e) x ex after l =
       part-ready s n table stack names rec widths r (expression first) e 2 refl (unfold askOfKind in refl) x ex after l
   part-of-pair k (at-second e) x ex after l =

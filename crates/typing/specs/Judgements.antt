@@ -72,17 +72,17 @@ holds s (patternHas t p) = patternFits s p t
 holds s noRule = false
 
 -- the type record of an expression, where the names in scope have these types, the innermost first
-abbrev pub typeOf : List ℕ → List ℕ → Tree → ℕ
-typeOf s Γ noExpression = 0
-typeOf s Γ (constantOf r t ls) = t
-typeOf s Γ (nameOf r k) = getD Γ k 0
-typeOf s Γ (tupleOf r a b) = pairOf s (typeOf s Γ a) (typeOf s Γ b)
-typeOf s Γ (firstOf r a) = wordA s (typeOf s Γ a)
-typeOf s Γ (secondOf r a) = wordB s (typeOf s Γ a)
-typeOf s Γ (letOf r a b) = typeOf s (typeOf s Γ a ∷ Γ) b
-typeOf s Γ (feedbackOf r t a b) = typeOf s (t ∷ Γ) b
-typeOf s Γ (ifOf r a p b c) = typeOf s Γ b
-typeOf s Γ (delayOf r t ls a) = t
+abbrev pub typeRecordOf : List ℕ → List ℕ → Tree → ℕ
+typeRecordOf s Γ noExpression = 0
+typeRecordOf s Γ (constantOf r t ls) = t
+typeRecordOf s Γ (nameOf r k) = getD Γ k 0
+typeRecordOf s Γ (tupleOf r a b) = pairOf s (typeRecordOf s Γ a) (typeRecordOf s Γ b)
+typeRecordOf s Γ (firstOf r a) = wordA s (typeRecordOf s Γ a)
+typeRecordOf s Γ (secondOf r a) = wordB s (typeRecordOf s Γ a)
+typeRecordOf s Γ (letOf r a b) = typeRecordOf s (typeRecordOf s Γ a ∷ Γ) b
+typeRecordOf s Γ (feedbackOf r t a b) = typeRecordOf s (t ∷ Γ) b
+typeRecordOf s Γ (ifOf r a p b c) = typeRecordOf s Γ b
+typeRecordOf s Γ (delayOf r t ls a) = t
 
 abbrev pub judge : ℕ → Rule → List Judgement
 judge r rule = record { at = r; rule = rule } ∷ []
@@ -92,18 +92,18 @@ judgements s Γ noExpression = judge 0 noRule
 judgements s Γ (constantOf r t ls) = judge r (leavesFit t ls)
 judgements s Γ (nameOf r k) = judge r (inScope k (length Γ))
 judgements s Γ (tupleOf r a b) =
-    judgements s Γ a ++ (judgements s Γ b ++ judge r (pairDeclared (typeOf s Γ a) (typeOf s Γ b)))
-judgements s Γ (firstOf r a) = judgements s Γ a ++ judge r (pairType (typeOf s Γ a))
-judgements s Γ (secondOf r a) = judgements s Γ a ++ judge r (pairType (typeOf s Γ a))
-judgements s Γ (letOf r a b) = judgements s Γ a ++ judgements s (typeOf s Γ a ∷ Γ) b
+    judgements s Γ a ++ (judgements s Γ b ++ judge r (pairDeclared (typeRecordOf s Γ a) (typeRecordOf s Γ b)))
+judgements s Γ (firstOf r a) = judgements s Γ a ++ judge r (pairType (typeRecordOf s Γ a))
+judgements s Γ (secondOf r a) = judgements s Γ a ++ judge r (pairType (typeRecordOf s Γ a))
+judgements s Γ (letOf r a b) = judgements s Γ a ++ judgements s (typeRecordOf s Γ a ∷ Γ) b
 judgements s Γ (feedbackOf r t a b) =
-    judgements s (t ∷ Γ) a ++ (judgements s (t ∷ Γ) b ++ judge r (sameType (typeOf s (t ∷ Γ) a) t))
+    judgements s (t ∷ Γ) a ++ (judgements s (t ∷ Γ) b ++ judge r (sameType (typeRecordOf s (t ∷ Γ) a) t))
 judgements s Γ (ifOf r a p b c) =
     judgements s Γ a
-    ++ (judge r (patternHas (typeOf s Γ a) p)
-    ++ (judgements s Γ b ++ (judgements s Γ c ++ judge r (sameType (typeOf s Γ b) (typeOf s Γ c)))))
+    ++ (judge r (patternHas (typeRecordOf s Γ a) p)
+    ++ (judgements s Γ b ++ (judgements s Γ c ++ judge r (sameType (typeRecordOf s Γ b) (typeRecordOf s Γ c)))))
 judgements s Γ (delayOf r t ls a) =
-    judgements s Γ a ++ (judge r (leavesFit t ls) ++ judge r (sameType (typeOf s Γ a) t))
+    judgements s Γ a ++ (judge r (leavesFit t ls) ++ judge r (sameType (typeRecordOf s Γ a) t))
 
 -- the record of the first judgement that fails
 abbrev pub firstFailing : List ℕ → List Judgement → Option ℕ

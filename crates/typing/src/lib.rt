@@ -11,14 +11,14 @@ ghost use Rattle.records.specs.TypeRecords.{typeAt, TypeRecord, pairOf};
 ghost use Rattle.records.specs.Trees.{alternatives, chain, treeAt};
 ghost use Rattle.records.specs.Decoding.{leafValues};
 ghost use Rattle.typing.specs.Judgements.{within, patternFits, holds, leavesFit, pairDeclared, pairType, sameType, patternHas};
-ghost use Rattle.typing.specs.Judging.{Ground, Ready, Done, scopeOf, Matching, FitsOne, Closed, Closing, lastly, PartAt};
-ghost use Rattle.typing.specs.declared.Outcome.the-variants.{Typed};
+ghost use Rattle.typing.specs.Judging.{Ground, Judging, Judged, scopeOf, Fitting, FittedOne, Closed, Closing, lastly, PartAt};
+ghost use Rattle.typing.specs.declared.Outcome.the-variants.{Sound};
 use structure::pair_below;
 use records::word;
 
 // What judging an expression gives: its type record, or the record at which a type rule is broken.
 pub enum Outcome {
-    Typed(usize),
+    Sound(usize),
     Fault(usize),
 }
 
@@ -66,7 +66,7 @@ fn leaves_fit(sheet: &[u8], n: usize, table: &[u8; 4096], t: usize, first: usize
 
 // Whether each alternative from p has type t.
 fn fits_all(sheet: &[u8], n: usize, p: usize, t: usize) -> bool
-    requires { ⌜ Matching (now sheet) n p t ⌝ }
+    requires { ⌜ Fitting (now sheet) n p t ⌝ }
     ensures { λ r. ⌜ r ≡ patternFits (now (sheet .entry)) (alternatives (now (sheet .entry)) p) t ⌝ }
 {
     let mut at = p;
@@ -82,8 +82,8 @@ fn fits_all(sheet: &[u8], n: usize, p: usize, t: usize) -> bool
 
 // Whether the alternative at p has type t, a pair pattern part by part.
 fn fits_one(sheet: &[u8], n: usize, p: usize, t: usize) -> bool
-    requires { ⌜ Matching (now sheet) n p t ⌝ }
-    ensures { λ r. ⌜ FitsOne (now (sheet .entry)) p t r ⌝ }
+    requires { ⌜ Fitting (now sheet) n p t ⌝ }
+    ensures { λ r. ⌜ FittedOne (now (sheet .entry)) p t r ⌝ }
 {
     if word(sheet, n, p, 0) != 50 {
         return word(sheet, n, p, 2) == t;
@@ -117,10 +117,10 @@ fn note(
     widths: &mut [u8; 4096],
 ) -> Outcome
     requires { ⌜ Closing (now sheet) n (now table) rec (now widths) × TypeRecord (now sheet) t ⌝ }
-    ensures { λ r. ⌜ (r ≡ Typed t) × (now (widths .exit) ≡ set (now (widths .entry)) rec (leaves (typeAt (now (sheet .entry)) t))) ⌝ }
+    ensures { λ r. ⌜ (r ≡ Sound t) × (now (widths .exit) ≡ set (now (widths .entry)) rec (leaves (typeAt (now (sheet .entry)) t))) ⌝ }
 {
     widths[rec] = table[t];
-    Outcome::Typed(t)
+    Outcome::Sound(t)
 }
 
 // A pair's last judgement: a pair record of exactly the two types.
@@ -195,18 +195,18 @@ fn leaves_type(
     ensures { λ r. ⌜ r ≡ lastly (holds (now (sheet .entry)) (leavesFit t (chain (now (sheet .entry)) first))) rec t ⌝ }
 {
     if leaves_fit(sheet, n, table, t, first) {
-        return Outcome::Typed(t);
+        return Outcome::Sound(t);
     }
     Outcome::Fault(rec)
 }
 
 // Whether each alternative from p has type t, as a judgement at rec.
 fn pattern_type(sheet: &[u8], n: usize, rec: usize, p: usize, t: usize) -> Outcome
-    requires { ⌜ Matching (now sheet) n p t ⌝ }
+    requires { ⌜ Fitting (now sheet) n p t ⌝ }
     ensures { λ r. ⌜ r ≡ lastly (holds (now (sheet .entry)) (patternHas t (alternatives (now (sheet .entry)) p))) rec t ⌝ }
 {
     if fits_all(sheet, n, p, t) {
-        return Outcome::Typed(t);
+        return Outcome::Sound(t);
     }
     Outcome::Fault(rec)
 }
@@ -220,11 +220,11 @@ fn of_constant(
     widths: &mut [u8; 4096],
 ) -> Outcome
     requires { ⌜ Closing (now sheet) n (now table) rec (now widths) × (kindAt (now sheet) rec ≡ expression constant) ⌝ }
-    ensures { λ r. ⌜ ((Γ : List ℕ) → Done (now (sheet .entry)) Γ (treeAt (now (sheet .entry)) rec) r (now (widths .entry)) (now (widths .exit))) ⌝ }
+    ensures { λ r. ⌜ ((Γ : List ℕ) → Judged (now (sheet .entry)) Γ (treeAt (now (sheet .entry)) rec) r (now (widths .entry)) (now (widths .exit))) ⌝ }
 {
     let t = word(sheet, n, rec, 2);
     let fit = leaves_type(sheet, n, table, rec, t, word(sheet, n, rec, 3));
-    let Outcome::Typed(u) = fit else {
+    let Outcome::Sound(u) = fit else {
         return fit;
     };
     note(sheet, n, table, rec, u, widths)
@@ -240,8 +240,8 @@ fn of_name(
     rec: usize,
     widths: &mut [u8; 4096],
 ) -> Outcome
-    requires { ⌜ Ready (now sheet) n (now table) (now scope) names rec (now widths) × (kindAt (now sheet) rec ≡ expression name) ⌝ }
-    ensures { λ r. ⌜ Done (now (sheet .entry)) (scopeOf names (now (scope .entry))) (treeAt (now (sheet .entry)) rec) r (now (widths .entry)) (now (widths .exit)) ⌝ }
+    requires { ⌜ Judging (now sheet) n (now table) (now scope) names rec (now widths) × (kindAt (now sheet) rec ≡ expression name) ⌝ }
+    ensures { λ r. ⌜ Judged (now (sheet .entry)) (scopeOf names (now (scope .entry))) (treeAt (now (sheet .entry)) rec) r (now (widths .entry)) (now (widths .exit)) ⌝ }
 {
     let k = word(sheet, n, rec, 2);
     if names <= k {
@@ -261,8 +261,8 @@ pub fn judge(
     rec: usize,
     widths: &mut [u8; 4096],
 ) -> Outcome
-    requires { ⌜ Ready (now sheet) n (now table) (now scope) names rec (now widths) ⌝ }
-    ensures { λ r. ⌜ Done (now (sheet .entry)) (scopeOf names (now (scope .entry))) (treeAt (now (sheet .entry)) rec) r (now (widths .entry)) (now (widths .exit)) ⌝ }
+    requires { ⌜ Judging (now sheet) n (now table) (now scope) names rec (now widths) ⌝ }
+    ensures { λ r. ⌜ Judged (now (sheet .entry)) (scopeOf names (now (scope .entry))) (treeAt (now (sheet .entry)) rec) r (now (widths .entry)) (now (widths .exit)) ⌝ }
 {
     let kind = word(sheet, n, rec, 0);
     if kind == 32 {
@@ -301,8 +301,8 @@ fn of_pair(
     rec: usize,
     widths: &mut [u8; 4096],
 ) -> Outcome
-    requires { ⌜ Ready (now sheet) n (now table) (now scope) names rec (now widths) × (kindAt (now sheet) rec ≡ expression tuple) ⌝ }
-    ensures { λ r. ⌜ Done (now (sheet .entry)) (scopeOf names (now (scope .entry))) (treeAt (now (sheet .entry)) rec) r (now (widths .entry)) (now (widths .exit)) ⌝ }
+    requires { ⌜ Judging (now sheet) n (now table) (now scope) names rec (now widths) × (kindAt (now sheet) rec ≡ expression tuple) ⌝ }
+    ensures { λ r. ⌜ Judged (now (sheet .entry)) (scopeOf names (now (scope .entry))) (treeAt (now (sheet .entry)) rec) r (now (widths .entry)) (now (widths .exit)) ⌝ }
 {
     let first = judge(
         sheet,
@@ -313,7 +313,7 @@ fn of_pair(
         word(sheet, n, rec, 2),
         widths,
     );
-    let Outcome::Typed(t) = first else {
+    let Outcome::Sound(t) = first else {
         return first;
     };
     let second = judge(
@@ -325,7 +325,7 @@ fn of_pair(
         word(sheet, n, rec, 3),
         widths,
     );
-    let Outcome::Typed(u) = second else {
+    let Outcome::Sound(u) = second else {
         return second;
     };
     pair_type(sheet, n, table, rec, t, u, widths)
@@ -342,8 +342,8 @@ fn of_part(
     k: usize,
     widths: &mut [u8; 4096],
 ) -> Outcome
-    requires { ⌜ Ready (now sheet) n (now table) (now scope) names rec (now widths) × PartAt (now sheet) rec k ⌝ }
-    ensures { λ r. ⌜ Done (now (sheet .entry)) (scopeOf names (now (scope .entry))) (treeAt (now (sheet .entry)) rec) r (now (widths .entry)) (now (widths .exit)) ⌝ }
+    requires { ⌜ Judging (now sheet) n (now table) (now scope) names rec (now widths) × PartAt (now sheet) rec k ⌝ }
+    ensures { λ r. ⌜ Judged (now (sheet .entry)) (scopeOf names (now (scope .entry))) (treeAt (now (sheet .entry)) rec) r (now (widths .entry)) (now (widths .exit)) ⌝ }
 {
     let whole = judge(
         sheet,
@@ -354,7 +354,7 @@ fn of_part(
         word(sheet, n, rec, 2),
         widths,
     );
-    let Outcome::Typed(t) = whole else {
+    let Outcome::Sound(t) = whole else {
         return whole;
     };
     part_type(sheet, n, table, rec, t, k, widths)
@@ -369,8 +369,8 @@ fn of_let(
     rec: usize,
     widths: &mut [u8; 4096],
 ) -> Outcome
-    requires { ⌜ Ready (now sheet) n (now table) (now scope) names rec (now widths) × (kindAt (now sheet) rec ≡ expression letIn) ⌝ }
-    ensures { λ r. ⌜ Done (now (sheet .entry)) (scopeOf names (now (scope .entry))) (treeAt (now (sheet .entry)) rec) r (now (widths .entry)) (now (widths .exit)) ⌝ }
+    requires { ⌜ Judging (now sheet) n (now table) (now scope) names rec (now widths) × (kindAt (now sheet) rec ≡ expression letIn) ⌝ }
+    ensures { λ r. ⌜ Judged (now (sheet .entry)) (scopeOf names (now (scope .entry))) (treeAt (now (sheet .entry)) rec) r (now (widths .entry)) (now (widths .exit)) ⌝ }
 {
     let defined = judge(
         sheet,
@@ -381,7 +381,7 @@ fn of_let(
         word(sheet, n, rec, 2),
         widths,
     );
-    let Outcome::Typed(t) = defined else {
+    let Outcome::Sound(t) = defined else {
         return defined;
     };
     let inner = with_name(scope, names, t);
@@ -394,7 +394,7 @@ fn of_let(
         word(sheet, n, rec, 3),
         widths,
     );
-    let Outcome::Typed(u) = body else {
+    let Outcome::Sound(u) = body else {
         return body;
     };
     note(sheet, n, table, rec, u, widths)
@@ -409,8 +409,8 @@ fn of_feedback(
     rec: usize,
     widths: &mut [u8; 4096],
 ) -> Outcome
-    requires { ⌜ Ready (now sheet) n (now table) (now scope) names rec (now widths) × (kindAt (now sheet) rec ≡ expression feedback) ⌝ }
-    ensures { λ r. ⌜ Done (now (sheet .entry)) (scopeOf names (now (scope .entry))) (treeAt (now (sheet .entry)) rec) r (now (widths .entry)) (now (widths .exit)) ⌝ }
+    requires { ⌜ Judging (now sheet) n (now table) (now scope) names rec (now widths) × (kindAt (now sheet) rec ≡ expression feedback) ⌝ }
+    ensures { λ r. ⌜ Judged (now (sheet .entry)) (scopeOf names (now (scope .entry))) (treeAt (now (sheet .entry)) rec) r (now (widths .entry)) (now (widths .exit)) ⌝ }
 {
     let t = word(sheet, n, rec, 2);
     let inner = with_name(scope, names, t);
@@ -423,7 +423,7 @@ fn of_feedback(
         word(sheet, n, rec, 3),
         widths,
     );
-    let Outcome::Typed(d) = defined else {
+    let Outcome::Sound(d) = defined else {
         return defined;
     };
     let body = judge(
@@ -435,7 +435,7 @@ fn of_feedback(
         word(sheet, n, rec, 4),
         widths,
     );
-    let Outcome::Typed(u) = body else {
+    let Outcome::Sound(u) = body else {
         return body;
     };
     same_type(sheet, n, table, rec, d, t, u, widths)
@@ -450,8 +450,8 @@ fn of_if(
     rec: usize,
     widths: &mut [u8; 4096],
 ) -> Outcome
-    requires { ⌜ Ready (now sheet) n (now table) (now scope) names rec (now widths) × (kindAt (now sheet) rec ≡ expression ifMatches) ⌝ }
-    ensures { λ r. ⌜ Done (now (sheet .entry)) (scopeOf names (now (scope .entry))) (treeAt (now (sheet .entry)) rec) r (now (widths .entry)) (now (widths .exit)) ⌝ }
+    requires { ⌜ Judging (now sheet) n (now table) (now scope) names rec (now widths) × (kindAt (now sheet) rec ≡ expression ifMatches) ⌝ }
+    ensures { λ r. ⌜ Judged (now (sheet .entry)) (scopeOf names (now (scope .entry))) (treeAt (now (sheet .entry)) rec) r (now (widths .entry)) (now (widths .exit)) ⌝ }
 {
     let tested = judge(
         sheet,
@@ -462,11 +462,11 @@ fn of_if(
         word(sheet, n, rec, 2),
         widths,
     );
-    let Outcome::Typed(t) = tested else {
+    let Outcome::Sound(t) = tested else {
         return tested;
     };
     let matched = pattern_type(sheet, n, rec, word(sheet, n, rec, 5), t);
-    let Outcome::Typed(_) = matched else {
+    let Outcome::Sound(_) = matched else {
         return matched;
     };
     let then = judge(
@@ -478,7 +478,7 @@ fn of_if(
         word(sheet, n, rec, 3),
         widths,
     );
-    let Outcome::Typed(u) = then else {
+    let Outcome::Sound(u) = then else {
         return then;
     };
     let otherwise = judge(
@@ -490,7 +490,7 @@ fn of_if(
         word(sheet, n, rec, 4),
         widths,
     );
-    let Outcome::Typed(v) = otherwise else {
+    let Outcome::Sound(v) = otherwise else {
         return otherwise;
     };
     same_type(sheet, n, table, rec, u, v, u, widths)
@@ -505,8 +505,8 @@ fn of_delay(
     rec: usize,
     widths: &mut [u8; 4096],
 ) -> Outcome
-    requires { ⌜ Ready (now sheet) n (now table) (now scope) names rec (now widths) × (kindAt (now sheet) rec ≡ expression delay) ⌝ }
-    ensures { λ r. ⌜ Done (now (sheet .entry)) (scopeOf names (now (scope .entry))) (treeAt (now (sheet .entry)) rec) r (now (widths .entry)) (now (widths .exit)) ⌝ }
+    requires { ⌜ Judging (now sheet) n (now table) (now scope) names rec (now widths) × (kindAt (now sheet) rec ≡ expression delay) ⌝ }
+    ensures { λ r. ⌜ Judged (now (sheet .entry)) (scopeOf names (now (scope .entry))) (treeAt (now (sheet .entry)) rec) r (now (widths .entry)) (now (widths .exit)) ⌝ }
 {
     let delayed = judge(
         sheet,
@@ -517,12 +517,12 @@ fn of_delay(
         word(sheet, n, rec, 4),
         widths,
     );
-    let Outcome::Typed(u) = delayed else {
+    let Outcome::Sound(u) = delayed else {
         return delayed;
     };
     let t = word(sheet, n, rec, 2);
     let fit = leaves_type(sheet, n, table, rec, t, word(sheet, n, rec, 3));
-    let Outcome::Typed(_) = fit else {
+    let Outcome::Sound(_) = fit else {
         return fit;
     };
     same_type(sheet, n, table, rec, u, t, t, widths)

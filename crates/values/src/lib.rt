@@ -7,10 +7,10 @@ ghost use Rattle.records.specs.Trees.{chain};
 ghost use Rattle.records.specs.Decoding.{leafValues};
 ghost use Rattle.behaviour.specs.Delays.{assigned, putAll, enter};
 ghost use mathlib.Core.List.{List, _++_};
-ghost use Rattle.meaning.specs.Matching.{constructorAnswer, pairAnswer, chainAnswer};
+ghost use Rattle.meaning.specs.Matching.{constructorDecision, pairDecision, chainDecision};
 ghost use Rattle.values.specs.Chained.{Chained};
-ghost use Rattle.values.specs.Answers.{answerOf, Agrees};
-ghost use Rattle.values.specs.Matchings.{Matched, MatchesAll, MatchesOne, Chosen};
+ghost use Rattle.values.specs.Answers.{decisionOf, Agrees};
+ghost use Rattle.values.specs.Matchings.{Matching, MatchedAll, MatchedOne, Chosen};
 ghost use Rattle.values.specs.Slots.{slot, entered};
 ghost use Rattle.meaning.specs.Evaluation.{choose};
 ghost use Rattle.meaning.specs.Undecided.{undefinedLeaves};
@@ -137,7 +137,7 @@ pub enum Match {
 
 // The answer of constructor k on a leaf.
 fn on_leaf(k: usize, leaf: u8) -> Match
-    ensures { λ r. ⌜ answerOf r ≡ constructorAnswer k leaf ⌝ }
+    ensures { λ r. ⌜ decisionOf r ≡ constructorDecision k leaf ⌝ }
 {
     if leaf == 0 {
         return Match::Undecided;
@@ -150,7 +150,7 @@ fn on_leaf(k: usize, leaf: u8) -> Match
 
 // The answer of a pair pattern, from those of its parts.
 fn both(a: Match, b: Match) -> Match
-    ensures { λ r. ⌜ answerOf r ≡ pairAnswer (answerOf a) (answerOf b) ⌝ }
+    ensures { λ r. ⌜ decisionOf r ≡ pairDecision (decisionOf a) (decisionOf b) ⌝ }
 {
     match a {
         Match::No => Match::No,
@@ -165,7 +165,7 @@ fn both(a: Match, b: Match) -> Match
 
 // The answer of a chain, from that of its first alternatives and that of the next one.
 fn either(a: Match, b: Match) -> Match
-    ensures { λ r. ⌜ answerOf r ≡ chainAnswer (answerOf a) (answerOf b) ⌝ }
+    ensures { λ r. ⌜ decisionOf r ≡ chainDecision (decisionOf a) (decisionOf b) ⌝ }
 {
     match a {
         Match::Yes => Match::Yes,
@@ -180,8 +180,8 @@ fn either(a: Match, b: Match) -> Match
 
 // Matches a value against the alternatives from p.
 pub fn match_all(sheet: &[u8], n: usize, widths: &[u8; 4096], p: usize, value: &[u8]) -> Match
-    requires { ⌜ Matched (now sheet) n (now widths) p (now value) ⌝ }
-    ensures { λ r. ⌜ MatchesAll (now (sheet .entry)) p (now (value .entry)) r ⌝ }
+    requires { ⌜ Matching (now sheet) n (now widths) p (now value) ⌝ }
+    ensures { λ r. ⌜ MatchedAll (now (sheet .entry)) p (now (value .entry)) r ⌝ }
 {
     let mut answer = match_one(sheet, n, widths, p, value);
     let mut at = word(sheet, n, p, 1);
@@ -194,8 +194,8 @@ pub fn match_all(sheet: &[u8], n: usize, widths: &[u8; 4096], p: usize, value: &
 
 // Matches a value against the alternative at p, a pair pattern part by part.
 fn match_one(sheet: &[u8], n: usize, widths: &[u8; 4096], p: usize, value: &[u8]) -> Match
-    requires { ⌜ Matched (now sheet) n (now widths) p (now value) ⌝ }
-    ensures { λ r. ⌜ MatchesOne (now (sheet .entry)) p (now (value .entry)) r ⌝ }
+    requires { ⌜ Matching (now sheet) n (now widths) p (now value) ⌝ }
+    ensures { λ r. ⌜ MatchedOne (now (sheet .entry)) p (now (value .entry)) r ⌝ }
 {
     let kind = word(sheet, n, p, 0);
     if kind == 48 {
@@ -214,7 +214,7 @@ fn match_one(sheet: &[u8], n: usize, widths: &[u8; 4096], p: usize, value: &[u8]
 // The value of an IF by the answer of its match, where the then value is in `out`.
 fn by_answer(answer: Match, otherwise: &[u8], out: &mut [u8])
     requires { ⌜ length (now otherwise) ≡ length (now out) ⌝ }
-    ensures { λ _. ⌜ now (out .exit) ≡ choose undefinedLeaves (answerOf answer) (now (out .entry)) (now (otherwise .entry)) ⌝ }
+    ensures { λ _. ⌜ now (out .exit) ≡ choose undefinedLeaves (decisionOf answer) (now (out .entry)) (now (otherwise .entry)) ⌝ }
 {
     match answer {
         Match::Yes => return,
@@ -233,7 +233,7 @@ pub fn choose_value(
     otherwise: &[u8],
     out: &mut [u8],
 )
-    requires { ⌜ Matched (now sheet) n (now widths) p (now tested) × (length (now otherwise) ≡ length (now out)) ⌝ }
+    requires { ⌜ Matching (now sheet) n (now widths) p (now tested) × (length (now otherwise) ≡ length (now out)) ⌝ }
     ensures { λ _. ⌜ Chosen (now (sheet .entry)) p (now (tested .entry)) (now (otherwise .entry)) (now (out .entry)) (now (out .exit)) ⌝ }
 {
     by_answer(match_all(sheet, n, widths, p, tested), otherwise, out);

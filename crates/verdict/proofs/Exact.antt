@@ -13,26 +13,26 @@ use Rattle.records.specs.Decoding.{expressionOf}
 use Rattle.records.proofs.TypeRecords.{input-type, same-type-same-record}
 use Rattle.records.proofs.Grown.{grown-circuit}
 use Rattle.records.proofs.Decoding.{decodes}
-use Rattle.typing.specs.Judgements.{judgements, typeOf, firstFailing}
+use Rattle.typing.specs.Judgements.{judgements, typeRecordOf, firstFailing}
 use Rattle.structure.specs.Passes.{Passes}
 use Rattle.verdict.specs.Verdict.{inputs, refusing, byTypes, verdict}
 use Rattle.verdict.specs.Promises.{WellTyped, Exact}
 use Rattle.verdict.specs.declared.Verdict.the-variants.{Accepted, IllTyped}
 use Rattle.structure.proofs.Passes.{written, types-fit}
 use Rattle.verdict.proofs.Places.{accepted-by-types}
-use Rattle.typing.proofs.Judged.{Judged, Passed, passed-judged, judged-passed}
+use Rattle.typing.proofs.Judged.{RulesHold, Passed, passed-judged, judged-passed}
 use Rattle.typing.specs.Judging.{Context}
 use Rattle.typing.proofs.TypeRecordsOf.{type-of-record}
 use Rattle.typing.proofs.Typings.{judged-typed, typed-judged}
 
 -- the type rules accept exactly where no judgement of the circuit fails, with the type of the circuit
 pub types-accept : (s : List ℕ) (t : ℕ)
-    → byTypes s ≡ Accepted t ↔ (Passed s (inputs s) (circuit s) × (typeOf s (inputs s) (circuit s) ≡ t))
+    → byTypes s ≡ Accepted t ↔ (Passed s (inputs s) (circuit s) × (typeRecordOf s (inputs s) (circuit s) ≡ t))
 unfolding byTypes
 types-accept s t = (go (firstFailing s (judgements s (inputs s) (circuit s))), λ p. rw (p .0, p .1))
   where
-    go : (o : Option ℕ) → refusing o IllTyped (Accepted (typeOf s (inputs s) (circuit s))) ≡ Accepted t
-        → (o ≡ none) × (typeOf s (inputs s) (circuit s) ≡ t)
+    go : (o : Option ℕ) → refusing o IllTyped (Accepted (typeRecordOf s (inputs s) (circuit s))) ≡ Accepted t
+        → (o ≡ none) × (typeRecordOf s (inputs s) (circuit s) ≡ t)
     go none e = (refl, cc)
     go (some r) e = (cc, cc)
 
@@ -42,7 +42,7 @@ input-context p = (input-type (written p), tt)
 
 -- what a sheet that passes has where it is accepted
 pub accepted-judged : {s : List ℕ} (t : ℕ) → Passes s → verdict s ≡ Accepted t
-    → Judged s (inputs s) (circuit s) × (typeOf s (inputs s) (circuit s) ≡ t)
+    → RulesHold s (inputs s) (circuit s) × (typeRecordOf s (inputs s) (circuit s) ≡ t)
 accepted-judged {s} t p e =
     let f = types-accept s t .0 (accepted-by-types s t .0 e .1) in (passed-judged s (inputs s) (circuit s) (f .0), f .1)
 
@@ -76,5 +76,5 @@ exact s t = (there, λ p. back (p .0) (p .1))
         let same : expressionOf s (circuit s) ≡ e = let f = decodes w in cc in
         let j = typed-judged w fit (inputs s) (circuit s) g c (typeAt s t) (rw same h) in
         let found = type-of-record w (inputs s) (circuit s) g c (j .0) in
-        let u = same-type-same-record w fit (typeOf s (inputs s) (circuit s)) t found r (j .1) in
+        let u = same-type-same-record w fit (typeRecordOf s (inputs s) (circuit s)) t found r (j .1) in
         accepted-by-types s t .1 (p, types-accept s t .1 (judged-passed s (inputs s) (circuit s) (j .0), u))

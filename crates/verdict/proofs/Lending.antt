@@ -15,9 +15,9 @@ use Rattle.structure.specs.Passes.{Passes}
 use Rattle.structure.specs.Rules.{wrongLength, wrongHeader}
 use Rattle.structure.specs.LeafTable.{Counts}
 use Rattle.typing.specs.Judging.{noted}
-use Rattle.verdict.specs.Stages.{Measured}
+use Rattle.verdict.specs.Stages.{CheckingRecords}
 use Rattle.verdict.specs.Verdict.{inputs, verdict, unless, byRecords, Tabled}
-use Rattle.verdict.specs.Widths.{PatternsFrom, Widths, Lent, accepts}
+use Rattle.verdict.specs.Widths.{PatternsFrom, Widths, Checked, accepts}
 use Rattle.verdict.specs.declared.Verdict.{Verdict}
 use Rattle.verdict.specs.declared.Verdict.the-variants.{
   Accepted,
@@ -33,7 +33,7 @@ use Rattle.verdict.proofs.Exact.{exact}
 use Rattle.verdict.proofs.Widths.{judged-widths}
 
 module _ (s before : List ℕ) where
-  wrong-lent : wrongLength s ≡ true → Lent s WrongLength before before
+  wrong-lent : wrongLength s ≡ true → Checked s WrongLength before before
   unfolding verdict
   wrong-lent e = record {
     answered = rw e;
@@ -41,15 +41,15 @@ module _ (s before : List ℕ) where
     accepted = λ q. let z : _≡_ {A = ℕ} 0 1 = cc in absurd (omega arith);
   }
 
-  pub short-lent : length s < 12 → Lent s WrongLength before before
+  pub short-lent : length s < 12 → Checked s WrongLength before before
   unfolding wrongLength
   short-lent h = wrong-lent (rw (lt-ltb (length s) 12 h))
 
-  pub long-lent : 49152 < length s → Lent s WrongLength before before
+  pub long-lent : 49152 < length s → Checked s WrongLength before before
   unfolding wrongLength
   long-lent h = wrong-lent (rw (lt-ltb 49152 (length s) h) (or-true (ltb (length s) 12)))
 
-  pub uneven-lent : (12 * (length s / 12) ≡ length s → ⊥) → Lent s WrongLength before before
+  pub uneven-lent : (12 * (length s / 12) ≡ length s → ⊥) → Checked s WrongLength before before
   unfolding wrongLength
   uneven-lent f =
       let z : length s % 12 ≡ 0 → ⊥ = λ e. f (omega arith) in
@@ -63,7 +63,7 @@ module _ (s : List ℕ) (low : 12 ≤ length s) (high : length s ≤ 49152) (eve
       let z : length s % 12 ≡ 0 = omega arith in
       rw (le-ltb (length s) 12 low, le-ltb 49152 (length s) high, eq-eqb (length s % 12) 0 z)
 
-  pub measured : Measured s (length s / 12)
+  pub measured : CheckingRecords s (length s / 12)
   unfolding count
   measured = record {
     sized = record { counted = refl; whole = sym even; some = omega arith; few = omega arith };
@@ -77,7 +77,7 @@ module _ (s : List ℕ) (low : 12 ≤ length s) (high : length s ≤ 49152) (eve
 
   module _ (answer : Verdict) (after : List ℕ)
       (t : Tabled s (length s / 12) (unless (wrongHeader s) WrongHeader (byRecords s)) answer after) where
-    pub refused-lent : (before : List ℕ) (b : Bool) → b ≡ accepts answer → not b ≡ true → Lent s answer before before
+    pub refused-lent : (before : List ℕ) (b : Bool) → b ≡ accepts answer → not b ≡ true → Checked s answer before before
     refused-lent before b e f =
         let z : accepts answer ≡ false = sym e ∙ not-so b f in
         record {
@@ -122,7 +122,7 @@ module _ (s : List ℕ) (low : 12 ≤ length s) (high : length s ≤ 49152) (eve
             rw (n .2) (judged-widths s (length s / 12) (n .0) accepted-passes (measured .sized .counted) (n .1)),
           )
 
-      pub accepted-lent : (before table : List ℕ) → Widths s table → Lent s answer before table
+      pub accepted-lent : (before table : List ℕ) → Widths s table → Checked s answer before table
       accepted-lent before table w = record {
         answered = stages answer after t;
         refused = λ q. let y : _≡_ {A = Bool} true false = sym is-so ∙ q in let x : _≡_ {A = ℕ} 0 1 = cc in absurd (omega arith);

@@ -45,7 +45,7 @@ use Rattle.records.proofs.Table.{askOfKind, kind-of-sort}
 use Rattle.records.proofs.Asked.{part-of-kind, root-is}
 use Rattle.records.proofs.Trees.{from-above, tree-of}
 use Rattle.records.proofs.Distinct.{circuit-distinct}
-use Rattle.typing.specs.Judgements.{typeOf}
+use Rattle.typing.specs.Judgements.{typeRecordOf}
 use Rattle.typing.specs.Judging.{width, noted}
 use Rattle.verdict.specs.Verdict.{inputs}
 use Rattle.verdict.specs.Scopes.{
@@ -172,9 +172,9 @@ scope-noting {s} w (of-second {Γ = Γ} e c) =
 scope-noting {s} w (let-defining {q = q} {Γ = Γ} e c) =
     part-noting w (scope-noting w c) letIn e 2 refl (unfold askOfKind in refl) Γ
     (λ n m. List·Memᴰ·tail
-    (Memᴰ·append-left (notes s (typeOf s Γ (treeAt s (wordA s q)) ∷ Γ) (treeAt s (wordB s q))) m))
+    (Memᴰ·append-left (notes s (typeRecordOf s Γ (treeAt s (wordA s q)) ∷ Γ) (treeAt s (wordB s q))) m))
 scope-noting {s} w (let-body {q = q} {Γ = Γ} e c) =
-    part-noting w (scope-noting w c) letIn e 3 refl (unfold askOfKind in refl) (typeOf s Γ (treeAt s (wordA s q)) ∷ Γ)
+    part-noting w (scope-noting w c) letIn e 3 refl (unfold askOfKind in refl) (typeRecordOf s Γ (treeAt s (wordA s q)) ∷ Γ)
     (λ n m. List·Memᴰ·tail (Memᴰ·append-right (notes s Γ (treeAt s (wordA s q))) m))
 scope-noting {s} w (feedback-defining {q = q} {Γ = Γ} e c) =
     part-noting w (scope-noting w c) feedback e 3 refl (unfold askOfKind in refl) (wordA s q ∷ Γ)

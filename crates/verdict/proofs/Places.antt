@@ -11,7 +11,7 @@ use Rattle.records.specs.Words.{count}
 use Rattle.records.specs.Trees.{circuit}
 use Rattle.structure.specs.Lowest.{lowest}
 use Rattle.structure.specs.Rules.{wrongLength, wrongHeader, wrongRecord, wrongNaming, wrongType, tooDeep}
-use Rattle.typing.specs.Judgements.{judgements, typeOf, firstFailing}
+use Rattle.typing.specs.Judgements.{judgements, typeRecordOf, firstFailing}
 use Rattle.structure.specs.Passes.{Passes}
 use Rattle.verdict.specs.Verdict.{unless, refusing, inputs, byTypes, byRecords, verdict}
 use Rattle.verdict.specs.Promises.{Says, Places}
@@ -42,7 +42,7 @@ searched P none f v found nothing = nothing refl
 types-say : (s : List ℕ) → Passes s → Says s (byTypes s)
 unfolding byTypes
 types-say s p =
-    searched (Says s) (firstFailing s (judgements s (inputs s) (circuit s))) IllTyped (Accepted (typeOf s (inputs s) (circuit s)))
+    searched (Says s) (firstFailing s (judgements s (inputs s) (circuit s))) IllTyped (Accepted (typeRecordOf s (inputs s) (circuit s)))
     (λ r e. (p, first-failure s (judgements s (inputs s) (circuit s)) r e))
     (λ e. (p, none-fails s (judgements s (inputs s) (circuit s)) e, refl))
 

@@ -19,7 +19,7 @@ use Rattle.records.proofs.Trees.{from-above, tree-of}
 use Rattle.structure.specs.Passes.{Passes}
 use Rattle.structure.specs.Rules.{wrongLength}
 use Rattle.structure.proofs.Passes.{written, length-fits}
-use Rattle.typing.specs.Judgements.{Judgement, Rule, leavesFit, inScope, pairDeclared, pairType, sameType, patternHas, holds, judge, judgements, typeOf, firstFailing}
+use Rattle.typing.specs.Judgements.{Judgement, Rule, leavesFit, inScope, pairDeclared, pairType, sameType, patternHas, holds, judge, judgements, typeRecordOf, firstFailing}
 use Rattle.verdict.specs.Promises.{Says}
 use Rattle.verdict.specs.Verdict.{inputs, place, verdict, byTypes, refusing}
 use Rattle.verdict.specs.declared.Verdict.{Verdict}
@@ -82,31 +82,31 @@ below-tree {s} w = from-above n (λ r. sortAt s r ≡ expressions → (Γ : List
         go tuple e =
             let A = treeAt s (wordA s r) in
             let B = treeAt s (wordB s r) in
-            let last = pairDeclared (typeOf s Γ A) (typeOf s Γ B) in
+            let last = pairDeclared (typeRecordOf s Γ A) (typeRecordOf s Γ B) in
             rw (tree-of w r h (expression tuple) e)
             (below-both s n (judgements s Γ A) (judgements s Γ B ++ judge r last) (at (expression tuple) e 2 refl (unfold askOfKind in refl) Γ)
             (below-both s n (judgements s Γ B) (judge r last) (at (expression tuple) e 3 refl (unfold askOfKind in refl) Γ) (below-one s n r last h)))
         go first e =
             let A = treeAt s (wordA s r) in
-            let last = pairType (typeOf s Γ A) in
+            let last = pairType (typeRecordOf s Γ A) in
             rw (tree-of w r h (expression first) e)
             (below-both s n (judgements s Γ A) (judge r last) (at (expression first) e 2 refl (unfold askOfKind in refl) Γ) (below-one s n r last h))
         go second e =
             let A = treeAt s (wordA s r) in
-            let last = pairType (typeOf s Γ A) in
+            let last = pairType (typeRecordOf s Γ A) in
             rw (tree-of w r h (expression second) e)
             (below-both s n (judgements s Γ A) (judge r last) (at (expression second) e 2 refl (unfold askOfKind in refl) Γ) (below-one s n r last h))
         go letIn e =
             let A = treeAt s (wordA s r) in
             let B = treeAt s (wordB s r) in
             rw (tree-of w r h (expression letIn) e)
-            (below-both s n (judgements s Γ A) (judgements s (typeOf s Γ A ∷ Γ) B) (at (expression letIn) e 2 refl (unfold askOfKind in refl) Γ)
-            (at (expression letIn) e 3 refl (unfold askOfKind in refl) (typeOf s Γ A ∷ Γ)))
+            (below-both s n (judgements s Γ A) (judgements s (typeRecordOf s Γ A ∷ Γ) B) (at (expression letIn) e 2 refl (unfold askOfKind in refl) Γ)
+            (at (expression letIn) e 3 refl (unfold askOfKind in refl) (typeRecordOf s Γ A ∷ Γ)))
         go feedback e =
             let A = treeAt s (wordB s r) in
             let B = treeAt s (wordC s r) in
             let Δ = wordA s r ∷ Γ in
-            let last = sameType (typeOf s Δ A) (wordA s r) in
+            let last = sameType (typeRecordOf s Δ A) (wordA s r) in
             rw (tree-of w r h (expression feedback) e)
             (below-both s n (judgements s Δ A) (judgements s Δ B ++ judge r last) (at (expression feedback) e 3 refl (unfold askOfKind in refl) Δ)
             (below-both s n (judgements s Δ B) (judge r last) (at (expression feedback) e 4 refl (unfold askOfKind in refl) Δ) (below-one s n r last h)))
@@ -114,8 +114,8 @@ below-tree {s} w = from-above n (λ r. sortAt s r ≡ expressions → (Γ : List
             let A = treeAt s (wordA s r) in
             let B = treeAt s (wordB s r) in
             let C = treeAt s (wordC s r) in
-            let matching = patternHas (typeOf s Γ A) (alternatives s (wordD s r)) in
-            let last = sameType (typeOf s Γ B) (typeOf s Γ C) in
+            let matching = patternHas (typeRecordOf s Γ A) (alternatives s (wordD s r)) in
+            let last = sameType (typeRecordOf s Γ B) (typeRecordOf s Γ C) in
             rw (tree-of w r h (expression ifMatches) e)
             (below-both s n (judgements s Γ A) (judge r matching ++ (judgements s Γ B ++ (judgements s Γ C ++ judge r last)))
             (at (expression ifMatches) e 2 refl (unfold askOfKind in refl) Γ)
@@ -127,7 +127,7 @@ below-tree {s} w = from-above n (λ r. sortAt s r ≡ expressions → (Γ : List
         go delay e =
             let A = treeAt s (wordC s r) in
             let fitting = leavesFit (wordA s r) (chain s (wordB s r)) in
-            let last = sameType (typeOf s Γ A) (wordA s r) in
+            let last = sameType (typeRecordOf s Γ A) (wordA s r) in
             rw (tree-of w r h (expression delay) e)
             (below-both s n (judgements s Γ A) (judge r fitting ++ judge r last)
             (at (expression delay) e 4 refl (unfold askOfKind in refl) Γ)
@@ -142,7 +142,7 @@ unfolding byTypes circuit
 rule-place s r p e =
     let w = written p in
     let i = root-is w in
-    let f = failing-at (firstFailing s (judgements s (inputs s) (circuit s))) (typeOf s (inputs s) (circuit s)) r e in
+    let f = failing-at (firstFailing s (judgements s (inputs s) (circuit s))) (typeRecordOf s (inputs s) (circuit s)) r e in
     rw f at (below-tree w (word s 0 3) (i .1) (i .2) (inputs s))
 
 -- the place of each verdict is below the count, or 0

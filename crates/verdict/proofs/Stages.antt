@@ -26,12 +26,12 @@ use Rattle.structure.specs.declared.Found.the-variants.{At, Nothing}
 use Rattle.structure.proofs.Passes.{written, written-by, once-by, named-once}
 use Rattle.structure.proofs.Depths.{depth-of-root}
 use Rattle.structure.proofs.DepthCounts.{depth-of-header, nesting-of-header}
-use Rattle.typing.specs.Judgements.{judgements, typeOf, firstFailing}
-use Rattle.typing.specs.Judging.{Ground, Ready, Done, Context, scopeOf, noted}
-use Rattle.verdict.specs.Stages.{Measured, Recorded, NamedAll, Fitted}
-use Rattle.verdict.specs.Verdict.{inputs, refusing, unless, byTypes, byDepths, byTypeRecords, byNamings, byRecords, Checked, Tabled, code}
+use Rattle.typing.specs.Judgements.{judgements, typeRecordOf, firstFailing}
+use Rattle.typing.specs.Judging.{Ground, Judging, Judged, Context, scopeOf, noted}
+use Rattle.verdict.specs.Stages.{CheckingRecords, CheckingNamings, CheckingTypes, CheckingDepths}
+use Rattle.verdict.specs.Verdict.{inputs, refusing, unless, byTypes, byDepths, byTypeRecords, byNamings, byRecords, RulesChecked, Tabled, code}
 use Rattle.typing.specs.declared.Outcome.{Outcome}
-use Rattle.typing.specs.declared.Outcome.the-variants.{Typed, Fault}
+use Rattle.typing.specs.declared.Outcome.the-variants.{Sound, Fault}
 use Rattle.verdict.specs.declared.Verdict.{Verdict}
 use Rattle.verdict.specs.declared.Verdict.the-variants.{
   Accepted,
@@ -47,7 +47,7 @@ use Rattle.typing.proofs.Outcomes.{Passed, passed, faulted}
 -- the type rules
 module _ (s : List ℕ) (n : ℕ) (table : List ℕ) (g : Ground s n table) (stack widths : List ℕ) (x y : ℕ) (ex : x ≡ word s 0 2)
     (ey : y ≡ word s 0 3) (scope : scopeOf 1 stack ≡ x ∷ []) where
-  pub root-ready : length stack ≡ 64 → length widths ≡ 4096 → Ready s n table stack 1 y widths
+  pub root-ready : length stack ≡ 64 → length widths ≡ 4096 → Judging s n table stack 1 y widths
   root-ready wide long =
       let w = written (g .passes) in
       let r = root-is w in
@@ -64,20 +64,20 @@ module _ (s : List ℕ) (n : ℕ) (table : List ℕ) (g : Ground s n table) (sta
       }
 
   -- judging the root is judging the circuit
-  the-circuit : (answer : Outcome) (before after : List ℕ) → Done s (scopeOf 1 stack) (treeAt s y) answer before after
-      → Done s (inputs s) (circuit s) answer before after
+  the-circuit : (answer : Outcome) (before after : List ℕ) → Judged s (scopeOf 1 stack) (treeAt s y) answer before after
+      → Judged s (inputs s) (circuit s) answer before after
   unfolding circuit
   the-circuit answer before after d = rw (scope, ex, ey) at d
 
-  pub rules-accept : (answer : Outcome) (t : ℕ) (before after : List ℕ) → Done s (scopeOf 1 stack) (treeAt s y) answer before after
-      → answer ≡ Typed t → Checked s (byTypes s) (Accepted t) before after
+  pub rules-accept : (answer : Outcome) (t : ℕ) (before after : List ℕ) → Judged s (scopeOf 1 stack) (treeAt s y) answer before after
+      → answer ≡ Sound t → RulesChecked s (byTypes s) (Accepted t) before after
   unfolding byTypes
   rules-accept answer t before after d e =
       let p = passed s (inputs s) (circuit s) answer before after t (the-circuit answer before after d) e in
       record { answered = rw (p .none-fails, p .typed); long = p .long; notes = λ u q. p .notes }
 
-  pub rules-refuse : (answer : Outcome) (r : ℕ) (before after : List ℕ) → Done s (scopeOf 1 stack) (treeAt s y) answer before after
-      → answer ≡ Fault r → Checked s (byTypes s) (IllTyped r) before after
+  pub rules-refuse : (answer : Outcome) (r : ℕ) (before after : List ℕ) → Judged s (scopeOf 1 stack) (treeAt s y) answer before after
+      → answer ≡ Fault r → RulesChecked s (byTypes s) (IllTyped r) before after
   unfolding byTypes
   rules-refuse answer r before after d e =
       let c = the-circuit answer before after d in
@@ -89,8 +89,8 @@ module _ (s : List ℕ) (n : ℕ) (table : List ℕ) (g : Ground s n table) (sta
       }
 
 -- the depths
-module _ (s : List ℕ) (n : ℕ) (f : Fitted s n) where
-  abbrev recorded : Recorded s n
+module _ (s : List ℕ) (n : ℕ) (f : CheckingDepths s n) where
+  abbrev recorded : CheckingNamings s n
   recorded = f .named .recorded
 
   fitted-written : Written s
@@ -128,22 +128,22 @@ searched s n p o q c e f = rw (← c) (sym e ∙ f)
 
 module _ (s : List ℕ) (n : ℕ) where
   pub checked-refused : (v answer : Verdict) (before after : List ℕ) → answer ≡ v → length after ≡ 4096 → ((t : ℕ) → answer ≡ Accepted t → ⊥)
-      → Checked s v answer before after
+      → RulesChecked s v answer before after
   checked-refused v answer before after e l f = record { answered = e; long = l; notes = λ t q. absurd (f t q) }
 
   pub tabled-refused : (v answer : Verdict) (after : List ℕ) → answer ≡ v → ((t : ℕ) → answer ≡ Accepted t → ⊥) → Tabled s n v answer after
   tabled-refused v answer after e f = record { answered = e; notes = λ t q. absurd (f t q) }
 
   -- the verdict is the next stage's where the search found nothing
-  pub checked-on : (o : Option ℕ) (g : ℕ → Verdict) (v answer : Verdict) (before after : List ℕ) → o ≡ none → Checked s v answer before after
-      → Checked s (refusing o g v) answer before after
+  pub checked-on : (o : Option ℕ) (g : ℕ → Verdict) (v answer : Verdict) (before after : List ℕ) → o ≡ none → RulesChecked s v answer before after
+      → RulesChecked s (refusing o g v) answer before after
   checked-on o g v answer before after e c = rw e c
 
   pub tabled-on : (o : Option ℕ) (g : ℕ → Verdict) (v answer : Verdict) (after : List ℕ) → o ≡ none → Tabled s n v answer after
       → Tabled s n (refusing o g v) answer after
   tabled-on o g v answer after e c = rw e c
 
-  pub tabled-by : (table : List ℕ) (v answer : Verdict) (after : List ℕ) → Counts s n table → Checked s v answer table after → Tabled s n v answer after
+  pub tabled-by : (table : List ℕ) (v answer : Verdict) (after : List ℕ) → Counts s n table → RulesChecked s v answer table after → Tabled s n v answer after
   tabled-by table v answer after counts c = record { answered = c .answered; notes = λ t q. (table, counts, c .notes t q) }
 
 not-accepted : (v : Verdict) → 0 < code v → (t : ℕ) → v ≡ Accepted t → ⊥
@@ -158,7 +158,7 @@ module _ (s : List ℕ) (n : ℕ) (c : n ≡ count s) (p : ℕ → Bool) (o : Fo
     found-answer : g r ≡ refusing (lowest p (count s)) g v
     found-answer = rw (searched s n p o (some r) c e (ap found q))
 
-    pub found-checked : (before after : List ℕ) → length after ≡ 4096 → Checked s (refusing (lowest p (count s)) g v) (g r) before after
+    pub found-checked : (before after : List ℕ) → length after ≡ 4096 → RulesChecked s (refusing (lowest p (count s)) g v) (g r) before after
     found-checked before after l = checked-refused s n _ (g r) before after found-answer l (not-accepted (g r) h)
 
     pub found-tabled : (after : List ℕ) → Tabled s n (refusing (lowest p (count s)) g v) (g r) after

@@ -34,7 +34,7 @@ use Rattle.records.specs.Trees.{
   delayOf,
 }
 use Rattle.records.specs.Held.{expressionRecords, Distinct}
-use Rattle.typing.specs.Judgements.{typeOf}
+use Rattle.typing.specs.Judgements.{typeRecordOf}
 use Rattle.typing.specs.Judging.{width, noted}
 
 -- a record and the width stored there
@@ -53,7 +53,7 @@ notes s Γ (nameOf r k) = note r (width s Γ (nameOf r k)) ∷ []
 notes s Γ (tupleOf r a b) = note r (width s Γ (tupleOf r a b)) ∷ (notes s Γ a ++ notes s Γ b)
 notes s Γ (firstOf r a) = note r (width s Γ (firstOf r a)) ∷ notes s Γ a
 notes s Γ (secondOf r a) = note r (width s Γ (secondOf r a)) ∷ notes s Γ a
-notes s Γ (letOf r a b) = note r (width s Γ (letOf r a b)) ∷ (notes s Γ a ++ notes s (typeOf s Γ a ∷ Γ) b)
+notes s Γ (letOf r a b) = note r (width s Γ (letOf r a b)) ∷ (notes s Γ a ++ notes s (typeRecordOf s Γ a ∷ Γ) b)
 notes s Γ (feedbackOf r t a b) =
     note r (width s Γ (feedbackOf r t a b)) ∷ (notes s (t ∷ Γ) a ++ notes s (t ∷ Γ) b)
 notes s Γ (ifOf r a p b c) = note r (width s Γ (ifOf r a p b c)) ∷ (notes s Γ a ++ (notes s Γ b ++ notes s Γ c))
@@ -159,7 +159,7 @@ noted-stored s Γ (firstOf r a) w = own-stores r (width s Γ (firstOf r a)) (not
 noted-stored s Γ (secondOf r a) w = own-stores r (width s Γ (secondOf r a)) (noted-stored s Γ a w)
 noted-stored s Γ (letOf r a b) w =
     own-stores r (width s Γ (letOf r a b))
-    (both-store (noted-stored s Γ a w) (noted-stored s (typeOf s Γ a ∷ Γ) b (noted s Γ a w)))
+    (both-store (noted-stored s Γ a w) (noted-stored s (typeRecordOf s Γ a ∷ Γ) b (noted s Γ a w)))
 noted-stored s Γ (feedbackOf r t a b) w =
     own-stores r (width s Γ (feedbackOf r t a b))
     (both-store (noted-stored s (t ∷ Γ) a w) (noted-stored s (t ∷ Γ) b (noted s (t ∷ Γ) a w)))

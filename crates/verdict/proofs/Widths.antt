@@ -25,7 +25,7 @@ use Rattle.records.specs.Kinds.{
   expressions,
   patterns,
   leafs,
-  none,
+  noSort,
   part,
   sortNumber,
   sameSort,
@@ -63,7 +63,7 @@ no-entry σ e = (go σ e, λ f. never-both (hasEntry σ) (rw f) e)
     go expressions e = refl
     go patterns e = refl
     go leafs e = refl
-    go none e = refl
+    go noSort e = refl
 
 -- a type record has at most 64 leaves
 few-of : {s : List ℕ} → Passes s → (t : ℕ) → TypeRecord s t → leaves (typeAt s t) ≤ 64

@@ -13,7 +13,7 @@ use Rattle.records.specs.Decoding.{decode}
 use Rattle.records.specs.Trees.{circuit}
 use Rattle.structure.specs.Lowest.{lowest}
 use Rattle.structure.specs.Rules.{wrongLength, wrongHeader, wrongRecord, wrongNaming, wrongType, tooDeep}
-use Rattle.typing.specs.Judgements.{Judgement, holds, judgements, typeOf}
+use Rattle.typing.specs.Judgements.{Judgement, holds, judgements, typeRecordOf}
 use Rattle.structure.specs.Passes.{Passes}
 use Rattle.verdict.specs.Verdict.{inputs, verdict}
 use Rattle.verdict.specs.declared.Verdict.{Verdict}
@@ -49,7 +49,7 @@ pub record FailsFirst (s : List ℕ) (js : List Judgement) (r : ℕ) : Type 0 wh
 -- what each verdict says of the sheet: its code applies at its place, at no place before, and no lower code applies
 abbrev pub Says : List ℕ → Verdict → Type 0
 Says s (Accepted t) =
-    Passes s × AllHold s (judgements s (inputs s) (circuit s)) × (t ≡ typeOf s (inputs s) (circuit s))
+    Passes s × AllHold s (judgements s (inputs s) (circuit s)) × (t ≡ typeRecordOf s (inputs s) (circuit s))
 Says s WrongLength = wrongLength s ≡ true
 Says s WrongHeader = (wrongLength s ≡ false) × (wrongHeader s ≡ true)
 Says s (WrongRecord r) = (wrongLength s ≡ false) × (wrongHeader s ≡ false) × LowestBreaking (wrongRecord s) (count s) r

@@ -7,7 +7,7 @@ use Rattle.records.specs.Words.{wordA, wordB, wordC}
 use Rattle.records.specs.Kinds.{tuple, first, second, letIn, feedback, ifMatches, delay, expression}
 use Rattle.records.specs.Says.{kindAt}
 use Rattle.records.specs.Trees.{treeAt}
-use Rattle.typing.specs.Judgements.{typeOf}
+use Rattle.typing.specs.Judgements.{typeRecordOf}
 use Rattle.verdict.specs.Verdict.{inputs}
 
 -- record q is an expression of the circuit, with the names of Γ in scope there: the root, or a part of such a record
@@ -19,7 +19,7 @@ pub data Scope (s : List ℕ) : ℕ → List ℕ → Type 0 where
   of-second : {q : ℕ} {Γ : List ℕ} → kindAt s q ≡ expression second → Scope s q Γ → Scope s (wordA s q) Γ
   let-defining : {q : ℕ} {Γ : List ℕ} → kindAt s q ≡ expression letIn → Scope s q Γ → Scope s (wordA s q) Γ
   let-body : {q : ℕ} {Γ : List ℕ}
-      → kindAt s q ≡ expression letIn → Scope s q Γ → Scope s (wordB s q) (typeOf s Γ (treeAt s (wordA s q)) ∷ Γ)
+      → kindAt s q ≡ expression letIn → Scope s q Γ → Scope s (wordB s q) (typeRecordOf s Γ (treeAt s (wordA s q)) ∷ Γ)
   feedback-defining : {q : ℕ} {Γ : List ℕ}
       → kindAt s q ≡ expression feedback → Scope s q Γ → Scope s (wordB s q) (wordA s q ∷ Γ)
   feedback-body : {q : ℕ} {Γ : List ℕ}

@@ -10,22 +10,22 @@ use Rattle.structure.specs.Lowest.{lowest}
 use Rattle.structure.specs.Rules.{wrongLength, wrongHeader, wrongRecord, wrongNaming, wrongType, tooDeep}
 
 -- not code 1
-pub record Measured (s : List ℕ) (n : ℕ) : Type 0 where
+pub record CheckingRecords (s : List ℕ) (n : ℕ) : Type 0 where
   pub sized : Sized s n
   pub length : wrongLength s ≡ false
 
 -- nor 2 and 3
-pub record Recorded (s : List ℕ) (n : ℕ) : Type 0 where
-  pub measured : Measured s n
+pub record CheckingNamings (s : List ℕ) (n : ℕ) : Type 0 where
+  pub measured : CheckingRecords s n
   pub header : wrongHeader s ≡ false
   pub records : lowest (wrongRecord s) (count s) ≡ none
 
 -- nor 4
-pub record NamedAll (s : List ℕ) (n : ℕ) : Type 0 where
-  pub recorded : Recorded s n
+pub record CheckingTypes (s : List ℕ) (n : ℕ) : Type 0 where
+  pub recorded : CheckingNamings s n
   pub namings : lowest (wrongNaming s) (count s) ≡ none
 
 -- nor 5
-pub record Fitted (s : List ℕ) (n : ℕ) : Type 0 where
-  pub named : NamedAll s n
+pub record CheckingDepths (s : List ℕ) (n : ℕ) : Type 0 where
+  pub named : CheckingTypes s n
   pub types : lowest (wrongType s) (count s) ≡ none

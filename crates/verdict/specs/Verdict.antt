@@ -11,7 +11,7 @@ use Rattle.records.specs.Trees.{circuit}
 use Rattle.structure.specs.LeafTable.{Counts}
 use Rattle.structure.specs.Lowest.{lowest}
 use Rattle.structure.specs.Rules.{wrongLength, wrongHeader, wrongRecord, wrongNaming, wrongType, tooDeep}
-use Rattle.typing.specs.Judgements.{judgements, typeOf, firstFailing}
+use Rattle.typing.specs.Judgements.{judgements, typeRecordOf, firstFailing}
 use Rattle.typing.specs.Judging.{noted}
 use Rattle.verdict.specs.declared.Verdict.{Verdict}
 use Rattle.verdict.specs.declared.Verdict.the-variants.{
@@ -67,7 +67,7 @@ inputs s = wordA s 0 ∷ []
 unfoldable pub byTypes : List ℕ → Verdict
 byTypes s =
     refusing (firstFailing s (judgements s (inputs s) (circuit s))) IllTyped
-    (Accepted (typeOf s (inputs s) (circuit s)))
+    (Accepted (typeRecordOf s (inputs s) (circuit s)))
 
 -- by each rule on records in its turn, the lowest record first, and then by what comes after it
 abbrev pub byDepths : List ℕ → Verdict
@@ -87,7 +87,7 @@ verdict s = unless (wrongLength s) WrongLength (unless (wrongHeader s) WrongHead
 
 -- what a stage of the check gives: the verdict v, and for an accepted sheet the table `before` with the leaf count of each
 -- expression noted
-pub record Checked (s : List ℕ) (v answer : Verdict) (before after : List ℕ) : Type 0 where
+pub record RulesChecked (s : List ℕ) (v answer : Verdict) (before after : List ℕ) : Type 0 where
   pub answered : answer ≡ v
   pub long : length after ≡ 4096
   pub notes : (t : ℕ) → answer ≡ Accepted t → after ≡ noted s (inputs s) (circuit s) before

@@ -8,7 +8,7 @@ use mathlib.Core.List.{List}
 use lib.ListN.{length, getD}
 use Rattle.picoella.specs.Types.{leaves}
 use Rattle.records.specs.Words.{count}
-use Rattle.records.specs.Kinds.{Sort, headers, types, expressions, patterns, leafs, none}
+use Rattle.records.specs.Kinds.{Sort, headers, types, expressions, patterns, leafs, noSort}
 use Rattle.records.specs.Says.{sortAt}
 use Rattle.records.specs.TypeRecords.{typeAt, TypeRecord}
 use Rattle.records.specs.Trees.{
@@ -55,7 +55,7 @@ hasEntry types = true
 hasEntry expressions = true
 hasEntry patterns = true
 hasEntry leafs = false
-hasEntry none = false
+hasEntry noSort = false
 
 pub record Widths (s table : List ℕ) : Type 0 where
   pub long : length table ≡ 4096
@@ -85,7 +85,7 @@ accepts (WrongType r) = false
 accepts (TooDeep r) = false
 accepts (IllTyped r) = false
 
-pub record Lent (s : List ℕ) (answer : Verdict) (before after : List ℕ) : Type 0 where
+pub record Checked (s : List ℕ) (answer : Verdict) (before after : List ℕ) : Type 0 where
   pub answered : answer ≡ verdict s
   pub refused : accepts answer ≡ false → after ≡ before
   pub accepted : accepts answer ≡ true → Widths s after

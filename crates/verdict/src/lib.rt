@@ -9,9 +9,9 @@ ghost use Rattle.structure.specs.Passes.{Passes};
 ghost use Rattle.structure.specs.NamerTable.{Holds};
 ghost use Rattle.structure.specs.LeafTable.{Counts};
 ghost use Rattle.typing.specs.Judging.{Ground};
-ghost use Rattle.verdict.specs.Verdict.{verdict, byTypes, byDepths, byTypeRecords, byNamings, byRecords, unless, Checked, Tabled, place, packed};
-ghost use Rattle.verdict.specs.Widths.{PatternsFrom, Widths, Lent, accepts};
-ghost use Rattle.verdict.specs.Stages.{Measured, Recorded, NamedAll, Fitted};
+ghost use Rattle.verdict.specs.Verdict.{verdict, byTypes, byDepths, byTypeRecords, byNamings, byRecords, unless, RulesChecked, Tabled, place, packed};
+ghost use Rattle.verdict.specs.Widths.{PatternsFrom, Widths, Checked, accepts};
+ghost use Rattle.verdict.specs.Stages.{CheckingRecords, CheckingNamings, CheckingTypes, CheckingDepths};
 ghost use Rattle.verdict.specs.declared.Verdict.the-variants.{WrongHeader};
 use typing::Outcome;
 use typing::input_scope;
@@ -48,12 +48,12 @@ pub enum Verdict {
 // By the type rules: code 7.
 fn check_rules(sheet: &[u8], n: usize, table: &[u8; 4096], widths: &mut [u8; 4096]) -> Verdict
     requires { ⌜ Ground (now sheet) n (now table) × (length (now widths) ≡ 4096) ⌝ }
-    ensures { λ r. ⌜ Checked (now (sheet .entry)) (byTypes (now (sheet .entry))) r (now (widths .entry)) (now (widths .exit)) ⌝ }
+    ensures { λ r. ⌜ RulesChecked (now (sheet .entry)) (byTypes (now (sheet .entry))) r (now (widths .entry)) (now (widths .exit)) ⌝ }
 {
     let scope = input_scope(word(sheet, n, 0, 2));
     let judged = judge(sheet, n, table, &scope, 1, word(sheet, n, 0, 3), widths);
     match judged {
-        Outcome::Typed(t) => Verdict::Accepted(t),
+        Outcome::Sound(t) => Verdict::Accepted(t),
         Outcome::Fault(r) => Verdict::IllTyped(r),
     }
 }
@@ -66,8 +66,8 @@ fn check_depths(
     table: &[u8; 4096],
     widths: &mut [u8; 4096],
 ) -> Verdict
-    requires { ⌜ Fitted (now sheet) n × Holds (namings (now sheet)) (now namers) × Counts (now sheet) n (now table) × (length (now widths) ≡ 4096) ⌝ }
-    ensures { λ r. ⌜ Checked (now (sheet .entry)) (byDepths (now (sheet .entry))) r (now (widths .entry)) (now (widths .exit)) ⌝ }
+    requires { ⌜ CheckingDepths (now sheet) n × Holds (namings (now sheet)) (now namers) × Counts (now sheet) n (now table) × (length (now widths) ≡ 4096) ⌝ }
+    ensures { λ r. ⌜ RulesChecked (now (sheet .entry)) (byDepths (now (sheet .entry))) r (now (widths .entry)) (now (widths .exit)) ⌝ }
 {
     let mut depths = no_depths();
     let mut nestings = no_depths();
@@ -81,7 +81,7 @@ fn check_depths(
 
 // By the type records: code 5, and then by what comes after it. The leaf counts of types go to the table.
 fn check_types(sheet: &[u8], n: usize, namers: &[u16; 4096], widths: &mut [u8; 4096]) -> Verdict
-    requires { ⌜ NamedAll (now sheet) n × Holds (namings (now sheet)) (now namers) ⌝ }
+    requires { ⌜ CheckingTypes (now sheet) n × Holds (namings (now sheet)) (now namers) ⌝ }
     ensures { λ r. ⌜ Tabled (now (sheet .entry)) n (byTypeRecords (now (sheet .entry))) r (now (widths .exit)) ⌝ }
 {
     let mut table = no_leaves();
@@ -96,7 +96,7 @@ fn check_types(sheet: &[u8], n: usize, namers: &[u16; 4096], widths: &mut [u8; 4
 
 // By the namings: code 4, and then by what comes after it.
 fn check_names(sheet: &[u8], n: usize, widths: &mut [u8; 4096]) -> Verdict
-    requires { ⌜ Recorded (now sheet) n ⌝ }
+    requires { ⌜ CheckingNamings (now sheet) n ⌝ }
     ensures { λ r. ⌜ Tabled (now (sheet .entry)) n (byNamings (now (sheet .entry))) r (now (widths .exit)) ⌝ }
 {
     let mut namers = no_namings();
@@ -110,7 +110,7 @@ fn check_names(sheet: &[u8], n: usize, widths: &mut [u8; 4096]) -> Verdict
 
 // By the header and the records: codes 2 and 3, and then by what comes after them.
 fn check_records(sheet: &[u8], n: usize, widths: &mut [u8; 4096]) -> Verdict
-    requires { ⌜ Measured (now sheet) n ⌝ }
+    requires { ⌜ CheckingRecords (now sheet) n ⌝ }
     ensures { λ r. ⌜ Tabled (now (sheet .entry)) n (unless (wrongHeader (now (sheet .entry))) WrongHeader (byRecords (now (sheet .entry)))) r (now (widths .exit)) ⌝ }
 {
     if wrong_header(sheet, n) {
@@ -174,7 +174,7 @@ fn is_accepted(v: Verdict) -> bool
 
 // The check, with the leaf counts of the types of expressions, patterns and types for an accepted sheet.
 pub fn check_into(sheet: &[u8], table: &mut [u8; 4096]) -> Verdict
-    ensures { λ r. ⌜ Lent (now (sheet .entry)) r (now (table .entry)) (now (table .exit)) ⌝ }
+    ensures { λ r. ⌜ Checked (now (sheet .entry)) r (now (table .entry)) (now (table .exit)) ⌝ }
 {
     let len = sheet.len();
     if len < 12 {

@@ -19,7 +19,7 @@ use Prim.Native.Nat.{ℕ, _+_, _*_, _-_, _≤_, _<_}
 use mathlib.Core.Path.{_≡_, refl, sym, _∙_}
 use Rattle.records.specs.Trees.{alternatives}
 use Rattle.typing.specs.Judgements.{patternFits}
-use Rattle.typing.specs.Judging.{Matching}
+use Rattle.typing.specs.Judging.{Fitting}
 use Rattle.typing.proofs.Alternatives.{next-matching, fits-word, no-pair-type, first-matching, second-matching, first-fails, second-decides, chain-fails, chain-ends, chain-goes-on, typed-there}
 
 abbrev μ-fits-all : Measures 1 fits-all-kinds.ps ℕ
@@ -44,7 +44,7 @@ fits-one-below t =
 
 abbrev fits-all-Inv-loop : fits-all-lts.InvT-loop
 fits-all-Inv-loop sheet n p t at₀ at =
-    (p ≤ at) × Matching sheet n at t × (patternFits sheet (alternatives sheet p) t ≡ patternFits sheet (alternatives sheet at) t)
+    (p ≤ at) × Fitting sheet n at t × (patternFits sheet (alternatives sheet p) t ≡ patternFits sheet (alternatives sheet at) t)
 
 abbrev fits-all-μ-loop : fits-all-lts.MeasureT-loop
 fits-all-μ-loop sheet n p t at₀ at = n - at

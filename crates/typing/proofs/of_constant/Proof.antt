@@ -12,7 +12,7 @@ use Rattle.records.specs.Kinds.{expression, constant}
 use Rattle.records.specs.Trees.{chain}
 use Rattle.typing.specs.Judgements.{leavesFit}
 use Rattle.records.proofs.Table.{askOfKind}
-use Rattle.typing.specs.declared.Outcome.the-variants.{Typed}
+use Rattle.typing.specs.declared.Outcome.the-variants.{Sound}
 use Rattle.typing.proofs.Bounds.{ground-written, in-count}
 use Rattle.typing.proofs.Outcomes.{lastly-holds}
 use Rattle.typing.proofs.Readiness.{leaves-there, typed-word}
@@ -49,7 +49,7 @@ note-requires c κs =
 returns-2 : tie.Need-returns-2
 returns-2 c = λ Γ.
     let u = lastly-holds (now (c .before .before .before .before .before .before .before .before .before .args .sheet)) (c .before .before .before .before .before .before .before .before .before .args .rec) (leavesFit (c .before .before .before .before .before .before .before .word .result) (chain (now (c .before .before .before .before .before .before .before .before .before .args .sheet)) (c .before .before .before .before .before .before .word2 .result))) _ _ _ (c .before .before .before .before .before .leaves-type .ensures) (c .before .before .before .fit .given .1) in
-    constant-typed _ Γ _ (ground-written _ _ _ (c .before .before .before .before .before .before .before .before .before .pre .0 .ground)) (in-count _ _ _ (c .before .before .before .before .before .before .before .before .before .pre .0 .ground) _ (c .before .before .before .before .before .before .before .before .before .pre .0 .there)) _ (c .before .before .before .before .before .before .before .before .before .pre .1) _ _ (c .before .before .before .before .before .before .before .word .ensures .0) (c .before .before .before .before .before .before .word2 .ensures .0) _ (c .before .before .before .before .before .before .before .before .before .pre .0 .long) _ (u .0) (c .note .ensures .0 ∙ ap Typed (u .1))
+    constant-typed _ Γ _ (ground-written _ _ _ (c .before .before .before .before .before .before .before .before .before .pre .0 .ground)) (in-count _ _ _ (c .before .before .before .before .before .before .before .before .before .pre .0 .ground) _ (c .before .before .before .before .before .before .before .before .before .pre .0 .there)) _ (c .before .before .before .before .before .before .before .before .before .pre .1) _ _ (c .before .before .before .before .before .before .before .word .ensures .0) (c .before .before .before .before .before .before .word2 .ensures .0) _ (c .before .before .before .before .before .before .before .before .before .pre .0 .long) _ (u .0) (c .note .ensures .0 ∙ ap Sound (u .1))
     (c .note .ensures .1 ∙ ap (λ (t : ℕ). set (now (c .before .before .before .before .before .before .before .before .before .args .widths)) (c .before .before .before .before .before .before .before .before .before .args .rec) (leaves (typeAt (now (c .before .before .before .before .before .before .before .before .before .args .sheet)) t))) (u .1))
 
 pub of-constant-spec : {M : Type 1} → statement M
