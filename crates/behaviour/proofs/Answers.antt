@@ -12,8 +12,8 @@ use native.Mathlib.Omega.{arith}
 use lib.ListN.{length}
 use lib.Dec.{eqb}
 use borrow.Author.Tests.{eqb-true, eqb-false, eq-eqb, ne-eqb, not-false}
-use Rattle.structure.specs.Lowest.{lowest}
-use Rattle.structure.proofs.Lowest.{lowest-some-passes}
+use Rattle.answers.specs.Lowest.{lowest}
+use Rattle.answers.proofs.Lowest.{lowest-some-passes}
 use Rattle.verdict.specs.Verdict.{verdict}
 use Rattle.verdict.specs.declared.Verdict.{Verdict}
 use Rattle.verdict.specs.declared.Verdict.the-variants.{Accepted}

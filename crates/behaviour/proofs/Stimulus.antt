@@ -16,8 +16,8 @@ use Rattle.picoella.specs.Types.{Ty, bounds, leaves, Within, within-leaf}
 use Rattle.picoella.specs.Types as Types
 use Rattle.records.proofs.Tests.{neither-left, neither-right}
 use Rattle.records.proofs.Types.{leaves-of-bounds}
-use Rattle.structure.specs.Lowest.{lowest}
-use Rattle.structure.proofs.Lowest.{lowest-none-fails}
+use Rattle.answers.specs.Lowest.{lowest}
+use Rattle.answers.proofs.Lowest.{lowest-none-fails}
 use Rattle.meaning.specs.Values.{AllOf, all-none, all-more}
 use Rattle.behaviour.specs.Stimulus.{inputType, inputLeaves, cycleCount, pieces, endToEnd, cycles, wrongStimulus, wrongByte}
 use Rattle.behaviour.proofs.Pieces.{pieces-length, piece-at, pieces-joined}

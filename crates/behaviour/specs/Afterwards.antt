@@ -12,7 +12,7 @@ use Rattle.picoella.specs.Types.{Ty, leaves, OfType}
 use Rattle.records.specs.Words.{count, kindWord, wordA}
 use Rattle.records.specs.TypeRecords.{typeAt}
 use Rattle.records.specs.Trees.{Tree, feedbackOf, treeAt}
-use Rattle.structure.specs.Lowest.{lowest}
+use Rattle.answers.specs.Lowest.{lowest}
 use Rattle.verdict.specs.Verdict.{verdict}
 use Rattle.verdict.specs.Scopes.{Scope}
 use Rattle.verdict.specs.declared.Verdict.the-variants.{Accepted}

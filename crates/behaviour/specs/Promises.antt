@@ -10,7 +10,7 @@ use lib.ListN.{length}
 use Rattle.picoella.specs.Expressions.{Expr}
 use Rattle.records.specs.TypeRecords.{typeAt}
 use Rattle.records.specs.Decoding.{decode}
-use Rattle.structure.specs.Lowest.{lowest}
+use Rattle.answers.specs.Lowest.{lowest}
 use Rattle.verdict.specs.Verdict.{verdict}
 use Rattle.verdict.specs.Promises.{LowestBreaking}
 use Rattle.verdict.specs.declared.Verdict.the-variants.{Accepted}

@@ -11,7 +11,7 @@ use lib.ListN.{length}
 use lib.Dec.{eqb}
 use Rattle.picoella.specs.Types.{leaves}
 use Rattle.records.specs.TypeRecords.{typeAt}
-use Rattle.structure.specs.Lowest.{lowest}
+use Rattle.answers.specs.Lowest.{lowest}
 use Rattle.verdict.specs.Verdict.{verdict}
 use Rattle.verdict.specs.declared.Verdict.{Verdict}
 use Rattle.verdict.specs.declared.Verdict.the-variants as Verdicts

@@ -1,6 +1,6 @@
 // The bench cases of document 01 that speak of the check, each sheet built here: the longest sheet and one record more, 64 and 65
 // leaves, depth 64 and 65, three and four nested feedbacks. Prints each verdict as its number and its place.
-use verdict::sheet_check;
+use verdict::check;
 
 fn room() -> [u8; 49164] {
     [0; 49164]
@@ -33,7 +33,7 @@ fn header(sheet: &mut [u8], root: usize, count: usize) {
 }
 
 fn report(sheet: &[u8]) {
-    let answer = sheet_check(sheet);
+    let answer = check(sheet);
     io::print_decimal(1, answer / 4294967296);
     io::write_all(1, b" at ");
     io::print_decimal(1, answer % 4294967296);

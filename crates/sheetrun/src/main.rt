@@ -9,7 +9,7 @@ use listing::put_lines;
 use listing::put_refused;
 use listing::put_type;
 use simulator::sheet_run;
-use verdict::sheet_check;
+use verdict::check;
 
 // The longest sheet and a byte more, so that a longer file is refused for its length and not cut.
 fn sheet_room() -> [u8; 49153]
@@ -155,7 +155,7 @@ fn run_into(sheet: &[u8], stim: &[u8], output: &mut [u8], next: &mut [u8]) {
         return;
     }
     print_listing(
-        sheet_check(sheet) % 4294967296,
+        check(sheet) % 4294967296,
         width(output.len(), place as usize),
         output,
     );

@@ -22,14 +22,14 @@ use Rattle.records.specs.TypeRecords.{typeAt, TypeRecord}
 use Rattle.records.proofs.Types.{few-leaves, some-leaves, leaves-of-bounds}
 use Rattle.records.proofs.TypeRecords.{input-type}
 use Rattle.records.proofs.Tests.{neither-right}
-use Rattle.structure.specs.Lowest.{lowest}
+use Rattle.answers.specs.Lowest.{lowest}
 use Rattle.structure.specs.LeafTable.{Counts}
 use Rattle.structure.specs.Passes.{Passes}
 use Rattle.structure.specs.Rules.{wrongLength}
-use Rattle.structure.specs.Searches.{found}
-use Rattle.structure.specs.declared.Found.{Found}
-use Rattle.structure.specs.declared.Found.the-variants.{At, Nothing}
-use Rattle.structure.proofs.Lowest.{lowest-some-passes}
+use Rattle.answers.specs.Searches.{found}
+use Rattle.answers.specs.declared.Found.{Found}
+use Rattle.answers.specs.declared.Found.the-variants.{At, Nothing}
+use Rattle.answers.proofs.Lowest.{lowest-some-passes}
 use Rattle.structure.proofs.Passes.{written, types-fit}
 use Rattle.typing.specs.Judging.{Ground}
 use Rattle.verdict.specs.Verdict.{verdict}

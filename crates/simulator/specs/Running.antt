@@ -10,7 +10,7 @@ use lib.ListN.{length, getD, take, drop}
 use Rattle.picoella.specs.Types.{leaves}
 use Rattle.records.specs.Sized.{Sized}
 use Rattle.records.specs.TypeRecords.{typeAt}
-use Rattle.structure.specs.Lowest.{lowest}
+use Rattle.answers.specs.Lowest.{lowest}
 use Rattle.verdict.specs.Verdict.{verdict}
 use Rattle.verdict.specs.Widths.{Widths}
 use Rattle.verdict.specs.declared.Verdict.the-variants.{Accepted}

@@ -8,3 +8,4 @@ pub mod PlacesSmall
 pub mod Stages
 pub mod Stores
 pub mod Widths
+pub mod VerdictFirst

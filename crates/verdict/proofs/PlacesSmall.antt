@@ -21,7 +21,8 @@ use Rattle.structure.specs.Rules.{wrongLength}
 use Rattle.structure.proofs.Passes.{written, length-fits}
 use Rattle.typing.specs.Judgements.{Judgement, Rule, leavesFit, inScope, pairDeclared, pairType, sameType, patternHas, holds, judge, judgements, typeRecordOf, firstFailing}
 use Rattle.verdict.specs.Promises.{Says}
-use Rattle.verdict.specs.Verdict.{inputs, place, verdict, byTypes, refusing}
+use Rattle.verdict.specs.Verdict.{inputs, outputType, verdictAnswer, verdict, byTypes, refusing}
+use Rattle.answers.specs.Answers.{place}
 use Rattle.verdict.specs.declared.Verdict.{Verdict}
 use Rattle.verdict.specs.declared.Verdict.the-variants.{
   Accepted,
@@ -146,7 +147,7 @@ rule-place s r p e =
     rw f at (below-tree w (word s 0 3) (i .1) (i .2) (inputs s))
 
 -- the place of each verdict is below the count, or 0
-place-below : (s : List ℕ) (v : Verdict) → verdict s ≡ v → Says s v → place v < 4096
+place-below : (s : List ℕ) (v : Verdict) → verdict s ≡ v → Says s v → place (verdictAnswer v) < 4096
 place-below s (Accepted t) e says =
     let p = exact s t .0 e in
     let few = length-fits s (p .0 .length) .1 in
@@ -162,5 +163,5 @@ place-below s (IllTyped r) e says =
     let few = length-fits s (says .0 .length) .1 in
     omega (arith, rule-place s r (says .0) (sym (passes-by-types (says .0)) ∙ e))
 
-pub verdict-place : (s : List ℕ) → place (verdict s) < 4096
+pub verdict-place : (s : List ℕ) → place (verdictAnswer (verdict s)) < 4096
 verdict-place s = place-below s (verdict s) refl (places s)

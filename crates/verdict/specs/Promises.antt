@@ -11,11 +11,14 @@ use Rattle.records.specs.Words.{count, wordA}
 use Rattle.records.specs.TypeRecords.{typeAt, TypeRecord, Declared}
 use Rattle.records.specs.Decoding.{decode}
 use Rattle.records.specs.Trees.{circuit}
-use Rattle.structure.specs.Lowest.{lowest}
+use Rattle.answers.specs.Lowest.{lowest}
+use Rattle.answers.specs.Promises.{LowestBreaking}
+use Rattle.answers.specs.Answers.{Done}
+use Rattle.answers.specs.Checks.{firstOf}
 use Rattle.structure.specs.Rules.{wrongLength, wrongHeader, wrongRecord, wrongNaming, wrongType, tooDeep}
 use Rattle.typing.specs.Judgements.{Judgement, holds, judgements, typeRecordOf}
 use Rattle.structure.specs.Passes.{Passes}
-use Rattle.verdict.specs.Verdict.{inputs, verdict}
+use Rattle.verdict.specs.Verdict.{inputs, outputType, sheetChecks, verdictAnswer, verdict}
 use Rattle.verdict.specs.declared.Verdict.{Verdict}
 use Rattle.verdict.specs.declared.Verdict.the-variants.{
   Accepted,
@@ -27,10 +30,6 @@ use Rattle.verdict.specs.declared.Verdict.the-variants.{
   TooDeep,
   IllTyped,
 }
-
--- record r breaks the rule and no lower record does
-abbrev pub LowestBreaking : (ℕ → Bool) → ℕ → ℕ → Type 0
-LowestBreaking wrong n r = (r < n) × (wrong r ≡ true) × ((q : ℕ) → q < r → wrong q ≡ false)
 
 -- each judgement of the list holds
 abbrev pub AllHold : List ℕ → List Judgement → Type 0
@@ -49,7 +48,7 @@ pub record FailsFirst (s : List ℕ) (js : List Judgement) (r : ℕ) : Type 0 wh
 -- what each verdict says of the sheet: its code applies at its place, at no place before, and no lower code applies
 abbrev pub Says : List ℕ → Verdict → Type 0
 Says s (Accepted t) =
-    Passes s × AllHold s (judgements s (inputs s) (circuit s)) × (t ≡ typeRecordOf s (inputs s) (circuit s))
+    Passes s × AllHold s (judgements s (inputs s) (circuit s)) × (t ≡ outputType s)
 Says s WrongLength = wrongLength s ≡ true
 Says s WrongHeader = (wrongLength s ≡ false) × (wrongHeader s ≡ true)
 Says s (WrongRecord r) = (wrongLength s ≡ false) × (wrongHeader s ≡ false) × LowestBreaking (wrongRecord s) (count s) r
@@ -76,6 +75,10 @@ Says s (IllTyped r) = Passes s × FailsFirst s (judgements s (inputs s) (circuit
 -- the verdict says so of the sheet
 abbrev pub Places : Type 0
 Places = (s : List ℕ) → Says s (verdict s)
+
+-- The verdict is the answer of the first check of a sheet that applies.
+abbrev pub VerdictFirst : Type 0
+VerdictFirst = (s : List ℕ) → verdictAnswer (verdict s) ≡ firstOf (sheetChecks s) (Done (outputType s))
 
 -- The sheet decodes to an expression that has the type of record t by the rules of picoELLA, over the types that the sheet
 -- declares, where the input has the type in the header's word a.

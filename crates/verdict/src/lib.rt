@@ -9,14 +9,23 @@ ghost use Rattle.structure.specs.Passes.{Passes};
 ghost use Rattle.structure.specs.NamerTable.{Holds};
 ghost use Rattle.structure.specs.LeafTable.{Counts};
 ghost use Rattle.typing.specs.Judging.{Ground};
-ghost use Rattle.verdict.specs.Verdict.{verdict, byTypes, byDepths, byTypeRecords, byNamings, byRecords, unless, RulesChecked, Tabled, place, packed};
+ghost use Rattle.verdict.specs.Verdict.{verdict, byTypes, byDepths, byTypeRecords, byNamings, byRecords, unless, RulesChecked, Tabled, verdictAnswer};
+ghost use Rattle.answers.specs.Answers.{place, packed};
 ghost use Rattle.verdict.specs.Widths.{PatternsFrom, Widths, Checked, accepts};
 ghost use Rattle.verdict.specs.Stages.{CheckingRecords, CheckingNamings, CheckingTypes, CheckingDepths};
 ghost use Rattle.verdict.specs.declared.Verdict.the-variants.{WrongHeader};
+use answers::Found;
+use answers::ILL_TYPED;
+use answers::TOO_DEEP;
+use answers::WRONG_HEADER;
+use answers::WRONG_LENGTH;
+use answers::WRONG_NAMING;
+use answers::WRONG_RECORD;
+use answers::WRONG_TYPE;
+use answers::in_one;
 use typing::Outcome;
 use typing::input_scope;
 use typing::judge;
-use structure::Found;
 use structure::capped_sum;
 use structure::count_types;
 use structure::first_too_deep;
@@ -197,29 +206,28 @@ pub fn check_into(sheet: &[u8], table: &mut [u8; 4096]) -> Verdict
     answer
 }
 
-// Both numbers of a verdict in one.
-pub fn packed(v: Verdict) -> u64
-    requires { ⌜ place v < 4294967296 ⌝ }
-    ensures { λ r. ⌜ r ≡ packed v ⌝ }
+// The code and the place of a verdict in one number.
+pub fn packed_verdict(v: Verdict) -> u64
+    requires { ⌜ place (verdictAnswer v) < 4294967296 ⌝ }
+    ensures { λ r. ⌜ r ≡ packed (verdictAnswer v) ⌝ }
 {
     match v {
         Verdict::Accepted(t) => t as u64,
-        Verdict::WrongLength => 4294967296,
-        Verdict::WrongHeader => 8589934592,
-        Verdict::WrongRecord(r) => 12884901888 + r as u64,
-        Verdict::WrongNaming(r) => 17179869184 + r as u64,
-        Verdict::WrongType(r) => 21474836480 + r as u64,
-        Verdict::TooDeep(r) => 25769803776 + r as u64,
-        Verdict::IllTyped(r) => 30064771072 + r as u64,
+        Verdict::WrongLength => in_one(WRONG_LENGTH, 0),
+        Verdict::WrongHeader => in_one(WRONG_HEADER, 0),
+        Verdict::WrongRecord(r) => in_one(WRONG_RECORD, r as u64),
+        Verdict::WrongNaming(r) => in_one(WRONG_NAMING, r as u64),
+        Verdict::WrongType(r) => in_one(WRONG_TYPE, r as u64),
+        Verdict::TooDeep(r) => in_one(TOO_DEEP, r as u64),
+        Verdict::IllTyped(r) => in_one(ILL_TYPED, r as u64),
     }
 }
 
-// The check, for C: the verdict's number times 2^32, plus its place.
-#[no_mangle]
-pub extern "C" fn sheet_check(sheet: &[u8]) -> u64
-    ensures { λ r. ⌜ r ≡ packed (verdict (now (sheet .entry))) ⌝ }
+// The check: the verdict's code and place in one number.
+pub fn check(sheet: &[u8]) -> u64
+    ensures { λ r. ⌜ r ≡ packed (verdictAnswer (verdict (now (sheet .entry)))) ⌝ }
 {
     let mut table = no_leaves();
     let answer = check_into(sheet, &mut table);
-    packed(answer)
+    packed_verdict(answer)
 }

@@ -8,7 +8,7 @@ use mathlib.Core.Path.{_≡_, refl, sym}
 use mathlib.Core.Bool.{false}
 use denote.Ref.{now}
 use lib.ListN.{length}
-use Rattle.structure.proofs.Lowest.{lowest-is, lowest-none}
+use Rattle.answers.proofs.Lowest.{lowest-is, lowest-none}
 use Rattle.simulator.specs.Running.{above}
 use Rattle.simulator.proofs.Stimulus.{is-above, is-not-above}
 use Rattle.simulator.proofs.find_above.Statement.{statement}

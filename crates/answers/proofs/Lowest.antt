@@ -8,8 +8,10 @@ use mathlib.Core.Option.{Option, none, some}
 use mathlib.Core.Path.{_≡_, refl, subst}
 use native.Mathlib.Omega.{arith}
 use native.Mathlib.Decide.{ℕ-discrete, decLt}
-use Rattle.records.proofs.Tests.{never-both}
-use Rattle.structure.specs.Lowest.{lowest, orHere}
+use Rattle.answers.specs.Lowest.{lowest, orHere}
+
+never-both : (b : Bool) → b ≡ true → b ≡ false → ⊥
+never-both b t f = let z : _≡_ {A = ℕ} 0 1 = cc in omega arith
 
 -- what holds below suc n holds at n and below
 pub at-or-below : (P : ℕ → Type 0) (n : ℕ) → P n → ((r : ℕ) → r < n → P r) → (r : ℕ) → r < suc n → P r
@@ -20,16 +22,16 @@ at-or-below P n here below r h = go (ℕ-discrete n r)
     go (no f) = below r (omega arith)
 
 -- what an answer of the search says
-abbrev pub Found : (ℕ → Bool) → ℕ → Option ℕ → Type 0
-Found p n none = (r : ℕ) → r < n → p r ≡ false
-Found p n (some r) = (r < n) × (p r ≡ true) × ((q : ℕ) → q < r → p q ≡ false)
+abbrev pub FoundIn : (ℕ → Bool) → ℕ → Option ℕ → Type 0
+FoundIn p n none = (r : ℕ) → r < n → p r ≡ false
+FoundIn p n (some r) = (r < n) × (p r ≡ true) × ((q : ℕ) → q < r → p q ≡ false)
 
-found-step : (p : ℕ → Bool) (n : ℕ) (o : Option ℕ) (b : Bool) → p n ≡ b → Found p n o → Found p (suc n) (orHere o b n)
+found-step : (p : ℕ → Bool) (n : ℕ) (o : Option ℕ) (b : Bool) → p n ≡ b → FoundIn p n o → FoundIn p (suc n) (orHere o b n)
 found-step p n none true e f = (omega arith, e, f)
 found-step p n none false e f = at-or-below (λ r. p r ≡ false) n e f
 found-step p n (some r) b e f = (omega arith, f .1, f .2)
 
-pub lowest-found : (p : ℕ → Bool) (n : ℕ) → Found p n (lowest p n)
+pub lowest-found : (p : ℕ → Bool) (n : ℕ) → FoundIn p n (lowest p n)
 lowest-found p zero = λ r h. absurd (omega arith)
 lowest-found p (suc n) = found-step p n (lowest p n) (p n) refl (lowest-found p n)
 
@@ -43,7 +45,7 @@ lowest-some-passes p n r e = rw e at (lowest-found p n)
 pub lowest-none : (p : ℕ → Bool) (n : ℕ) → ((r : ℕ) → r < n → p r ≡ false) → lowest p n ≡ none
 lowest-none p n fails = go (lowest p n) (lowest-found p n)
   where
-    go : (o : Option ℕ) → Found p n o → o ≡ none
+    go : (o : Option ℕ) → FoundIn p n o → o ≡ none
     go none f = refl
     go (some r) f = absurd (never-both (p r) (f .1) (fails r (f .0)))
 
@@ -56,6 +58,6 @@ lowest-is p n r below passes least = go (lowest p n) (lowest-found p n)
     same q t l (no h) (yes k) = absurd (never-both (p r) passes (l r k))
     same q t l (no h) (no k) = omega arith
 
-    go : (o : Option ℕ) → Found p n o → o ≡ some r
+    go : (o : Option ℕ) → FoundIn p n o → o ≡ some r
     go none f = absurd (never-both (p r) passes (f r below))
     go (some q) f = rw (same q (f .1) (f .2) (decLt q r) (decLt r q))
