@@ -6,7 +6,8 @@ use mathlib.Core.List.{List, [], _∷_, _++_}
 use mathlib.Core.Option.{Option, none, some}
 use mathlib.Core.Path.{_≡_, refl, sym, ap, _∙_}
 use native.Mathlib.Omega.{arith}
-use Rattle.answers.specs.Answers.{Answer, Done, Refused}
+use Rattle.answers.specs.declared.Answer.{Answer}
+use Rattle.answers.specs.declared.Answer.the-variants.{Done, Refused}
 use Rattle.answers.specs.Checks.{Check, check, orRefused, firstOf, NoneApplies, Refuses, SaysOf}
 
 refuses-later : (k : Check) (ks : List Check) (c p : ℕ) → k .found ≡ none → Refuses ks c p → Refuses (k ∷ ks) c p

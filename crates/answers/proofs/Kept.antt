@@ -2,7 +2,9 @@
 use Prim.Native.Nat.{ℕ, _*_, _+_, _/_, _%_, _^_, _<_}
 use mathlib.Core.Path.{_≡_, refl, subst}
 use native.Mathlib.Omega.{arith}
-use Rattle.answers.specs.Answers.{Answer, Done, inOne}
+use Rattle.answers.specs.Answers.{inOne}
+use Rattle.answers.specs.declared.Answer.{Answer}
+use Rattle.answers.specs.declared.Answer.the-variants.{Done}
 use Rattle.answers.specs.Checks.{SaysOf, firstOf, Check}
 use Rattle.answers.specs.Promises.{AnswerPromises}
 use mathlib.Core.List.{List}

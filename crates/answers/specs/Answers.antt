@@ -1,12 +1,10 @@
 -- The answer of a call (docs/SHEETS.md, "Codes"): done, with the place that the call gives beside 0, or refused, with a code and its
--- place; both in one number of 64 bits. One data type for all calls: a call that answers by an enum of its own says once what each
--- case stands for here.
+-- place; both in one number of 64 bits. One data type for all calls, the code's own enum; a call that answers by another enum says
+-- once what each of its cases stands for here.
 use Prim.Native.Nat.{ℕ, _+_, _*_, _^_}
 use mathlib.Core.List.{List}
-
-pub data Answer : Type 0 where
-  Done : (place : ℕ) → Answer
-  Refused : (code place : ℕ) → Answer
+use Rattle.answers.specs.declared.Answer.{Answer}
+use Rattle.answers.specs.declared.Answer.the-variants.{Done, Refused}
 
 abbrev pub code : Answer → ℕ
 code (Done p) = 0

@@ -1,7 +1,7 @@
 // The answers of all calls: code and place in one number, and what a search found.
 ghost use mathlib.Core.Path.{_≡_};
 ghost use Prim.Native.Nat.{_<_};
-ghost use Rattle.answers.specs.Answers.{inOne};
+ghost use Rattle.answers.specs.Answers.{inOne, code, place, packed};
 
 // The places that a code has: a result is code * PLACES + place.
 pub const PLACES: u64 = 4294967296;
@@ -26,10 +26,27 @@ pub enum Found {
     Nothing,
 }
 
+// The answer of a call: done, with a place, or refused, with a code and a place.
+pub enum Answer {
+    Done(u64),
+    Refused(u64, u64),
+}
+
 // A code and a place in one number.
 pub fn in_one(code: u64, place: u64) -> u64
     requires { ⌜ (code < 256) × (place < 4294967296) ⌝ }
     ensures { λ r. ⌜ r ≡ inOne code place ⌝ }
 {
     code * PLACES + place
+}
+
+// The code and the place of an answer in one number.
+pub fn packed(a: Answer) -> u64
+    requires { ⌜ (code a < 256) × (place a < 4294967296) ⌝ }
+    ensures { λ r. ⌜ r ≡ packed a ⌝ }
+{
+    match a {
+        Answer::Done(place) => place,
+        Answer::Refused(code, place) => in_one(code, place),
+    }
 }

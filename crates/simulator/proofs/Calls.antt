@@ -30,7 +30,7 @@ use Rattle.answers.specs.Searches.{found}
 use Rattle.answers.specs.declared.Found.{Found}
 use Rattle.answers.specs.declared.Found.the-variants.{At, Nothing}
 use Rattle.answers.proofs.Lowest.{lowest-some-passes}
-use Rattle.structure.proofs.Passes.{written, types-fit}
+use Rattle.accepted.proofs.Laws.{written, types-fit}
 use Rattle.typing.specs.Judging.{Ground}
 use Rattle.verdict.specs.Verdict.{verdict}
 use Rattle.verdict.specs.Verdict as Checks
@@ -38,9 +38,9 @@ use Rattle.verdict.specs.Widths.{Widths, Checked}
 use Rattle.verdict.specs.declared.Verdict.{Verdict}
 use Rattle.verdict.specs.declared.Verdict.the-variants as Verdicts
 use Rattle.verdict.proofs.Verdict as Verdict-type
-use Rattle.verdict.proofs.Exact.{exact}
+use Rattle.accepted.proofs.Laws.{exact}
 use Rattle.accepted.proofs.Requirements.{sized}
-use Rattle.behaviour.specs.Stimulus.{inputLeaves, cycleCount, wrongStimulus, wrongByte}
+use Rattle.stimulus.specs.Stimulus.{inputLeaves, cycleCount, wrongStimulus, wrongByte}
 use Rattle.behaviour.specs.Run.{
   Answer,
   WrongStimulus,
@@ -56,7 +56,7 @@ use Rattle.behaviour.specs.Run.{
   Gives,
 }
 use Rattle.behaviour.specs.Afterwards.{WellFormed}
-use Rattle.behaviour.proofs.Stimulus.{stimulus-whole}
+use Rattle.stimulus.proofs.Stimulus.{stimulus-whole}
 use Rattle.behaviour.proofs.Answers.{
   gives-refusal,
   gives-done,

@@ -16,15 +16,15 @@ use Rattle.records.specs.Says.{kindAt, sortAt}
 use Rattle.records.specs.TypeRecords.{typeWithin, typeAt, TypeRecord}
 use Rattle.records.specs.Trees.{chainWithin, chain, alternativesWithin, alternatives}
 use Rattle.structure.specs.Passes.{Passes}
-use Rattle.structure.proofs.Passes.{written}
+use Rattle.accepted.proofs.Laws.{written}
 use Rattle.typing.specs.Judgements.{patternFits}
 use Rattle.verdict.specs.Verdict.{inputs}
 use Rattle.accepted.proofs.Requirements.{widths}
 use Rattle.accepted.proofs.Requirements as Requirements
-use Rattle.behaviour.specs.Stimulus.{inputLeaves, cycleCount}
+use Rattle.stimulus.specs.Stimulus.{inputLeaves, cycleCount}
 use Rattle.behaviour.specs.Afterwards.{WellFormed}
 use Rattle.behaviour.specs.Bench.{toggle}
-use Rattle.behaviour.proofs.Stimulus.{stimulus-whole}
+use Rattle.stimulus.proofs.Stimulus.{stimulus-whole}
 use Rattle.behaviour.proofs.Witness.{ones, room, lent, toggle-formed}
 use Rattle.values.specs.Chained.{Chained}
 use Rattle.values.specs.Matchings.{Matching}

@@ -1,12 +1,11 @@
 -- The run of an accepted sheet: its stimulus held against the leaves' counts, one cycle lent its parts of the slices, all cycles, and
 -- the call as a whole.
-use Prim.Native.Nat.{ℕ, _+_, _*_, _%_, _≤_}
+use Prim.Native.Nat.{ℕ, _+_, _*_, _≤_}
 use mathlib.Core.Path.{_≡_}
-use mathlib.Core.Bool.{Bool, false, not, _||_}
+use mathlib.Core.Bool.{false}
 use mathlib.Core.List.{List, _++_}
 use mathlib.Core.Option.{none}
-use lib.Dec.{eqb, ltb}
-use lib.ListN.{length, getD, take, drop}
+use lib.ListN.{length, take, drop}
 use Rattle.picoella.specs.Types.{leaves}
 use Rattle.records.specs.Sized.{Sized}
 use Rattle.records.specs.TypeRecords.{typeAt}
@@ -17,18 +16,10 @@ use Rattle.verdict.specs.declared.Verdict.the-variants.{Accepted}
 use Rattle.meaning.specs.Undecided.{undefinedLeaves}
 use Rattle.behaviour.specs.Sheets.{Bytes}
 use Rattle.behaviour.specs.Cycle.{output, sheetAfterCycle}
-use Rattle.behaviour.specs.Stimulus.{inputLeaves, cycleCount, endToEnd, cycles, wrongStimulus, wrongByte}
+use Rattle.stimulus.specs.Stimulus.{inputLeaves, cycleCount, endToEnd, cycles, wrongStimulus, wrongByte}
 use Rattle.behaviour.specs.Run.{outputsBy, sheetAfter, Gives}
 use Rattle.behaviour.specs.Afterwards.{WellFormed, Afterwards}
 use Rattle.stepper.specs.Cycling.{Cycling}
-
--- a stimulus of so many bytes is refused, where a cycle takes w
-abbrev pub notWhole : (all w : ℕ) → Bool
-notWhole all w = eqb all 0 || (ltb 65535 all || not (eqb (all % w) 0))
-
--- byte i of a stimulus is above its leaf's count
-abbrev pub above : (bounds stimulus : List ℕ) → ℕ → Bool
-above bs stim i = ltb (getD bs (i % length bs) 0) (getD stim i 0)
 
 -- one cycle is lent its parts of the stimulus, from `from`, and of the output, from `at`
 pub record Lending

@@ -19,11 +19,11 @@ use Rattle.records.specs.Rewritten.{OnlyLeaves}
 use Rattle.records.proofs.Rewritten.{same-kind, same-chain, same-type}
 use Rattle.records.proofs.Types.{few-leaves}
 use Rattle.records.proofs.TypeRecords.{input-type}
-use Rattle.structure.proofs.Passes.{written, types-fit}
+use Rattle.accepted.proofs.Laws.{written, types-fit}
 use Rattle.verdict.specs.Verdict.{inputs}
 use Rattle.verdict.specs.Scopes.{root}
 use Rattle.verdict.specs.Widths.{Widths}
-use Rattle.verdict.proofs.Exact.{exact, accepted-judged}
+use Rattle.accepted.proofs.Laws.{exact, accepted-judged}
 use Rattle.meaning.specs.Values.{no-values, more-values}
 use Rattle.meaning.specs.Undecided.{undefinedLeaves}
 use Rattle.meaning.specs.Evaluation.{next}

@@ -43,6 +43,7 @@ use Rattle.verdict.specs.declared.Verdict.the-variants.{
   TooDeep,
   IllTyped,
 }
+use Rattle.typing.proofs.Bounds.{counts-leaves}
 use Rattle.typing.proofs.Outcomes.{Passed, passed, faulted}
 
 -- the type rules
@@ -110,18 +111,18 @@ module _ (s : List ℕ) (n : ℕ) (f : CheckingDepths s n) where
   }
 
   pub ground-of : (table : List ℕ) → lowest (tooDeep s) (count s) ≡ none → Counts s n table → Ground s n table
-  ground-of table e c = record {
-    sized = recorded .measured .sized;
-    passes = record {
-      length = recorded .measured .length;
-      header = recorded .header;
-      records = recorded .records;
-      namings = f .named .namings;
-      types = f .types;
-      depths = e;
-    };
-    counts = c;
-  }
+  ground-of table e c =
+      let z = recorded .measured .sized in
+      let p : Passes s =
+      record {
+        length = recorded .measured .length;
+        header = recorded .header;
+        records = recorded .records;
+        namings = f .named .namings;
+        types = f .types;
+        depths = e;
+      } in
+      record { sized = z; passes = p; leaves = counts-leaves s n table (z .counted) p c }
 
 -- what a search over n records found is what one over all records finds
 pub searched : (s : List ℕ) (n : ℕ) (p : ℕ → Bool) (o : Found) (q : Option ℕ) → n ≡ count s → found o ≡ lowest p n → found o ≡ q → lowest p (count s) ≡ q

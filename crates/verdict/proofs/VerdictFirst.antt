@@ -1,12 +1,15 @@
 -- The verdict is the answer of the first check of a sheet that applies: each test and each search refuses with its code and place, or
 -- leaves the answer to those after it. Assumes nothing.
 use Prim.Native.Nat.{ℕ}
-use mathlib.Core.Path.{_≡_, refl}
+use mathlib.Core.Path.{_≡_, refl, _∙_}
+use native.Mathlib.Omega.{arith}
 use mathlib.Core.Bool.{Bool, true, false}
 use mathlib.Core.List.{List}
 use mathlib.Core.Option.{Option, none, some}
-use Rattle.answers.specs.Answers.{Answer, Done, Refused}
-use Rattle.answers.specs.Checks.{when, orRefused}
+use Rattle.answers.specs.declared.Answer.{Answer}
+use Rattle.answers.specs.declared.Answer.the-variants.{Done, Refused}
+use Rattle.answers.specs.Checks.{when, orRefused, NoneApplies}
+use Rattle.answers.proofs.First.{none-done}
 use Rattle.answers.specs.Lowest.{lowest}
 use Rattle.records.specs.Words.{count}
 use Rattle.records.specs.Trees.{circuit}
@@ -15,6 +18,7 @@ use Rattle.typing.specs.Judgements.{judgements, firstFailing}
 use Rattle.verdict.specs.Verdict.{
   inputs,
   outputType,
+  sheetChecks,
   unless,
   refusing,
   verdictAnswer,
@@ -59,3 +63,18 @@ verdict-first s =
     (searched-first (lowest (wrongType s) (count s)) WrongType (byDepths s) 5 _ (λ r. refl)
     (searched-first (lowest (tooDeep s) (count s)) TooDeep (byTypes s) 6 _ (λ r. refl)
     (searched-first (firstFailing s (judgements s (inputs s) (circuit s))) IllTyped (Accepted (outputType s)) 7 _ (λ r. refl) refl))))))
+
+-- where no check of a sheet applies it is accepted, with the output's type
+accepted-by : (v : Verdict) (t : ℕ) → verdictAnswer v ≡ Done t → v ≡ Accepted t
+accepted-by (Accepted u) t e = cc
+accepted-by WrongLength t e = let z : _≡_ {A = ℕ} 0 1 = cc in absurd (omega arith)
+accepted-by WrongHeader t e = let z : _≡_ {A = ℕ} 0 1 = cc in absurd (omega arith)
+accepted-by (WrongRecord r) t e = let z : _≡_ {A = ℕ} 0 1 = cc in absurd (omega arith)
+accepted-by (WrongNaming r) t e = let z : _≡_ {A = ℕ} 0 1 = cc in absurd (omega arith)
+accepted-by (WrongType r) t e = let z : _≡_ {A = ℕ} 0 1 = cc in absurd (omega arith)
+accepted-by (TooDeep r) t e = let z : _≡_ {A = ℕ} 0 1 = cc in absurd (omega arith)
+accepted-by (IllTyped r) t e = let z : _≡_ {A = ℕ} 0 1 = cc in absurd (omega arith)
+
+pub first-accepted : (s : List ℕ) → NoneApplies (sheetChecks s) → verdict s ≡ Accepted (outputType s)
+first-accepted s h =
+    accepted-by (verdict s) (outputType s) (verdict-first s ∙ none-done (sheetChecks s) (Done (outputType s)) h)

@@ -13,7 +13,7 @@ use Rattle.records.specs.Decoding.{decode}
 use Rattle.records.specs.Trees.{circuit}
 use Rattle.answers.specs.Lowest.{lowest}
 use Rattle.answers.specs.Promises.{LowestBreaking}
-use Rattle.answers.specs.Answers.{Done}
+use Rattle.answers.specs.declared.Answer.the-variants.{Done}
 use Rattle.answers.specs.Checks.{firstOf}
 use Rattle.structure.specs.Rules.{wrongLength, wrongHeader, wrongRecord, wrongNaming, wrongType, tooDeep}
 use Rattle.typing.specs.Judgements.{Judgement, holds, judgements, typeRecordOf}

@@ -9,7 +9,8 @@ use mathlib.Core.Option.{Option, none, some}
 use Rattle.records.specs.Words.{count, wordA}
 use Rattle.records.specs.Trees.{circuit}
 use Rattle.structure.specs.LeafTable.{Counts}
-use Rattle.answers.specs.Answers.{Answer, Done, Refused}
+use Rattle.answers.specs.declared.Answer.{Answer}
+use Rattle.answers.specs.declared.Answer.the-variants.{Done, Refused}
 use Rattle.answers.specs.Checks.{Check, check, when}
 use Rattle.answers.specs.Lowest.{lowest}
 use Rattle.structure.specs.Rules.{wrongLength, wrongHeader, wrongRecord, wrongNaming, wrongType, tooDeep}

@@ -1,7 +1,7 @@
 -- Assumes nothing.
 use native.Mathlib.Omega.{arith}
 use denote.Ref.{now}
-use Rattle.verdict.proofs.PlacesSmall.{verdict-place}
+use Rattle.accepted.proofs.Laws.{verdict-place}
 use Rattle.simulator.proofs.Calls.{refused-verdict, call-refused, accepted-call, call-runs}
 use borrow.Author.Needs.{needs}
 use Rattle.simulator.proofs.sheet_run.Statement.{statement}

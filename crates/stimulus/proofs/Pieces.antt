@@ -10,7 +10,7 @@ use lib.Seq.{take-at, drop-append-add, drop-drop}
 use Rattle.picoella.specs.Types.{Ty, leaves}
 use Rattle.meaning.specs.Values.{AllOf, all-none, all-more}
 use Rattle.meaning.proofs.Order.{value-length}
-use Rattle.behaviour.specs.Stimulus.{pieces, endToEnd}
+use Rattle.stimulus.specs.Stimulus.{pieces, endToEnd}
 
 pub pieces-length : (w n : ℕ) (l : List ℕ) → length (pieces w n l) ≡ n
 pieces-length w zero l = refl

@@ -6,6 +6,8 @@ use mathlib.Core.Bool.{Bool, not, _||_}
 use mathlib.Core.List.{List, [], _∷_, _++_}
 use lib.ListN.{length, getD, take, drop}
 use lib.Dec.{eqb, ltb}
+use Rattle.answers.specs.Lowest.{lowest}
+use Rattle.answers.specs.Checks.{Check, check, when}
 use Rattle.picoella.specs.Types.{Ty, bounds, leaves}
 use Rattle.records.specs.Words.{wordA}
 use Rattle.records.specs.TypeRecords.{typeAt}
@@ -43,3 +45,8 @@ wrongStimulus s stim =
 -- 9: byte i is above its leaf's constructor count
 unfoldable pub wrongByte : (sheet stimulus : List ℕ) → ℕ → Bool
 wrongByte s stim i = ltb (getD (bounds (inputType s)) (i % inputLeaves s) 0) (getD stim i 0)
+
+-- the two checks of a stimulus, in their order
+abbrev pub stimulusChecks : (sheet stimulus : List ℕ) → List Check
+stimulusChecks s stim =
+    check 8 (when (wrongStimulus s stim) 0) ∷ check 9 (lowest (wrongByte s stim) (length stim)) ∷ []

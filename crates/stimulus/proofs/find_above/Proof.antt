@@ -9,10 +9,10 @@ use mathlib.Core.Bool.{false}
 use denote.Ref.{now}
 use lib.ListN.{length}
 use Rattle.answers.proofs.Lowest.{lowest-is, lowest-none}
-use Rattle.simulator.specs.Running.{above}
-use Rattle.simulator.proofs.Stimulus.{is-above, is-not-above}
-use Rattle.simulator.proofs.find_above.Statement.{statement}
-use Rattle.simulator.proofs.find_above.Tie as tie
+use Rattle.stimulus.specs.Tests.{above}
+use Rattle.stimulus.proofs.Tests.{is-above, is-not-above}
+use Rattle.stimulus.proofs.find_above.Statement.{statement}
+use Rattle.stimulus.proofs.find_above.Tie as tie
 
 abbrev Inv-loop : tie.InvT-loop
 Inv-loop bounds stim w all i₀ i = (i ≤ all) × ((q : ℕ) → q < i → above bounds stim q ≡ false)

@@ -6,24 +6,24 @@ use denote.Ref.{now}
 use mathlib.Core.Path.{sym, _∙_}
 use Rattle.picoella.specs.Types.{bounds}
 use Rattle.records.specs.TypeRecords.{typeAt}
-use Rattle.simulator.proofs.Stimulus.{bound-small, Filled, none-filled, fill-next, all-filled, type-bounds}
-use Rattle.simulator.proofs.fill_bounds.Statement.{statement}
-use Rattle.simulator.proofs.fill_bounds.Tie as tie
+use Rattle.accepted.proofs.LeafBounds.{bound-small, accepting-ground, Filled, none-filled, fill-next, all-filled, type-bounds}
+use Rattle.accepted.proofs.fill_bounds.Statement.{statement}
+use Rattle.accepted.proofs.fill_bounds.Tie as tie
 
 abbrev Inv-loop : tie.InvT-loop
-Inv-loop sheet n table t out₀ all i₀ out i = Filled (bounds (typeAt sheet t)) i out
+Inv-loop sheet n widths t out₀ all i₀ out i = Filled (bounds (typeAt sheet t)) i out
 
 abbrev μ-loop : tie.MeasureT-loop
-μ-loop sheet n table t out₀ all i₀ out i = all - i
+μ-loop sheet n widths t out₀ all i₀ out i = all - i
 
 loop-holds : tie.Need-loop-holds Inv-loop μ-loop
 loop-holds c = none-filled _ _ (type-bounds _ _ (now (c .before .before .args .out)) (c .before .before .pre .2))
 
 bound-at-requires : tie.Need-bound-at-requires Inv-loop μ-loop
-bound-at-requires c κs = let l = c .loop-test .taken in let e = c .before .before .before .before .pre .2 in (c .before .before .before .before .pre .0, c .before .before .before .before .pre .1, omega arith)
+bound-at-requires c κs = let l = c .loop-test .taken in let e = c .before .before .before .before .pre .2 in (accepting-ground (c .before .before .before .before .pre .0), c .before .before .before .before .pre .1, omega arith)
 
 cast-out : tie.Need-cast-out Inv-loop μ-loop
-cast-out c = let b = bound-small _ _ _ (c .before .before .before .before .before .pre .0) _ (c .before .before .before .before .before .pre .1) (c .before .before .loop .i) in omega (arith, c .bound-at .ensures)
+cast-out c = let b = bound-small (c .before .before .before .before .before .pre .0) _ (c .before .before .before .before .before .pre .1) (c .before .before .loop .i) in omega (arith, c .bound-at .ensures)
 
 slice-write-out : tie.Need-slice-write-out Inv-loop μ-loop
 slice-write-out c = let l = c .before .before .loop .inv .long in let e = type-bounds _ _ (now (c .before .before .before .before .before .args .out)) (c .before .before .before .before .before .pre .2) in let h = c .before .loop-test .taken in omega arith

@@ -1,8 +1,8 @@
 -- Assumes nothing.
-use Rattle.simulator.proofs.Stimulus.{empty-refused, long-refused, whole-or-not}
+use Rattle.stimulus.proofs.Tests.{empty-refused, long-refused, whole-or-not}
 use borrow.Author.Needs.{needs}
-use Rattle.simulator.proofs.not_whole.Statement.{statement}
-use Rattle.simulator.proofs.not_whole.Tie as tie
+use Rattle.stimulus.proofs.not_whole.Statement.{statement}
+use Rattle.stimulus.proofs.not_whole.Tie as tie
 
 returns : tie.Need-returns
 returns c = empty-refused _ _ (c .if1 .taken)
