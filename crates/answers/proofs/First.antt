@@ -2,13 +2,19 @@
 -- those after it. And only that: of two answers that say so of one list, the checks that apply first are the same.
 -- Assumes nothing.
 use Prim.Native.Nat.{ℕ}
+use mathlib.Core.Bool.{Bool, true, false}
 use mathlib.Core.List.{List, [], _∷_, _++_}
 use mathlib.Core.Option.{Option, none, some}
 use mathlib.Core.Path.{_≡_, refl, sym, ap, _∙_}
 use native.Mathlib.Omega.{arith}
 use Rattle.answers.specs.declared.Answer.{Answer}
 use Rattle.answers.specs.declared.Answer.the-variants.{Done, Refused}
-use Rattle.answers.specs.Checks.{Check, check, orRefused, firstOf, NoneApplies, Refuses, SaysOf}
+use Rattle.answers.specs.Checks.{Check, check, when, orRefused, firstOf, NoneApplies, Refuses, SaysOf}
+
+-- a test that does not apply fails
+pub when-none : (b : Bool) (p : ℕ) → when b p ≡ none → b ≡ false
+when-none true p e = let z : _≡_ {A = ℕ} 0 1 = cc in absurd (omega arith)
+when-none false p e = refl
 
 refuses-later : (k : Check) (ks : List Check) (c p : ℕ) → k .found ≡ none → Refuses ks c p → Refuses (k ∷ ks) c p
 refuses-later k ks c p e r =

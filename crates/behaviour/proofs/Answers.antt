@@ -12,13 +12,13 @@ use native.Mathlib.Nat.{mul-le-mul-left}
 use lib.ListN.{length}
 use lib.Dec.{eqb}
 use borrow.Author.Tests.{eqb-true, eqb-false, eq-eqb, ne-eqb, not-false}
-use Rattle.answers.specs.Answers.{code, place, packed, whenDone, onDone}
+use Rattle.answers.specs.Answers.{code, place, inOne, packed, whenDone, onDone}
 use Rattle.answers.specs.Checks.{Check, check, when, orRefused, firstOf, NoneApplies, Refuses, SaysOf}
 use Rattle.answers.specs.Lowest.{lowest}
 use Rattle.answers.specs.declared.Answer.{Answer}
 use Rattle.answers.specs.declared.Answer.the-variants.{Done, Refused}
 use Rattle.answers.proofs.Lowest.{lowest-some-passes}
-use Rattle.answers.proofs.First.{first-says, says-first, none-done}
+use Rattle.answers.proofs.First.{when-none, first-says, says-first}
 use Rattle.verdict.specs.Verdict.{verdictAnswer, sheetChecks, outputType, verdict}
 use Rattle.verdict.specs.declared.Verdict.{Verdict}
 use Rattle.verdict.specs.declared.Verdict.the-variants.{Accepted}
@@ -82,10 +82,6 @@ not-true true e = sym e
 not-true false e = refl
 
 -- where none applies the call is well formed
-when-none : (b : Bool) (p : ℕ) → when b p ≡ none → b ≡ false
-when-none true p e = let z : _≡_ {A = ℕ} 0 1 = cc in absurd (omega arith)
-when-none false p e = refl
-
 same-length-by : (a b p : ℕ) → when (not (eqb a b)) p ≡ none → a ≡ b
 same-length-by a b p e = eqb-true a b (not-false (eqb a b) (when-none (not (eqb a b)) p e))
 
@@ -193,11 +189,9 @@ refusal-unaltered s stim out next f = (
 )
 
 -- what a call gives where it refuses
-pub gives-refusal : (s stim out next : List ℕ) (a : Answer) → answer s stim out next ≡ a → code a ≢ 0
-    → Gives s stim out next (packed a) out next
-gives-refusal s stim out next a e f =
-    let u = refusal-unaltered s stim out next (λ z. f (sym (ap code e) ∙ z)) in
-    record { result-is = ap packed (sym e); out-is = sym (u .0); next-is = sym (u .1) }
+pub gives-refusal : (s stim out next : List ℕ) (c p : ℕ) → answer s stim out next ≡ Refused c p → Gives s stim out next (inOne c p) out next
+unfolding finalOut finalNext
+gives-refusal s stim out next c p e = record { result-is = rw e refl; out-is = rw e refl; next-is = rw e refl }
 
 -- and where it does not
 pub gives-done : (s stim out next : List ℕ) (t : ℕ) → WellFormed s stim out next t

@@ -36,7 +36,7 @@ use Rattle.stepper.specs.Cycling.{Copying, Cycling}
 use Rattle.stepper.proofs.Cycling.{root-ready, copying}
 use Rattle.simulator.specs.Running.{Lending, RunningCycles}
 use Rattle.simulator.proofs.Running.{at-first, lending}
-use Rattle.simulator.proofs.Calls.{call-passes, call-records}
+use Rattle.accepted.proofs.Small.{accepted-passes, accepted-records}
 
 abbrev names : List ℕ
 names = replicate 4096 0
@@ -44,10 +44,10 @@ names = replicate 4096 0
 -- a well-formed call
 module _ (s stim out next : List ℕ) (t : ℕ) (h : WellFormed s stim out next t) where
   passes : Passes s
-  passes = call-passes s t (h .accepted)
+  passes = accepted-passes s t (h .accepted)
 
   full : length s ≡ 12 * count s
-  full = call-records s t (h .accepted)
+  full = accepted-records s t (h .accepted)
 
   abbrev table : List ℕ
   table = widths s passes full .0

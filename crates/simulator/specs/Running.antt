@@ -62,6 +62,12 @@ pub record RanCycles (s stim current′ out′ : List ℕ) : Type 0 where
   pub outputs : out′ ≡ endToEnd (outputsBy undefinedLeaves s (cycles s stim))
   pub next : current′ ≡ sheetAfter undefinedLeaves s (cycles s stim)
 
+-- an accepted sheet with output type t is run, with the table that the check filled
+pub record RunningAccepted (s : List ℕ) (n : ℕ) (widths : List ℕ) (t : ℕ) : Type 0 where
+  pub sized : Sized s n
+  pub accepted : verdict s ≡ Accepted t
+  pub table : Widths s widths
+
 -- the call: what it gives, and demand 3; the sheet handed in is one of bytes, and so, by demand 3, is each after it
 pub record Ran (sheet stimulus out next : List ℕ) (result : ℕ) (out′ next′ : List ℕ) : Type 0 where
   pub gives : Gives sheet stimulus out next result out′ next′

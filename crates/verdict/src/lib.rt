@@ -191,6 +191,13 @@ fn is_accepted(v: Verdict) -> bool
     }
 }
 
+// Room for a table of widths.
+pub fn no_widths() -> Widths
+    ensures { λ r. ⌜ length r ≡ 4096 ⌝ }
+{
+    [0; 4096]
+}
+
 // The check, with the leaf counts of the types of expressions, patterns and types for an accepted sheet.
 pub fn check_into(sheet: &[u8], table: &mut Widths) -> Verdict
     ensures { λ r. ⌜ Checked (now (sheet .entry)) r (now (table .entry)) (now (table .exit)) ⌝ }
@@ -237,7 +244,7 @@ pub fn packed_verdict(v: Verdict) -> u64
 pub fn check(sheet: &[u8]) -> u64
     ensures { λ r. ⌜ r ≡ packed (verdictAnswer (verdict (now (sheet .entry)))) ⌝ }
 {
-    let mut table = no_leaves();
+    let mut table = no_widths();
     let answer = check_into(sheet, &mut table);
     packed_verdict(answer)
 }

@@ -10,8 +10,8 @@ use Rattle.verdict.specs.Verdict.{verdictAnswer}
 use Rattle.verdict.specs.declared.Verdict.{Verdict}
 use Rattle.verdict.proofs.PlacesSmall.{verdict-place}
 
-no-leaves-requires : tie.Need-no-leaves-requires
-no-leaves-requires c κs = search needs
+no-widths-requires : tie.Need-no-widths-requires
+no-widths-requires c κs = search needs
 
 check-into-requires : tie.Need-check-into-requires
 check-into-requires c κs = search needs
@@ -25,4 +25,4 @@ returns c = c .packed-verdict .ensures ∙ ap (λ (v : Verdict). packed (verdict
 
 pub check-spec : {M : Type 1} → statement M
 check-spec =
-    tie.close (tie.spec no-leaves-requires check-into-requires packed-verdict-requires returns)
+    tie.close (tie.spec no-widths-requires check-into-requires packed-verdict-requires returns)
