@@ -8,16 +8,27 @@ pub const PLACES: u64 = 4294967296;
 
 // The codes of refusals (docs/SHEETS.md, "Codes").
 pub const WRONG_LENGTH: u64 = 1;
+
 pub const WRONG_HEADER: u64 = 2;
+
 pub const WRONG_RECORD: u64 = 3;
+
 pub const WRONG_NAMING: u64 = 4;
+
 pub const WRONG_TYPE: u64 = 5;
+
 pub const TOO_DEEP: u64 = 6;
+
 pub const ILL_TYPED: u64 = 7;
+
 pub const WRONG_STIMULUS: u64 = 8;
+
 pub const WRONG_BYTE: u64 = 9;
+
 pub const WRONG_OUTPUT: u64 = 10;
+
 pub const WRONG_NEXT: u64 = 11;
+
 pub const NO_FILE: u64 = 12;
 
 // The number that a search found, if it found one.

@@ -113,8 +113,8 @@ call-says s stim out next (Refused c p) h =
 pub lowest-first : LowestFirst
 lowest-first s stim out next a = (
   λ e. says-of-call s stim out next a
-  (subst (λ (b : Answer). SaysOf (callChecks s stim out next) (cycleCount s stim) b) (sym (answer-first s stim out next) ∙ e)
-  (first-says (callChecks s stim out next) (cycleCount s stim))),
+      (subst (λ (b : Answer). SaysOf (callChecks s stim out next) (cycleCount s stim) b) (sym (answer-first s stim out next) ∙ e)
+      (first-says (callChecks s stim out next) (cycleCount s stim))),
   call-says s stim out next a,
 )
 

@@ -26,9 +26,9 @@ use answers::in_one;
 use records::KIND_CONSTRUCTOR_PATTERN;
 use records::KIND_PAIR_PATTERN;
 use records::KIND_WHOLE_PATTERN;
+use records::Namers;
 use records::RECORD_BYTES;
 use records::SHEET_BYTES;
-use records::Namers;
 use records::WORD_A;
 use records::WORD_B;
 use records::WORD_KIND;
@@ -70,7 +70,15 @@ fn check_rules(sheet: &[u8], n: usize, table: &Widths, widths: &mut Widths) -> V
     ensures { λ r. ⌜ RulesChecked (now (sheet .entry)) (byTypes (now (sheet .entry))) r (now (widths .entry)) (now (widths .exit)) ⌝ }
 {
     let scope = input_scope(word(sheet, n, 0, WORD_A));
-    let judged = judge(sheet, n, table, &scope, 1, word(sheet, n, 0, WORD_B), widths);
+    let judged = judge(
+        sheet,
+        n,
+        table,
+        &scope,
+        1,
+        word(sheet, n, 0, WORD_B),
+        widths,
+    );
     match judged {
         Outcome::Sound(t) => Verdict::Accepted(t),
         Outcome::Fault(r) => Verdict::IllTyped(r),
