@@ -1,29 +1,18 @@
 /*
- * A small host: checks the sheet in a file.
+ * A small host with the check alone: checks the sheet in a file.
  *
- *     check FILE
+ *     check SHEET
  *
  * prints `type` and the record of the output's type, or `refused CODE at PLACE`; then a sentence for people. Status 0: accepted;
  * 1: refused; 2: not called with one file.
  */
 #include <stdio.h>
 
+#include "read_file.h"
 #include "sheet.h"
 
 /* One byte more than the longest sheet: a longer file is refused for its length, whatever follows. */
 static uint8_t sheet[SHEET_LONGEST + 1];
-
-/* Reads a file from its start, as far as there is room, and says whether it could be read. */
-static int read_file(const char *name, uint8_t *room, size_t most, size_t *length)
-{
-    FILE *file = fopen(name, "rb");
-    if (file == NULL)
-        return 0;
-    *length = fread(room, 1, most, file);
-    int sound = !ferror(file);
-    fclose(file);
-    return sound;
-}
 
 static int tell(uint32_t code, uint32_t place)
 {
@@ -38,7 +27,7 @@ static int tell(uint32_t code, uint32_t place)
 int main(int count, char **words)
 {
     if (count != 2) {
-        fprintf(stderr, "usage: %s FILE\n", count > 0 ? words[0] : "check");
+        fprintf(stderr, "usage: %s SHEET\n", count > 0 ? words[0] : "check");
         return 2;
     }
     size_t length = 0;
