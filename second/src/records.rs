@@ -96,23 +96,23 @@ pub fn words(kind: u16) -> Option<[Word; 5]> {
     use Word::{Constructor, Count, FlatType, LeafValue, Next, Number, Part, Type, Zero};
     const TYPES: Word = Next(Sort::Type);
     const CHAIN: Word = Next(Sort::Pattern);
-    const E: Word = Part(Sort::Expression);
-    const P: Word = Part(Sort::Pattern);
-    const L: Word = Part(Sort::Leaf);
+    const EXPRESSION: Word = Part(Sort::Expression);
+    const PATTERN: Word = Part(Sort::Pattern);
+    const LEAVES: Word = Part(Sort::Leaf);
     Some(match kind {
         FLAT => [TYPES, Count, Zero, Zero, Zero],
         PAIR_TYPE => [TYPES, Type, Type, Zero, Zero],
-        CONSTANT => [Zero, Type, L, Zero, Zero],
+        CONSTANT => [Zero, Type, LEAVES, Zero, Zero],
         NAME => [Zero, Number, Zero, Zero, Zero],
-        PAIR => [Zero, E, E, Zero, Zero],
-        FIRST | SECOND => [Zero, E, Zero, Zero, Zero],
-        LET => [Zero, E, E, Zero, Zero],
-        FEEDBACK => [Zero, Type, E, E, Zero],
-        IF => [Zero, E, E, E, P],
-        DELAY => [Zero, Type, L, E, Zero],
+        PAIR => [Zero, EXPRESSION, EXPRESSION, Zero, Zero],
+        FIRST | SECOND => [Zero, EXPRESSION, Zero, Zero, Zero],
+        LET => [Zero, EXPRESSION, EXPRESSION, Zero, Zero],
+        FEEDBACK => [Zero, Type, EXPRESSION, EXPRESSION, Zero],
+        IF => [Zero, EXPRESSION, EXPRESSION, EXPRESSION, PATTERN],
+        DELAY => [Zero, Type, LEAVES, EXPRESSION, Zero],
         WHOLE => [CHAIN, Type, Zero, Zero, Zero],
         CONSTRUCTOR => [CHAIN, FlatType, Constructor, Zero, Zero],
-        PAIR_PATTERN => [CHAIN, P, P, Zero, Zero],
+        PAIR_PATTERN => [CHAIN, PATTERN, PATTERN, Zero, Zero],
         LEAF => [Next(Sort::Leaf), LeafValue, Zero, Zero, Zero],
         _ => return None,
     })

@@ -7,14 +7,14 @@ use std::hint::black_box;
 extern "C" {
     fn mmap(
         at: *mut c_void,
-        len: usize,
+        length: usize,
         access: i32,
         flags: i32,
-        fd: i32,
+        file: i32,
         from: i64,
     ) -> *mut c_void;
-    fn mprotect(at: *mut c_void, len: usize, access: i32) -> i32;
-    fn munmap(at: *mut c_void, len: usize) -> i32;
+    fn mprotect(at: *mut c_void, length: usize, access: i32) -> i32;
+    fn munmap(at: *mut c_void, length: usize) -> i32;
 }
 
 const NO_ACCESS: i32 = 0;
@@ -64,7 +64,7 @@ pub struct Area {
     mapped: *mut c_void,
     room: usize,
     at: usize,
-    len: usize,
+    length: usize,
 }
 
 impl Area {
@@ -77,7 +77,7 @@ impl Area {
             assert!(mapped as isize != -1, "no memory");
             let opened = mprotect(mapped.byte_add(PAGES), room, READ_AND_WRITE);
             assert!(opened == 0, "the memory can't be opened");
-            Area { mapped, room, at: 0, len: 0 }
+            Area { mapped, room, at: 0, length: 0 }
         }
     }
 
@@ -97,30 +97,30 @@ impl Area {
             Placement::Start => 0,
             Placement::Within(offset) => (free / 2).next_multiple_of(64).min(free - 16) + offset,
         };
-        self.len = slice.len();
-        let (low, at, len, high) = self.places();
+        self.length = slice.len();
+        let (low, at, length, high) = self.places();
         let bytes = self.bytes();
         bytes[low..at].fill(KEPT);
-        bytes[at..at + len].copy_from_slice(slice);
-        bytes[at + len..high].fill(KEPT);
+        bytes[at..at + length].copy_from_slice(slice);
+        bytes[at + length..high].fill(KEPT);
     }
 
     /// The slice's place and length between the bytes to be kept.
     fn places(&self) -> (usize, usize, usize, usize) {
-        let high = (self.at + self.len + AROUND).min(self.room);
-        (self.at.saturating_sub(AROUND), self.at, self.len, high)
+        let high = (self.at + self.length + AROUND).min(self.room);
+        (self.at.saturating_sub(AROUND), self.at, self.length, high)
     }
 
     pub fn slice(&mut self) -> &mut [u8] {
-        let (at, len) = (self.at, self.len);
-        &mut self.bytes()[at..at + len]
+        let (at, length) = (self.at, self.length);
+        &mut self.bytes()[at..at + length]
     }
 
     /// Whether the bytes around the slice have their value.
     pub fn kept_around(&mut self) -> bool {
-        let (low, at, len, high) = self.places();
+        let (low, at, length, high) = self.places();
         let bytes = black_box(self.bytes());
-        bytes[low..at].iter().chain(&bytes[at + len..high]).all(|&byte| byte == KEPT)
+        bytes[low..at].iter().chain(&bytes[at + length..high]).all(|&byte| byte == KEPT)
     }
 }
 
