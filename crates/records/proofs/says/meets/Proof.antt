@@ -1,7 +1,7 @@
 -- By the range of the ask's number. Assumes nothing.
 use borrow.Author.Needs.{needs}
-use Rattle.records.proofs.meets.Statement.{statement}
-use Rattle.records.proofs.meets.Tie as tie
+use Rattle.records.proofs.says.meets.Statement.{statement}
+use Rattle.records.proofs.says.meets.Tie as tie
 use mathlib.Core.Path.{refl, sym, _∙_}
 use native.Mathlib.Omega.{arith}
 use borrow.Author.Tests.{ne-eqb}

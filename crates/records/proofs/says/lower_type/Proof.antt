@@ -1,6 +1,6 @@
 -- The sort is that of the record. Assumes nothing.
-use Rattle.records.proofs.lower_type.Statement.{statement}
-use Rattle.records.proofs.lower_type.Tie as tie
+use Rattle.records.proofs.says.lower_type.Statement.{statement}
+use Rattle.records.proofs.says.lower_type.Tie as tie
 use borrow.Author.Needs.{needs}
 use borrow.Author.Tests.{le-ltb, lt-ltb, le-leb, lt-leb, eq-eqb, ne-eqb}
 use native.Mathlib.Omega.{arith}

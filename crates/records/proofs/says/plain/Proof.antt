@@ -1,7 +1,7 @@
 -- The ask is the one that has the number. Assumes nothing.
 use borrow.Author.Needs.{needs}
-use Rattle.records.proofs.plain.Statement.{statement}
-use Rattle.records.proofs.plain.Tie as tie
+use Rattle.records.proofs.says.plain.Statement.{statement}
+use Rattle.records.proofs.says.plain.Tie as tie
 use mathlib.Core.Path.{refl, sym, _∙_}
 use native.Mathlib.Omega.{arith}
 use Rattle.records.specs.Kinds.{types}

@@ -1,5 +1,5 @@
-use Rattle.records.proofs.higher.Statement.{statement}
-use Rattle.records.proofs.higher.Tie as tie
+use Rattle.records.proofs.says.higher.Statement.{statement}
+use Rattle.records.proofs.says.higher.Tie as tie
 use borrow.Author.Needs.{needs}
 use borrow.Author.Tests.{le-ltb, lt-ltb, le-leb, lt-leb, eq-eqb, ne-eqb}
 use native.Mathlib.Omega.{arith}
