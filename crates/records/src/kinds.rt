@@ -26,8 +26,8 @@ use crate::SORT_PATTERN;
 use crate::SORT_TYPE;
 use crate::WORDS;
 
-// The number of what a word asks. From NEXT on it asks for zero or a record that it names, from PART on for a record that it
-// names, of the sort that is left.
+// The number of what a word asks. From NEXT on it asks for a record that it names, or zero, and from PART on for one that it
+// names; the sort of that record is what is left of the number.
 pub const ZERO: usize = 0;
 pub const ANY_TYPE: usize = 1;
 pub const LOWER_TYPE: usize = 2;
@@ -38,6 +38,7 @@ pub const BYTE: usize = 6;
 pub const FREE: usize = 7;
 pub const TOTAL: usize = 8;
 const NEVER: usize = 9;
+pub const NAMES: usize = NEXT;
 pub const NEXT: usize = 16;
 pub const PART: usize = 32;
 const NEXT_TYPE: usize = NEXT + SORT_TYPE;

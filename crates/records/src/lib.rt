@@ -3,6 +3,7 @@ mod kinds;
 mod says;
 mod words;
 
+pub use kinds::NAMES;
 pub use kinds::ask_number;
 pub use kinds::asks;
 pub use kinds::sort_number;

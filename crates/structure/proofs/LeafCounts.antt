@@ -38,6 +38,7 @@ use Rattle.records.proofs.Types.{flat-type, pair-type, pair-parts}
 use Rattle.structure.specs.Rules.{wrongType}
 use Rattle.structure.proofs.PairRecords.{above-zero}
 use Rattle.structure.specs.LeafTable.{typeLeaves, Counts}
+use Rattle.structure.specs.PairIndex.{lowerPair}
 
 -- a type is flat or a pair
 flat-or-pair : (k : Kind) → sameSort (sortOf k) types ≡ (isFlat k || isPair k)
@@ -138,10 +139,9 @@ module _ (s : List ℕ) (n : ℕ) (table : List ℕ) (counts : Counts s n table)
       let m = counted e in
       rw (pair-number, ← ek, e, lt-ltb 64 (leaves (typeAt s r)) (omega arith)) (sym (or-true (ltb 0 (pairBelow s (wordA s r) (wordB s r) r))))
 
-  pub few-leaves-fit : (x y v : ℕ) → k ≡ 17 → getD table r 0 ≤ 64 → x ≡ word s r 2 → y ≡ word s r 3 → v ≡ pairBelow s x y r
-      → not (eqb v 0) ≡ wrongType s r
+  pub few-leaves-fit : (v : ℕ) → k ≡ 17 → getD table r 0 ≤ 64 → v ≡ lowerPair s r → not (eqb v 0) ≡ wrongType s r
   unfolding wrongType
-  few-leaves-fit x y v e l ex ey ev =
+  few-leaves-fit v e l ev =
       let m = counted e in
-      rw (above-zero v, pair-number, ← ek, e, le-ltb 64 (leaves (typeAt s r)) (omega arith), ← ex, ← ey, ← ev)
-      (sym (or-false (ltb 0 v)))
+      let lower : v ≡ pairBelow s (wordA s r) (wordB s r) r = ev ∙ rw (pair-number, ← ek, e) in
+      rw (above-zero v, pair-number, ← ek, e, le-ltb 64 (leaves (typeAt s r)) (omega arith), ← lower) (sym (or-false (ltb 0 v)))

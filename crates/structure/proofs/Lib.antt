@@ -5,5 +5,6 @@ pub mod LeafCounts
 pub mod Lowest
 pub mod Namers
 pub mod PairRecords
+pub mod PairSearch
 pub mod Passes
 pub mod WrongRecords

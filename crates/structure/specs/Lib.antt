@@ -7,3 +7,4 @@ pub mod Searches
 pub mod NamerTable
 pub mod LeafTable
 pub mod DepthTable
+pub mod PairIndex
