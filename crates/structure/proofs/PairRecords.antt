@@ -10,15 +10,15 @@ use Rattle.records.specs.Words.{word}
 use Rattle.records.specs.TypeRecords.{isPairOf}
 use Rattle.records.proofs.CodeTable.{pair-number}
 
-module _ (s : List ℕ) (a b q k x y : ℕ) (ek : k ≡ word s q 0) (ex : x ≡ word s q 2) (ey : y ≡ word s q 3) where
-  pub another-kind : (k ≡ 17 → ⊥) → false ≡ isPairOf s a b q
-  another-kind f = rw (pair-number, ← ek, ne-eqb k 17 f)
+pub another-kind : (s : List ℕ) (a b q : ℕ) {k : ℕ} → k ≡ word s q 0 → (k ≡ 17 → ⊥) → false ≡ isPairOf s a b q
+another-kind s a b q {k} ek f = rw (pair-number, ← ek, ne-eqb k 17 f)
 
-  pub another-first : (x ≡ a → ⊥) → false ≡ isPairOf s a b q
-  another-first f = rw (← ex, ne-eqb x a f, and-false)
+pub another-first : (s : List ℕ) (a b q : ℕ) {x : ℕ} → x ≡ word s q 2 → (x ≡ a → ⊥) → false ≡ isPairOf s a b q
+another-first s a b q {x} ex f = rw (← ex, ne-eqb x a f, and-false)
 
-  pub the-second : k ≡ 17 → x ≡ a → eqb y b ≡ isPairOf s a b q
-  the-second e f = rw (pair-number, ← ek, e, ← ex, eq-eqb x a f, ← ey)
+pub the-second : (s : List ℕ) (a b q : ℕ) {k x y : ℕ} → k ≡ word s q 0 → x ≡ word s q 2 → y ≡ word s q 3 → k ≡ 17 → x ≡ a
+    → eqb y b ≡ isPairOf s a b q
+the-second s a b q {k} {x} ek ex ey e f = rw (pair-number, ← ek, e, ← ex, eq-eqb x a f, ← ey)
 
 -- not 0 is above 0
 pub above-zero : (x : ℕ) → not (eqb x 0) ≡ ltb 0 x

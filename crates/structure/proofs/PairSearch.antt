@@ -197,14 +197,14 @@ header-pair s a b = go (isPairOf s a b 0)
     go true = refl
     go false = refl
 
-module _ (s index : List ℕ) (r k : ℕ) (ix : Indexed s r index) (ek : k ≡ word s r 0) where
+module _ {s index : List ℕ} {r k : ℕ} (ix : Indexed s r index) (ek : k ≡ word s r 0) where
   pub no-pair-noted : (k ≡ 17 → ⊥) → (0 ≡ lowerPair s r) × Indexed s (r + 1) index
   no-pair-noted f = (
     rw (pair-number, ← ek, ne-eqb k 17 f),
-    indexed-more ix (λ a b. next-pair s a b r (λ e. absurd (false≢true (another-kind s a b r k _ _ ek refl refl f ∙ e)))),
+    indexed-more ix (λ a b. next-pair s a b r (λ e. absurd (false≢true (another-kind s a b r ek f ∙ e)))),
   )
 
-  module _ (e : k ≡ 17) (x y end : ℕ) (ex : x ≡ word s r 2) (ey : y ≡ word s r 3) (reached : EndsAt s index x y end) where
+  module _ (e : k ≡ 17) {x y end : ℕ} (ex : x ≡ word s r 2) (ey : y ≡ word s r 3) (reached : EndsAt s index x y end) where
     lower-found : getD index end 0 ≡ lowerPair s r
     lower-found = ix .finds x y end reached ∙ rw (ex, ey, pair-number, ← ek, e)
 

@@ -10,6 +10,7 @@ ghost use Rattle.structure.specs.Lowest.{lowest};
 ghost use Rattle.structure.specs.Searches.{found};
 ghost use Rattle.structure.specs.Rules.{tooDeep};
 use crate::Found;
+use crate::naming::NAMER_STEP;
 use records::Depths;
 use records::KIND_FEEDBACK;
 use records::MOST_DEPTH;
@@ -68,10 +69,10 @@ fn place(
     ensures { λ _. ⌜ Placed (now (sheet .entry)) (rec + 1) (now (depths .exit)) (now (nestings .exit)) ⌝ }
 {
     let namer = namers[rec] as usize - 1;
-    let q = namer / 8;
+    let q = namer / NAMER_STEP;
     let x = nestings[q];
     depths[rec] = one_more(depths[q], TOO_DEEP);
-    nestings[rec] = nested(sheet, n, q, namer % 8, x);
+    nestings[rec] = nested(sheet, n, q, namer % NAMER_STEP, x);
 }
 
 // Fills empty tables with the depths and nestings of all records.

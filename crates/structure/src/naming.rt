@@ -26,6 +26,9 @@ use records::WORD_NEXT;
 use records::asks;
 use records::word;
 
+// The entry of a record that word k of record q names, and no other word, is this number times q, plus k + 1.
+pub const NAMER_STEP: usize = 8;
+
 // A table of namings with no naming in it.
 pub fn no_namings() -> Namers
     ensures { λ r. ⌜ Holds (λ _. []) r ⌝ }
@@ -42,7 +45,7 @@ fn note_word(sheet: &[u8], n: usize, q: usize, asks: &[usize; WORDS], k: usize, 
         let w = word(sheet, n, q, k);
         if w < RECORDS {
             if namers[w] == 0 {
-                namers[w] = (8 * q + k + 1) as u16;
+                namers[w] = (NAMER_STEP * q + k + 1) as u16;
             } else {
                 namers[w] = NAMED_SEVERAL;
             }

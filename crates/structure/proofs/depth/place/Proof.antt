@@ -14,27 +14,27 @@ element-copy-out-namer c = search needs
 
 cast-namer : tie.Need-cast-namer
 cast-namer c =
-    let p = in-range _ _ _ _ _ _ (c .before .before .pre .0) (c .before .before .pre .1) in
+    let p = in-range (c .before .before .pre .0) (c .before .before .pre .1) in
     omega arith
 
 sub-namer : tie.Need-sub-namer
 sub-namer c =
-    let p = in-range _ _ _ _ _ _ (c .before .before .pre .0) (c .before .before .pre .1) in
+    let p = in-range (c .before .before .pre .0) (c .before .before .pre .1) in
     omega arith
 
 element-copy-out-x : tie.Need-element-copy-out-x
 element-copy-out-x c =
-    let p = in-range _ _ _ _ _ _ (c .before .before .pre .0) (c .before .before .pre .1) in
+    let p = in-range (c .before .before .pre .0) (c .before .before .pre .1) in
     omega arith
 
 element-copy-out-one-more : tie.Need-element-copy-out-one-more
 element-copy-out-one-more c =
-    let p = in-range _ _ _ _ _ _ (c .before .before .before .pre .0) (c .before .before .before .pre .1) in
+    let p = in-range (c .before .before .before .pre .0) (c .before .before .before .pre .1) in
     omega arith
 
 one-more-requires : tie.Need-one-more-requires
 one-more-requires c κs =
-    let p = in-range _ _ _ _ _ _ (c .before .before .before .before .pre .0) (c .before .before .before .before .pre .1) in
+    let p = in-range (c .before .before .before .before .pre .0) (c .before .before .before .before .pre .1) in
     omega arith
 
 element-write-depths : tie.Need-element-write-depths
@@ -42,7 +42,7 @@ element-write-depths c = search needs
 
 nested-requires : tie.Need-nested-requires
 nested-requires c κs =
-    let p = in-range _ _ _ _ _ _ (c .before .before .before .before .before .pre .0) (c .before .before .before .before .before .pre .1) in
+    let p = in-range (c .before .before .before .before .before .pre .0) (c .before .before .before .before .before .pre .1) in
     (c .before .before .before .before .before .pre .0 .sized, omega arith, omega arith)
 
 element-write-nestings : tie.Need-element-write-nestings
@@ -50,7 +50,7 @@ element-write-nestings c = search needs
 
 returns : tie.Need-returns
 returns c =
-    place-more _ _ _ _ _ _ (c .before .before .before .before .before .before .pre .0) (c .before .before .before .before .before .before .pre .1) _ _ _ _ refl refl (c .before .one-more .ensures) (c .nested .ensures)
+    place-more (c .before .before .before .before .before .before .pre .0) (c .before .before .before .before .before .before .pre .1) _ _ _ _ refl refl (c .before .one-more .ensures) (c .nested .ensures)
 
 pub place-spec : {M : Type 1} → statement M
 place-spec =

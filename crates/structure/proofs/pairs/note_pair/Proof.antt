@@ -10,7 +10,7 @@ word-requires : tie.Need-word-requires
 word-requires c κs = search needs
 
 returns : tie.Need-returns
-returns c = no-pair-noted (now (c .before .before .before .args .sheet)) (now (c .before .before .before .args .index)) (c .before .before .before .args .rec) (c .before .word .result) (c .before .before .before .pre .2) (c .before .word .ensures .0) (c .if1 .taken)
+returns c = no-pair-noted (c .before .before .before .pre .2) (c .before .word .ensures .0) (c .if1 .taken)
 
 word-requires-2 : tie.Need-word-requires-2
 word-requires-2 c κs = search needs
@@ -41,13 +41,13 @@ element-write-index c = search needs
 
 returns-2 : tie.Need-returns-2
 returns-2 c = 
-    pair-noted (now (c .before .before .before .before .before .before .before .before .before .args .sheet)) (now (c .before .before .before .before .before .before .before .before .before .args .index)) (c .before .before .before .before .before .before .before .before .before .args .rec) (c .before .before .before .before .before .before .before .word .result) (c .before .before .before .before .before .before .before .before .before .pre .2) (c .before .before .before .before .before .before .before .word .ensures .0)
-    (c .before .before .before .before .before .before .if1 .left) (c .before .before .before .before .word2 .result) (c .before .before .before .word3 .result) (c .before .before .slot-of .result) (c .before .before .before .before .word2 .ensures .0) (c .before .before .before .word3 .ensures .0) (c .before .before .slot-of .ensures .0) (search needs) (c .if2 .taken)
+    pair-noted (c .before .before .before .before .before .before .before .before .before .pre .2) (c .before .before .before .before .before .before .before .word .ensures .0)
+    (c .before .before .before .before .before .before .if1 .left) (c .before .before .before .before .word2 .ensures .0) (c .before .before .before .word3 .ensures .0) (c .before .before .slot-of .ensures .0) (search needs) (c .if2 .taken)
 
 returns-3 : tie.Need-returns-3
 returns-3 c = 
-    lower-noted (now (c .before .before .before .before .before .before .before .before .before .args .sheet)) (now (c .before .before .before .before .before .before .before .before .before .args .index)) (c .before .before .before .before .before .before .before .before .before .args .rec) (c .before .before .before .before .before .before .before .word .result) (c .before .before .before .before .before .before .before .before .before .pre .2) (c .before .before .before .before .before .before .before .word .ensures .0)
-    (c .before .before .before .before .before .before .if1 .left) (c .before .before .before .before .word2 .result) (c .before .before .before .word3 .result) (c .before .before .slot-of .result) (c .before .before .before .before .word2 .ensures .0) (c .before .before .before .word3 .ensures .0) (c .before .before .slot-of .ensures .0) (c .if2 .left)
+    lower-noted (c .before .before .before .before .before .before .before .before .before .pre .2) (c .before .before .before .before .before .before .before .word .ensures .0)
+    (c .before .before .before .before .before .before .if1 .left) (c .before .before .before .before .word2 .ensures .0) (c .before .before .before .word3 .ensures .0) (c .before .before .slot-of .ensures .0) (c .if2 .left)
 
 pub note-pair-spec : {M : Type 1} → statement M
 note-pair-spec =

@@ -12,17 +12,17 @@ word-requires : tie.Need-word-requires
 word-requires c κs = search needs
 
 returns : tie.Need-returns
-returns c = (no-pair-fits (now (c .before .before .before .before .before .args .sheet)) (c .before .before .before .before .before .args .n) (now (c .before .before .before .before .before .args .table)) (c .before .before .before .before .before .pre .2) (c .before .before .before .before .before .args .rec) (c .before .word .result) (search needs) (c .before .word .ensures .0) (c .if1 .taken), c .before .before .note-pair .ensures .1)
+returns c = (no-pair-fits (c .before .before .before .before .before .pre .2) (c .before .before .before .before .before .args .rec) (search needs) (c .before .word .ensures .0) (c .if1 .taken), c .before .before .note-pair .ensures .1)
 
 element-copy-out-if2 : tie.Need-element-copy-out-if2
 element-copy-out-if2 c = search needs
 
 returns-2 : tie.Need-returns-2
-returns-2 c = (many-leaves (now (c .before .before .before .before .before .before .before .args .sheet)) (c .before .before .before .before .before .before .before .args .n) (now (c .before .before .before .before .before .before .before .args .table)) (c .before .before .before .before .before .before .before .pre .2) (c .before .before .before .before .before .before .before .args .rec) (c .before .before .before .word .result) (search needs) (c .before .before .before .word .ensures .0) (c .before .before .if1 .left) (c .if2 .taken), c .before .before .before .before .note-pair .ensures .1)
+returns-2 c = (many-leaves (c .before .before .before .before .before .before .before .pre .2) (c .before .before .before .before .before .before .before .args .rec) (search needs) (c .before .before .before .word .ensures .0) (c .before .before .if1 .left) (c .if2 .taken), c .before .before .before .before .note-pair .ensures .1)
 
 returns-3 : tie.Need-returns-3
 returns-3 c = 
-    (few-leaves-fit (now (c .before .before .before .before .before .before .before .args .sheet)) (c .before .before .before .before .before .before .before .args .n) (now (c .before .before .before .before .before .before .before .args .table)) (c .before .before .before .before .before .before .before .pre .2) (c .before .before .before .before .before .before .before .args .rec) (c .before .before .before .word .result) (search needs) (c .before .before .before .word .ensures .0) (c .before .before .before .before .note-pair .result) (c .before .before .if1 .left) (c .if2 .left) (c .before .before .before .before .note-pair .ensures .0), c .before .before .before .before .note-pair .ensures .1)
+    (few-leaves-fit (c .before .before .before .before .before .before .before .pre .2) (c .before .before .before .before .before .before .before .args .rec) (search needs) (c .before .before .before .word .ensures .0) (c .before .before .if1 .left) (c .if2 .left) (c .before .before .before .before .note-pair .ensures .0), c .before .before .before .before .note-pair .ensures .1)
 
 pub wrong-type-spec : {M : Type 1} → statement M
 wrong-type-spec =
