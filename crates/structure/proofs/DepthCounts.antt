@@ -84,7 +84,7 @@ pub record NamedBy (s : List ℕ) (rec v : ℕ) : Type 0 where
   pub deeper : depth s rec ≡ suc (depth s by)
   pub nested : nesting s rec ≡ cond (ofDefiningPart s (record { by = by; at = at })) (suc (nesting s by)) (nesting s by)
 
-module _ (s : List ℕ) (n rec : ℕ) (namers depths nestings : List ℕ) (p : Placing s n rec namers depths nestings) (h : rec < n) where
+module _ {s : List ℕ} {n rec : ℕ} {namers depths nestings : List ℕ} (p : Placing s n rec namers depths nestings) (h : rec < n) where
   pub named-by : NamedBy s rec (getD namers rec 0)
   named-by = let one = the-one (namings s rec) (p .once rec (p .some) below) in from-one (one .0) (one .1)
     where
@@ -164,7 +164,7 @@ module _ (s : List ℕ) (n rec : ℕ) (namers depths nestings : List ℕ) (p : P
           more x true = omega arith
           more x false = refl
 
-module _ (s : List ℕ) (n : ℕ) (depths nestings : List ℕ) (p : Placed s n depths nestings) (r sort : ℕ) (h : r < n)
+module _ {s : List ℕ} {n : ℕ} {depths nestings : List ℕ} (p : Placed s n depths nestings) (r : ℕ) {sort : ℕ} (h : r < n)
     (es : sort ≡ sortNumber (sortAt s r)) where
   pub no-expression : (sort ≡ 3 → ⊥) → false ≡ tooDeep s r
   unfolding tooDeep
