@@ -1,8 +1,8 @@
 //! A circuit before it has numbers: nodes that refer to each other. A layout
 //! turns it into records.
 
-use crate::rng::Rng;
-use crate::table::{
+use crate::random::Random;
+use crate::records::{
     A, B, C, CONSTANT, CONSTRUCTOR, D, DELAY, FEEDBACK, FIRST, FLAT, HEADER, IF, KIND, LEAF, LET,
     NAME, NEXT, PAIR, PAIR_PATTERN, PAIR_TYPE, SECOND, WHOLE,
 };
@@ -183,10 +183,10 @@ impl Draft {
     }
 
     /// A chain of leaves with random values of a type.
-    pub fn random_leaves(&mut self, of: usize, rng: &mut Rng) -> usize {
+    pub fn random_leaves(&mut self, of: usize, random: &mut Random) -> usize {
         let counts = self.counts(of);
         let values: Vec<u16> =
-            counts.iter().map(|&n| rng.below(usize::from(n) + 1) as u16).collect();
+            counts.iter().map(|&n| random.below(usize::from(n) + 1) as u16).collect();
         self.leaves(&values)
     }
 
@@ -194,8 +194,8 @@ impl Draft {
         self.add(CONSTANT, &[(A, Term::Type(of)), (B, Term::Part(leaf))], of)
     }
 
-    pub fn random_constant(&mut self, of: usize, rng: &mut Rng) -> usize {
-        let leaf = self.random_leaves(of, rng);
+    pub fn random_constant(&mut self, of: usize, random: &mut Random) -> usize {
+        let leaf = self.random_leaves(of, random);
         self.constant(of, leaf)
     }
 

@@ -1,54 +1,55 @@
 //! The generators keep the rules, or break the one they aim at.
 
-use crate::check::check;
-use crate::faults::{categories, faulty};
+use crate::check_mistakes::{self, MISTAKES};
+use crate::faults::categories;
+use crate::faults::category::faulty;
 use crate::fuzz;
 use crate::generate::boundary::{deepen, nest, widen};
-use crate::generate::{circuit, circuit_of_records};
+use crate::generate::circuits::{circuit, circuit_of_records};
 use crate::layout::{layout, sheet};
-use crate::mistake::{self, MISTAKES};
-use crate::rng::Rng;
+use crate::random::Random;
+use crate::records::{bytes, read};
 use crate::shapes;
-use crate::table::{bytes, read};
+use crate::verdict::check;
 
 #[test]
 fn circuits_are_accepted() {
-    let mut rng = Rng::new(11);
+    let mut random = Random::new(11);
     for _ in 0..3000 {
-        let sheet = sheet(&circuit(&mut rng), &mut rng);
+        let sheet = sheet(&circuit(&mut random), &mut random);
         assert_eq!(check(&sheet, None).code, 0, "{:?}", read(&sheet));
     }
 }
 
 #[test]
 fn layouts_differ() {
-    let mut rng = Rng::new(12);
-    let draft = circuit_of_records(60, &mut rng);
-    let one = layout(&draft, &mut rng);
-    assert!((0..20).any(|_| layout(&draft, &mut rng) != one));
+    let mut random = Random::new(12);
+    let draft = circuit_of_records(60, &mut random);
+    let one = layout(&draft, &mut random);
+    assert!((0..20).any(|_| layout(&draft, &mut random) != one));
 }
 
 #[test]
 fn limits_are_reached() {
-    let mut rng = Rng::new(13);
+    let mut random = Random::new(13);
     for (records, code) in [(4095, 0), (4096, 0), (4097, 1)] {
-        let draft = circuit_of_records(records, &mut rng);
-        let sheet = sheet(&draft, &mut rng);
+        let draft = circuit_of_records(records, &mut random);
+        let sheet = sheet(&draft, &mut random);
         assert_eq!((sheet.len(), check(&sheet, None).code), (records * 12, code));
     }
     for over in [false, true] {
         let extra = usize::from(over);
         for _ in 0..200 {
-            let draft = circuit_of_records(100, &mut rng);
+            let draft = circuit_of_records(100, &mut random);
             let (mut deep, mut nested, mut wide) = (draft.clone(), draft.clone(), draft);
-            if deepen(&mut deep, 64 + extra, &mut rng) {
-                assert_eq!(check(&sheet(&deep, &mut rng), None).code, 6 * u8::from(over));
+            if deepen(&mut deep, 64 + extra, &mut random) {
+                assert_eq!(check(&sheet(&deep, &mut random), None).code, 6 * u8::from(over));
             }
-            if nest(&mut nested, 3 + extra, &mut rng) {
-                assert_eq!(check(&sheet(&nested, &mut rng), None).code, 6 * u8::from(over));
+            if nest(&mut nested, 3 + extra, &mut random) {
+                assert_eq!(check(&sheet(&nested, &mut random), None).code, 6 * u8::from(over));
             }
-            widen(&mut wide, 64 + extra, &mut rng);
-            assert_eq!(check(&sheet(&wide, &mut rng), None).code, 5 * u8::from(over));
+            widen(&mut wide, 64 + extra, &mut random);
+            assert_eq!(check(&sheet(&wide, &mut random), None).code, 5 * u8::from(over));
         }
     }
 }
@@ -57,11 +58,11 @@ fn limits_are_reached() {
 fn faults_hit_their_code() {
     let categories = categories();
     let mut hits = vec![(0, 0); categories.len()];
-    let mut rng = Rng::new(14);
+    let mut random = Random::new(14);
     for _ in 0..60 {
-        let draft = circuit(&mut rng);
+        let draft = circuit(&mut random);
         for (category, hits) in categories.iter().zip(&mut hits) {
-            if let Some(sheet) = faulty(&draft, &[category], &mut rng) {
+            if let Some(sheet) = faulty(&draft, &[category], &mut random) {
                 hits.0 += 1;
                 hits.1 += usize::from(check(&sheet, None).code == category.code);
             }
@@ -74,14 +75,14 @@ fn faults_hit_their_code() {
 
 #[test]
 fn any_bytes_have_a_verdict() {
-    let mut rng = Rng::new(15);
+    let mut random = Random::new(15);
     for _ in 0..1000 {
-        let length = rng.below(600);
-        let random = fuzz::random_bytes(length, &mut rng);
-        let mut records = layout(&circuit(&mut rng), &mut rng);
-        fuzz::change_words(&mut records, &mut rng);
-        let strewn = bytes(&fuzz::random_records(&mut rng));
-        for sheet in [random, bytes(&records), strewn] {
+        let length = random.below(600);
+        let any = fuzz::random_bytes(length, &mut random);
+        let mut records = layout(&circuit(&mut random), &mut random);
+        fuzz::change_words(&mut records, &mut random);
+        let strewn = bytes(&fuzz::random_records(&mut random));
+        for sheet in [any, bytes(&records), strewn] {
             for (_, mistake) in MISTAKES {
                 assert!(check(&sheet, Some(mistake)).code <= 7);
             }
@@ -101,5 +102,5 @@ fn named_sheets_have_their_verdicts() {
         assert_eq!((sheet.len(), check(&sheet, None).code), (49_152, code), "{name}");
     }
     assert!(shapes::named("none").is_none());
-    assert!(mistake::named("none").is_none());
+    assert!(check_mistakes::named("none").is_none());
 }

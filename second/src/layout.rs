@@ -2,8 +2,8 @@
 //! writes the records.
 
 use crate::draft::{Draft, Node, Term};
-use crate::rng::Rng;
-use crate::table::{bytes, sort, Record, Sort, C, NEXT};
+use crate::random::Random;
+use crate::records::{bytes, sort, Record, Sort, C, NEXT};
 
 /// How the next node is taken from those that may come next. Random order can
 /// reach every layout; the others make extreme ones likely.
@@ -21,8 +21,8 @@ pub const ORDERS: [&str; 5] =
     ["in random order", "oldest first", "newest first", "types first", "types late"];
 
 impl Order {
-    pub fn any(rng: &mut Rng) -> Order {
-        match rng.below(10) {
+    pub fn any(random: &mut Random) -> Order {
+        match random.below(10) {
             0 => Order::Oldest,
             1 => Order::Newest,
             2 => Order::TypesFirst,
@@ -33,13 +33,13 @@ impl Order {
 }
 
 /// The records of a draft in a random layout.
-pub fn layout(draft: &Draft, rng: &mut Rng) -> Vec<Record> {
-    layout_in(draft, Order::any(rng), rng)
+pub fn layout(draft: &Draft, random: &mut Random) -> Vec<Record> {
+    layout_in(draft, Order::any(random), random)
 }
 
 /// The bytes of a draft in a random layout.
-pub fn sheet(draft: &Draft, rng: &mut Rng) -> Vec<u8> {
-    bytes(&layout(draft, rng))
+pub fn sheet(draft: &Draft, random: &mut Random) -> Vec<u8> {
+    bytes(&layout(draft, random))
 }
 
 /// How many records a draft takes.
@@ -48,9 +48,9 @@ pub fn record_count(draft: &Draft) -> usize {
     reached(&nodes, &draft.orphans).iter().filter(|&&r| r).count()
 }
 
-pub fn layout_in(draft: &Draft, order: Order, rng: &mut Rng) -> Vec<Record> {
+pub fn layout_in(draft: &Draft, order: Order, random: &mut Random) -> Vec<Record> {
     let nodes = linked(draft);
-    let numbered = numbering(&nodes, &draft.orphans, order, rng);
+    let numbered = numbering(&nodes, &draft.orphans, order, random);
     let mut number = vec![0u16; nodes.len()];
     for (k, &node) in numbered.iter().enumerate() {
         number[node] = k as u16;
@@ -137,7 +137,7 @@ fn constraints(nodes: &[Node], reached: &[bool]) -> Constraints {
 }
 
 /// A linear order of the laid out nodes, the header first.
-fn numbering(nodes: &[Node], orphans: &[usize], order: Order, rng: &mut Rng) -> Vec<usize> {
+fn numbering(nodes: &[Node], orphans: &[usize], order: Order, random: &mut Random) -> Vec<usize> {
     let reached = reached(nodes, orphans);
     let Constraints { start, later, mut earlier } = constraints(nodes, &reached);
     let mut ready: Vec<usize> =
@@ -155,13 +155,13 @@ fn numbering(nodes: &[Node], orphans: &[usize], order: Order, rng: &mut Rng) -> 
         if ready.is_empty() {
             break;
         }
-        node = take(&mut ready, nodes, order, rng);
+        node = take(&mut ready, nodes, order, random);
     }
     assert_eq!(numbered.len(), reached.iter().filter(|&&r| r).count(), "no order");
     numbered
 }
 
-fn take(ready: &mut Vec<usize>, nodes: &[Node], order: Order, rng: &mut Rng) -> usize {
+fn take(ready: &mut Vec<usize>, nodes: &[Node], order: Order, random: &mut Random) -> usize {
     let of_sort = |wanted: bool| {
         ready.iter().position(|&n| (sort(nodes[n].kind()) == Some(Sort::Type)) == wanted)
     };
@@ -175,7 +175,7 @@ fn take(ready: &mut Vec<usize>, nodes: &[Node], order: Order, rng: &mut Rng) -> 
     match at {
         Some(at) => ready.remove(at),
         None => {
-            let at = rng.below(ready.len());
+            let at = random.below(ready.len());
             ready.swap_remove(at)
         }
     }

@@ -1,25 +1,42 @@
 //! A second implementation of the type check and of the run, and generators of
 //! sheets to compare them with another one.
 
-pub mod check;
+// The check.
+pub mod answers;
+pub mod check_mistakes;
+pub mod records;
+pub mod structure;
+pub mod typing;
+pub mod verdict;
+
+// The run.
+pub mod accepted;
+pub mod evaluator;
+pub mod listing;
+pub mod matching;
+pub mod run_mistakes;
+pub mod simulator;
+pub mod stepper;
+pub mod stimulus;
+pub mod values;
+pub mod watch;
+
+// Sheets.
 pub mod draft;
 pub mod faults;
 pub mod fuzz;
 pub mod generate;
 pub mod layout;
-pub mod mistake;
-pub mod rng;
+pub mod random;
 pub mod samples;
 pub mod shapes;
-pub mod simulate;
-pub mod structure;
 pub mod survey;
-pub mod table;
-pub mod typing;
 
-#[cfg(test)]
-mod check_tests;
 #[cfg(test)]
 mod generate_tests;
 #[cfg(test)]
+mod simulator_tests;
+#[cfg(test)]
 mod typing_tests;
+#[cfg(test)]
+mod verdict_tests;

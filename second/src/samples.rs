@@ -1,9 +1,9 @@
 //! Small sheets written out by hand: T and the circuits of the bench cases.
 
-use crate::table::{bytes, Record, C};
+use crate::records::{bytes, Record, C};
 
 /// Records from the words given, the others 0; the header's count filled in.
-pub fn records(words: &[&[u16]]) -> Vec<Record> {
+pub fn from_words(words: &[&[u16]]) -> Vec<Record> {
     let mut records: Vec<Record> = words
         .iter()
         .map(|given| std::array::from_fn(|k| given.get(k).copied().unwrap_or(0)))
@@ -14,7 +14,7 @@ pub fn records(words: &[&[u16]]) -> Vec<Record> {
 
 /// The sheet T of 17 records.
 pub fn t() -> Vec<u8> {
-    bytes(&records(&[
+    bytes(&from_words(&[
         &[1, 1, 1, 2],
         &[16, 0, 2],
         &[38, 0, 1, 3, 16],
@@ -42,7 +42,7 @@ pub fn stimulus() -> Vec<u8> {
 
 /// AND: pattern (1,1), then 1, else 2.
 pub fn and() -> Vec<u8> {
-    bytes(&records(&[
+    bytes(&from_words(&[
         &[1, 1, 2, 3],
         &[16, 2, 2],
         &[17, 0, 1, 1],
@@ -60,7 +60,7 @@ pub fn and() -> Vec<u8> {
 
 /// A NOT fed back on itself.
 pub fn not_feedback() -> Vec<u8> {
-    bytes(&records(&[
+    bytes(&from_words(&[
         &[1, 1, 1, 2],
         &[16, 0, 2],
         &[38, 0, 1, 3, 10],
@@ -77,7 +77,7 @@ pub fn not_feedback() -> Vec<u8> {
 
 /// A feedback of a pair of bits, defined as (hi, its own first part).
 pub fn pair_feedback() -> Vec<u8> {
-    bytes(&records(&[
+    bytes(&from_words(&[
         &[1, 1, 1, 3],
         &[16, 2, 2],
         &[17, 0, 1, 1],
@@ -93,12 +93,12 @@ pub fn pair_feedback() -> Vec<u8> {
 
 /// A feedback defined as itself.
 pub fn self_feedback() -> Vec<u8> {
-    bytes(&records(&[&[1, 1, 1, 2], &[16, 0, 2], &[38, 0, 1, 3, 4], &[33], &[33]]))
+    bytes(&from_words(&[&[1, 1, 1, 2], &[16, 0, 2], &[38, 0, 1, 3, 4], &[33], &[33]]))
 }
 
 /// The pattern (1,1)|(2,2) on a pair of bits.
 pub fn two_pairs() -> Vec<u8> {
-    bytes(&records(&[
+    bytes(&from_words(&[
         &[1, 1, 2, 3],
         &[16, 2, 2],
         &[17, 0, 1, 1],

@@ -1,15 +1,12 @@
 //! Named sheets: samples, sheets at the limits, and sheets of 4,096 records
 //! that cost a check most.
 
+mod building;
 mod large;
 mod limits;
 mod running;
 
-use crate::draft::Draft;
-use crate::layout::{layout_in, record_count, Order};
-use crate::rng::Rng;
 use crate::samples;
-use crate::table::{bytes, MAX_RECORDS};
 
 pub type Make = fn() -> Vec<u8>;
 
@@ -72,34 +69,4 @@ pub fn all() -> impl Iterator<Item = &'static (&'static str, Make)> {
 /// The named sheet.
 pub fn named(name: &str) -> Option<Vec<u8>> {
     all().find(|(n, _)| *n == name).map(|(_, make)| make())
-}
-
-/// The bytes of a draft in a layout of the given order.
-fn laid(draft: &Draft, order: Order) -> Vec<u8> {
-    bytes(&layout_in(draft, order, &mut Rng::new(1)))
-}
-
-/// Adds flat types at the end of the chain up to 4,096 records.
-fn fill(draft: &mut Draft) {
-    let count = record_count(draft);
-    assert!(count <= MAX_RECORDS, "{count} records");
-    for _ in count..MAX_RECORDS {
-        draft.flat(2);
-    }
-}
-
-/// Joins expressions in a tree of LETs that is as flat as can be. Each is
-/// made with the count of names in its scope.
-fn joined(
-    draft: &mut Draft,
-    count: usize,
-    scope: usize,
-    make: &dyn Fn(&mut Draft, usize) -> usize,
-) -> usize {
-    if count <= 1 {
-        return make(draft, scope);
-    }
-    let defining = joined(draft, count / 2, scope, make);
-    let body = joined(draft, count - count / 2, scope + 1, make);
-    draft.bind(defining, body)
 }

@@ -1,11 +1,54 @@
-//! The rules about records that need no types: codes 2 to 6.
+//! The rules about records that need no types: codes 1 to 6.
 
 use std::collections::HashSet;
 
-use crate::check::root;
-use crate::table::{
-    sort, words, Record, Sort, Word, A, B, C, D, FEEDBACK, FLAT, HEADER, KIND, NEXT, PAIR_TYPE,
+use crate::answers::Answer;
+use crate::check_mistakes::{CheckMistake, Limits};
+use crate::records::{
+    expression_parts, read, root, sort, words, Record, Sort, Word, A, B, C, D, FEEDBACK, FLAT,
+    HEADER, KIND, NEXT, PAIR_TYPE, RECORD_BYTES,
 };
+
+/// A sheet that keeps the rules of codes 1 to 6.
+pub struct Structure {
+    pub records: Vec<Record>,
+    /// The leaves of each type; 0 for other records.
+    pub leaves: Vec<u64>,
+}
+
+/// The records of a sheet, or the first code of 1 to 6 that applies. Each step
+/// relies on the steps before it.
+pub fn judge(sheet: &[u8], mistake: Option<CheckMistake>) -> Result<Structure, Answer> {
+    let limits = Limits::of(mistake);
+    let length_holds = (RECORD_BYTES..=limits.length).contains(&sheet.len())
+        && sheet.len().is_multiple_of(RECORD_BYTES);
+    if !length_holds {
+        return Err(Answer { code: 1, place: 0 });
+    }
+    let records = read(sheet);
+    if !header_holds(&records) {
+        return Err(Answer { code: 2, place: 0 });
+    }
+    let lowest = |code: u8, breaks: &dyn Fn(usize) -> bool| {
+        let mut numbers = 1..records.len();
+        let found = if mistake == Some(CheckMistake::HighestRecord) {
+            numbers.rfind(|&i| breaks(i))
+        } else {
+            numbers.find(|&i| breaks(i))
+        };
+        found.map_or(Ok(()), |i| Err(Answer { code, place: i as u32 }))
+    };
+    lowest(3, &|i| !record_holds(&records, i))?;
+    let namings = namings(&records);
+    lowest(4, &|i| namings[i] != 1)?;
+    let leaves = type_leaves(&records);
+    let repeated = repeated_pairs(&records);
+    lowest(5, &|i| repeated[i] || leaves[i] > limits.leaves)?;
+    let depths = depths(&records);
+    let nestings = nestings(&records);
+    lowest(6, &|i| depths[i] > limits.depth || nestings[i] > limits.nesting)?;
+    Ok(Structure { records, leaves })
+}
 
 /// The sort of the record with this number; none at or past the count.
 fn sort_of(records: &[Record], number: u16) -> Option<Sort> {
@@ -13,7 +56,7 @@ fn sort_of(records: &[Record], number: u16) -> Option<Sort> {
 }
 
 /// Code 2: kind, count and d, and the three records the header names.
-pub fn header_holds(records: &[Record]) -> bool {
+fn header_holds(records: &[Record]) -> bool {
     let header = &records[0];
     header[KIND] == HEADER
         && usize::from(header[C]) == records.len()
@@ -24,7 +67,7 @@ pub fn header_holds(records: &[Record]) -> bool {
 }
 
 /// Code 3: a known kind outside the header, and every word as its kind asks.
-pub fn record_holds(records: &[Record], number: usize) -> bool {
+fn record_holds(records: &[Record], number: usize) -> bool {
     match words(records[number][KIND]) {
         None => false,
         Some(asked) => (0..5).all(|k| word_holds(records, number, NEXT + k, asked[k])),
@@ -68,7 +111,7 @@ fn named(record: &Record) -> [u16; 5] {
 }
 
 /// Code 4: how many words name each record outside the header.
-pub fn namings(records: &[Record]) -> Vec<u32> {
+fn namings(records: &[Record]) -> Vec<u32> {
     let mut count = vec![0; records.len()];
     count[usize::from(records[0][NEXT])] += 1;
     count[usize::from(records[0][B])] += 1;
@@ -82,7 +125,7 @@ pub fn namings(records: &[Record]) -> Vec<u32> {
 
 /// The leaves of each type record, 0 for other records. A pair type's parts
 /// are lower, so one pass will do; sums saturate.
-pub fn type_leaves(records: &[Record]) -> Vec<u64> {
+fn type_leaves(records: &[Record]) -> Vec<u64> {
     let mut leaves: Vec<u64> = vec![0; records.len()];
     for (number, record) in records.iter().enumerate() {
         leaves[number] = match record[KIND] {
@@ -97,20 +140,12 @@ pub fn type_leaves(records: &[Record]) -> Vec<u64> {
 }
 
 /// Code 5: the pair types with the parts of a lower one.
-pub fn repeated_pairs(records: &[Record]) -> Vec<bool> {
+fn repeated_pairs(records: &[Record]) -> Vec<bool> {
     let mut seen = HashSet::new();
     records
         .iter()
         .map(|record| record[KIND] == PAIR_TYPE && !seen.insert((record[A], record[B])))
         .collect()
-}
-
-/// The numbers of a record's parts that are expressions, with their words.
-pub fn expression_parts(record: &Record) -> impl Iterator<Item = (usize, usize)> + '_ {
-    let asked = words(record[KIND]).unwrap_or([Word::Zero; 5]);
-    (0..5)
-        .filter(move |&k| asked[k] == Word::Part(Sort::Expression))
-        .map(|k| (NEXT + k, usize::from(record[NEXT + k])))
 }
 
 /// Code 6: the depth of each expression, the root at 1; 0 for other records.

@@ -2,8 +2,8 @@
 //! alternatives of patterns.
 
 use crate::draft::Draft;
-use crate::rng::Rng;
-use crate::table::{
+use crate::random::Random;
+use crate::records::{
     words, Sort, Word, A, B, CONSTANT, D, FEEDBACK, IF, LET, NAME, NEXT, PAIR_PATTERN,
 };
 
@@ -53,21 +53,21 @@ pub fn expressions(draft: &Draft) -> Vec<Spot> {
 }
 
 /// A random expression that passes a test.
-pub fn some(draft: &Draft, rng: &mut Rng, passes: &dyn Fn(&Spot) -> bool) -> Option<Spot> {
+pub fn some(draft: &Draft, random: &mut Random, passes: &dyn Fn(&Spot) -> bool) -> Option<Spot> {
     let spots: Vec<Spot> = expressions(draft).into_iter().filter(passes).collect();
-    rng.pick(&spots)
+    random.pick(&spots)
 }
 
 /// A random expression of a kind.
-pub fn some_kind(draft: &Draft, rng: &mut Rng, kind: u16) -> Option<Spot> {
-    some(draft, rng, &|spot| draft.kind(spot.node) == kind)
+pub fn some_kind(draft: &Draft, random: &mut Random, kind: u16) -> Option<Spot> {
+    some(draft, random, &|spot| draft.kind(spot.node) == kind)
 }
 
 /// A random name or constant below a spot.
-pub fn some_closing(draft: &Draft, top: Spot, rng: &mut Rng) -> Option<Spot> {
+pub fn some_closing(draft: &Draft, top: Spot, random: &mut Random) -> Option<Spot> {
     let closes = |spot: &Spot| [NAME, CONSTANT].contains(&draft.kind(spot.node));
     let spots: Vec<Spot> = below(draft, top).into_iter().filter(closes).collect();
-    rng.pick(&spots)
+    random.pick(&spots)
 }
 
 /// An alternative of a pattern and where it stands.

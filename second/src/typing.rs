@@ -3,12 +3,13 @@
 
 use std::collections::HashMap;
 
-use crate::check::root;
-use crate::mistake::Mistake;
-use crate::table::{
-    Record, A, B, C, CONSTANT, D, DELAY, FEEDBACK, FIRST, FLAT, IF, KIND, LET, NAME, NEXT, PAIR,
-    PAIR_PATTERN, PAIR_TYPE, SECOND,
+use crate::answers::Answer;
+use crate::check_mistakes::CheckMistake;
+use crate::records::{
+    root, Record, A, B, C, CONSTANT, D, DELAY, FEEDBACK, FIRST, FLAT, IF, KIND, LET, NAME, NEXT,
+    PAIR, PAIR_PATTERN, PAIR_TYPE, SECOND,
 };
+use crate::structure::Structure;
 
 /// The types of an accepted sheet.
 pub struct Typed {
@@ -26,7 +27,7 @@ type Derived = Result<u16, usize>;
 struct Typing<'a> {
     records: &'a [Record],
     leaves: &'a [u64],
-    mistake: Option<Mistake>,
+    mistake: Option<CheckMistake>,
     /// What stands for a type when two are compared: the record itself.
     standing: Vec<u16>,
     /// The pair type of two parts.
@@ -37,10 +38,15 @@ struct Typing<'a> {
 }
 
 /// Derives the type of every expression, or finds the first fault.
-pub fn derive(
+pub fn judge(structure: &Structure, mistake: Option<CheckMistake>) -> Result<Typed, Answer> {
+    derive(&structure.records, &structure.leaves, mistake)
+        .map_err(|place| Answer { code: 7, place: place as u32 })
+}
+
+fn derive(
     records: &[Record],
-    leaves: Vec<u64>,
-    mistake: Option<Mistake>,
+    leaves: &[u64],
+    mistake: Option<CheckMistake>,
 ) -> Result<Typed, usize> {
     let standing = standing(records, mistake);
     let mut pairs = HashMap::new();
@@ -55,9 +61,9 @@ pub fn derive(
         }
     }
     let scope = vec![records[0][A]];
-    let mut typing = Typing { records, leaves: &leaves, mistake, standing, pairs, scope, types };
+    let mut typing = Typing { records, leaves, mistake, standing, pairs, scope, types };
     let output = typing.expression(root(records))?;
-    if mistake == Some(Mistake::RefuseAll) {
+    if mistake == Some(CheckMistake::RefuseAll) {
         return Err(root(records));
     }
     let types = typing.types;
@@ -67,9 +73,9 @@ pub fn derive(
 
 /// The record itself for each type; with the mistake of comparing shapes, the
 /// lowest record of the same shape.
-fn standing(records: &[Record], mistake: Option<Mistake>) -> Vec<u16> {
+fn standing(records: &[Record], mistake: Option<CheckMistake>) -> Vec<u16> {
     let mut standing: Vec<u16> = (0..records.len() as u16).collect();
-    if mistake != Some(Mistake::ShapeEquality) {
+    if mistake != Some(CheckMistake::ShapeEquality) {
         return standing;
     }
     let mut shapes = HashMap::new();
@@ -151,7 +157,7 @@ impl Typing<'_> {
 
     /// An IF: the tested part, the pattern at once, then the branches.
     fn choice(&mut self, record: &Record, number: usize) -> Result<Option<u16>, usize> {
-        let late = self.mistake == Some(Mistake::PatternLate);
+        let late = self.mistake == Some(CheckMistake::PatternLate);
         let tested = self.part(record, A)?;
         let fits = self.pattern_fits(record[D], tested);
         if !fits && !late {

@@ -1,9 +1,9 @@
 //! Type rules: verdicts worked out by hand from the document.
 
-use crate::check::typed;
-use crate::check_tests::{and, changed, judged, pair_feedback, t};
+use crate::records::{A, B, KIND};
 use crate::samples;
-use crate::table::{A, B, KIND};
+use crate::verdict::judge;
+use crate::verdict_tests::{and, changed, judged, pair_feedback, t};
 
 #[test]
 fn code_7_names_and_leaves() {
@@ -125,7 +125,7 @@ fn code_7_patterns() {
 
 #[test]
 fn types_and_widths() {
-    let Ok(found) = typed(&samples::and(), None) else { panic!("refused") };
+    let Ok(found) = judge(&samples::and(), None) else { panic!("refused") };
     assert_eq!(found.output, 1);
     assert_eq!(found.types, [0, 1, 2, 1, 2, 2, 1, 1, 1, 0, 1, 0]);
     assert_eq!(found.widths, [0, 1, 2, 1, 2, 2, 1, 1, 1, 0, 1, 0]);

@@ -4,7 +4,7 @@ use std::process::ExitCode;
 use std::sync::atomic::{AtomicBool, AtomicUsize, Ordering};
 use std::sync::Mutex;
 
-use second::rng::Rng;
+use second::random::Random;
 
 /// The options of a comparison whose mistakes are of one kind.
 pub struct Options<M> {
@@ -66,7 +66,7 @@ pub fn run_jobs<J, T, D, M>(
     jobs: &[J],
     round: u64,
     options: &Options<M>,
-    work: impl Fn(&J, &mut Rng, &AtomicBool) -> (T, Ended<D>) + Sync,
+    work: impl Fn(&J, &mut Random, &AtomicBool) -> (T, Ended<D>) + Sync,
 ) -> (T, Option<Box<D>>)
 where
     J: Sync,
@@ -76,7 +76,7 @@ where
     let shared = Shared {
         jobs,
         work,
-        seed: Rng::new(options.seed).draw() ^ (round << 32),
+        seed: Random::new(options.seed).draw() ^ (round << 32),
         next: AtomicUsize::new(0),
         stop: AtomicBool::new(false),
         done: Mutex::new((T::default(), None)),
@@ -92,13 +92,13 @@ where
 /// Takes jobs until none is left. What a job compares depends on the seed and
 /// the job only, not on the thread.
 fn take_jobs<J, T: Count, D>(
-    shared: &Shared<J, T, D, impl Fn(&J, &mut Rng, &AtomicBool) -> (T, Ended<D>)>,
+    shared: &Shared<J, T, D, impl Fn(&J, &mut Random, &AtomicBool) -> (T, Ended<D>)>,
 ) {
     loop {
         let at = shared.next.fetch_add(1, Ordering::Relaxed);
         let Some(job) = shared.jobs.get(at) else { return };
-        let mut rng = Rng::new(Rng::new(shared.seed ^ at as u64).draw());
-        let (counts, ended) = (shared.work)(job, &mut rng, &shared.stop);
+        let mut random = Random::new(Random::new(shared.seed ^ at as u64).draw());
+        let (counts, ended) = (shared.work)(job, &mut random, &shared.stop);
         let mut done = shared.done.lock().unwrap_or_else(|poisoned| poisoned.into_inner());
         done.0.merge(&counts);
         match ended {

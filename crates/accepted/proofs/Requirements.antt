@@ -24,6 +24,7 @@ use Rattle.structure.specs.LeafTable.{typeLeaves, Counts}
 use Rattle.structure.specs.DepthTable.{Capped, Placed, Placing}
 use Rattle.structure.proofs.Passes.{written, named-once, length-fits}
 use Rattle.typing.specs.Judging.{Ground, Judging, Closing}
+use Rattle.typing.proofs.Bounds.{counts-leaves}
 use Rattle.verdict.specs.Stages.{CheckingDepths}
 use Rattle.verdict.specs.Widths.{PatternsFrom, patternEntry, Widths}
 use Rattle.verdict.proofs.Stages.{root-ready}
@@ -109,7 +110,7 @@ module _ (s : List ℕ) (p : Passes s) (whole : length s ≡ 12 * count s) where
       )
 
   pub ground : (table : List ℕ) × Ground s (count s) table
-  ground = let c = counts in (c .0, record { sized = sized; passes = p; counts = c .1 })
+  ground = let c = counts in (c .0, record { sized = sized; passes = p; leaves = counts-leaves s (count s) (c .0) refl p (c .1) })
 
   pub ready : (table : List ℕ) × (stack : List ℕ) × (widths : List ℕ) × Judging s (count s) table stack 1 (wordB s 0) widths
   ready =

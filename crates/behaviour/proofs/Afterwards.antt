@@ -17,22 +17,22 @@ use Rattle.meaning.proofs.UndefinedLeavesLawful.{undefined-lawful}
 use Rattle.behaviour.specs.Sheets.{OnlyDelays}
 use Rattle.behaviour.specs.Cycle.{output, sheetAfterCycle}
 use Rattle.behaviour.proofs.Cycle.{after-only-delays}
-use Rattle.behaviour.specs.Stimulus.{inputType, cycleCount, endToEnd, cycles}
+use Rattle.stimulus.specs.Stimulus.{inputType, cycleCount, endToEnd, cycles}
+use Rattle.answers.specs.Answers.{packed}
+use Rattle.answers.specs.declared.Answer.the-variants.{Done}
 use Rattle.behaviour.specs.Run.{
   outputsBy,
   sheetBefore,
   sheetAfter,
-  Done,
   outputNeeded,
   bySlices,
   answer,
-  packed,
   finalOut,
   finalNext,
 }
 use Rattle.behaviour.specs.Afterwards.{WellFormed, inputOf, outputIn, Afterwards}
-use Rattle.behaviour.proofs.Pieces.{joined-length, joined-at, typed-wide}
-use Rattle.behaviour.proofs.Stimulus.{cycles-typed, cycles-counted, cycle-at}
+use Rattle.stimulus.proofs.Pieces.{joined-length, joined-at, typed-wide}
+use Rattle.stimulus.proofs.Stimulus.{cycles-typed, cycles-counted, cycle-at}
 use Rattle.behaviour.proofs.Run.{
   sheet-last,
   sheet-first,

@@ -14,7 +14,7 @@ use Rattle.meaning.specs.Evaluation.{eval, next}
 use Rattle.behaviour.specs.Terms.{circuitTerm}
 use Rattle.behaviour.specs.Sheets.{write}
 use Rattle.behaviour.specs.Cycle.{outputBy, afterBy}
-use Rattle.behaviour.specs.Stimulus.{cycles, wrongStimulus, wrongByte}
+use Rattle.stimulus.specs.Stimulus.{cycles, wrongStimulus, wrongByte}
 use Rattle.behaviour.specs.Run.{bySlices, answer, finalOut, finalNext}
 use Rattle.behaviour.specs.Bench.{AllCasesHold, benchCases}
 

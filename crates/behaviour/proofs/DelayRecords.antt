@@ -49,7 +49,7 @@ use Rattle.records.proofs.Table.{askOfKind, kind-of-sort}
 use Rattle.records.proofs.Asked.{part-of-kind, root-is, past-header}
 use Rattle.records.proofs.Trees.{from-above, tree-of}
 use Rattle.structure.specs.Passes.{Passes}
-use Rattle.structure.proofs.Passes.{written, named-once}
+use Rattle.accepted.proofs.Laws.{written, named-once}
 use Rattle.verdict.specs.Verdict.{verdict}
 use Rattle.verdict.specs.Scopes.{
   Scope,
@@ -68,7 +68,7 @@ use Rattle.verdict.specs.Scopes.{
   of-delay,
 }
 use Rattle.verdict.specs.declared.Verdict.the-variants.{Accepted}
-use Rattle.verdict.proofs.Places.{accepted-by-types}
+use Rattle.accepted.proofs.Laws.{accepted-by-types}
 use Rattle.accepted.proofs.Scopes.{scope-checked}
 use Rattle.meaning.specs.Elaboration.{Term}
 use Rattle.behaviour.specs.Delays.{store}

@@ -16,11 +16,11 @@ use Rattle.records.proofs.Rewritten.{same-type, same-tree}
 use Rattle.records.proofs.Asked.{past-header}
 use Rattle.records.proofs.Trees.{tree-of}
 use Rattle.structure.specs.Passes.{Passes}
-use Rattle.structure.proofs.Passes.{written, named-once}
+use Rattle.accepted.proofs.Laws.{written, named-once}
 use Rattle.verdict.specs.Verdict.{verdict}
 use Rattle.verdict.specs.Scopes.{Scope}
 use Rattle.verdict.specs.declared.Verdict.the-variants.{Accepted}
-use Rattle.verdict.proofs.Places.{accepted-by-types}
+use Rattle.accepted.proofs.Laws.{accepted-by-types}
 use Rattle.accepted.proofs.Scopes.{scope-checked}
 use Rattle.meaning.specs.Values.{ValuesOf}
 use Rattle.meaning.specs.Elaboration.{Term, Feedback, Elaborated, e-feedback}

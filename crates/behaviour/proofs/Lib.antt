@@ -15,8 +15,6 @@ pub mod Scoped
 pub mod ScopesAgain
 pub mod DelayRecords
 pub mod Evaluated
-pub mod Pieces
-pub mod Stimulus
 pub mod Run
 pub mod Feedbacks
 pub mod Afterwards

@@ -25,7 +25,7 @@ use Rattle.behaviour.specs.Terms.{circuitTerm}
 use Rattle.behaviour.specs.Sheets.{write, Writable}
 use Rattle.behaviour.proofs.Terms.{erase-circuit, circuit-typed}
 use Rattle.behaviour.proofs.Sheets.{accepted-written, write-read, write-accepted}
-use Rattle.behaviour.specs.Stimulus.{inputType}
+use Rattle.stimulus.specs.Stimulus.{inputType}
 use Rattle.behaviour.specs.Run.{sheetAfter}
 use Rattle.behaviour.specs.Promises.{RunReduces}
 use Rattle.behaviour.proofs.Run.{run-outputs, run-sheet}

@@ -33,7 +33,7 @@ use Rattle.behaviour.proofs.Cycle.{
   after-input,
   after-bytes,
 }
-use Rattle.behaviour.specs.Stimulus.{inputType}
+use Rattle.stimulus.specs.Stimulus.{inputType}
 use Rattle.behaviour.specs.Run.{outputsBy, sheetBefore, sheetAfter}
 
 module _ (undecided : List ℕ → List ℕ → List ℕ) where

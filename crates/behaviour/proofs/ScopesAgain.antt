@@ -12,7 +12,7 @@ use Rattle.records.specs.Trees.{treeAt}
 use Rattle.records.specs.Rewritten.{OnlyLeaves}
 use Rattle.records.proofs.Grown.{grown-tree}
 use Rattle.records.proofs.Rewritten.{same-kind, same-tree}
-use Rattle.structure.proofs.Passes.{written}
+use Rattle.accepted.proofs.Laws.{written}
 use Rattle.typing.specs.Judgements.{typeRecordOf}
 use Rattle.verdict.specs.Verdict.{inputs, verdict}
 use Rattle.verdict.specs.Scopes.{
@@ -32,7 +32,7 @@ use Rattle.verdict.specs.Scopes.{
   of-delay,
 }
 use Rattle.verdict.specs.declared.Verdict.the-variants.{Accepted}
-use Rattle.verdict.proofs.Places.{accepted-by-types}
+use Rattle.accepted.proofs.Laws.{accepted-by-types}
 use Rattle.accepted.proofs.Scopes.{scope-checked}
 use Rattle.behaviour.proofs.TermsAgain.{type-of-same}
 

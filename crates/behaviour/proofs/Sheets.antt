@@ -26,11 +26,11 @@ use Rattle.records.proofs.Distinct.{circuit-distinct}
 use Rattle.records.proofs.Grown.{grown-circuit}
 use Rattle.records.proofs.Rewritten.{same-circuit}
 use Rattle.structure.specs.Passes.{Passes}
-use Rattle.structure.proofs.Passes.{written, named-once}
+use Rattle.accepted.proofs.Laws.{written, named-once}
 use Rattle.verdict.specs.Verdict.{inputs, verdict}
 use Rattle.verdict.specs.declared.Verdict.the-variants.{Accepted}
-use Rattle.verdict.proofs.Places.{accepted-by-types}
-use Rattle.verdict.proofs.Exact.{input-context, accepted-judged}
+use Rattle.accepted.proofs.Laws.{accepted-by-types}
+use Rattle.accepted.proofs.Laws.{input-context, accepted-judged}
 use Rattle.accepted.proofs.AcceptedAgain.{accepted-again}
 use Rattle.meaning.specs.Elaboration.{Term, frame}
 use Rattle.behaviour.specs.Terms.{circuitTerm}

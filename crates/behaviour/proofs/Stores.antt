@@ -14,10 +14,10 @@ use Rattle.records.specs.Trees.{circuit}
 use Rattle.records.specs.Held.{delayLeaves, Distinct}
 use Rattle.records.proofs.Leaves.{circuit-leaves}
 use Rattle.records.proofs.Distinct.{circuit-distinct}
-use Rattle.structure.proofs.Passes.{named-once}
+use Rattle.accepted.proofs.Laws.{named-once}
 use Rattle.verdict.specs.Verdict.{verdict}
 use Rattle.verdict.specs.declared.Verdict.the-variants.{Accepted}
-use Rattle.verdict.proofs.Places.{accepted-by-types}
+use Rattle.accepted.proofs.Laws.{accepted-by-types}
 use Rattle.meaning.specs.Elaboration.{Term, frame}
 use Rattle.meaning.specs.Evaluation.{next}
 use Rattle.meaning.proofs.NextTyped.{next-frame}

@@ -36,17 +36,17 @@ use Rattle.records.proofs.Pairs.{pair-of-found}
 use Rattle.records.proofs.TypeRecords.{found-pair}
 use Rattle.records.proofs.Grown.{Grown, grown-tree, grown-circuit}
 use Rattle.structure.specs.Passes.{Passes}
-use Rattle.structure.proofs.Passes.{written}
+use Rattle.accepted.proofs.Laws.{written}
 use Rattle.typing.specs.Judgements.{typeRecordOf}
 use Rattle.typing.specs.Judging.{Context}
 use Rattle.verdict.specs.Verdict.{inputs, verdict}
 use Rattle.verdict.specs.declared.Verdict.the-variants.{Accepted}
-use Rattle.typing.proofs.Judged.{RulesHold}
-use Rattle.typing.proofs.TypeRecordsOf.{type-of-record}
-use Rattle.typing.proofs.PatternTypes.{fits-typed}
-use Rattle.typing.proofs.Typings.{within-fits}
-use Rattle.verdict.proofs.Places.{accepted-by-types}
-use Rattle.verdict.proofs.Exact.{input-context, accepted-judged}
+use Rattle.accepted.proofs.Laws.{RulesHold}
+use Rattle.accepted.proofs.Laws.{type-of-record}
+use Rattle.accepted.proofs.Laws.{fits-typed}
+use Rattle.accepted.proofs.Laws.{within-fits}
+use Rattle.accepted.proofs.Laws.{accepted-by-types}
+use Rattle.accepted.proofs.Laws.{input-context, accepted-judged}
 use Rattle.accepted.proofs.Scopes.{Checked}
 use Rattle.meaning.specs.Elaboration.{
   erase,

@@ -49,8 +49,8 @@ use Rattle.records.proofs.Rewritten.{same-type, same-pair-of}
 use Rattle.records.proofs.Grown.{Alternative, Grown}
 use Rattle.typing.specs.Judgements.{typeRecordOf}
 use Rattle.typing.specs.Judging.{Context}
-use Rattle.typing.proofs.Judged.{RulesHold}
-use Rattle.typing.proofs.TypeRecordsOf.{type-of-record}
+use Rattle.accepted.proofs.Laws.{RulesHold}
+use Rattle.accepted.proofs.Laws.{type-of-record}
 use Rattle.meaning.specs.Elaboration.{Constant, Pair, First, Second, LetIn, Feedback, IfThenElse, Delayed}
 use Rattle.behaviour.specs.Terms.{term}
 use Rattle.behaviour.proofs.Frames.{fill}

@@ -46,36 +46,11 @@ use Rattle.records.proofs.Grown.{Grown}
 use Rattle.typing.specs.Judgements.{typeRecordOf}
 use Rattle.accepted.proofs.Scopes.{as-many-leaves}
 use Rattle.accepted.proofs.AcceptedAgain.{Fitting}
+use Rattle.accepted.proofs.LeafBounds.{bounds-small}
 use Rattle.behaviour.specs.Terms.{term}
 use Rattle.behaviour.specs.Delays.{Entry, assigned, entries}
 use Rattle.behaviour.proofs.Members.{either}
 use Rattle.behaviour.proofs.Frames.{Placed, Valued, HasPlaces, Reads}
-
-abbrev Bytes : List ℕ → Type 0
-Bytes ns = (n : ℕ) → List·Memᴰ n ns → n ≤ 255
-
-bytes-both : (ns ms : List ℕ) → Bytes ns → Bytes ms → Bytes (ns ++ ms)
-bytes-both ns ms a b n = either ns ms (a n) (b n)
-
--- the counts of a type's leaves are bytes
-pub bounds-small : {s : List ℕ} → Written s → (t : ℕ) → TypeRecord s t → Bytes (bounds (typeAt s t))
-bounds-small {s} w t u = go (suc t) t (omega arith) u
-  where
-    go : (n t : ℕ) → t < n → TypeRecord s t → Bytes (bounds (typeAt s t))
-    go zero t h u = absurd (omega arith)
-    go (suc n) t h u = let k = kind-of-sort types (kindAt s t) (u .sort) in by-kind (k .0) (k .1) (go n)
-      where
-        by-kind : (k : TypeKind) → kindAt s t ≡ Kinds.typeOf k
-            → ((a : ℕ) → a < n → TypeRecord s a → Bytes (bounds (typeAt s a))) → Bytes (bounds (typeAt s t))
-        by-kind flat k lower =
-            let f : (0 < wordA s t) × (wordA s t ≤ 255) = unfold askOfKind in as-kind-asks w t _ (u .there) k 2 refl in
-            rw (flat-type s t k) (λ n m. let e = List·Memᴰ·eq-of-singleton m in omega arith)
-        by-kind pair k lower =
-            let p = pair-parts w t (u .there) k in
-            rw (pair-type w t (u .there) k)
-            (bytes-both (bounds (typeAt s (wordA s t))) (bounds (typeAt s (wordB s t)))
-            (lower (wordA s t) (omega arith) (first-part w t (u .there) k))
-            (lower (wordB s t) (omega arith) (second-part w t (u .there) k)))
 
 pub tree-has-places : {s : List ℕ} → Written s → (Γ : List ℕ) (e : Tree) → Grown s e → Valued (term s Γ e) → Placed HasPlaces (term s Γ e)
 tree-has-places {s} w Γ noExpression g v = tt

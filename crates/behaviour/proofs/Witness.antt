@@ -15,8 +15,9 @@ use Rattle.records.specs.Trees.{chainWithin, chain, alternativesWithin, alterna
 use Rattle.structure.specs.Depth.{ancestryWithin, ancestry, depth, nesting}
 use Rattle.structure.specs.Rules.{wrongLength, wrongHeader, wrongRecord, wrongNaming, wrongType, tooDeep}
 use Rattle.verdict.specs.Verdict.{byTypes, byRecords, verdict}
-use Rattle.behaviour.specs.Stimulus.{cycleCount, wrongStimulus, wrongByte}
-use Rattle.behaviour.specs.Run.{answer, packed, finalOut, finalNext}
+use Rattle.stimulus.specs.Stimulus.{cycleCount, wrongStimulus, wrongByte}
+use Rattle.answers.specs.Answers.{packed}
+use Rattle.behaviour.specs.Run.{answer, finalOut, finalNext}
 use Rattle.behaviour.specs.Afterwards.{WellFormed, Afterwards, FeedbackAt}
 use Rattle.behaviour.specs.Bench.{toggle}
 use Rattle.behaviour.proofs.Afterwards.{afterwards}

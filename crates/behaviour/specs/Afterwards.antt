@@ -12,7 +12,7 @@ use Rattle.picoella.specs.Types.{Ty, leaves, OfType}
 use Rattle.records.specs.Words.{count, kindWord, wordA}
 use Rattle.records.specs.TypeRecords.{typeAt}
 use Rattle.records.specs.Trees.{Tree, feedbackOf, treeAt}
-use Rattle.structure.specs.Lowest.{lowest}
+use Rattle.answers.specs.Lowest.{lowest}
 use Rattle.verdict.specs.Verdict.{verdict}
 use Rattle.verdict.specs.Scopes.{Scope}
 use Rattle.verdict.specs.declared.Verdict.the-variants.{Accepted}
@@ -23,7 +23,7 @@ use Rattle.meaning.specs.Evaluation.{iter, eval, application, settled}
 use Rattle.behaviour.specs.Terms.{term}
 use Rattle.behaviour.specs.Sheets.{Bytes, OnlyDelays}
 use Rattle.behaviour.specs.Cycle.{output, sheetAfterCycle}
-use Rattle.behaviour.specs.Stimulus.{inputLeaves, cycleCount, wrongStimulus, wrongByte}
+use Rattle.stimulus.specs.Stimulus.{inputLeaves, cycleCount, wrongStimulus, wrongByte}
 use Rattle.behaviour.specs.Run.{outputNeeded}
 
 -- "A sheet is accepted where none of 1 to 7 applies. A stimulus is well formed for it where neither 8 nor 9 applies; slices have

@@ -14,8 +14,9 @@ use Rattle.meaning.specs.Matching.{Decision, Yes, Undecided, matches}
 use Rattle.meaning.specs.Undecided.{undefinedLeaves}
 use Rattle.meaning.specs.Evaluation.{applications}
 use Rattle.behaviour.specs.Terms.{term}
-use Rattle.behaviour.specs.Stimulus.{cycleCount}
-use Rattle.behaviour.specs.Run.{answer, packed, finalOut, finalNext}
+use Rattle.stimulus.specs.Stimulus.{cycleCount}
+use Rattle.answers.specs.Answers.{packed}
+use Rattle.behaviour.specs.Run.{answer, finalOut, finalNext}
 use Rattle.behaviour.specs.Afterwards.{applied}
 
 -- the bytes of words, low byte first

@@ -5,7 +5,6 @@ pub mod Sheets
 pub mod Copies
 pub mod Evaluated
 pub mod Cycle
-pub mod Stimulus
 pub mod Run
 pub mod Afterwards
 pub mod Promises

@@ -1,20 +1,21 @@
 -- What is promised of the run: each promise a named type, and at the end the list of them. One term of each stands in
 -- `proofs/Kept.antt`; the list wants them all.
-use Prim.Native.Nat.{ℕ}
+use Prim.Native.Nat.{ℕ, _<_, _^_}
 use mathlib.Core.Path.{_≡_}
 use mathlib.Core.Logic.{_↔_, _≢_}
-use mathlib.Core.Bool.{true, false}
+use mathlib.Core.Bool.{false}
 use mathlib.Core.List.{List, [], map}
-use mathlib.Core.Option.{none, some}
+use mathlib.Core.Option.{some}
 use lib.ListN.{length}
 use Rattle.picoella.specs.Expressions.{Expr}
 use Rattle.records.specs.TypeRecords.{typeAt}
 use Rattle.records.specs.Decoding.{decode}
-use Rattle.structure.specs.Lowest.{lowest}
+use Rattle.answers.specs.Answers.{code, place, packed}
+use Rattle.answers.specs.Checks.{Refuses}
+use Rattle.answers.specs.declared.Answer.{Answer}
+use Rattle.answers.specs.declared.Answer.the-variants.{Done, Refused}
 use Rattle.verdict.specs.Verdict.{verdict}
-use Rattle.verdict.specs.Promises.{LowestBreaking}
 use Rattle.verdict.specs.declared.Verdict.the-variants.{Accepted}
-use Rattle.verdict.specs.declared.Verdict.the-variants as Verdicts
 use Rattle.meaning.specs.Elaboration.{Term}
 use Rattle.meaning.specs.Values.{AllOf}
 use Rattle.meaning.specs.Constants.{ConstantTree, AllConstantsOf, flatten}
@@ -23,67 +24,24 @@ use Rattle.meaning.specs.Rules.{ReducesSeq}
 use Rattle.meaning.specs.Run as Meaning
 use Rattle.behaviour.specs.Terms.{circuitTerm}
 use Rattle.behaviour.specs.Sheets.{write, Writable, OnlyDelays}
-use Rattle.behaviour.specs.Stimulus.{inputType, endToEnd, cycles, cycleCount, wrongStimulus, wrongByte}
-use Rattle.behaviour.specs.Run.{
-  outputsBy,
-  sheetAfter,
-  Answer,
-  Done,
-  WrongLength,
-  WrongHeader,
-  WrongRecord,
-  WrongNaming,
-  WrongType,
-  TooDeep,
-  IllTyped,
-  WrongStimulus,
-  WrongByte,
-  WrongOutput,
-  WrongNext,
-  code,
-  packed,
-  outputNeeded,
-  answer,
-  finalOut,
-  finalNext,
-}
+use Rattle.stimulus.specs.Stimulus.{inputType, endToEnd, cycles, cycleCount, wrongStimulus}
+use Rattle.behaviour.specs.Run.{outputsBy, sheetAfter, callChecks, answer, finalOut, finalNext}
 use Rattle.behaviour.specs.Afterwards.{WellFormed, Afterwards}
 
--- What each answer says of the call: its code applies at its place, at no place before, and no lower code applies. What each of
--- the codes 1 to 7 says of the sheet is the verdict's promise.
+-- What each answer says of the call: done, with all cycles, exactly where the call is well formed; or refused by a check of the list,
+-- at its place, where no check before it applies. `FirstThatApplies`, `LowestFound` and `LowestNone` of answers say what that means of
+-- each check.
 abbrev pub SaysOfCall : (sheet stimulus out next : List ℕ) → Answer → Type 0
 SaysOfCall s stim out next (Done n) = (t : ℕ) × WellFormed s stim out next t × (n ≡ cycleCount s stim)
-SaysOfCall s stim out next WrongLength = verdict s ≡ Verdicts.WrongLength
-SaysOfCall s stim out next WrongHeader = verdict s ≡ Verdicts.WrongHeader
-SaysOfCall s stim out next (WrongRecord r) = verdict s ≡ Verdicts.WrongRecord r
-SaysOfCall s stim out next (WrongNaming r) = verdict s ≡ Verdicts.WrongNaming r
-SaysOfCall s stim out next (WrongType r) = verdict s ≡ Verdicts.WrongType r
-SaysOfCall s stim out next (TooDeep r) = verdict s ≡ Verdicts.TooDeep r
-SaysOfCall s stim out next (IllTyped r) = verdict s ≡ Verdicts.IllTyped r
-SaysOfCall s stim out next WrongStimulus = (t : ℕ) × (verdict s ≡ Accepted t) × (wrongStimulus s stim ≡ true)
-SaysOfCall s stim out next (WrongByte i) =
-    (t : ℕ)
-    × (verdict s ≡ Accepted t)
-    × (wrongStimulus s stim ≡ false)
-    × LowestBreaking (wrongByte s stim) (length stim) i
-SaysOfCall s stim out next (WrongOutput n) =
-    (t : ℕ)
-    × (verdict s ≡ Accepted t)
-    × (wrongStimulus s stim ≡ false)
-    × (lowest (wrongByte s stim) (length stim) ≡ none)
-    × (length out ≢ outputNeeded s t stim)
-    × (n ≡ outputNeeded s t stim)
-SaysOfCall s stim out next (WrongNext n) =
-    (t : ℕ)
-    × (verdict s ≡ Accepted t)
-    × (wrongStimulus s stim ≡ false)
-    × (lowest (wrongByte s stim) (length stim) ≡ none)
-    × (length out ≡ outputNeeded s t stim)
-    × (length next ≢ length s)
-    × (n ≡ length s)
+SaysOfCall s stim out next (Refused c p) = Refuses (callChecks s stim out next) c p
 
 abbrev pub LowestFirst : Type 0
-LowestFirst = (s stim out next : List ℕ) → SaysOfCall s stim out next (answer s stim out next)
+LowestFirst =
+    (s stim out next : List ℕ) (a : Answer) → answer s stim out next ≡ a ↔ SaysOfCall s stim out next a
+
+-- The place of every answer is below 2^32, so that code and place are read back from the number returned.
+abbrev pub PlacesSmall : Type 0
+PlacesSmall = (s stim out next : List ℕ) → place (answer s stim out next) < 2 ^ 32
 
 -- A refusal leaves every lent slice unaltered.
 abbrev pub RefusalUnaltered : Type 0
@@ -138,6 +96,7 @@ HoldsAfterwards =
 -- all of them
 pub record RunPromises : Type 0 where
   pub lowest-first : LowestFirst
+  pub places-small : PlacesSmall
   pub refusal-unaltered : RefusalUnaltered
   pub write-reads : WriteReads
   pub write-own : WriteOwn

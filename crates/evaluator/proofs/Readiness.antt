@@ -21,10 +21,10 @@ use Rattle.records.proofs.Table.{askOfKind}
 use Rattle.records.proofs.Asked.{part-of-kind}
 use Rattle.records.proofs.Types.{few-leaves}
 use Rattle.structure.specs.Passes.{Passes}
-use Rattle.structure.proofs.Passes.{written, types-fit}
+use Rattle.accepted.proofs.Laws.{written, types-fit}
 use Rattle.typing.specs.Judgements.{typeRecordOf}
 use Rattle.verdict.specs.Scopes.{Scope}
-use Rattle.verdict.proofs.Exact.{exact}
+use Rattle.accepted.proofs.Laws.{exact}
 use Rattle.accepted.proofs.Scopes.{Checked, scope-checked, few-names, small-names, checked-type}
 use Rattle.meaning.specs.Values.{ValuesOf, more-values}
 use Rattle.meaning.specs.Elaboration.{Elaborated}

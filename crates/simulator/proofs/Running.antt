@@ -15,8 +15,8 @@ use Rattle.records.specs.TypeRecords.{typeAt}
 use Rattle.records.specs.Rewritten.{OnlyLeaves}
 use Rattle.records.proofs.Rewritten.{same-type}
 use Rattle.records.proofs.Types.{few-leaves, some-leaves}
-use Rattle.structure.proofs.Passes.{types-fit}
-use Rattle.verdict.proofs.Exact.{exact}
+use Rattle.accepted.proofs.Laws.{types-fit}
+use Rattle.accepted.proofs.Laws.{exact}
 use Rattle.verdict.specs.Verdict.{verdict}
 use Rattle.verdict.specs.declared.Verdict.the-variants.{Accepted}
 use Rattle.meaning.specs.Values.{AllOf}
@@ -27,9 +27,9 @@ use Rattle.behaviour.specs.Sheets.{OnlyDelays}
 use Rattle.behaviour.specs.Cycle.{output, sheetAfterCycle}
 use Rattle.behaviour.proofs.Cycle.{output-typed}
 use Rattle.behaviour.proofs.Sheets.{only-leaves, header-same, accepted-written}
-use Rattle.behaviour.specs.Stimulus.{inputType, endToEnd, cycles}
+use Rattle.stimulus.specs.Stimulus.{inputType, endToEnd, cycles}
 use Rattle.behaviour.specs.Run.{outputsBy, sheetBefore}
-use Rattle.behaviour.proofs.Stimulus.{stimulus-whole, cycles-typed, cycles-counted, cycle-at}
+use Rattle.stimulus.proofs.Stimulus.{stimulus-whole, cycles-typed, cycles-counted, cycle-at}
 use Rattle.behaviour.proofs.Run.{sheet-last, sheet-first, sheet-next, output-at, outputs-counted, sheet-accepted, sheet-only-delays}
 use Rattle.behaviour.proofs.Afterwards.{all-at}
 use Rattle.stepper.specs.Cycling.{Cycling, Cycled}

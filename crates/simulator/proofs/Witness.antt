@@ -16,15 +16,15 @@ use Rattle.records.specs.Says.{kindAt, sortAt}
 use Rattle.records.specs.TypeRecords.{typeWithin, typeAt, TypeRecord}
 use Rattle.records.specs.Trees.{chainWithin, chain, alternativesWithin, alternatives}
 use Rattle.structure.specs.Passes.{Passes}
-use Rattle.structure.proofs.Passes.{written}
+use Rattle.accepted.proofs.Laws.{written}
 use Rattle.typing.specs.Judgements.{patternFits}
 use Rattle.verdict.specs.Verdict.{inputs}
 use Rattle.accepted.proofs.Requirements.{widths}
 use Rattle.accepted.proofs.Requirements as Requirements
-use Rattle.behaviour.specs.Stimulus.{inputLeaves, cycleCount}
+use Rattle.stimulus.specs.Stimulus.{inputLeaves, cycleCount}
 use Rattle.behaviour.specs.Afterwards.{WellFormed}
 use Rattle.behaviour.specs.Bench.{toggle}
-use Rattle.behaviour.proofs.Stimulus.{stimulus-whole}
+use Rattle.stimulus.proofs.Stimulus.{stimulus-whole}
 use Rattle.behaviour.proofs.Witness.{ones, room, lent, toggle-formed}
 use Rattle.values.specs.Chained.{Chained}
 use Rattle.values.specs.Matchings.{Matching}
@@ -36,7 +36,7 @@ use Rattle.stepper.specs.Cycling.{Copying, Cycling}
 use Rattle.stepper.proofs.Cycling.{root-ready, copying}
 use Rattle.simulator.specs.Running.{Lending, RunningCycles}
 use Rattle.simulator.proofs.Running.{at-first, lending}
-use Rattle.simulator.proofs.Calls.{call-passes, call-records}
+use Rattle.accepted.proofs.Small.{accepted-passes, accepted-records}
 
 abbrev names : List ℕ
 names = replicate 4096 0
@@ -44,10 +44,10 @@ names = replicate 4096 0
 -- a well-formed call
 module _ (s stim out next : List ℕ) (t : ℕ) (h : WellFormed s stim out next t) where
   passes : Passes s
-  passes = call-passes s t (h .accepted)
+  passes = accepted-passes s t (h .accepted)
 
   full : length s ≡ 12 * count s
-  full = call-records s t (h .accepted)
+  full = accepted-records s t (h .accepted)
 
   abbrev table : List ℕ
   table = widths s passes full .0

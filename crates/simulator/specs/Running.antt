@@ -1,34 +1,25 @@
 -- The run of an accepted sheet: its stimulus held against the leaves' counts, one cycle lent its parts of the slices, all cycles, and
 -- the call as a whole.
-use Prim.Native.Nat.{ℕ, _+_, _*_, _%_, _≤_}
+use Prim.Native.Nat.{ℕ, _+_, _*_, _≤_}
 use mathlib.Core.Path.{_≡_}
-use mathlib.Core.Bool.{Bool, false, not, _||_}
+use mathlib.Core.Bool.{false}
 use mathlib.Core.List.{List, _++_}
 use mathlib.Core.Option.{none}
-use lib.Dec.{eqb, ltb}
-use lib.ListN.{length, getD, take, drop}
+use lib.ListN.{length, take, drop}
 use Rattle.picoella.specs.Types.{leaves}
 use Rattle.records.specs.Sized.{Sized}
 use Rattle.records.specs.TypeRecords.{typeAt}
-use Rattle.structure.specs.Lowest.{lowest}
+use Rattle.answers.specs.Lowest.{lowest}
 use Rattle.verdict.specs.Verdict.{verdict}
 use Rattle.verdict.specs.Widths.{Widths}
 use Rattle.verdict.specs.declared.Verdict.the-variants.{Accepted}
 use Rattle.meaning.specs.Undecided.{undefinedLeaves}
 use Rattle.behaviour.specs.Sheets.{Bytes}
 use Rattle.behaviour.specs.Cycle.{output, sheetAfterCycle}
-use Rattle.behaviour.specs.Stimulus.{inputLeaves, cycleCount, endToEnd, cycles, wrongStimulus, wrongByte}
+use Rattle.stimulus.specs.Stimulus.{inputLeaves, cycleCount, endToEnd, cycles, wrongStimulus, wrongByte}
 use Rattle.behaviour.specs.Run.{outputsBy, sheetAfter, Gives}
 use Rattle.behaviour.specs.Afterwards.{WellFormed, Afterwards}
 use Rattle.stepper.specs.Cycling.{Cycling}
-
--- a stimulus of so many bytes is refused, where a cycle takes w
-abbrev pub notWhole : (all w : ℕ) → Bool
-notWhole all w = eqb all 0 || (ltb 65535 all || not (eqb (all % w) 0))
-
--- byte i of a stimulus is above its leaf's count
-abbrev pub above : (bounds stimulus : List ℕ) → ℕ → Bool
-above bs stim i = ltb (getD bs (i % length bs) 0) (getD stim i 0)
 
 -- one cycle is lent its parts of the stimulus, from `from`, and of the output, from `at`
 pub record Lending
@@ -70,6 +61,12 @@ pub record RunningCycles (s : List ℕ) (n : ℕ) (widths stim : List ℕ) (wi w
 pub record RanCycles (s stim current′ out′ : List ℕ) : Type 0 where
   pub outputs : out′ ≡ endToEnd (outputsBy undefinedLeaves s (cycles s stim))
   pub next : current′ ≡ sheetAfter undefinedLeaves s (cycles s stim)
+
+-- an accepted sheet with output type t is run, with the table that the check filled
+pub record RunningAccepted (s : List ℕ) (n : ℕ) (widths : List ℕ) (t : ℕ) : Type 0 where
+  pub sized : Sized s n
+  pub accepted : verdict s ≡ Accepted t
+  pub table : Widths s widths
 
 -- the call: what it gives, and demand 3; the sheet handed in is one of bytes, and so, by demand 3, is each after it
 pub record Ran (sheet stimulus out next : List ℕ) (result : ℕ) (out′ next′ : List ℕ) : Type 0 where

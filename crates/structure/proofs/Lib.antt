@@ -2,7 +2,6 @@
 pub mod DepthCounts
 pub mod Depths
 pub mod LeafCounts
-pub mod Lowest
 pub mod Namers
 pub mod PairRecords
 pub mod Passes

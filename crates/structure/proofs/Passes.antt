@@ -22,8 +22,8 @@ use Rattle.records.proofs.Table.{is-header}
 use Rattle.structure.specs.Depth.{depth, nesting}
 use Rattle.structure.specs.Rules.{wrongLength, wrongHeader, wrongRecord, wrongNaming, wrongType, tooDeep}
 use Rattle.structure.specs.Passes.{Passes}
-use Rattle.structure.specs.Lowest.{lowest}
-use Rattle.structure.proofs.Lowest.{lowest-none-fails}
+use Rattle.answers.specs.Lowest.{lowest}
+use Rattle.answers.proofs.Lowest.{lowest-none-fails}
 
 -- code 1
 pub length-fits : (s : List ℕ) → wrongLength s ≡ false → (0 < count s) × (count s ≤ 4096)

@@ -12,20 +12,15 @@ ghost use Rattle.records.specs.Written.{Written};
 ghost use Rattle.structure.specs.LeafTable.{Counts};
 ghost use Rattle.structure.specs.Depth.{ofDefiningPart};
 ghost use Rattle.structure.specs.DepthTable.{Capped, Placed, Placing};
-ghost use Rattle.structure.specs.Lowest.{lowest};
-ghost use Rattle.structure.specs.Searches.{found};
+ghost use Rattle.answers.specs.Lowest.{lowest};
+ghost use Rattle.answers.specs.Searches.{found};
 ghost use Rattle.structure.specs.Rules.{wrongHeader, wrongRecord, wrongNaming, wrongType, tooDeep};
 ghost use Rattle.structure.specs.NamerTable.{Adds, Holds};
+use answers::Found;
 use records::ask_number;
 use records::sort_number;
 use records::well_said;
 use records::word;
-
-// The record that a search found, if it found one.
-pub enum Found {
-    At(usize),
-    Nothing,
-}
 
 // Whether the header breaks its rule: code 2.
 pub fn wrong_header(sheet: &[u8], n: usize) -> bool

@@ -20,9 +20,19 @@ use Rattle.records.proofs.CodeTable.{pair-number}
 use Rattle.records.proofs.Types.{leaves-of-bounds, flat-type, pair-type, few-leaves}
 use Rattle.records.proofs.TypeRecords.{first-part, second-part}
 use Rattle.records.proofs.Types.{pair-parts}
+use Rattle.structure.specs.Passes.{Passes}
+use Rattle.structure.specs.LeafTable.{Counts}
 use Rattle.structure.proofs.Passes.{written, types-fit}
 use Rattle.structure.proofs.LeafCounts.{pair-kind}
 use Rattle.typing.specs.Judging.{Ground}
+
+-- a table of leaf counts has the leaves of each type of a sheet that passes
+pub counts-leaves : (s : List ℕ) (n : ℕ) (table : List ℕ) → n ≡ count s → Passes s → Counts s n table
+    → (t : ℕ) → TypeRecord s t → getD table t 0 ≡ leaves (typeAt s t)
+counts-leaves s n table e p c t r =
+    let few = few-leaves (types-fit p) t (r .there) (r .sort) in
+    let h = r .there in
+    c .below t (omega arith) ∙ rw (r .sort) (omega arith)
 
 module _ (s : List ℕ) (n : ℕ) (table : List ℕ) (g : Ground s n table) where
   pub ground-written : Written s
@@ -42,9 +52,7 @@ module _ (s : List ℕ) (n : ℕ) (table : List ℕ) (g : Ground s n table) wher
   few-of t r = few-leaves ground-types t (r .there) (r .sort)
 
   pub leaves-counted : (t : ℕ) → TypeRecord s t → getD table t 0 ≡ leaves (typeAt s t)
-  leaves-counted t r =
-      let few = few-of t r in
-      g .counts .below t (below-count t (r .there)) ∙ rw (r .sort) (omega arith)
+  leaves-counted t r = g .leaves t r
 
   -- the leaf `at` of the type record `part` is leaf i of t
   pub record Reached (t i part at : ℕ) : Type 0 where

@@ -37,7 +37,6 @@ use Rattle.records.specs.Trees.{
 }
 use Rattle.structure.specs.Depth.{depth}
 use Rattle.structure.specs.Passes.{Passes}
-use Rattle.structure.specs.LeafTable.{Counts}
 use Rattle.typing.specs.Judgements.{Rule, holds, typeRecordOf, judgements, firstFailing, patternFits}
 use Rattle.typing.specs.Rows.{TypingRow, judgedTo}
 use Rattle.typing.specs.NameRows.{nameRows}
@@ -101,11 +100,11 @@ abbrev pub Context : List ℕ → List ℕ → Type 0
 Context s [] = Unit {0}
 Context s (t ∷ Γ) = TypeRecord s t × Context s Γ
 
--- what judging and the tests below it are called with
+-- what judging and the tests below it are called with: a sheet that passes codes 1 to 6, and a table with the leaves of each type
 pub record Ground (s : List ℕ) (n : ℕ) (table : List ℕ) : Type 0 where
   pub sized : Sized s n
   pub passes : Passes s
-  pub counts : Counts s n table
+  pub leaves : (t : ℕ) → TypeRecord s t → getD table t 0 ≡ leaves (typeAt s t)
 
 -- an expression is judged
 pub record Judging (s : List ℕ) (n : ℕ) (table stack : List ℕ) (names rec : ℕ) (widths : List ℕ) : Type 0 where

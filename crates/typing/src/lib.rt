@@ -13,8 +13,8 @@ ghost use Rattle.records.specs.Decoding.{leafValues};
 ghost use Rattle.typing.specs.Judgements.{within, patternFits, holds, leavesFit, pairDeclared, pairType, sameType, patternHas};
 ghost use Rattle.typing.specs.Judging.{Ground, Judging, Judged, scopeOf, Fitting, FittedOne, Closed, Closing, lastly, PartAt};
 ghost use Rattle.typing.specs.declared.Outcome.the-variants.{Sound};
-use structure::pair_below;
 use records::word;
+use structure::pair_below;
 
 // What judging an expression gives: its type record, or the record at which a type rule is broken.
 pub enum Outcome {

@@ -35,10 +35,10 @@ use Rattle.records.proofs.Types.{pair-type, few-leaves}
 use Rattle.records.proofs.Trees.{alternatives-of}
 use Rattle.records.proofs.Grown.{GrownPattern, grown-pattern}
 use Rattle.verdict.specs.Widths.{patternLeaves}
-use Rattle.structure.proofs.Passes.{written, types-fit}
+use Rattle.accepted.proofs.Laws.{written, types-fit}
 use Rattle.typing.specs.Judgements.{patternFits}
-use Rattle.typing.proofs.PatternNumbers.{pattern-kind, no-pattern}
-use Rattle.typing.proofs.Alternatives.{in-sheet, next-matching, first-matching, second-matching}
+use Rattle.accepted.proofs.Laws.{pattern-kind, no-pattern}
+use Rattle.accepted.proofs.Laws.{in-sheet, next-matching, first-matching, second-matching}
 use Rattle.typing.specs.Judging.{Fitting}
 use Rattle.accepted.proofs.FittingWidths.{fitting-leaves}
 use Rattle.meaning.specs.Matching.{Decision, Yes, No, Undecided, pairDecision, chainDecision, constructorDecision, patternWidth, matches}

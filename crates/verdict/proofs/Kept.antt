@@ -4,7 +4,8 @@
 use Rattle.verdict.specs.Promises.{CheckPromises}
 use Rattle.verdict.proofs.Places.{places}
 use Rattle.verdict.proofs.SaysExactly.{says-exactly}
-use Rattle.verdict.proofs.PlacesSmall.{verdict-place, taken-apart}
+use Rattle.verdict.proofs.VerdictFirst.{verdict-first}
+use Rattle.verdict.proofs.PlacesSmall.{verdict-place}
 use Rattle.verdict.proofs.Exact.{exact}
 use Rattle.verdict.proofs.IllTypedExactly.{ill-typed-exactly}
 use Rattle.verdict.proofs.OneScope.{every-scoped}
@@ -14,8 +15,8 @@ pub kept : CheckPromises
 kept = record {
   places = places;
   says-exactly = says-exactly;
+  verdict-first = verdict-first;
   places-below = verdict-place;
-  taken-apart = taken-apart;
   exact = exact;
   ill-typed-exactly = ill-typed-exactly;
   every-scoped = every-scoped;

@@ -16,4 +16,5 @@ pub mod SaysExactly
 pub mod Stages
 pub mod Stores
 pub mod TableFixed
+pub mod VerdictFirst
 pub mod Widths

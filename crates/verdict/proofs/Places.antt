@@ -9,7 +9,7 @@ use mathlib.Core.Path.{_≡_, refl, sym, _∙_}
 use mathlib.Core.Logic.{_↔_}
 use Rattle.records.specs.Words.{count}
 use Rattle.records.specs.Trees.{circuit}
-use Rattle.structure.specs.Lowest.{lowest}
+use Rattle.answers.specs.Lowest.{lowest}
 use Rattle.structure.specs.Rules.{wrongLength, wrongHeader, wrongRecord, wrongNaming, wrongType, tooDeep}
 use Rattle.typing.specs.Judgements.{judgements, typeRecordOf, firstFailing}
 use Rattle.structure.specs.Passes.{Passes}
@@ -26,7 +26,7 @@ use Rattle.verdict.specs.declared.Verdict.the-variants.{
   TooDeep,
   IllTyped,
 }
-use Rattle.structure.proofs.Lowest.{lowest-some-passes}
+use Rattle.answers.proofs.Lowest.{lowest-some-passes}
 use Rattle.verdict.proofs.FirstFailure.{none-fails, first-failure}
 
 tested : (P : Verdict → Type 0) (b : Bool) (v w : Verdict) → (b ≡ true → P v) → (b ≡ false → P w) → P (unless b v w)

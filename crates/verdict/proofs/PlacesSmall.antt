@@ -1,12 +1,13 @@
--- The place of a verdict is a record of the sheet, so it is below 4,096, and division by 2^32 takes a result apart.
+-- The place of a verdict is a record of the sheet, so it is below 4,096.
 -- Assumes nothing.
 use mathlib.Core.Path.{_≡_, refl}
 use mathlib.Core.List.{List}
-use Prim.Native.Nat.{ℕ, _^_, _/_, _%_, _<_}
+use Prim.Native.Nat.{ℕ, _<_}
 use native.Mathlib.Omega.{arith}
+use Rattle.answers.specs.Answers.{place}
 use Rattle.structure.proofs.Passes.{length-fits}
-use Rattle.verdict.specs.Promises.{Says, PlacesBelow, TakenApart}
-use Rattle.verdict.specs.Verdict.{code, place, packed, verdict}
+use Rattle.verdict.specs.Promises.{Says, PlacesBelow}
+use Rattle.verdict.specs.Verdict.{verdictAnswer, verdict}
 use Rattle.verdict.specs.declared.Verdict.{Verdict}
 use Rattle.verdict.specs.declared.Verdict.the-variants.{
   Accepted,
@@ -23,7 +24,7 @@ use Rattle.verdict.proofs.IllTypedExactly.{ill-typed-exactly}
 use Rattle.verdict.proofs.Places.{places}
 
 -- the place of each verdict is below the count, or 0
-place-below : (s : List ℕ) (v : Verdict) → verdict s ≡ v → Says s v → place v < 4096
+place-below : (s : List ℕ) (v : Verdict) → verdict s ≡ v → Says s v → place (verdictAnswer v) < 4096
 place-below s (Accepted t) e says =
     let p = exact s t .0 e in
     let few = length-fits s (p .0 .length) .1 in
@@ -40,10 +41,3 @@ place-below s (IllTyped r) e says =
 
 pub verdict-place : PlacesBelow
 verdict-place s = place-below s (verdict s) refl (places s)
-
--- so code and place are what division by 2^32 gives
-apart : (v : Verdict) → place v < 4096 → (packed v / 2 ^ 32 ≡ code v) × (packed v % 2 ^ 32 ≡ place v)
-apart v h = (omega arith, omega arith)
-
-pub taken-apart : TakenApart
-taken-apart s = apart (verdict s) (verdict-place s)

@@ -2,18 +2,16 @@
 -- and no lower one; the first judgement that fails is found where all before it hold, and none where all hold. So what a verdict
 -- says decides each test and each search on the way to it.
 -- Assumes nothing.
-use Prim.Native.Nat.{ℕ, zero, suc, _<_}
-use mathlib.Core.Bool.{Bool, false}
+use Prim.Native.Nat.{ℕ}
+use mathlib.Core.Bool.{false}
 use mathlib.Core.List.{List, [], _∷_, _++_, List·Memᴰ·head, List·Memᴰ·tail}
 use mathlib.Core.Option.{none, some}
 use mathlib.Core.Path.{_≡_, refl, ap, _∙_}
-use native.Mathlib.Omega.{arith}
-use native.Mathlib.Decide.{ℕ-discrete}
 use Rattle.records.specs.Trees.{circuit}
-use Rattle.structure.specs.Lowest.{lowest}
+use Rattle.answers.proofs.Lowest.{lowest-is}
 use Rattle.typing.specs.Judgements.{Judgement, holds, judgements, firstFailing}
 use Rattle.verdict.specs.Verdict.{inputs, verdict, byRecords, byTypes}
-use Rattle.verdict.specs.Promises.{LowestBreaking, AllHold, FailsFirst, Says, SaysExactly}
+use Rattle.verdict.specs.Promises.{AllHold, FailsFirst, Says, SaysExactly}
 use Rattle.verdict.specs.declared.Verdict.{Verdict}
 use Rattle.verdict.specs.declared.Verdict.the-variants.{
   Accepted,
@@ -26,18 +24,6 @@ use Rattle.verdict.specs.declared.Verdict.the-variants.{
   IllTyped,
 }
 use Rattle.verdict.proofs.Places.{places, passes-by-types}
-
-none-lower : (wrong : ℕ → Bool) (n : ℕ) → ((q : ℕ) → q < n → wrong q ≡ false) → lowest wrong n ≡ none
-none-lower wrong zero f = refl
-none-lower wrong (suc n) f = rw (none-lower wrong n (λ q h. f q (omega arith)), f n (omega arith))
-
-pub lowest-found : (wrong : ℕ → Bool) (n r : ℕ) → LowestBreaking wrong n r → lowest wrong n ≡ some r
-lowest-found wrong zero r p = absurd (omega (arith, p .0))
-lowest-found wrong (suc n) r p = go (ℕ-discrete r n) (lowest-found wrong n r)
-  where
-    go : Dec (r ≡ n) → (LowestBreaking wrong n r → lowest wrong n ≡ some r) → lowest wrong (suc n) ≡ some r
-    go (yes e) rest = rw (none-lower wrong n (λ q l. p .2 q (omega arith)), ← e, p .1)
-    go (no e) rest = let h : r < suc n = p .0 in rw (rest (omega arith, p .1, p .2))
 
 pub all-hold-none : (s : List ℕ) (js : List Judgement) → AllHold s js → firstFailing s js ≡ none
 all-hold-none s [] f = refl
@@ -59,10 +45,10 @@ said-only s (Accepted t) (p, h, e) =
     passes-by-types p ∙ rw (all-hold-none s (judgements s (inputs s) (circuit s)) h, e)
 said-only s WrongLength e = rw e
 said-only s WrongHeader (l, e) = rw (l, e)
-said-only s (WrongRecord r) (l, h, f) = rw (l, h, lowest-found _ _ r f)
-said-only s (WrongNaming r) (l, h, a, f) = rw (l, h, a, lowest-found _ _ r f)
-said-only s (WrongType r) (l, h, a, b, f) = rw (l, h, a, b, lowest-found _ _ r f)
-said-only s (TooDeep r) (l, h, a, b, c, f) = rw (l, h, a, b, c, lowest-found _ _ r f)
+said-only s (WrongRecord r) (l, h, f) = rw (l, h, lowest-is _ _ r (f .0) (f .1) (f .2))
+said-only s (WrongNaming r) (l, h, a, f) = rw (l, h, a, lowest-is _ _ r (f .0) (f .1) (f .2))
+said-only s (WrongType r) (l, h, a, b, f) = rw (l, h, a, b, lowest-is _ _ r (f .0) (f .1) (f .2))
+said-only s (TooDeep r) (l, h, a, b, c, f) = rw (l, h, a, b, c, lowest-is _ _ r (f .0) (f .1) (f .2))
 said-only s (IllTyped r) (p, f) = passes-by-types p ∙ rw (failing-first s (judgements s (inputs s) (circuit s)) r f)
 
 pub says-exactly : SaysExactly

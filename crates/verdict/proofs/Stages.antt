@@ -13,23 +13,24 @@ use Rattle.records.specs.Written.{Written, NamedOnce}
 use Rattle.records.specs.Namings.{namings}
 use Rattle.records.proofs.Asked.{root-is}
 use Rattle.records.proofs.TypeRecords.{input-type}
-use Rattle.structure.specs.Lowest.{lowest}
-use Rattle.structure.specs.Searches.{found}
+use Rattle.answers.specs.Lowest.{lowest}
+use Rattle.answers.specs.Searches.{found}
 use Rattle.structure.specs.Passes.{Passes}
 use Rattle.structure.specs.Rules.{wrongHeader, wrongRecord, wrongNaming, wrongType, tooDeep}
 use Rattle.structure.specs.Depth.{depth, nesting}
 use Rattle.structure.specs.NamerTable.{Holds}
 use Rattle.structure.specs.LeafTable.{Counts}
 use Rattle.structure.specs.DepthTable.{Capped, Placed, Placing}
-use Rattle.structure.specs.declared.Found.{Found}
-use Rattle.structure.specs.declared.Found.the-variants.{At, Nothing}
+use Rattle.answers.specs.declared.Found.{Found}
+use Rattle.answers.specs.declared.Found.the-variants.{At, Nothing}
 use Rattle.structure.proofs.Passes.{written, written-by, once-by, named-once}
 use Rattle.structure.proofs.Depths.{depth-of-root}
 use Rattle.structure.proofs.DepthCounts.{depth-of-header, nesting-of-header}
 use Rattle.typing.specs.Judgements.{judgements, typeRecordOf, firstFailing}
 use Rattle.typing.specs.Judging.{Ground, Judging, Judged, Context, scopeOf, noted}
 use Rattle.verdict.specs.Stages.{CheckingRecords, CheckingNamings, CheckingTypes, CheckingDepths}
-use Rattle.verdict.specs.Verdict.{inputs, refusing, unless, byTypes, byDepths, byTypeRecords, byNamings, byRecords, RulesChecked, Tabled, code}
+use Rattle.verdict.specs.Verdict.{inputs, refusing, unless, byTypes, byDepths, byTypeRecords, byNamings, byRecords, RulesChecked, Tabled, verdictAnswer}
+use Rattle.answers.specs.Answers.{code}
 use Rattle.typing.specs.declared.Outcome.{Outcome}
 use Rattle.typing.specs.declared.Outcome.the-variants.{Sound, Fault}
 use Rattle.verdict.specs.declared.Verdict.{Verdict}
@@ -42,6 +43,7 @@ use Rattle.verdict.specs.declared.Verdict.the-variants.{
   TooDeep,
   IllTyped,
 }
+use Rattle.typing.proofs.Bounds.{counts-leaves}
 use Rattle.typing.proofs.Outcomes.{Passed, passed, faulted}
 
 -- the type rules
@@ -109,18 +111,18 @@ module _ (s : List ℕ) (n : ℕ) (f : CheckingDepths s n) where
   }
 
   pub ground-of : (table : List ℕ) → lowest (tooDeep s) (count s) ≡ none → Counts s n table → Ground s n table
-  ground-of table e c = record {
-    sized = recorded .measured .sized;
-    passes = record {
-      length = recorded .measured .length;
-      header = recorded .header;
-      records = recorded .records;
-      namings = f .named .namings;
-      types = f .types;
-      depths = e;
-    };
-    counts = c;
-  }
+  ground-of table e c =
+      let z = recorded .measured .sized in
+      let p : Passes s =
+      record {
+        length = recorded .measured .length;
+        header = recorded .header;
+        records = recorded .records;
+        namings = f .named .namings;
+        types = f .types;
+        depths = e;
+      } in
+      record { sized = z; passes = p; leaves = counts-leaves s n table (z .counted) p c }
 
 -- what a search over n records found is what one over all records finds
 pub searched : (s : List ℕ) (n : ℕ) (p : ℕ → Bool) (o : Found) (q : Option ℕ) → n ≡ count s → found o ≡ lowest p n → found o ≡ q → lowest p (count s) ≡ q
@@ -146,15 +148,15 @@ module _ (s : List ℕ) (n : ℕ) where
   pub tabled-by : (table : List ℕ) (v answer : Verdict) (after : List ℕ) → Counts s n table → RulesChecked s v answer table after → Tabled s n v answer after
   tabled-by table v answer after counts c = record { answered = c .answered; notes = λ t q. (table, counts, c .notes t q) }
 
-not-accepted : (v : Verdict) → 0 < code v → (t : ℕ) → v ≡ Accepted t → ⊥
-not-accepted v h t e = let z : code v ≡ 0 = ap code e in omega arith
+not-accepted : (v : Verdict) → 0 < code (verdictAnswer v) → (t : ℕ) → v ≡ Accepted t → ⊥
+not-accepted v h t e = let z : code (verdictAnswer v) ≡ 0 = ap (λ (w : Verdict). code (verdictAnswer w)) e in omega arith
 
 -- a search that found a record refuses, and one that found none goes on
 module _ (s : List ℕ) (n : ℕ) (c : n ≡ count s) (p : ℕ → Bool) (o : Found) (e : found o ≡ lowest p n) where
   pub found-none : o ≡ Nothing → lowest p (count s) ≡ none
   found-none q = searched s n p o none c e (ap found q)
 
-  module _ (r : ℕ) (q : o ≡ At r) (g : ℕ → Verdict) (h : 0 < code (g r)) (v : Verdict) where
+  module _ (r : ℕ) (q : o ≡ At r) (g : ℕ → Verdict) (h : 0 < code (verdictAnswer (g r))) (v : Verdict) where
     found-answer : g r ≡ refusing (lowest p (count s)) g v
     found-answer = rw (searched s n p o (some r) c e (ap found q))
 

@@ -1,9 +1,9 @@
 -- What is promised of the check: each promise a named type, and at the end the list of them. One term of each stands in
 -- `proofs/Kept.antt`; the list wants them all.
-use Prim.Native.Nat.{ℕ, _^_, _/_, _%_, _<_}
+use Prim.Native.Nat.{ℕ, _<_}
 use mathlib.Core.Logic.{_↔_}
 use mathlib.Core.Path.{_≡_}
-use mathlib.Core.Bool.{Bool, true, false}
+use mathlib.Core.Bool.{true, false}
 use mathlib.Core.List.{List, [], _∷_, _++_, List·Memᴰ}
 use mathlib.Core.Option.{none, some}
 use Rattle.picoella.specs.Expressions.{Expr}
@@ -14,11 +14,15 @@ use Rattle.records.specs.Says.{sortAt}
 use Rattle.records.specs.TypeRecords.{typeAt, TypeRecord, Declared}
 use Rattle.records.specs.Decoding.{decode}
 use Rattle.records.specs.Trees.{circuit}
-use Rattle.structure.specs.Lowest.{lowest}
+use Rattle.answers.specs.Lowest.{lowest}
+use Rattle.answers.specs.Promises.{LowestBreaking}
+use Rattle.answers.specs.declared.Answer.the-variants.{Done}
+use Rattle.answers.specs.Answers.{place}
+use Rattle.answers.specs.Checks.{firstOf}
 use Rattle.structure.specs.Rules.{wrongLength, wrongHeader, wrongRecord, wrongNaming, wrongType, tooDeep}
-use Rattle.typing.specs.Judgements.{Judgement, holds, judgements, typeRecordOf}
+use Rattle.typing.specs.Judgements.{Judgement, holds, judgements}
 use Rattle.structure.specs.Passes.{Passes}
-use Rattle.verdict.specs.Verdict.{code, place, packed, inputs, verdict}
+use Rattle.verdict.specs.Verdict.{inputs, outputType, sheetChecks, verdictAnswer, verdict}
 use Rattle.verdict.specs.Scopes.{Scope}
 use Rattle.verdict.specs.FirstIllTyped.{FirstIllTyped}
 use Rattle.verdict.specs.Widths.{Widths}
@@ -33,10 +37,6 @@ use Rattle.verdict.specs.declared.Verdict.the-variants.{
   TooDeep,
   IllTyped,
 }
-
--- record r breaks the rule and no lower record does
-abbrev pub LowestBreaking : (ℕ → Bool) → ℕ → ℕ → Type 0
-LowestBreaking wrong n r = (r < n) × (wrong r ≡ true) × ((q : ℕ) → q < r → wrong q ≡ false)
 
 -- each judgement of the list holds
 abbrev pub AllHold : List ℕ → List Judgement → Type 0
@@ -55,7 +55,7 @@ pub record FailsFirst (s : List ℕ) (js : List Judgement) (r : ℕ) : Type 0 wh
 -- what each verdict says of the sheet: its code applies at its place, at no place before, and no lower code applies
 abbrev pub Says : List ℕ → Verdict → Type 0
 Says s (Accepted t) =
-    Passes s × AllHold s (judgements s (inputs s) (circuit s)) × (t ≡ typeRecordOf s (inputs s) (circuit s))
+    Passes s × AllHold s (judgements s (inputs s) (circuit s)) × (t ≡ outputType s)
 Says s WrongLength = wrongLength s ≡ true
 Says s WrongHeader = (wrongLength s ≡ false) × (wrongHeader s ≡ true)
 Says s (WrongRecord r) = (wrongLength s ≡ false) × (wrongHeader s ≡ false) × LowestBreaking (wrongRecord s) (count s) r
@@ -87,15 +87,14 @@ Places = (s : List ℕ) → Says s (verdict s)
 abbrev pub SaysExactly : Type 0
 SaysExactly = (s : List ℕ) (v : Verdict) → verdict s ≡ v ↔ Says s v
 
--- The place of a verdict is below 4,096, so below 2^32, and the number that is returned for it is taken apart into its code and
--- its place by division.
-abbrev pub PlacesBelow : Type 0
-PlacesBelow = (s : List ℕ) → place (verdict s) < 4096
+-- The verdict is the answer of the first check of a sheet that applies.
+abbrev pub VerdictFirst : Type 0
+VerdictFirst = (s : List ℕ) → verdictAnswer (verdict s) ≡ firstOf (sheetChecks s) (Done (outputType s))
 
-abbrev pub TakenApart : Type 0
-TakenApart =
-    (s : List ℕ)
-    → (packed (verdict s) / 2 ^ 32 ≡ code (verdict s)) × (packed (verdict s) % 2 ^ 32 ≡ place (verdict s))
+-- The place of a verdict is below 4,096, so below 2^32: code and place are read back from the one number that is returned
+-- (`TakenApart` of `answers`).
+abbrev pub PlacesBelow : Type 0
+PlacesBelow = (s : List ℕ) → place (verdictAnswer (verdict s)) < 4096
 
 -- The sheet decodes to an expression that has the type of record t by the rules of picoELLA, over the types that the sheet
 -- declares, where the input has the type in the header's word a.
@@ -130,8 +129,8 @@ TableFixed = (s : List ℕ) → Passes s → (table other : List ℕ) → Widths
 pub record CheckPromises : Type 0 where
   pub places : Places
   pub says-exactly : SaysExactly
+  pub verdict-first : VerdictFirst
   pub places-below : PlacesBelow
-  pub taken-apart : TakenApart
   pub exact : Exact
   pub ill-typed-exactly : IllTypedExactly
   pub every-scoped : EveryScoped

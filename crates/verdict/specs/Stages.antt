@@ -6,7 +6,7 @@ use mathlib.Core.List.{List}
 use mathlib.Core.Option.{none}
 use Rattle.records.specs.Words.{count}
 use Rattle.records.specs.Sized.{Sized}
-use Rattle.structure.specs.Lowest.{lowest}
+use Rattle.answers.specs.Lowest.{lowest}
 use Rattle.structure.specs.Rules.{wrongLength, wrongHeader, wrongRecord, wrongNaming, wrongType, tooDeep}
 
 -- not code 1

@@ -1,6 +1,6 @@
 -- The verdict on a byte string (document 01, the table under "The run", codes 0 to 7): the lowest code that applies, with its
 -- place; and the numbers that stand for a verdict.
-use Prim.Native.Nat.{ℕ, _+_, _*_, _^_}
+use Prim.Native.Nat.{ℕ}
 use mathlib.Core.Path.{_≡_}
 use lib.ListN.{length}
 use mathlib.Core.Bool.{Bool, true, false}
@@ -9,7 +9,10 @@ use mathlib.Core.Option.{Option, none, some}
 use Rattle.records.specs.Words.{count, wordA}
 use Rattle.records.specs.Trees.{circuit}
 use Rattle.structure.specs.LeafTable.{Counts}
-use Rattle.structure.specs.Lowest.{lowest}
+use Rattle.answers.specs.declared.Answer.{Answer}
+use Rattle.answers.specs.declared.Answer.the-variants.{Done, Refused}
+use Rattle.answers.specs.Checks.{Check, check, when}
+use Rattle.answers.specs.Lowest.{lowest}
 use Rattle.structure.specs.Rules.{wrongLength, wrongHeader, wrongRecord, wrongNaming, wrongType, tooDeep}
 use Rattle.typing.specs.Judgements.{judgements, typeRecordOf, firstFailing}
 use Rattle.typing.specs.Judging.{noted}
@@ -26,29 +29,15 @@ use Rattle.verdict.specs.declared.Verdict.the-variants.{
 }
 
 -- document 01's number and place for each case
-abbrev pub code : Verdict → ℕ
-code (Accepted t) = 0
-code WrongLength = 1
-code WrongHeader = 2
-code (WrongRecord r) = 3
-code (WrongNaming r) = 4
-code (WrongType r) = 5
-code (TooDeep r) = 6
-code (IllTyped r) = 7
-
-abbrev pub place : Verdict → ℕ
-place (Accepted t) = t
-place WrongLength = 0
-place WrongHeader = 0
-place (WrongRecord r) = r
-place (WrongNaming r) = r
-place (WrongType r) = r
-place (TooDeep r) = r
-place (IllTyped r) = r
-
--- both in one number of 64 bits
-abbrev pub packed : Verdict → ℕ
-packed v = code v * 2 ^ 32 + place v
+abbrev pub verdictAnswer : Verdict → Answer
+verdictAnswer (Accepted t) = Done t
+verdictAnswer WrongLength = Refused 1 0
+verdictAnswer WrongHeader = Refused 2 0
+verdictAnswer (WrongRecord r) = Refused 3 r
+verdictAnswer (WrongNaming r) = Refused 4 r
+verdictAnswer (WrongType r) = Refused 5 r
+verdictAnswer (TooDeep r) = Refused 6 r
+verdictAnswer (IllTyped r) = Refused 7 r
 
 -- a test or a search that refuses, or else what comes after it
 abbrev pub unless : Bool → Verdict → Verdict → Verdict
@@ -63,11 +52,27 @@ refusing none f v = v
 abbrev pub inputs : List ℕ → List ℕ
 inputs s = wordA s 0 ∷ []
 
+-- the output type's record
+abbrev pub outputType : List ℕ → ℕ
+outputType s = typeRecordOf s (inputs s) (circuit s)
+
+-- the checks of a sheet, in the order of their codes
+abbrev pub sheetChecks : List ℕ → List Check
+sheetChecks s =
+    check 1 (when (wrongLength s) 0)
+    ∷ check 2 (when (wrongHeader s) 0)
+    ∷ check 3 (lowest (wrongRecord s) (count s))
+    ∷ check 4 (lowest (wrongNaming s) (count s))
+    ∷ check 5 (lowest (wrongType s) (count s))
+    ∷ check 6 (lowest (tooDeep s) (count s))
+    ∷ check 7 (firstFailing s (judgements s (inputs s) (circuit s)))
+    ∷ []
+
 -- by the type rules
 unfoldable pub byTypes : List ℕ → Verdict
 byTypes s =
     refusing (firstFailing s (judgements s (inputs s) (circuit s))) IllTyped
-    (Accepted (typeRecordOf s (inputs s) (circuit s)))
+    (Accepted (outputType s))
 
 -- by each rule on records in its turn, the lowest record first, and then by what comes after it
 abbrev pub byDepths : List ℕ → Verdict

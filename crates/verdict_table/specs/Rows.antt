@@ -22,14 +22,14 @@ byTyping (judgedTo name rs (Sound t)) = gives name rs (Accepted t)
 byTyping (judgedTo name rs (Fault r)) = gives name rs (IllTyped r)
 
 -- the verdict in a row, and that on its sheet
-abbrev pub named : VerdictRow → Verdict
-named (gives name rs v) = v
-named (bytesGive name s v) = v
+abbrev pub namedVerdict : VerdictRow → Verdict
+namedVerdict (gives name rs v) = v
+namedVerdict (bytesGive name s v) = v
 
-abbrev pub found : VerdictRow → Verdict
-found (gives name rs v) = verdict (sheetOf rs)
-found (bytesGive name s v) = verdict s
+abbrev pub foundVerdict : VerdictRow → Verdict
+foundVerdict (gives name rs v) = verdict (sheetOf rs)
+foundVerdict (bytesGive name s v) = verdict s
 
 -- they are the same in every row
 abbrev pub VerdictsHold : List VerdictRow → Type 0
-VerdictsHold rows = map found rows ≡ map named rows
+VerdictsHold rows = map foundVerdict rows ≡ map namedVerdict rows

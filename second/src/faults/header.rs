@@ -1,28 +1,30 @@
 //! Faults of the header: code 2.
 
-use super::{past_count, some_record, Category};
-use crate::table::{sort, Record, Sort, A, B, C, D, HEADER, KIND, NEXT, WORD_NAMES};
+use super::category::Category;
+use super::picks::{nonzero, past_count, some_record, unknown_kind};
+use crate::records::{sort, Record, Sort, A, B, C, D, HEADER, KIND, NEXT, WORD_NAMES};
 
 const NAMING: [(usize, Sort); 3] = [(NEXT, Sort::Type), (A, Sort::Type), (B, Sort::Expression)];
 
 pub fn categories() -> Vec<Category> {
     let mut all = vec![
-        Category::words(2, "header: kind", |records, rng| {
-            records[0][KIND] = if rng.one_in(2) { rng.below(70) as u16 } else { rng.word() };
+        Category::words(2, "header: kind", |records, random| {
+            records[0][KIND] =
+                if random.one_in(2) { random.below(70) as u16 } else { random.word() };
             records[0][KIND] != HEADER
         }),
-        Category::words(2, "header: count", |records, rng| {
+        Category::words(2, "header: count", |records, random| {
             let count = records.len() as u16;
-            records[0][C] = match rng.below(4) {
+            records[0][C] = match random.below(4) {
                 0 => count + 1,
                 1 => count - 1,
-                2 => count ^ (1 << rng.below(16)),
-                _ => rng.word(),
+                2 => count ^ (1 << random.below(16)),
+                _ => random.word(),
             };
             records[0][C] != count
         }),
-        Category::words(2, "header: d", |records, rng| {
-            records[0][D] = nonzero(rng);
+        Category::words(2, "header: d", |records, random| {
+            records[0][D] = nonzero(random);
             true
         }),
     ];
@@ -30,15 +32,6 @@ pub fn categories() -> Vec<Category> {
         all.extend(naming(word, wanted));
     }
     all
-}
-
-/// A number other than 0, often with one bit set.
-pub fn nonzero(rng: &mut crate::rng::Rng) -> u16 {
-    match rng.below(3) {
-        0 => 1 << rng.below(16),
-        1 => rng.range(1, 20) as u16,
-        _ => rng.range(1, 65_535) as u16,
-    }
 }
 
 /// Each way in which a word of the header can name a wrong record.
@@ -49,19 +42,19 @@ fn naming(word: usize, wanted: Sort) -> Vec<Category> {
             records[0][word] = 0;
             true
         }),
-        Category::words(2, name("past the count"), move |records, rng| {
-            records[0][word] = past_count(records, rng);
+        Category::words(2, name("past the count"), move |records, random| {
+            records[0][word] = past_count(records, random);
             true
         }),
-        Category::words(2, name("of another sort"), move |records, rng| {
+        Category::words(2, name("of another sort"), move |records, random| {
             let other = |_: usize, r: &Record| sort(r[KIND]) != Some(wanted);
-            let Some(number) = some_record(records, rng, other) else { return false };
+            let Some(number) = some_record(records, random, other) else { return false };
             records[0][word] = number as u16;
             true
         }),
-        Category::words(2, name("of unknown kind"), move |records, rng| {
+        Category::words(2, name("of unknown kind"), move |records, random| {
             let number = usize::from(records[0][word]);
-            records[number][KIND] = super::words::unknown_kind(rng);
+            records[number][KIND] = unknown_kind(random);
             true
         }),
     ]

@@ -1,12 +1,12 @@
 //! Alternatives of a type other than the tested one: code 7 at the IF.
 
-use super::Category;
+use super::category::Category;
 use crate::draft::{Draft, Term};
 use crate::generate::patterns::full;
 use crate::generate::types::{other, twin};
-use crate::rng::Rng;
+use crate::random::Random;
+use crate::records::{D, FLAT, NEXT, PAIR_TYPE};
 use crate::survey::{alternatives, alternatives_of, Alternative};
-use crate::table::{D, FLAT, NEXT, PAIR_TYPE};
 
 /// Where an alternative stands.
 #[derive(Clone, Copy)]
@@ -47,7 +47,7 @@ pub fn categories() -> Vec<Category> {
     for (place, place_name) in PLACES {
         for (wrong, wrong_name) in WRONGS {
             let name = format!("pattern: {place_name}: {wrong_name}");
-            all.push(Category::draft(7, name, move |draft, rng| {
+            all.push(Category::draft(7, name, move |draft, random| {
                 let stands = |spot: &Alternative| match place {
                     Where::First => spot.level == 0 && spot.word == D,
                     Where::Later => spot.level == 0 && spot.word == NEXT,
@@ -55,7 +55,7 @@ pub fn categories() -> Vec<Category> {
                 };
                 let spots: Vec<Alternative> =
                     alternatives(draft).into_iter().filter(stands).collect();
-                rng.pick(&spots).is_some_and(|spot| put(draft, spot, wrong, rng))
+                random.pick(&spots).is_some_and(|spot| put(draft, spot, wrong, random))
             }));
         }
     }
@@ -63,34 +63,39 @@ pub fn categories() -> Vec<Category> {
 }
 
 /// Breaks some alternative of an IF.
-pub fn break_pattern(draft: &mut Draft, choice: usize, rng: &mut Rng) -> bool {
+pub fn break_pattern(draft: &mut Draft, choice: usize, random: &mut Random) -> bool {
     let spots = alternatives_of(draft, choice);
-    let wrong = rng.pick(&[Wrong::Whole, Wrong::Constructor, Wrong::WholeTwin]);
-    match (rng.pick(&spots), wrong) {
-        (Some(spot), Some(wrong)) => put(draft, spot, wrong, rng),
+    let wrong = random.pick(&[Wrong::Whole, Wrong::Constructor, Wrong::WholeTwin]);
+    match (random.pick(&spots), wrong) {
+        (Some(spot), Some(wrong)) => put(draft, spot, wrong, random),
         _ => false,
     }
 }
 
 /// Puts a wrong alternative in the place of one, with the same next.
-fn put(draft: &mut Draft, spot: Alternative, wrong: Wrong, rng: &mut Rng) -> bool {
+fn put(draft: &mut Draft, spot: Alternative, wrong: Wrong, random: &mut Random) -> bool {
     let tested = draft.nodes[spot.node].of;
-    let Some(node) = wrong_pattern(draft, tested, wrong, rng) else { return false };
+    let Some(node) = wrong_pattern(draft, tested, wrong, random) else { return false };
     draft.nodes[node].words[NEXT] = draft.nodes[spot.node].words[NEXT];
     draft.nodes[spot.holder].words[spot.word] = Term::Part(node);
     true
 }
 
 /// A pattern that does not have the tested type.
-fn wrong_pattern(draft: &mut Draft, tested: usize, wrong: Wrong, rng: &mut Rng) -> Option<usize> {
+fn wrong_pattern(
+    draft: &mut Draft,
+    tested: usize,
+    wrong: Wrong,
+    random: &mut Random,
+) -> Option<usize> {
     match wrong {
         Wrong::Whole => {
-            let of = other(draft, tested, rng, &|_, _| true)?;
+            let of = other(draft, tested, random, &|_, _| true)?;
             Some(draft.whole(of))
         }
         Wrong::Constructor => {
-            let of = other(draft, tested, rng, &|draft, of| draft.kind(of) == FLAT)?;
-            Some(full(draft, of, rng))
+            let of = other(draft, tested, random, &|draft, of| draft.kind(of) == FLAT)?;
+            Some(full(draft, of, random))
         }
         Wrong::PairOnFlat => {
             if draft.kind(tested) != FLAT {
@@ -101,19 +106,19 @@ fn wrong_pattern(draft: &mut Draft, tested: usize, wrong: Wrong, rng: &mut Rng) 
             Some(draft.pair_pattern(first, second, tested))
         }
         Wrong::PairOfOthers => {
-            let of = other(draft, tested, rng, &|draft, of| draft.kind(of) == PAIR_TYPE)?;
+            let of = other(draft, tested, random, &|draft, of| draft.kind(of) == PAIR_TYPE)?;
             let (first, second) = draft.parts(of)?;
             let first = draft.whole(first);
             let second = draft.whole(second);
             Some(draft.pair_pattern(first, second, of))
         }
         Wrong::WholeTwin => {
-            let of = twin(draft, tested, rng);
+            let of = twin(draft, tested, random);
             Some(draft.whole(of))
         }
         Wrong::FullTwin => {
-            let of = twin(draft, tested, rng);
-            Some(full(draft, of, rng))
+            let of = twin(draft, tested, random);
+            Some(full(draft, of, random))
         }
     }
 }

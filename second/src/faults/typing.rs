@@ -1,13 +1,13 @@
 //! Type rules broken by one expression: code 7.
 
-use super::Category;
+use super::category::Category;
 use crate::draft::{Draft, Term};
 use crate::generate::types::{other, twin};
-use crate::rng::Rng;
-use crate::survey::{some, some_kind, Spot};
-use crate::table::{
+use crate::random::Random;
+use crate::records::{
     A, B, C, CONSTANT, DELAY, FEEDBACK, FIRST, FLAT, IF, LEAF, NAME, NEXT, PAIR, SECOND, WORD_NAMES,
 };
+use crate::survey::{some, some_kind, Spot};
 
 pub fn categories() -> Vec<Category> {
     let mut all = names();
@@ -21,14 +21,14 @@ pub fn categories() -> Vec<Category> {
 
 fn names() -> Vec<Category> {
     vec![
-        Category::draft(7, "name: the count of names in scope", |draft, rng| {
-            let Some(spot) = some_kind(draft, rng, NAME) else { return false };
+        Category::draft(7, "name: the count of names in scope", |draft, random| {
+            let Some(spot) = some_kind(draft, random, NAME) else { return false };
             draft.nodes[spot.node].words[A] = Term::Number(spot.scope as u16);
             true
         }),
-        Category::draft(7, "name: far over the count of names", |draft, rng| {
-            let Some(spot) = some_kind(draft, rng, NAME) else { return false };
-            let number = rng.range(spot.scope, 65_535) as u16;
+        Category::draft(7, "name: far over the count of names", |draft, random| {
+            let Some(spot) = some_kind(draft, random, NAME) else { return false };
+            let number = random.range(spot.scope, 65_535) as u16;
             draft.nodes[spot.node].words[A] = Term::Number(number);
             true
         }),
@@ -36,9 +36,9 @@ fn names() -> Vec<Category> {
 }
 
 /// Breaks a name or constant, whichever it is.
-pub fn break_closing(draft: &mut Draft, spot: Spot, rng: &mut Rng) {
+pub fn break_closing(draft: &mut Draft, spot: Spot, random: &mut Random) {
     if draft.kind(spot.node) == NAME {
-        draft.nodes[spot.node].words[A] = Term::Number((spot.scope + rng.below(3)) as u16);
+        draft.nodes[spot.node].words[A] = Term::Number((spot.scope + random.below(3)) as u16);
     } else {
         lengthen(draft, spot.node, 1);
     }
@@ -66,12 +66,12 @@ pub fn lengthen(draft: &mut Draft, node: usize, by: usize) {
 }
 
 /// Gives some leaf a value over its flat type's count.
-fn overflow(draft: &mut Draft, node: usize, rng: &mut Rng, just: bool) -> bool {
+fn overflow(draft: &mut Draft, node: usize, random: &mut Random, just: bool) -> bool {
     let counts = draft.counts(draft.nodes[node].of);
     let fits: Vec<usize> = (0..counts.len()).filter(|&k| counts[k] < 255).collect();
-    let Some(k) = rng.pick(&fits) else { return false };
+    let Some(k) = random.pick(&fits) else { return false };
     let low = usize::from(counts[k]) + 1;
-    let value = if just { low } else { rng.range(low, 255) };
+    let value = if just { low } else { random.range(low, 255) };
     let leaf = chain(draft, node)[k];
     draft.nodes[leaf].words[A] = Term::Number(value as u16);
     true
@@ -80,25 +80,25 @@ fn overflow(draft: &mut Draft, node: usize, rng: &mut Rng, just: bool) -> bool {
 /// Too few leaves, too many, or a leaf over its count.
 fn leaves(kind: u16, name: &str) -> Vec<Category> {
     let overflowing = move |just: bool| {
-        move |draft: &mut Draft, rng: &mut Rng| {
-            let Some(spot) = some_kind(draft, rng, kind) else { return false };
-            overflow(draft, spot.node, rng, just)
+        move |draft: &mut Draft, random: &mut Random| {
+            let Some(spot) = some_kind(draft, random, kind) else { return false };
+            overflow(draft, spot.node, random, just)
         }
     };
     vec![
-        Category::draft(7, format!("{name}: too few leaves"), move |draft, rng| {
+        Category::draft(7, format!("{name}: too few leaves"), move |draft, random| {
             let wide = |spot: &Spot| {
                 draft.kind(spot.node) == kind && draft.width(draft.nodes[spot.node].of) > 1
             };
-            let Some(spot) = some(draft, rng, &wide) else { return false };
+            let Some(spot) = some(draft, random, &wide) else { return false };
             let leaves = chain(draft, spot.node);
-            let last = leaves[rng.below(leaves.len() - 1)];
+            let last = leaves[random.below(leaves.len() - 1)];
             draft.nodes[last].words[NEXT] = Term::Number(0);
             true
         }),
-        Category::draft(7, format!("{name}: too many leaves"), move |draft, rng| {
-            let Some(spot) = some_kind(draft, rng, kind) else { return false };
-            let by = if rng.one_in(2) { 1 } else { rng.range(2, 70) };
+        Category::draft(7, format!("{name}: too many leaves"), move |draft, random| {
+            let Some(spot) = some_kind(draft, random, kind) else { return false };
+            let by = if random.one_in(2) { 1 } else { random.range(2, 70) };
             lengthen(draft, spot.node, by);
             true
         }),
@@ -108,11 +108,11 @@ fn leaves(kind: u16, name: &str) -> Vec<Category> {
 }
 
 /// A closing expression of a type: a constant, or the input's name.
-fn closing(draft: &mut Draft, of: usize, scope: usize, rng: &mut Rng) -> usize {
-    if draft.input() == of && rng.one_in(2) {
+fn closing(draft: &mut Draft, of: usize, scope: usize, random: &mut Random) -> usize {
+    if draft.input() == of && random.one_in(2) {
         draft.name(scope as u16 - 1, of)
     } else {
-        draft.random_constant(of, rng)
+        draft.random_constant(of, random)
     }
 }
 
@@ -126,23 +126,23 @@ fn retype(
     draft: &mut Draft,
     spot: Spot,
     word: usize,
-    rng: &mut Rng,
+    random: &mut Random,
     passes: &dyn Fn(&Draft, usize) -> bool,
 ) -> bool {
     let Some(part) = draft.nodes[spot.node].target(word) else { return false };
     let now = draft.nodes[part].of;
-    let Some(of) = other(draft, now, rng, passes) else { return false };
+    let Some(of) = other(draft, now, random, passes) else { return false };
     let scope = scope_in(draft, spot);
-    let node = closing(draft, of, scope, rng);
+    let node = closing(draft, of, scope, random);
     draft.nodes[spot.node].words[word] = Term::Part(node);
     true
 }
 
 /// Breaks the rule of a pair: no pair type of its two parts.
-pub fn unpair(draft: &mut Draft, spot: Spot, word: usize, rng: &mut Rng) -> bool {
+pub fn unpair(draft: &mut Draft, spot: Spot, word: usize, random: &mut Random) -> bool {
     let type_in = |word: usize| draft.nodes[spot.node].target(word).map(|n| draft.nodes[n].of);
     let (Some(first), Some(second)) = (type_in(A), type_in(B)) else { return false };
-    retype(draft, spot, word, rng, &move |draft, of| {
+    retype(draft, spot, word, random, &move |draft, of| {
         let found =
             if word == A { draft.find_pair(of, second) } else { draft.find_pair(first, of) };
         found.is_none()
@@ -150,8 +150,8 @@ pub fn unpair(draft: &mut Draft, spot: Spot, word: usize, rng: &mut Rng) -> bool
 }
 
 /// Gives the part in a word another type than it has.
-pub fn mismatch(draft: &mut Draft, spot: Spot, word: usize, rng: &mut Rng) -> bool {
-    retype(draft, spot, word, rng, &|_, _| true)
+pub fn mismatch(draft: &mut Draft, spot: Spot, word: usize, random: &mut Random) -> bool {
+    retype(draft, spot, word, random, &|_, _| true)
 }
 
 const SAME: [(u16, usize, &str); 4] = [
@@ -164,22 +164,26 @@ const SAME: [(u16, usize, &str); 4] = [
 fn parts() -> Vec<Category> {
     let mut all = Vec::new();
     for (kind, name) in [(FIRST, "first"), (SECOND, "second")] {
-        all.push(Category::draft(7, format!("{name} part of a flat type"), move |draft, rng| {
-            let Some(spot) = some_kind(draft, rng, kind) else { return false };
-            retype(draft, spot, A, rng, &|draft, of| draft.kind(of) == FLAT)
-        }));
+        all.push(Category::draft(
+            7,
+            format!("{name} part of a flat type"),
+            move |draft, random| {
+                let Some(spot) = some_kind(draft, random, kind) else { return false };
+                retype(draft, spot, A, random, &|draft, of| draft.kind(of) == FLAT)
+            },
+        ));
     }
     for word in [A, B] {
         let name = format!("pair: no pair type, {} of another type", WORD_NAMES[word]);
-        all.push(Category::draft(7, name, move |draft, rng| {
-            let Some(spot) = some_kind(draft, rng, PAIR) else { return false };
-            unpair(draft, spot, word, rng)
+        all.push(Category::draft(7, name, move |draft, random| {
+            let Some(spot) = some_kind(draft, random, PAIR) else { return false };
+            unpair(draft, spot, word, random)
         }));
     }
     for (kind, word, name) in SAME {
-        all.push(Category::draft(7, format!("{name} of another type"), move |draft, rng| {
-            let Some(spot) = some_kind(draft, rng, kind) else { return false };
-            mismatch(draft, spot, word, rng)
+        all.push(Category::draft(7, format!("{name} of another type"), move |draft, random| {
+            let Some(spot) = some_kind(draft, random, kind) else { return false };
+            mismatch(draft, spot, word, random)
         }));
     }
     all
@@ -189,11 +193,11 @@ fn parts() -> Vec<Category> {
 fn twins() -> Vec<Category> {
     let pair = [(PAIR, A, "pair: first part"), (PAIR, B, "pair: second part")];
     let twinned = SAME.into_iter().chain(pair).map(|(kind, word, name)| {
-        Category::draft(7, format!("{name} of a type of the same shape"), move |draft, rng| {
-            let Some(spot) = some_kind(draft, rng, kind) else { return false };
+        Category::draft(7, format!("{name} of a type of the same shape"), move |draft, random| {
+            let Some(spot) = some_kind(draft, random, kind) else { return false };
             let Some(part) = draft.nodes[spot.node].target(word) else { return false };
-            let of = twin(draft, draft.nodes[part].of, rng);
-            let node = draft.random_constant(of, rng);
+            let of = twin(draft, draft.nodes[part].of, random);
+            let node = draft.random_constant(of, random);
             draft.nodes[spot.node].words[word] = Term::Part(node);
             true
         })

@@ -1,10 +1,10 @@
 //! Faults of single words against the table, the numbering rule or the sort
 //! asked for: code 3.
 
-use super::header::nonzero;
-use super::{past_count, some_record, Category};
-use crate::rng::Rng;
-use crate::table::{
+use super::category::Category;
+use super::picks::{nonzero, past_count, some_record, unknown_kind};
+use crate::random::Random;
+use crate::records::{
     sort, words, Record, Sort, Word, A, B, CONSTRUCTOR, FLAT, HEADER, KIND, KINDS, LEAF, NEXT,
     PAIR_TYPE, WORD_NAMES,
 };
@@ -21,40 +21,25 @@ pub fn categories() -> Vec<Category> {
     all
 }
 
-/// A kind that is not in the table; often close to one that is.
-pub fn unknown_kind(rng: &mut Rng) -> u16 {
-    loop {
-        let kind = match rng.below(4) {
-            0 => rng.below(70) as u16,
-            1 => rng.pick(&[0, 2, 15, 18, 31, 41, 47, 51, 63, 65]).unwrap_or(0),
-            2 => rng.pick(&KINDS).unwrap_or(0) | (256 << rng.below(8)),
-            _ => rng.word(),
-        };
-        if kind != HEADER && sort(kind).is_none() {
-            return kind;
-        }
-    }
-}
-
 /// A record that the header doesn't name.
 fn free(records: &[Record], number: usize) -> bool {
     ![NEXT, A, B].iter().any(|&w| usize::from(records[0][w]) == number)
 }
 
 /// A value for a word of the record with a number.
-type Value = dyn Fn(&[Record], usize, &mut Rng) -> Option<u16> + Send + Sync;
+type Value = dyn Fn(&[Record], usize, &mut Random) -> Option<u16> + Send + Sync;
 
 /// Changes one word of a random record of a kind.
 fn change(
     kind: u16,
     word: usize,
-    value: impl Fn(&[Record], usize, &mut Rng) -> Option<u16>,
-) -> impl Fn(&mut Vec<Record>, &mut Rng) -> bool {
-    move |records, rng| {
-        let Some(number) = some_record(records, rng, |_, r| r[KIND] == kind) else {
+    value: impl Fn(&[Record], usize, &mut Random) -> Option<u16>,
+) -> impl Fn(&mut Vec<Record>, &mut Random) -> bool {
+    move |records, random| {
+        let Some(number) = some_record(records, random, |_, r| r[KIND] == kind) else {
             return false;
         };
-        let Some(value) = value(records, number, rng) else { return false };
+        let Some(value) = value(records, number, random) else { return false };
         records[number][word] = value;
         true
     }
@@ -63,25 +48,25 @@ fn change(
 fn kinds() -> Vec<Category> {
     let mut all = Vec::new();
     for wanted in [Sort::Type, Sort::Expression, Sort::Pattern, Sort::Leaf] {
-        let change = move |records: &mut Vec<Record>, rng: &mut Rng, kind: u16| {
+        let change = move |records: &mut Vec<Record>, random: &mut Random, kind: u16| {
             let of_sort = |i: usize, r: &Record| sort(r[KIND]) == Some(wanted) && free(records, i);
-            let Some(number) = some_record(records, rng, of_sort) else { return false };
+            let Some(number) = some_record(records, random, of_sort) else { return false };
             records[number][KIND] = kind;
             true
         };
         let name = format!("kind: unknown, for a {wanted:?}").to_lowercase();
-        all.push(Category::words(3, name, move |records, rng| {
-            let kind = unknown_kind(rng);
-            change(records, rng, kind)
+        all.push(Category::words(3, name, move |records, random| {
+            let kind = unknown_kind(random);
+            change(records, random, kind)
         }));
         let name = format!("kind: 1 for a {wanted:?}").to_lowercase();
-        all.push(Category::words(3, name, move |records, rng| change(records, rng, HEADER)));
+        all.push(Category::words(3, name, move |records, random| change(records, random, HEADER)));
         let name = format!("kind: another sort for a {wanted:?}").to_lowercase();
-        all.push(Category::words(3, name, move |records, rng| {
+        all.push(Category::words(3, name, move |records, random| {
             let others = KINDS.into_iter().filter(|&k| sort(k) != Some(wanted));
             let others: Vec<u16> = others.collect();
-            let kind = rng.pick(&others).unwrap_or(0);
-            change(records, rng, kind)
+            let kind = random.pick(&others).unwrap_or(0);
+            change(records, random, kind)
         }));
     }
     all
@@ -93,8 +78,8 @@ fn values() -> Vec<Category> {
         let of = usize::from(records[number][A]);
         records[of][A]
     };
-    let large = |_: &[Record], _: usize, rng: &mut Rng| {
-        Some(if rng.one_in(2) { 256 } else { rng.range(256, 65_535) as u16 })
+    let large = |_: &[Record], _: usize, random: &mut Random| {
+        Some(if random.one_in(2) { 256 } else { random.range(256, 65_535) as u16 })
     };
     vec![
         Category::words(3, "flat type: count 0", change(FLAT, A, |_, _, _| Some(0))),
@@ -109,16 +94,16 @@ fn values() -> Vec<Category> {
         Category::words(
             3,
             "constructor: far over the count",
-            change(CONSTRUCTOR, B, move |records, number, rng| {
+            change(CONSTRUCTOR, B, move |records, number, random| {
                 let low = usize::from(flat_count(records, number)) + 1;
-                Some(rng.range(low, 65_535) as u16)
+                Some(random.range(low, 65_535) as u16)
             }),
         ),
         Category::words(
             3,
             "constructor: of a pair type",
-            change(CONSTRUCTOR, A, |records, number, rng| {
-                let found = some_record(records, rng, |i, r| i < number && r[KIND] == PAIR_TYPE);
+            change(CONSTRUCTOR, A, |records, number, random| {
+                let found = some_record(records, random, |i, r| i < number && r[KIND] == PAIR_TYPE);
                 found.map(|i| i as u16)
             }),
         ),
@@ -132,7 +117,7 @@ fn of_word(kind: u16, word: usize, asked: Word) -> Vec<Category> {
         Word::Zero => vec![Category::words(
             3,
             name("not mentioned, not 0"),
-            change(kind, word, |_, _, rng| Some(nonzero(rng))),
+            change(kind, word, |_, _, random| Some(nonzero(random))),
         )],
         Word::Type | Word::FlatType => named_wrongly(kind, word, Sort::Type, false, &name),
         Word::Part(sort) => named_wrongly(kind, word, sort, true, &name),
@@ -158,22 +143,25 @@ fn named_wrongly(
     let on_side = move |number: usize, i: usize| if higher { i > number } else { i < number };
     vec![
         category("is 0", Box::new(|_, _, _| Some(0))),
-        category("past the count", Box::new(|records, _, rng| Some(past_count(records, rng)))),
+        category(
+            "past the count",
+            Box::new(|records, _, random| Some(past_count(records, random))),
+        ),
         category("is itself", Box::new(|_, number, _| Some(number as u16))),
         category(
             if higher { "not higher" } else { "not lower" },
-            Box::new(move |records, number, rng| {
+            Box::new(move |records, number, random| {
                 let found =
                     |i: usize, r: &Record| sort(r[KIND]) == Some(wanted) && !on_side(number, i);
-                some_record(records, rng, found).map(|i| i as u16)
+                some_record(records, random, found).map(|i| i as u16)
             }),
         ),
         category(
             "of another sort",
-            Box::new(move |records, number, rng| {
+            Box::new(move |records, number, random| {
                 let found =
                     |i: usize, r: &Record| sort(r[KIND]) != Some(wanted) && on_side(number, i);
-                some_record(records, rng, found).map(|i| i as u16)
+                some_record(records, random, found).map(|i| i as u16)
             }),
         ),
     ]

@@ -3,23 +3,23 @@
 
 use super::types;
 use crate::draft::{Draft, Term};
-use crate::rng::Rng;
+use crate::random::Random;
+use crate::records::CONSTANT;
 use crate::survey::{below, expressions, some_kind, Spot};
-use crate::table::CONSTANT;
 
 /// Puts an expression of the same type and one level more in the place of a
 /// spot: LET x = e IN x, a delay of e, or an IF with e as its tested part.
-fn wrap(draft: &mut Draft, spot: Spot, rng: &mut Rng) -> Spot {
+fn wrap(draft: &mut Draft, spot: Spot, random: &mut Random) -> Spot {
     let of = draft.nodes[spot.node].of;
-    let node = match rng.below(4) {
+    let node = match random.below(4) {
         0 if draft.width(of) <= 2 => {
-            let leaf = draft.random_leaves(of, rng);
+            let leaf = draft.random_leaves(of, random);
             draft.delay(of, leaf, spot.node)
         }
         1 if draft.width(of) <= 2 => {
             let pattern = draft.whole(of);
-            let then = draft.random_constant(of, rng);
-            let other = draft.random_constant(of, rng);
+            let then = draft.random_constant(of, random);
+            let other = draft.random_constant(of, random);
             draft.choice(spot.node, pattern, then, other)
         }
         _ => {
@@ -33,23 +33,23 @@ fn wrap(draft: &mut Draft, spot: Spot, rng: &mut Rng) -> Spot {
 
 /// Deepens a random expression so that the deepest one below it, and no
 /// other, comes to lie at a depth. No change if it lies there or deeper.
-pub fn deepen(draft: &mut Draft, depth: usize, rng: &mut Rng) -> bool {
+pub fn deepen(draft: &mut Draft, depth: usize, random: &mut Random) -> bool {
     let spots = expressions(draft);
-    let Some(mut spot) = rng.pick(&spots) else { return false };
+    let Some(mut spot) = random.pick(&spots) else { return false };
     let deepest = below(draft, spot).iter().map(|s| s.depth).max().unwrap_or(0);
     if deepest >= depth {
         return false;
     }
     for _ in deepest..depth {
-        spot = wrap(draft, spot, rng);
+        spot = wrap(draft, spot, random);
     }
     true
 }
 
 /// Puts feedbacks around a random constant, so that it lies in the defining
 /// parts of so many. No change if it lies in as many, or too deep for it.
-pub fn nest(draft: &mut Draft, nesting: usize, rng: &mut Rng) -> bool {
-    let Some(spot) = some_kind(draft, rng, CONSTANT) else { return false };
+pub fn nest(draft: &mut Draft, nesting: usize, random: &mut Random) -> bool {
+    let Some(spot) = some_kind(draft, random, CONSTANT) else { return false };
     if spot.nesting >= nesting || spot.depth + nesting - spot.nesting > 64 {
         return false;
     }
@@ -64,8 +64,8 @@ pub fn nest(draft: &mut Draft, nesting: usize, rng: &mut Rng) -> bool {
 }
 
 /// Puts feedbacks on top of each other's bodies around a random constant.
-pub fn nest_bodies(draft: &mut Draft, count: usize, rng: &mut Rng) -> bool {
-    let Some(spot) = some_kind(draft, rng, CONSTANT) else { return false };
+pub fn nest_bodies(draft: &mut Draft, count: usize, random: &mut Random) -> bool {
+    let Some(spot) = some_kind(draft, random, CONSTANT) else { return false };
     if spot.nesting >= 3 || spot.depth + count > 64 {
         return false;
     }
@@ -82,10 +82,10 @@ pub fn nest_bodies(draft: &mut Draft, count: usize, rng: &mut Rng) -> bool {
 }
 
 /// Adds a pair type of exactly so many leaves, its parts of at most 64.
-pub fn widen(draft: &mut Draft, leaves: usize, rng: &mut Rng) -> usize {
+pub fn widen(draft: &mut Draft, leaves: usize, random: &mut Random) -> usize {
     let low = leaves.saturating_sub(64).max(1);
-    let left = rng.range(low, (leaves - 1).min(64));
-    let first = types::split(draft, left, rng);
-    let second = types::split(draft, leaves - left, rng);
+    let left = random.range(low, (leaves - 1).min(64));
+    let first = types::split(draft, left, random);
+    let second = types::split(draft, leaves - left, random);
     draft.need_pair(first, second)
 }

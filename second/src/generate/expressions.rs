@@ -2,15 +2,15 @@
 
 use super::patterns;
 use crate::draft::Draft;
-use crate::rng::Rng;
-use crate::table::{DELAY, FEEDBACK, FIRST, IF, LET, PAIR, SECOND};
+use crate::random::Random;
+use crate::records::{DELAY, FEEDBACK, FIRST, IF, LET, PAIR, SECOND};
 
 /// The greatest number of feedbacks whose defining parts hold an expression.
 const NESTING: usize = 3;
 
 pub struct Grower<'a> {
     draft: &'a mut Draft,
-    rng: &'a mut Rng,
+    random: &'a mut Random,
     /// The types of the names in scope, the innermost last.
     scope: Vec<usize>,
     limit: usize,
@@ -27,13 +27,18 @@ struct Share {
 }
 
 impl<'a> Grower<'a> {
-    pub fn new(draft: &'a mut Draft, rng: &'a mut Rng, scope: Vec<usize>, limit: usize) -> Self {
-        Grower { draft, rng, scope, limit, nesting: 0 }
+    pub fn new(
+        draft: &'a mut Draft,
+        random: &'a mut Random,
+        scope: Vec<usize>,
+        limit: usize,
+    ) -> Self {
+        Grower { draft, random, scope, limit, nesting: 0 }
     }
 
     /// An expression of a type, at a depth, of about `room` records.
     pub fn expression(&mut self, of: usize, depth: usize, room: usize, spine: bool) -> usize {
-        let stop = depth >= self.limit || (!spine && (room < 3 || self.rng.one_in(12)));
+        let stop = depth >= self.limit || (!spine && (room < 3 || self.random.one_in(12)));
         if stop {
             return self.closing(of);
         }
@@ -58,12 +63,12 @@ impl<'a> Grower<'a> {
         let last = self.scope.len() - 1;
         let names: Vec<usize> =
             (0..self.scope.len()).filter(|&k| self.scope[last - k] == of).collect();
-        if !self.rng.one_in(3) || self.draft.width(of) > 20 {
-            if let Some(number) = self.rng.pick(&names) {
+        if !self.random.one_in(3) || self.draft.width(of) > 20 {
+            if let Some(number) = self.random.pick(&names) {
                 return self.draft.name(number as u16, of);
             }
         }
-        self.draft.random_constant(of, self.rng)
+        self.draft.random_constant(of, self.random)
     }
 
     /// A kind of expression, other than name or constant, that can have the type.
@@ -81,7 +86,7 @@ impl<'a> Grower<'a> {
         if !self.holders(of, false).is_empty() {
             forms.extend([SECOND, SECOND]);
         }
-        self.rng.pick(&forms).unwrap_or(LET)
+        self.random.pick(&forms).unwrap_or(LET)
     }
 
     /// The pair types with this type as their first, or second, part.
@@ -97,7 +102,7 @@ impl<'a> Grower<'a> {
     fn any_type(&mut self, room: usize) -> usize {
         let mut of = self.draft.chain[0];
         for _ in 0..4 {
-            of = self.rng.pick(&self.draft.chain).unwrap_or(of);
+            of = self.random.pick(&self.draft.chain).unwrap_or(of);
             if self.draft.width(of) as usize <= room {
                 break;
             }
@@ -107,10 +112,10 @@ impl<'a> Grower<'a> {
 
     /// Divides a share among parts; one of them goes on with the spine.
     fn divide<const N: usize>(&mut self, share: Share) -> [Share; N] {
-        let spine = self.rng.below(N);
+        let spine = self.random.below(N);
         let mut room = share.room;
         std::array::from_fn(|k| {
-            let part = if k + 1 == N { room } else { self.rng.below(room + 1) };
+            let part = if k + 1 == N { room } else { self.random.below(room + 1) };
             room -= part;
             Share { depth: share.depth, room: part, spine: share.spine && k == spine }
         })
@@ -128,7 +133,7 @@ impl<'a> Grower<'a> {
 
     fn part_of_pair(&mut self, of: usize, share: Share, first: bool) -> usize {
         let holders = self.holders(of, first);
-        let Some(whole) = self.rng.pick(&holders) else {
+        let Some(whole) = self.random.pick(&holders) else {
             return self.closing(of);
         };
         let part = self.grow(whole, share);
@@ -165,7 +170,7 @@ impl<'a> Grower<'a> {
         let [one, two, three] = self.divide(share);
         let tested = self.any_type(one.room);
         let a = self.grow(tested, one);
-        let pattern = patterns::chain(self.draft, tested, self.rng);
+        let pattern = patterns::chain(self.draft, tested, self.random);
         let b = self.grow(of, two);
         let c = self.grow(of, three);
         self.draft.choice(a, pattern, b, c)
@@ -174,7 +179,7 @@ impl<'a> Grower<'a> {
     fn delay(&mut self, of: usize, share: Share) -> usize {
         let room = share.room.saturating_sub(self.draft.width(of) as usize);
         let part = self.grow(of, Share { room, ..share });
-        let leaf = self.draft.random_leaves(of, self.rng);
+        let leaf = self.draft.random_leaves(of, self.random);
         self.draft.delay(of, leaf, part)
     }
 }

@@ -3,7 +3,7 @@
 
 use super::types::doubling;
 use crate::draft::Draft;
-use crate::rng::Rng;
+use crate::random::Random;
 
 /// One leaf of a name of such a type.
 pub fn leaf_of(draft: &mut Draft, name: u16, of: usize, leaf: usize) -> usize {
@@ -34,34 +34,38 @@ pub fn joined(draft: &mut Draft, of: usize, leaves: &[usize]) -> usize {
 
 /// A random network. Most leaves depend on the one before them in a random
 /// order, so that the feedback settles a few leaves at a time.
-pub fn network(rng: &mut Rng) -> Draft {
-    let doublings = rng.range(1, 8).min(6);
-    wired(doublings, |gates, before| gates.gate_or_source(before), rng)
+pub fn network(random: &mut Random) -> Draft {
+    let doublings = random.range(1, 8).min(6);
+    wired(doublings, |gates, before| gates.gate_or_source(before), random)
 }
 
 /// A feedback of 64 leaves, each the one before it in a random order, the
 /// first a leaf of the input: where that is defined, it takes 64 applications.
-pub fn chain_of_64(rng: &mut Rng) -> Draft {
-    wired(6, |gates, before| gates.as_before(before), rng)
+pub fn chain_of_64(random: &mut Random) -> Draft {
+    wired(6, |gates, before| gates.as_before(before), random)
 }
 
 /// A feedback whose leaves are made one after the other, in a random order,
 /// each from the place of the one before it, if there is one.
-fn wired(doublings: usize, make: fn(&mut Gates, Option<usize>) -> usize, rng: &mut Rng) -> Draft {
+fn wired(
+    doublings: usize,
+    make: fn(&mut Gates, Option<usize>) -> usize,
+    random: &mut Random,
+) -> Draft {
     let mut draft = Draft::new();
-    let flat = draft.flat(rng.range(1, 4) as u16);
+    let flat = draft.flat(random.range(1, 4) as u16);
     let of = doubling(&mut draft, doublings);
     draft.need_pair(flat, flat);
-    let inputs = if rng.one_in(2) { flat } else { of };
+    let inputs = if random.one_in(2) { flat } else { of };
     draft.set_input(inputs);
     let width = draft.width(of) as usize;
     let mut order: Vec<usize> = (0..width).collect();
     for k in (1..width).rev() {
-        order.swap(k, rng.below(k + 1));
+        order.swap(k, random.below(k + 1));
     }
     let mut leaves = vec![0; width];
     for (k, &leaf) in order.iter().enumerate() {
-        let mut gates = Gates { draft: &mut draft, rng, flat, of, inputs };
+        let mut gates = Gates { draft: &mut draft, random, flat, of, inputs };
         leaves[leaf] = make(&mut gates, k.checked_sub(1).map(|k| order[k]));
     }
     let defining = joined(&mut draft, of, &leaves);
@@ -73,7 +77,7 @@ fn wired(doublings: usize, make: fn(&mut Gates, Option<usize>) -> usize, rng: &m
 
 struct Gates<'a> {
     draft: &'a mut Draft,
-    rng: &'a mut Rng,
+    random: &'a mut Random,
     flat: usize,
     of: usize,
     inputs: usize,
@@ -82,14 +86,14 @@ struct Gates<'a> {
 impl Gates<'_> {
     /// A leaf of the input.
     fn input(&mut self) -> usize {
-        let leaf = self.rng.below(self.draft.width(self.inputs) as usize);
+        let leaf = self.random.below(self.draft.width(self.inputs) as usize);
         leaf_of(self.draft, 1, self.inputs, leaf)
     }
 
     /// A leaf of the input, or a constant.
     fn source(&mut self) -> usize {
-        if self.rng.one_in(3) {
-            return self.draft.random_constant(self.flat, self.rng);
+        if self.random.one_in(3) {
+            return self.draft.random_constant(self.flat, self.random);
         }
         self.input()
     }
@@ -105,8 +109,8 @@ impl Gates<'_> {
     /// A gate of the leaf before, at times of any leaf; first a source.
     fn gate_or_source(&mut self, before: Option<usize>) -> usize {
         match before {
-            Some(_) if self.rng.one_in(10) => {
-                let leaf = self.rng.below(self.draft.width(self.of) as usize);
+            Some(_) if self.random.one_in(10) => {
+                let leaf = self.random.below(self.draft.width(self.of) as usize);
                 self.gate(leaf)
             }
             Some(leaf) => self.gate(leaf),
@@ -119,23 +123,23 @@ impl Gates<'_> {
     }
 
     fn any(&mut self) -> usize {
-        let leaf = self.rng.below(self.draft.width(self.of) as usize);
+        let leaf = self.random.below(self.draft.width(self.of) as usize);
         self.leaf(leaf)
     }
 
     fn constructor(&mut self) -> usize {
         let count = self.draft.counts(self.flat)[0];
-        let number = self.rng.range(1, usize::from(count)) as u16;
+        let number = self.random.range(1, usize::from(count)) as u16;
         self.draft.constructor(self.flat, number)
     }
 
     /// An expression that may depend on one leaf of the feedback.
     fn gate(&mut self, before: usize) -> usize {
         let part = self.leaf(before);
-        match self.rng.below(40) {
+        match self.random.below(40) {
             0 => self.source(),
             1 | 2 => {
-                let leaf = self.draft.random_leaves(self.flat, self.rng);
+                let leaf = self.draft.random_leaves(self.flat, self.random);
                 self.draft.delay(self.flat, leaf, part)
             }
             3 | 4 => {
@@ -160,7 +164,7 @@ impl Gates<'_> {
         let tested = self.draft.pair(part, other, pair);
         let (first, second) = (self.constructor(), self.constructor());
         let pattern = self.draft.pair_pattern(first, second, pair);
-        let then = self.draft.random_constant(self.flat, self.rng);
+        let then = self.draft.random_constant(self.flat, self.random);
         let other = self.source();
         self.draft.choice(tested, pattern, then, other)
     }

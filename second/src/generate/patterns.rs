@@ -1,65 +1,65 @@
 //! Random patterns of a type.
 
 use crate::draft::Draft;
-use crate::rng::Rng;
-use crate::table::A;
+use crate::random::Random;
+use crate::records::A;
 
 /// A chain of one or more alternatives; the first of them.
-pub fn chain(draft: &mut Draft, of: usize, rng: &mut Rng) -> usize {
-    let mut patterns = vec![alternative(draft, of, rng)];
-    while patterns.len() < 8 && rng.one_in(2) {
-        patterns.push(alternative(draft, of, rng));
+pub fn chain(draft: &mut Draft, of: usize, random: &mut Random) -> usize {
+    let mut patterns = vec![alternative(draft, of, random)];
+    while patterns.len() < 8 && random.one_in(2) {
+        patterns.push(alternative(draft, of, random));
     }
     draft.alternatives(&patterns)
 }
 
 /// One alternative; seldom one that goes down to every leaf.
-pub fn alternative(draft: &mut Draft, of: usize, rng: &mut Rng) -> usize {
-    if rng.one_in(10) {
-        full(draft, of, rng)
+pub fn alternative(draft: &mut Draft, of: usize, random: &mut Random) -> usize {
+    if random.one_in(10) {
+        full(draft, of, random)
     } else {
-        single(draft, of, rng)
+        single(draft, of, random)
     }
 }
 
 /// A short chain, for the part of a pair pattern.
-fn part(draft: &mut Draft, of: usize, rng: &mut Rng) -> usize {
-    let mut patterns = vec![single(draft, of, rng)];
-    while patterns.len() < 4 && rng.one_in(6) {
-        patterns.push(single(draft, of, rng));
+fn part(draft: &mut Draft, of: usize, random: &mut Random) -> usize {
+    let mut patterns = vec![single(draft, of, random)];
+    while patterns.len() < 4 && random.one_in(6) {
+        patterns.push(single(draft, of, random));
     }
     draft.alternatives(&patterns)
 }
 
 /// One alternative. The parts of a pair pattern may be chains.
-fn single(draft: &mut Draft, of: usize, rng: &mut Rng) -> usize {
-    if rng.one_in(3) {
+fn single(draft: &mut Draft, of: usize, random: &mut Random) -> usize {
+    if random.one_in(3) {
         return draft.whole(of);
     }
     match draft.parts(of) {
         Some((first, second)) => {
-            let first = part(draft, first, rng);
-            let second = part(draft, second, rng);
+            let first = part(draft, first, random);
+            let second = part(draft, second, random);
             draft.pair_pattern(first, second, of)
         }
-        None => flat(draft, of, rng),
+        None => flat(draft, of, random),
     }
 }
 
 /// Pair patterns down to the flat types.
-pub fn full(draft: &mut Draft, of: usize, rng: &mut Rng) -> usize {
+pub fn full(draft: &mut Draft, of: usize, random: &mut Random) -> usize {
     match draft.parts(of) {
         Some((first, second)) => {
-            let first = full(draft, first, rng);
-            let second = full(draft, second, rng);
+            let first = full(draft, first, random);
+            let second = full(draft, second, random);
             draft.pair_pattern(first, second, of)
         }
-        None => flat(draft, of, rng),
+        None => flat(draft, of, random),
     }
 }
 
 /// A constructor of a flat type.
-fn flat(draft: &mut Draft, of: usize, rng: &mut Rng) -> usize {
+fn flat(draft: &mut Draft, of: usize, random: &mut Random) -> usize {
     let count = usize::from(draft.nodes[of].number(A));
-    draft.constructor(of, rng.range(1, count) as u16)
+    draft.constructor(of, random.range(1, count) as u16)
 }

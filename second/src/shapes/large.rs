@@ -1,6 +1,6 @@
 //! Sheets of 4,096 records, each the worst for some way to check.
 
-use super::{fill, joined, laid};
+use super::building::{fill, joined, laid};
 use crate::draft::Draft;
 use crate::generate::types::doubling;
 use crate::layout::{record_count, Order};

@@ -1,11 +1,11 @@
 //! Sheets at a limit and just past it.
 
-use super::laid;
+use super::building::laid;
 use crate::draft::Draft;
-use crate::generate::circuit_of_records;
+use crate::generate::circuits::circuit_of_records;
 use crate::generate::types::doubling;
 use crate::layout::Order;
-use crate::rng::Rng;
+use crate::random::Random;
 
 /// One flat type, which is the input's type.
 fn bit() -> (Draft, usize) {
@@ -89,9 +89,9 @@ pub fn many_bodies() -> Vec<u8> {
 }
 
 pub fn longest() -> Vec<u8> {
-    laid(&circuit_of_records(4096, &mut Rng::new(7)), Order::Random)
+    laid(&circuit_of_records(4096, &mut Random::new(7)), Order::Random)
 }
 
 pub fn too_long() -> Vec<u8> {
-    laid(&circuit_of_records(4097, &mut Rng::new(7)), Order::Random)
+    laid(&circuit_of_records(4097, &mut Random::new(7)), Order::Random)
 }

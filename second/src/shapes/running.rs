@@ -1,12 +1,12 @@
 //! Sheets whose runs are long or whose feedbacks settle slowly.
 
-use super::laid;
+use super::building::laid;
 use crate::draft::Draft;
-use crate::generate::circuit_of_records;
+use crate::generate::circuits::circuit_of_records;
 use crate::generate::network::{joined, leaf_of};
 use crate::generate::types::doubling;
 use crate::layout::Order;
-use crate::rng::Rng;
+use crate::random::Random;
 
 fn constant(draft: &mut Draft, bit: usize, value: u16) -> usize {
     let leaf = draft.leaves(&[value]);
@@ -87,5 +87,5 @@ pub fn three_slow_64() -> Vec<u8> {
 
 /// A random circuit of 4,000 records.
 pub fn random_4000() -> Vec<u8> {
-    laid(&circuit_of_records(4000, &mut Rng::new(3)), Order::Random)
+    laid(&circuit_of_records(4000, &mut Random::new(3)), Order::Random)
 }

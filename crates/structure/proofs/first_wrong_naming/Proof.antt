@@ -11,7 +11,7 @@ use borrow.Author.Count.{below-more}
 use Rattle.records.specs.Namings.{namings}
 use Rattle.structure.specs.Rules.{wrongNaming}
 use Rattle.structure.specs.NamerTable.{Holds}
-use Rattle.structure.proofs.Lowest.{lowest-is, lowest-none}
+use Rattle.answers.proofs.Lowest.{lowest-is, lowest-none}
 use Rattle.structure.proofs.Namers.{first-naming, unnamed, named-once, named-twice}
 
 abbrev Inv-loop : tie.InvT-loop

@@ -9,7 +9,7 @@ use mathlib.Core.Bool.{false}
 use borrow.Author.Count.{below-more}
 use denote.Ref.{now}
 use Rattle.structure.specs.Rules.{wrongRecord}
-use Rattle.structure.proofs.Lowest.{lowest-is, lowest-none}
+use Rattle.answers.proofs.Lowest.{lowest-is, lowest-none}
 use Rattle.structure.proofs.WrongRecords.{not-the-header}
 
 abbrev Inv-loop : tie.InvT-loop

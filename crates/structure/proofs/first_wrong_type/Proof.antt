@@ -9,7 +9,7 @@ use mathlib.Core.Bool.{false}
 use borrow.Author.Count.{below-more, below-none}
 use denote.Ref.{now}
 use Rattle.structure.specs.Rules.{wrongType}
-use Rattle.structure.proofs.Lowest.{lowest-is, lowest-none}
+use Rattle.answers.proofs.Lowest.{lowest-is, lowest-none}
 
 abbrev Inv-loop : tie.InvT-loop
 Inv-loop sheet n table rec₀ rec = (rec ≤ n) × ((q : ℕ) → q < rec → wrongType sheet q ≡ false)

@@ -1,0 +1,274 @@
+//! The parts of the comparison. The fixed sheets come first, then shards of
+//! the random ones.
+
+use second::answers::Answer;
+use second::draft::Draft;
+use second::faults::category::{faulty, faulty_in, Category};
+use second::fuzz;
+use second::generate::boundary::{deepen, nest, nest_bodies, widen};
+use second::generate::circuits::{circuit, circuit_of_records};
+use second::layout::{layout, sheet};
+use second::random::Random;
+use second::records::{bytes, read, Record, KIND, KINDS};
+
+use super::compare::{Comparer, Ended};
+use super::fixed_sheets;
+use super::tally::{self, quota, CODES};
+
+/// Into how many shards the random sheets are divided.
+pub const SHARDS: u64 = 8;
+/// A shard gives up after so many tries for each sheet it needs.
+const TRIES: u64 = 40;
+
+pub enum Job {
+    Shapes,
+    Lengths,
+    Prefixes,
+    Bytes,
+    Boundaries,
+    Accepted,
+    Faults,
+    TwoFaults,
+    Headers,
+    Long,
+    Fuzz,
+    Extra(u64),
+}
+
+/// All jobs, in order.
+pub fn in_order() -> Vec<Job> {
+    let mut jobs = vec![Job::Shapes, Job::Lengths, Job::Prefixes, Job::Bytes];
+    for _ in 0..SHARDS {
+        jobs.extend([
+            Job::Boundaries,
+            Job::Faults,
+            Job::Accepted,
+            Job::TwoFaults,
+            Job::Headers,
+            Job::Fuzz,
+            Job::Long,
+        ]);
+    }
+    jobs
+}
+
+/// More random sheets than the quotas ask for.
+pub fn extra(sheets: u64) -> Job {
+    Job::Extra(sheets)
+}
+
+impl Job {
+    pub fn run(&self, to: &mut Comparer, categories: &[Category], random: &mut Random) -> Ended {
+        match self {
+            Job::Shapes => fixed_sheets::named_shapes(to),
+            Job::Lengths => fixed_sheets::lengths(to, random),
+            Job::Prefixes => fixed_sheets::prefixes(to),
+            Job::Bytes => fixed_sheets::byte_changes(to),
+            Job::Boundaries => boundaries(to, random),
+            Job::Accepted => accepted(to, random),
+            Job::Faults => single_faults(to, categories, random),
+            Job::TwoFaults => two_faults(to, categories, random),
+            Job::Headers => headers(to, random),
+            Job::Long => long(to, categories, random),
+            Job::Fuzz => changed(to, random),
+            Job::Extra(sheets) => extras(to, *sheets, random),
+        }
+    }
+}
+
+fn share(name: &str) -> u64 {
+    quota(name).div_ceil(SHARDS)
+}
+
+/// Counts the kinds in an accepted sheet with over 30 records.
+fn count_kinds(to: &mut Comparer, records: &[Record], verdict: Answer) {
+    let large = records.len() > 30;
+    if !large {
+        return;
+    }
+    to.tally.add(tally::ACCEPTED, verdict.code == 0);
+    for (k, kind) in KINDS.iter().enumerate() {
+        let has = records.iter().any(|record| record[KIND] == *kind);
+        to.tally.kinds[k] += u64::from(has && verdict.code == 0);
+    }
+}
+
+fn accepted(to: &mut Comparer, random: &mut Random) -> Ended {
+    let need = share(tally::ACCEPTED);
+    for _ in 0..need * TRIES {
+        let records = layout(&circuit(random), random);
+        let verdict = to.compare("accepted", &bytes(&records))?;
+        count_kinds(to, &records, verdict);
+        if to.tally.named.get(tally::ACCEPTED).map_or(0, |hits| hits.hit) >= need {
+            break;
+        }
+    }
+    Ok(())
+}
+
+/// Circuits brought exactly to a limit: all accepted.
+fn boundaries(to: &mut Comparer, random: &mut Random) -> Ended {
+    type Change = fn(&mut Draft, &mut Random) -> bool;
+    let changes: [(&'static str, Change); 4] = [
+        (tally::DEPTH_64, |draft, random| deepen(draft, 64, random)),
+        (tally::NESTING_3, |draft, random| nest(draft, 3, random)),
+        (tally::LEAVES_64, |draft, random| widen(draft, 64, random) > 0),
+        (tally::BODIES, |draft, random| nest_bodies(draft, 12, random)),
+    ];
+    for (name, change) in changes {
+        for _ in 0..share(name) * TRIES {
+            let mut draft = circuit(random);
+            if !change(&mut draft, random) {
+                continue;
+            }
+            let sheet = sheet(&draft, random);
+            if sheet.len() > 49_152 {
+                continue;
+            }
+            let verdict = to.compare(name, &sheet)?;
+            to.tally.add(name, verdict.code == 0);
+            if to.tally.named[name].hit >= share(name) {
+                break;
+            }
+        }
+    }
+    Ok(())
+}
+
+/// A circuit that faults are put into, mostly not a large one.
+fn base(random: &mut Random) -> Draft {
+    loop {
+        let draft = circuit(random);
+        if draft.nodes.len() <= 160 || random.one_in(20) {
+            return draft;
+        }
+    }
+}
+
+/// Each category in turn on each circuit, until all have enough.
+fn single_faults(to: &mut Comparer, categories: &[Category], random: &mut Random) -> Ended {
+    let need = tally::PER_CATEGORY.div_ceil(SHARDS);
+    for _ in 0..need * TRIES {
+        let draft = base(random);
+        let records = layout(&draft, random);
+        let mut all = true;
+        for (k, category) in categories.iter().enumerate() {
+            if to.tally.faults[k].hit >= need {
+                continue;
+            }
+            all = false;
+            if let Some(sheet) = faulty_in(&draft, &records, category, random) {
+                let verdict = to.compare(&category.name, &sheet)?;
+                to.tally.faults[k].add(verdict.code == category.code);
+            }
+        }
+        if all {
+            break;
+        }
+    }
+    Ok(())
+}
+
+/// For each two codes, sheets with a fault of either.
+fn two_faults(to: &mut Comparer, categories: &[Category], random: &mut Random) -> Ended {
+    let need = tally::PER_TWO_CODES.div_ceil(SHARDS);
+    let of_code = |code: u8| categories.iter().filter(move |c| c.code == code).collect::<Vec<_>>();
+    let by_code: Vec<Vec<&Category>> = (0..=7).map(of_code).collect();
+    for (low, high) in CODES {
+        let (lower, higher) = (&by_code[usize::from(low)], &by_code[usize::from(high)]);
+        for _ in 0..need * TRIES {
+            let mut faults: Vec<&Category> = vec![higher[random.below(higher.len())]];
+            faults.extend(random.pick(lower));
+            let Some(mut sheet) = faulty(&base(random), &faults, random) else { continue };
+            if low == 1 {
+                sheet.truncate(sheet.len() - random.range(1, 11));
+            }
+            let names: Vec<&str> = faults.iter().map(|c| c.name.as_str()).collect();
+            let verdict = to.compare(&names.join("; "), &sheet)?;
+            let hits = &mut to.tally.two_codes[usize::from(low)][usize::from(high)];
+            *hits += u64::from(verdict.code == low);
+            if *hits >= need {
+                break;
+            }
+        }
+    }
+    Ok(())
+}
+
+fn headers(to: &mut Comparer, random: &mut Random) -> Ended {
+    for _ in 0..share(tally::HEADERS) {
+        let mut records = layout(&base(random), random);
+        fuzz::change_header(&mut records, random);
+        to.compare(tally::HEADERS, &bytes(&records))?;
+        to.tally.add(tally::HEADERS, true);
+    }
+    Ok(())
+}
+
+/// Sheets of 4,095, 4,096 and 4,097 records, and faults in some of them.
+fn long(to: &mut Comparer, categories: &[Category], random: &mut Random) -> Ended {
+    let sizes = [(tally::SHORTER, 4095, 0), (tally::LONGEST, 4096, 0), (tally::TOO_LONG, 4097, 1)];
+    for (name, records, code) in sizes {
+        for _ in 0..share(name) {
+            let draft = circuit_of_records(records, random);
+            let verdict = to.compare(name, &sheet(&draft, random))?;
+            to.tally.add(name, verdict.code == code);
+            let mut made = 0;
+            while records == 4096 && made < share(tally::LONG_FAULTS) / share(name) {
+                let category = &categories[random.below(categories.len())];
+                let Some(sheet) = faulty(&draft, &[category], random) else { continue };
+                to.compare(&category.name, &sheet)?;
+                to.tally.add(tally::LONG_FAULTS, true);
+                made += 1;
+            }
+        }
+    }
+    Ok(())
+}
+
+fn changed(to: &mut Comparer, random: &mut Random) -> Ended {
+    type Change = fn(&mut Random) -> Vec<u8>;
+    let changes: [(&'static str, Change); 5] = [
+        (tally::CHANGED_WORDS, |random| {
+            on_records(random, |r, random| fuzz::change_words(r, random))
+        }),
+        (tally::CHANGED_TYPES, |random| {
+            on_records(random, |r, random| fuzz::change_types(r, random))
+        }),
+        (tally::CHANGED_RECORDS, |random| on_records(random, fuzz::change_records)),
+        (tally::RANDOM_RECORDS, |random| bytes(&fuzz::random_records(random))),
+        (tally::RANDOM_BYTES, |random| {
+            let length = random.below(400);
+            fuzz::random_bytes(length, random)
+        }),
+    ];
+    for (name, change) in changes {
+        for _ in 0..share(name) {
+            to.compare(name, &change(random))?;
+            to.tally.add(name, true);
+        }
+    }
+    Ok(())
+}
+
+/// A random accepted sheet, changed.
+fn on_records(random: &mut Random, change: fn(&mut Vec<Record>, &mut Random)) -> Vec<u8> {
+    let mut records = layout(&base(random), random);
+    change(&mut records, random);
+    bytes(&records)
+}
+
+fn extras(to: &mut Comparer, sheets: u64, random: &mut Random) -> Ended {
+    for k in 0..sheets {
+        let sheet = match k % 3 {
+            0 => sheet(&circuit(random), random),
+            1 => on_records(random, |r, random| fuzz::change_words(r, random)),
+            _ => on_records(random, |r, random| fuzz::change_types(r, random)),
+        };
+        let verdict = to.compare("extra", &sheet)?;
+        if k % 3 == 0 {
+            count_kinds(to, &read(&sheet), verdict);
+        }
+    }
+    Ok(())
+}

@@ -1,0 +1,70 @@
+//! Matching a value with a pattern: yes, no or undecided.
+
+use crate::accepted::Circuit;
+use crate::records::{A, B, CONSTRUCTOR, KIND, NEXT, WHOLE};
+use crate::run_mistakes::RunMistake;
+
+#[derive(Clone, Copy, PartialEq, Eq, Debug)]
+pub enum Match {
+    Yes,
+    No,
+    Undecided,
+}
+
+/// A chain: yes if some alternative says yes, no if all say no.
+pub fn chain(circuit: &Circuit, first: u16, value: &[u8], mistake: Option<RunMistake>) -> Match {
+    let mut found = Match::No;
+    let mut pattern = usize::from(first);
+    while pattern != 0 {
+        match alternative(circuit, pattern, value, mistake) {
+            Match::Yes => return Match::Yes,
+            Match::Undecided => found = Match::Undecided,
+            Match::No => {}
+        }
+        pattern = usize::from(circuit.records[pattern][NEXT]);
+    }
+    match mistake {
+        Some(RunMistake::ChainNoWhenUndecided) => Match::No,
+        _ => found,
+    }
+}
+
+/// One alternative. The parts of a pair pattern are chains, and nest no
+/// deeper than the type.
+fn alternative(
+    circuit: &Circuit,
+    number: usize,
+    value: &[u8],
+    mistake: Option<RunMistake>,
+) -> Match {
+    let record = circuit.records[number];
+    match record[KIND] {
+        WHOLE => Match::Yes,
+        CONSTRUCTOR => match value[0] {
+            0 => Match::Undecided,
+            byte if u16::from(byte) == record[B] => Match::Yes,
+            _ => Match::No,
+        },
+        _ => {
+            let (first, second) = value.split_at(circuit.width(usize::from(record[A])));
+            let first = chain(circuit, record[A], first, mistake);
+            let second = chain(circuit, record[B], second, mistake);
+            both(first, second, mistake)
+        }
+    }
+}
+
+/// A pair: no if either part says no, yes if both say yes.
+fn both(first: Match, second: Match, mistake: Option<RunMistake>) -> Match {
+    let either = |answer: Match| first == answer || second == answer;
+    if mistake == Some(RunMistake::PairMatchUndecided) && either(Match::Undecided) {
+        return Match::Undecided;
+    }
+    if either(Match::No) {
+        Match::No
+    } else if either(Match::Undecided) {
+        Match::Undecided
+    } else {
+        Match::Yes
+    }
+}

@@ -1,0 +1,293 @@
+//! The parts of the comparison. The fixed sheets come first, then shards of
+//! the random ones.
+
+use second::draft::Draft;
+use second::faults::category::Category;
+use second::fuzz;
+use second::generate::boundary::{deepen, nest};
+use second::generate::circuits::{circuit, circuit_of_records};
+use second::generate::network::{chain_of_64, network};
+use second::generate::small::small;
+use second::layout::{layout, layout_in, record_count, sheet, Order};
+use second::random::Random;
+use second::records::{bytes, read, KIND, KINDS, MAX_RECORDS};
+use second::samples;
+use second::shapes;
+use second::stimulus::MAX_STIMULUS;
+use second::structure::{depths, nestings};
+use second::watch::Watch;
+
+use super::cases::{few_cycles, good, Frame};
+use super::compare::{Case, Comparer, Ended};
+use super::faults::{break_call, break_sheet};
+use super::tally::{self, quota, two_codes};
+
+/// Into how many shards the random sheets are divided.
+pub const SHARDS: u64 = 8;
+/// A shard gives up after so many tries for each call it needs.
+const TRIES: u64 = 40;
+/// Feedbacks of types with no more values than this are compared with all
+/// their fixed points.
+const VALUES: usize = 81;
+
+pub enum Job {
+    Bench,
+    Shapes,
+    Accepted(u64),
+    Refused,
+    TwoFaults,
+    Fuzzed,
+    Large,
+}
+
+/// All jobs, in order.
+pub fn in_order() -> Vec<Job> {
+    let mut jobs = vec![Job::Bench, Job::Shapes];
+    for _ in 0..SHARDS {
+        let accepted = quota(tally::SHEETS).div_ceil(SHARDS);
+        jobs.extend([
+            Job::Accepted(accepted),
+            Job::Refused,
+            Job::TwoFaults,
+            Job::Fuzzed,
+            Job::Large,
+        ]);
+    }
+    jobs
+}
+
+impl Job {
+    pub fn run(&self, to: &mut Comparer, categories: &[Category], random: &mut Random) -> Ended {
+        match self {
+            Job::Bench => bench_cases(to, random),
+            Job::Shapes => named_shapes(to, random),
+            Job::Accepted(sheets) => accepted(to, *sheets, random),
+            Job::Refused => refused(to, categories, random),
+            Job::TwoFaults => two_faults(to, categories, random),
+            Job::Fuzzed => fuzzed(to, random),
+            Job::Large => large(to, random),
+        }
+    }
+}
+
+fn share(name: &str) -> u64 {
+    quota(name).div_ceil(SHARDS)
+}
+
+/// Compares a call that keeps every rule, and counts what came up in it.
+fn compare_good(to: &mut Comparer, case: &Case, frame: &Frame, values: usize) -> Ended {
+    let mut watch = Watch::of_types_up_to(values);
+    let outcome = to.compare_watched(case, &mut watch)?;
+    let (Some(outputs), Some(next)) = (&outcome.outputs, &outcome.next) else { return Ok(()) };
+    let records = read(&case.sheet);
+    let first = &outputs[..frame.output];
+    let counts = [
+        (tally::SHEETS, several(case, frame)),
+        (tally::DEFINED, outputs.iter().any(|&leaf| leaf != 0)),
+        (tally::CHANGED, *next != case.sheet),
+        (tally::OUTPUTS_DIFFER, outputs.chunks(first.len()).any(|cycle| cycle != first)),
+        (tally::OTHERS, watch.others),
+        (tally::SLOW, watch.most > 16),
+        (tally::SLOWEST, watch.most == 64),
+        (tally::NESTED, nestings(&records).contains(&3)),
+        (tally::WIDE, frame.widest == 64),
+        (tally::CHAINS, frame.longest_chain == 64),
+        (tally::DEEP, depths(&records).contains(&64)),
+        (tally::LONGEST, records.len() == MAX_RECORDS),
+        (tally::MANY_CYCLES, case.stimulus.len() > 60_000),
+    ];
+    counts.into_iter().for_each(|(name, holds)| to.tally.add(name, u64::from(holds)));
+    to.tally.add(tally::TRIED, watch.tried);
+    for (k, kind) in KINDS.iter().enumerate() {
+        let has = records.iter().any(|record| record[KIND] == *kind);
+        to.tally.kinds[k] += u64::from(has);
+    }
+    Ok(())
+}
+
+/// T and the circuits of the bench cases on random stimuli, T on the longest.
+fn bench_cases(to: &mut Comparer, random: &mut Random) -> Ended {
+    let sheets = [
+        samples::t(),
+        samples::and(),
+        samples::not_feedback(),
+        samples::pair_feedback(),
+        samples::self_feedback(),
+        samples::two_pairs(),
+    ];
+    for sheet in sheets {
+        let Some(frame) = Frame::of(&sheet) else { continue };
+        for k in 0..40 {
+            let cycles =
+                if k == 39 { MAX_STIMULUS / frame.counts.len() } else { few_cycles(random) };
+            let case = good(tally::BENCH, sheet.clone(), &frame, cycles, random);
+            compare_good(to, &case, &frame, VALUES)?;
+            to.tally.add(tally::BENCH, 1);
+        }
+    }
+    Ok(())
+}
+
+/// Every accepted named sheet but the slowest.
+fn named_shapes(to: &mut Comparer, random: &mut Random) -> Ended {
+    for (name, make) in shapes::all().filter(|(name, _)| *name != "three-slow-feedbacks-64") {
+        let sheet = make();
+        let Some(frame) = Frame::of(&sheet) else { continue };
+        for cycles in [1, 3, 7, 12] {
+            let case = good(name, sheet.clone(), &frame, cycles, random);
+            compare_good(to, &case, &frame, 0)?;
+            to.tally.add(tally::SHAPES, 1);
+        }
+    }
+    Ok(())
+}
+
+/// Whether a call is one of at least three cycles.
+fn several(case: &Case, frame: &Frame) -> bool {
+    case.stimulus.len() >= 3 * frame.counts.len()
+}
+
+/// Accepted sheets: small types, all types, and limits.
+fn accepted(to: &mut Comparer, sheets: u64, random: &mut Random) -> Ended {
+    let mut made = 0;
+    while made < sheets {
+        let mut draft = match random.below(200) {
+            0 => chain_of_64(random),
+            1..=20 => network(random),
+            21..=100 => small(random),
+            _ => circuit(random),
+        };
+        let changed = match random.below(40) {
+            0 => nest(&mut draft, 3, random),
+            1 => deepen(&mut draft, 64, random),
+            _ => true,
+        };
+        if !changed || record_count(&draft) > MAX_RECORDS {
+            continue;
+        }
+        let order = Order::any(random);
+        let sheet = bytes(&layout_in(&draft, order, random));
+        let Some(frame) = Frame::of(&sheet) else { continue };
+        let case = good("accepted", sheet, &frame, few_cycles(random), random);
+        let values = if random.one_in(3) { VALUES } else { 0 };
+        compare_good(to, &case, &frame, values)?;
+        to.tally.layouts[order as usize] += 1;
+        made += u64::from(several(&case, &frame));
+    }
+    Ok(())
+}
+
+/// A circuit that faults are put into, mostly not a large one.
+fn base(random: &mut Random) -> Draft {
+    loop {
+        let draft = circuit(random);
+        if draft.nodes.len() <= 160 || random.one_in(20) {
+            return draft;
+        }
+    }
+}
+
+/// A call that keeps every rule, for faults to be put into.
+fn whole_call(draft: &Draft, random: &mut Random) -> Option<(Case, Frame)> {
+    let sheet = sheet(draft, random);
+    let frame = Frame::of(&sheet)?;
+    Some((good("one call", sheet, &frame, few_cycles(random), random), frame))
+}
+
+/// A call with faults of some codes; the ways in which those from 8 on were
+/// made. The faults of higher codes are made first.
+pub fn broken(
+    codes: &[u8],
+    categories: &[Category],
+    random: &mut Random,
+) -> Option<(Case, Vec<&'static str>)> {
+    let draft = base(random);
+    let (mut case, frame) = whole_call(&draft, random)?;
+    for &code in codes.iter().filter(|&&code| code <= 7) {
+        let (name, sheet) = break_sheet(&draft, code, categories, random)?;
+        case.next_length = sheet.len();
+        case.sheet = sheet;
+        case.source = name;
+    }
+    let mut ways = Vec::new();
+    for code in [9, 8, 10, 11].into_iter().filter(|code| codes.contains(code)) {
+        let way = break_call(&mut case, code, &frame, random)?;
+        case.source = format!("{}; {way}", case.source);
+        ways.push(way);
+    }
+    Some((case, ways))
+}
+
+/// Each code in turn, until every way to break a rule has enough.
+fn refused(to: &mut Comparer, categories: &[Category], random: &mut Random) -> Ended {
+    for code in 1..=11 {
+        let need = tally::PER_CODE.div_ceil(SHARDS);
+        let ways: Vec<&str> = tally::ways(code).collect();
+        let mut hits = 0;
+        for _ in 0..need * TRIES {
+            let Some((case, made)) = broken(&[code], categories, random) else { continue };
+            let outcome = to.compare(&case)?;
+            hits += u64::from(outcome.answer.code == code);
+            made.into_iter().for_each(|way| to.tally.add(way, 1));
+            if hits >= need && ways.iter().all(|way| to.tally.got(way) >= share(way)) {
+                break;
+            }
+        }
+    }
+    Ok(())
+}
+
+/// For each two codes, calls with a fault of either.
+fn two_faults(to: &mut Comparer, categories: &[Category], random: &mut Random) -> Ended {
+    let need = tally::PER_TWO_CODES.div_ceil(SHARDS);
+    for (low, high) in two_codes() {
+        for _ in 0..need * TRIES {
+            let Some((case, _)) = broken(&[low, high], categories, random) else { continue };
+            let outcome = to.compare(&case)?;
+            let hits = &mut to.tally.two_codes[usize::from(low)][usize::from(high)];
+            *hits += u64::from(outcome.answer.code == low);
+            if *hits >= need {
+                break;
+            }
+        }
+    }
+    Ok(())
+}
+
+/// Sheets changed at random, with the calls of the sheets before the change.
+fn fuzzed(to: &mut Comparer, random: &mut Random) -> Ended {
+    for k in 0..share(tally::FUZZED) {
+        let draft = if k % 2 == 0 { base(random) } else { small(random) };
+        let mut records = layout(&draft, random);
+        let Some(frame) = Frame::of(&bytes(&records)) else { continue };
+        match k % 5 {
+            0 => fuzz::change_words(&mut records, random),
+            1 => fuzz::change_records(&mut records, random),
+            _ => fuzz::change_types(&mut records, random),
+        }
+        to.compare(&good(tally::FUZZED, bytes(&records), &frame, few_cycles(random), random))?;
+        to.tally.add(tally::FUZZED, 1);
+    }
+    Ok(())
+}
+
+/// Sheets of 4,096 records, and the longest stimuli.
+fn large(to: &mut Comparer, random: &mut Random) -> Ended {
+    for _ in 0..share(tally::LONGEST) {
+        let sheet = sheet(&circuit_of_records(MAX_RECORDS, random), random);
+        let Some(frame) = Frame::of(&sheet) else { continue };
+        let case = good(tally::LONGEST, sheet, &frame, random.range(2, 4), random);
+        compare_good(to, &case, &frame, 0)?;
+    }
+    while to.tally.got(tally::MANY_CYCLES) < share(tally::MANY_CYCLES) {
+        let draft = if random.one_in(2) { circuit(random) } else { small(random) };
+        let sheet = sheet(&draft, random);
+        let Some(frame) = Frame::of(&sheet) else { continue };
+        let cycles = MAX_STIMULUS / frame.counts.len();
+        if cycles * record_count(&draft) < 1_000_000 {
+            let case = good(tally::MANY_CYCLES, sheet, &frame, cycles, random);
+            compare_good(to, &case, &frame, 0)?;
+        }
+    }
+    Ok(())
+}

@@ -1,0 +1,171 @@
+//! What was compared, and the quotas it has to meet.
+
+use std::collections::BTreeMap;
+
+use second::layout::ORDERS;
+use second::records::KINDS;
+
+use super::memory::PLACEMENTS;
+use crate::workers::Count;
+
+#[derive(Clone, Default)]
+pub struct Tally {
+    pub compared: u64,
+    /// Runs by code.
+    pub codes: [u64; 12],
+    /// Runs by the placement of the lent slices.
+    pub placements: [u64; PLACEMENTS],
+    /// Accepted sheets with each kind.
+    pub kinds: [u64; KINDS.len()],
+    /// Accepted sheets laid out in each order.
+    pub layouts: [u64; ORDERS.len()],
+    /// Refused runs with faults of two codes, by the lower and the higher one.
+    pub two_codes: [[u64; 12]; 12],
+    /// Everything else, by name.
+    pub named: BTreeMap<&'static str, u64>,
+}
+
+pub const PER_CODE: u64 = 2_000;
+pub const PER_TWO_CODES: u64 = 240;
+const PER_KIND: u64 = 5_000;
+const PER_LAYOUT: u64 = 5_000;
+const PER_PLACEMENT: u64 = 20_000;
+
+pub const SHEETS: &str = "accepted sheets with at least three cycles";
+pub const DEFINED: &str = "runs with a defined output leaf";
+pub const CHANGED: &str = "runs whose next sheet differs from the sheet";
+pub const OUTPUTS_DIFFER: &str = "runs whose cycles differ in output";
+pub const OTHERS: &str = "runs with another fixed point above the least";
+pub const SLOW: &str = "runs with a feedback of over 16 applications";
+pub const SLOWEST: &str = "runs with a feedback of 64 applications";
+pub const TRIED: &str = "feedbacks compared with all fixed points";
+pub const NESTED: &str = "runs with feedbacks nested three deep";
+pub const WIDE: &str = "runs with an expression of 64 leaves";
+pub const CHAINS: &str = "runs with a constant or delay of 64 leaves";
+pub const DEEP: &str = "runs with an expression at depth 64";
+pub const LONGEST: &str = "accepted sheets of 4,096 records";
+pub const MANY_CYCLES: &str = "accepted stimuli of over 60,000 bytes";
+pub const SHAPES: &str = "runs of named sheets";
+pub const BENCH: &str = "runs of the bench cases and T";
+pub const FUZZED: &str = "sheets changed at random";
+pub const EMPTY: &str = "8: stimulus empty";
+pub const OVER: &str = "8: stimulus over 65,535 bytes";
+pub const NOT_WHOLE: &str = "8: stimulus not whole cycles";
+pub const ABOVE: &str = "9: one byte above its leaf's count";
+pub const SOME_ABOVE: &str = "9: some bytes above their leaves' counts";
+pub const OUT_SHORTER: &str = "10: output slice shorter";
+pub const OUT_LONGER: &str = "10: output slice longer";
+pub const OUT_NONE: &str = "10: output slice of 0 bytes";
+pub const NEXT_SHORTER: &str = "11: next slice shorter";
+pub const NEXT_LONGER: &str = "11: next slice longer";
+pub const NEXT_NONE: &str = "11: next slice of 0 bytes";
+
+/// The quotas of the named counts.
+pub const QUOTAS: [(&str, u64); 28] = [
+    (SHEETS, 100_000),
+    (DEFINED, 30_000),
+    (CHANGED, 20_000),
+    (OUTPUTS_DIFFER, 20_000),
+    (OTHERS, 5_000),
+    (TRIED, 50_000),
+    (SLOW, 1_000),
+    (SLOWEST, 200),
+    (NESTED, 1_000),
+    (WIDE, 1_000),
+    (CHAINS, 1_000),
+    (DEEP, 1_000),
+    (LONGEST, 40),
+    (MANY_CYCLES, 40),
+    (SHAPES, 100),
+    (BENCH, 200),
+    (FUZZED, 10_000),
+    (EMPTY, 1_000),
+    (OVER, 1_000),
+    (NOT_WHOLE, 1_000),
+    (ABOVE, 2_000),
+    (SOME_ABOVE, 2_000),
+    (OUT_SHORTER, 1_000),
+    (OUT_LONGER, 1_000),
+    (OUT_NONE, 1_000),
+    (NEXT_SHORTER, 1_000),
+    (NEXT_LONGER, 1_000),
+    (NEXT_NONE, 1_000),
+];
+
+/// Two codes of which one is about the call: the lower one, the higher one.
+pub fn two_codes() -> impl Iterator<Item = (u8, u8)> {
+    (8..=11).flat_map(|high| (1..high).map(move |low| (low, high)))
+}
+
+/// The named ways to break the rule of a code.
+pub fn ways(code: u8) -> impl Iterator<Item = &'static str> {
+    let of_code = move |name: &&str| name.starts_with(&format!("{code}: "));
+    QUOTAS.iter().map(|(name, _)| *name).filter(of_code)
+}
+
+/// The quota of a named count.
+pub fn quota(name: &str) -> u64 {
+    QUOTAS.iter().find(|(n, _)| *n == name).map_or(0, |(_, need)| *need)
+}
+
+impl Tally {
+    pub fn add(&mut self, name: &'static str, count: u64) {
+        *self.named.entry(name).or_default() += count;
+    }
+
+    pub fn got(&self, name: &str) -> u64 {
+        self.named.get(name).copied().unwrap_or(0)
+    }
+
+    /// Prints every quota; hands back those that are not met.
+    pub fn print(&self) -> Vec<String> {
+        let mut unmet = Vec::new();
+        let mut line = |name: String, got: u64, need: u64| {
+            println!("quota {name}: {got} of {need}");
+            if got < need {
+                unmet.push(format!("{name}: {got} of {need}"));
+            }
+        };
+        println!("runs with code 0: {}", self.codes[0]);
+        for (name, need) in QUOTAS {
+            line(name.into(), self.got(name), need);
+        }
+        for (code, count) in self.codes.iter().enumerate().skip(1) {
+            line(format!("runs with code {code}"), *count, PER_CODE);
+        }
+        for (low, high) in two_codes() {
+            let got = self.two_codes[usize::from(low)][usize::from(high)];
+            line(format!("faults of codes {low} and {high}"), got, PER_TWO_CODES);
+        }
+        for (k, kind) in KINDS.iter().enumerate() {
+            line(format!("accepted sheets with kind {kind}"), self.kinds[k], PER_KIND);
+        }
+        for (order, count) in ORDERS.iter().zip(self.layouts) {
+            line(format!("accepted sheets laid out {order}"), count, PER_LAYOUT);
+        }
+        let names = ["before a closed page", "after a closed page", "between kept bytes"];
+        for (name, count) in names.iter().zip(self.placements) {
+            line(format!("runs with slices {name}"), count, PER_PLACEMENT);
+        }
+        unmet
+    }
+}
+
+impl Count for Tally {
+    fn merge(&mut self, other: &Tally) {
+        self.compared += other.compared;
+        let sum = |mine: &mut [u64], theirs: &[u64]| {
+            mine.iter_mut().zip(theirs).for_each(|(m, t)| *m += t);
+        };
+        sum(&mut self.codes, &other.codes);
+        sum(&mut self.placements, &other.placements);
+        sum(&mut self.kinds, &other.kinds);
+        sum(&mut self.layouts, &other.layouts);
+        for (mine, theirs) in self.two_codes.iter_mut().zip(&other.two_codes) {
+            sum(mine, theirs);
+        }
+        for (name, count) in &other.named {
+            self.add(name, *count);
+        }
+    }
+}

@@ -1,0 +1,39 @@
+//! One cycle: the root's value, and what each delay holds after it.
+
+use crate::accepted::Circuit;
+use crate::evaluator::Evaluator;
+use crate::run_mistakes::RunMistake;
+use crate::values::Value;
+use crate::watch::Watch;
+
+pub struct Stepper<'a> {
+    circuit: &'a Circuit,
+    mistake: Option<RunMistake>,
+    evaluator: Evaluator<'a>,
+}
+
+impl<'a> Stepper<'a> {
+    /// Begins from the values that the sheet's delays hold.
+    pub fn new(circuit: &'a Circuit, mistake: Option<RunMistake>, watch: &'a mut Watch) -> Self {
+        Stepper { circuit, mistake, evaluator: Evaluator::new(circuit, mistake, watch) }
+    }
+
+    /// The root's value for one input; the delays then hold their next values.
+    pub fn cycle(&mut self, input: &[u8]) -> Value {
+        let evaluator = &mut self.evaluator;
+        evaluator.names = vec![input.to_vec()];
+        let output = evaluator.value(self.circuit.root());
+        std::mem::swap(&mut evaluator.held, &mut evaluator.coming);
+        if self.mistake == Some(RunMistake::StartedFromLastCycle) {
+            evaluator.settled_before.clone_from(&evaluator.settled);
+        }
+        output
+    }
+
+    /// A sheet with the values that the delays hold.
+    pub fn next_sheet(&self, sheet: &[u8]) -> Vec<u8> {
+        let mut next = sheet.to_vec();
+        self.circuit.hold(&mut next, &self.evaluator.held);
+        next
+    }
+}

@@ -1,0 +1,44 @@
+//! A stimulus for an accepted sheet: codes 8 and 9, and its cycles.
+
+use crate::accepted::Circuit;
+use crate::answers::Answer;
+use crate::run_mistakes::RunMistake;
+
+/// The greatest length of a stimulus.
+pub const MAX_STIMULUS: usize = 65_535;
+
+/// Code 8: empty, too long or not whole cycles.
+pub fn wrong_length(circuit: &Circuit, stimulus: &[u8]) -> Option<Answer> {
+    let whole = stimulus.len().is_multiple_of(leaves(circuit));
+    let holds = (1..=MAX_STIMULUS).contains(&stimulus.len()) && whole;
+    (!holds).then_some(Answer { code: 8, place: 0 })
+}
+
+/// Code 9: the first byte above its leaf's constructor count.
+pub fn above_count(
+    circuit: &Circuit,
+    stimulus: &[u8],
+    mistake: Option<RunMistake>,
+) -> Option<Answer> {
+    let counts = circuit.counts(circuit.input());
+    let place =
+        stimulus.iter().zip(counts.iter().cycle()).position(|(byte, count)| byte > count)?;
+    let place = match mistake {
+        Some(RunMistake::PlaceOfNineInCycle) => place % counts.len(),
+        _ => place,
+    };
+    Some(Answer { code: 9, place: place as u32 })
+}
+
+/// The inputs of the cycles, in order.
+pub fn cycles<'a>(
+    circuit: &Circuit,
+    stimulus: &'a [u8],
+) -> impl ExactSizeIterator<Item = &'a [u8]> {
+    stimulus.chunks_exact(leaves(circuit))
+}
+
+/// How many leaves the input has.
+fn leaves(circuit: &Circuit) -> usize {
+    circuit.width(usize::from(circuit.input()))
+}
