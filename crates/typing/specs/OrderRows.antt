@@ -23,7 +23,7 @@ orderRows =
     ∷ judgedTo "a feedback's defining part before its body"
     (words 1 1 1 2 5 0 ∷ words 16 0 2 0 0 0 ∷ words 38 0 1 4 3 0 ∷ words 33 0 9 0 0 0 ∷ words 33 0 9 0 0 0 ∷ [])
     (Fault 4)
-    ∷ judgedTo "its body before the type of its defining part"
+    ∷ judgedTo "a feedback's body before the type of its defining part"
     (words 1 1 1 3 7 0 ∷ words 16 2 2 0 0 0 ∷ words 16 0 3 0 0 0 ∷ words 38 0 1 4 5 0 ∷ words 32 0 2 6 0 0
     ∷ words 33 0 7 0 0 0 ∷ words 64 0 1 0 0 0 ∷ [])
     (Fault 5)
@@ -34,15 +34,15 @@ orderRows =
     (words 1 1 1 3 8 0 ∷ words 16 2 2 0 0 0 ∷ words 16 0 3 0 0 0 ∷ words 39 0 4 6 7 5 ∷ words 33 0 9 0 0 0
     ∷ words 49 0 2 1 0 0 ∷ words 33 0 9 0 0 0 ∷ words 33 0 0 0 0 0 ∷ [])
     (Fault 4)
-    ∷ judgedTo "its pattern before its branches, at the IF"
+    ∷ judgedTo "an IF's pattern before its branches, reported at the IF"
     (words 1 1 1 3 8 0 ∷ words 16 2 2 0 0 0 ∷ words 16 0 3 0 0 0 ∷ words 39 0 4 6 7 5 ∷ words 33 0 0 0 0 0
     ∷ words 49 0 2 1 0 0 ∷ words 33 0 9 0 0 0 ∷ words 33 0 0 0 0 0 ∷ [])
     (Fault 3)
-    ∷ judgedTo "its then branch before its else branch, though that is the lower record"
+    ∷ judgedTo "an IF's then branch before its else branch, though that is the lower record"
     (words 1 1 1 2 7 0 ∷ words 16 0 2 0 0 0 ∷ words 39 0 3 5 4 6 ∷ words 33 0 0 0 0 0 ∷ words 33 0 9 0 0 0
     ∷ words 33 0 9 0 0 0 ∷ words 48 0 1 0 0 0 ∷ [])
     (Fault 5)
-    ∷ judgedTo "its else branch before the IF, whose branches then have no one type"
+    ∷ judgedTo "an IF's else branch before the IF, whose branches then have no one type"
     (words 1 1 1 2 7 0 ∷ words 16 0 2 0 0 0 ∷ words 39 0 3 4 5 6 ∷ words 33 0 0 0 0 0 ∷ words 33 0 0 0 0 0
     ∷ words 33 0 9 0 0 0 ∷ words 48 0 1 0 0 0 ∷ [])
     (Fault 5)

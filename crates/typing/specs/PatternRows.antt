@@ -10,11 +10,11 @@ patternRows =
     (words 1 1 2 3 8 0 ∷ words 16 2 2 0 0 0 ∷ words 17 0 1 1 0 0 ∷ words 39 0 4 5 6 7 ∷ words 33 0 0 0 0 0
     ∷ words 33 0 0 0 0 0 ∷ words 33 0 0 0 0 0 ∷ words 48 0 2 0 0 0 ∷ [])
     (Sound 2)
-    ∷ judgedTo "one of another type, also of the same shape"
+    ∷ judgedTo "a whole-type pattern is of another type of the same shape"
     (words 1 1 1 3 8 0 ∷ words 16 2 2 0 0 0 ∷ words 16 0 2 0 0 0 ∷ words 39 0 4 5 6 7 ∷ words 33 0 0 0 0 0
     ∷ words 33 0 0 0 0 0 ∷ words 33 0 0 0 0 0 ∷ words 48 0 2 0 0 0 ∷ [])
     (Fault 3)
-    ∷ judgedTo "so for a constructor"
+    ∷ judgedTo "a constructor pattern is of another type of the same shape"
     (words 1 1 1 3 8 0 ∷ words 16 2 2 0 0 0 ∷ words 16 0 2 0 0 0 ∷ words 39 0 4 5 6 7 ∷ words 33 0 0 0 0 0
     ∷ words 33 0 0 0 0 0 ∷ words 33 0 0 0 0 0 ∷ words 49 0 2 1 0 0 ∷ [])
     (Fault 3)
@@ -35,7 +35,7 @@ patternRows =
     ∷ words 33 0 0 0 0 0 ∷ words 33 0 0 0 0 0 ∷ words 33 0 0 0 0 0 ∷ words 50 0 9 10 0 0 ∷ words 48 0 2 0 0 0
     ∷ words 48 0 2 0 0 0 ∷ [])
     (Fault 4)
-    ∷ judgedTo "its second part"
+    ∷ judgedTo "the second part of a pair pattern is of another type"
     (words 1 1 3 4 11 0 ∷ words 16 2 2 0 0 0 ∷ words 16 3 2 0 0 0 ∷ words 17 0 1 2 0 0 ∷ words 39 0 5 6 7 8
     ∷ words 33 0 0 0 0 0 ∷ words 33 0 0 0 0 0 ∷ words 33 0 0 0 0 0 ∷ words 50 0 9 10 0 0 ∷ words 48 0 1 0 0 0
     ∷ words 48 0 1 0 0 0 ∷ [])
@@ -45,7 +45,7 @@ patternRows =
     ∷ words 33 0 0 0 0 0 ∷ words 33 0 0 0 0 0 ∷ words 50 8 9 11 0 0 ∷ words 48 0 2 0 0 0 ∷ words 49 10 1 1 0 0
     ∷ words 49 0 1 2 0 0 ∷ words 48 0 1 0 0 0 ∷ [])
     (Sound 2)
-    ∷ judgedTo "whose second alternative is of another type"
+    ∷ judgedTo "the second alternative of a chain in a pair pattern is of another type"
     (words 1 1 3 4 12 0 ∷ words 16 2 2 0 0 0 ∷ words 16 3 2 0 0 0 ∷ words 17 0 1 1 0 0 ∷ words 39 0 5 6 7 8
     ∷ words 33 0 0 0 0 0 ∷ words 33 0 0 0 0 0 ∷ words 33 0 0 0 0 0 ∷ words 50 0 9 11 0 0 ∷ words 49 10 1 1 0 0
     ∷ words 48 0 2 0 0 0 ∷ words 48 0 1 0 0 0 ∷ [])

@@ -12,44 +12,44 @@ typeRows =
     (words 1 1 3 4 6 0 ∷ words 16 2 2 0 0 0 ∷ words 16 3 3 0 0 0 ∷ words 17 0 1 2 0 0 ∷ words 35 0 5 0 0 0
     ∷ words 33 0 0 0 0 0 ∷ [])
     (Sound 1)
-    ∷ judgedTo "its second part"
+    ∷ judgedTo "the second part of a pair"
     (words 1 1 3 4 6 0 ∷ words 16 2 2 0 0 0 ∷ words 16 3 3 0 0 0 ∷ words 17 0 1 2 0 0 ∷ words 36 0 5 0 0 0
     ∷ words 33 0 0 0 0 0 ∷ [])
     (Sound 2)
     ∷ judgedTo "the first part of a flat type"
     (words 1 1 1 2 4 0 ∷ words 16 0 2 0 0 0 ∷ words 35 0 3 0 0 0 ∷ words 33 0 0 0 0 0 ∷ [])
     (Fault 2)
-    ∷ judgedTo "its second part"
+    ∷ judgedTo "the second part of a flat type"
     (words 1 1 1 2 4 0 ∷ words 16 0 2 0 0 0 ∷ words 36 0 3 0 0 0 ∷ words 33 0 0 0 0 0 ∷ [])
     (Fault 2)
     ∷ judgedTo "a pair whose types have a pair record"
     (words 1 1 1 4 8 0 ∷ words 16 2 2 0 0 0 ∷ words 16 3 3 0 0 0 ∷ words 17 0 1 2 0 0 ∷ words 34 0 5 6 0 0
     ∷ words 33 0 0 0 0 0 ∷ words 32 0 2 7 0 0 ∷ words 64 0 0 0 0 0 ∷ [])
     (Sound 3)
-    ∷ judgedTo "a pair whose types have none"
+    ∷ judgedTo "a pair whose types have no pair record"
     (words 1 1 1 2 5 0 ∷ words 16 0 2 0 0 0 ∷ words 34 0 3 4 0 0 ∷ words 33 0 0 0 0 0 ∷ words 33 0 0 0 0 0 ∷ [])
     (Fault 2)
-    ∷ judgedTo "a pair whose types have one in the other order"
+    ∷ judgedTo "a pair whose types have a pair record in the other order only"
     (words 1 1 1 4 8 0 ∷ words 16 2 2 0 0 0 ∷ words 16 3 3 0 0 0 ∷ words 17 0 2 1 0 0 ∷ words 34 0 5 6 0 0
     ∷ words 33 0 0 0 0 0 ∷ words 32 0 2 7 0 0 ∷ words 64 0 0 0 0 0 ∷ [])
     (Fault 4)
-    ∷ judgedTo "a pair record of other types of the same shape does not serve"
+    ∷ judgedTo "a pair whose types have a pair record of other types of the same shape only"
     (words 1 1 1 4 8 0 ∷ words 16 2 2 0 0 0 ∷ words 16 3 2 0 0 0 ∷ words 17 0 1 1 0 0 ∷ words 34 0 5 6 0 0
     ∷ words 33 0 0 0 0 0 ∷ words 32 0 2 7 0 0 ∷ words 64 0 0 0 0 0 ∷ [])
     (Fault 4)
-    ∷ judgedTo "a feedback's defining part of another type"
+    ∷ judgedTo "a feedback's defining part is of another type"
     (words 1 1 1 3 7 0 ∷ words 16 2 2 0 0 0 ∷ words 16 0 3 0 0 0 ∷ words 38 0 1 4 6 0 ∷ words 32 0 2 5 0 0
     ∷ words 64 0 0 0 0 0 ∷ words 33 0 0 0 0 0 ∷ [])
     (Fault 3)
-    ∷ judgedTo "also of the same shape"
+    ∷ judgedTo "a feedback's defining part is of another type of the same shape"
     (words 1 1 1 3 7 0 ∷ words 16 2 2 0 0 0 ∷ words 16 0 2 0 0 0 ∷ words 38 0 1 4 6 0 ∷ words 32 0 2 5 0 0
     ∷ words 64 0 0 0 0 0 ∷ words 33 0 0 0 0 0 ∷ [])
     (Fault 3)
-    ∷ judgedTo "a delay's part of another type"
+    ∷ judgedTo "a delay's part is of another type"
     (words 1 1 1 3 6 0 ∷ words 16 2 2 0 0 0 ∷ words 16 0 3 0 0 0 ∷ words 40 0 2 4 5 0 ∷ words 64 0 0 0 0 0
     ∷ words 33 0 0 0 0 0 ∷ [])
     (Fault 3)
-    ∷ judgedTo "also of the same shape"
+    ∷ judgedTo "a delay's part is of another type of the same shape"
     (words 1 1 1 3 6 0 ∷ words 16 2 2 0 0 0 ∷ words 16 0 2 0 0 0 ∷ words 40 0 2 4 5 0 ∷ words 64 0 0 0 0 0
     ∷ words 33 0 0 0 0 0 ∷ [])
     (Fault 3)
@@ -61,7 +61,7 @@ typeRows =
     (words 1 1 1 3 9 0 ∷ words 16 2 2 0 0 0 ∷ words 16 0 3 0 0 0 ∷ words 39 0 4 5 6 8 ∷ words 33 0 0 0 0 0
     ∷ words 33 0 0 0 0 0 ∷ words 32 0 2 7 0 0 ∷ words 64 0 0 0 0 0 ∷ words 48 0 1 0 0 0 ∷ [])
     (Fault 3)
-    ∷ judgedTo "also of the same shape"
+    ∷ judgedTo "branches of two types of the same shape"
     (words 1 1 1 3 9 0 ∷ words 16 2 2 0 0 0 ∷ words 16 0 2 0 0 0 ∷ words 39 0 4 5 6 8 ∷ words 33 0 0 0 0 0
     ∷ words 33 0 0 0 0 0 ∷ words 32 0 2 7 0 0 ∷ words 64 0 0 0 0 0 ∷ words 48 0 1 0 0 0 ∷ [])
     (Fault 3)

@@ -18,7 +18,7 @@ acceptedRows =
     ∷ gives "the input type may be any type record"
     (words 1 1 3 2 4 0 ∷ words 16 3 2 0 0 0 ∷ words 33 0 0 0 0 0 ∷ words 16 0 2 0 0 0 ∷ [])
     (Accepted 3)
-    ∷ gives "and the types may stand anywhere, in a chain that begins anywhere"
+    ∷ gives "the types may stand anywhere, in a chain that begins anywhere"
     (words 1 2 2 1 4 0 ∷ words 33 0 0 0 0 0 ∷ words 16 3 2 0 0 0 ∷ words 16 0 3 0 0 0 ∷ [])
     (Accepted 2)
     ∷ []

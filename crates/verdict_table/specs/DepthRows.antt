@@ -31,7 +31,7 @@ depthRows =
     (words 1 1 1 2 9 0 ∷ words 16 0 2 0 0 0 ∷ words 38 0 1 4 3 0 ∷ words 33 0 0 0 0 0 ∷ words 38 0 1 6 5 0
     ∷ words 33 0 0 0 0 0 ∷ words 38 0 1 8 7 0 ∷ words 33 0 0 0 0 0 ∷ words 33 0 0 0 0 0 ∷ [])
     (Accepted 1)
-    ∷ gives "one in the defining parts of four"
+    ∷ gives "an expression in the defining parts of four feedbacks"
     (words 1 1 1 2 11 0 ∷ words 16 0 2 0 0 0 ∷ words 38 0 1 4 3 0 ∷ words 33 0 0 0 0 0 ∷ words 38 0 1 6 5 0
     ∷ words 33 0 0 0 0 0 ∷ words 38 0 1 8 7 0 ∷ words 33 0 0 0 0 0 ∷ words 38 0 1 10 9 0 ∷ words 33 0 0 0 0 0
     ∷ words 33 0 0 0 0 0 ∷ [])

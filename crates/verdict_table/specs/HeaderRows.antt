@@ -13,22 +13,22 @@ headerRows =
     ∷ gives "the header is of no kind"
     (words 2 1 1 2 3 0 ∷ words 16 0 2 0 0 0 ∷ words 33 0 0 0 0 0 ∷ [])
     WrongHeader
-    ∷ gives "c is one more than the records"
+    ∷ gives "the header's c is one more than the records"
     (words 1 1 1 2 4 0 ∷ words 16 0 2 0 0 0 ∷ words 33 0 0 0 0 0 ∷ [])
     WrongHeader
-    ∷ gives "c is one less"
+    ∷ gives "the header's c is one less than the records"
     (words 1 1 1 2 2 0 ∷ words 16 0 2 0 0 0 ∷ words 33 0 0 0 0 0 ∷ [])
     WrongHeader
-    ∷ gives "d is not 0"
+    ∷ gives "the header's d is not 0"
     (words 1 1 1 2 3 1 ∷ words 16 0 2 0 0 0 ∷ words 33 0 0 0 0 0 ∷ [])
     WrongHeader
-    ∷ gives "next is 0"
+    ∷ gives "the header's next is 0"
     (words 1 0 1 2 3 0 ∷ words 16 0 2 0 0 0 ∷ words 33 0 0 0 0 0 ∷ [])
     WrongHeader
-    ∷ gives "next names no record"
+    ∷ gives "the header's next names no record"
     (words 1 3 1 2 3 0 ∷ words 16 0 2 0 0 0 ∷ words 33 0 0 0 0 0 ∷ [])
     WrongHeader
-    ∷ gives "next names an expression"
+    ∷ gives "the header's next names an expression"
     (words 1 2 1 2 3 0 ∷ words 16 0 2 0 0 0 ∷ words 33 0 0 0 0 0 ∷ [])
     WrongHeader
     ∷ gives "the input type is record 0"

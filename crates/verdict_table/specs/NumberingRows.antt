@@ -97,10 +97,10 @@ numberingRows =
     (words 1 1 1 2 8 0 ∷ words 16 0 2 0 0 0 ∷ words 39 0 3 4 5 6 ∷ words 33 0 0 0 0 0 ∷ words 33 0 0 0 0 0
     ∷ words 33 0 0 0 0 0 ∷ words 48 7 1 0 0 0 ∷ words 64 0 0 0 0 0 ∷ [])
     (WrongRecord 6)
-    ∷ gives "where a record names one of unknown kind, the lower one is the place: the namer"
+    ∷ gives "where a part is of unknown kind, the record that names it, the lower, is the place"
     (words 1 1 1 2 4 0 ∷ words 16 0 2 0 0 0 ∷ words 35 0 3 0 0 0 ∷ words 99 0 0 0 0 0 ∷ [])
     (WrongRecord 2)
-    ∷ gives "for a type word it is the record of unknown kind"
+    ∷ gives "where a type word names a record of unknown kind, that record, the lower, is the place"
     (words 1 2 2 3 5 0 ∷ words 99 0 0 0 0 0 ∷ words 16 0 2 0 0 0 ∷ words 32 0 1 4 0 0 ∷ words 64 0 0 0 0 0 ∷ [])
     (WrongRecord 1)
     ∷ gives "record 1 is in no chain, but 3 goes before 4"

@@ -78,10 +78,10 @@ wordRows =
     ∷ gives "a flat type of 256 constructors"
     (words 1 1 1 2 3 0 ∷ words 16 0 256 0 0 0 ∷ words 33 0 0 0 0 0 ∷ [])
     (WrongRecord 1)
-    ∷ gives "one of 255 passes"
+    ∷ gives "a flat type of 255 constructors passes"
     (words 1 1 1 2 3 0 ∷ words 16 0 255 0 0 0 ∷ words 33 0 0 0 0 0 ∷ [])
     (Accepted 1)
-    ∷ gives "and one of 1"
+    ∷ gives "a flat type of 1 constructor passes"
     (words 1 1 1 2 3 0 ∷ words 16 0 1 0 0 0 ∷ words 33 0 0 0 0 0 ∷ [])
     (Accepted 1)
     ∷ gives "a leaf of 256"
