@@ -24,7 +24,7 @@ use Rattle.structure.proofs.Passes.{written, types-fit}
 use Rattle.structure.proofs.LeafCounts.{pair-kind}
 use Rattle.typing.specs.Judging.{Ground}
 
-module _ (s : List ℕ) (n : ℕ) (table : List ℕ) (g : Ground s n table) where
+module _ {s : List ℕ} {n : ℕ} {table : List ℕ} (g : Ground s n table) where
   pub ground-written : Written s
   ground-written = written (g .passes)
 
@@ -114,7 +114,3 @@ module _ (s : List ℕ) (n : ℕ) (table : List ℕ) (g : Ground s n table) wher
             let b : at < leaves (Flat part (wordA s part)) = rw (flat-type s part e) at (r .below) in
             let z : at ≡ 0 = omega arith in
             ev ∙ sym (r .same ∙ ap (λ (τ : Ty). getD (bounds τ) at 0) (flat-type s part e) ∙ rw z)
-
-  -- the table has the number of bounds of each type record
-  pub bounds-counted : (t : ℕ) → TypeRecord s t → getD table t 0 ≡ length (bounds (typeAt s t))
-  bounds-counted t r = leaves-counted t r ∙ leaves-of-bounds (typeAt s t)

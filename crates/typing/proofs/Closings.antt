@@ -38,7 +38,7 @@ one-name-more stack n t long h =
 not-typed : (r u : ℕ) → Fault r ≡ Sound u → ⊥
 not-typed r u e = let z : _≡_ {A = ℕ} 0 1 = cc in omega arith
 
-module _ (s : List ℕ) (n : ℕ) (table : List ℕ) (rec : ℕ) (before : List ℕ) (c : Closing s n table rec before) where
+module _ {s : List ℕ} {n : ℕ} {table : List ℕ} {rec : ℕ} {before : List ℕ} (c : Closing s n table rec before) where
   pub fails-closed : (rule : Rule) (t : ℕ) → holds s rule ≡ false → Closed s rule rec t (Fault rec) before before
   fails-closed rule t e = record {
     answered = rw e;
@@ -65,7 +65,7 @@ module _ (s : List ℕ) (n : ℕ) (table : List ℕ) (rec : ℕ) (before : List 
   pub pair-is-type : (t u p : ℕ) → p ≡ pairBelow s t u n → (p ≡ 0 → ⊥) → TypeRecord s p
   pair-is-type t u p e f =
       let q = pair-found t u p e in
-      rw q (found-pair (ground-written s n table (c .ground)) t u (rw (← q) (omega arith)))
+      rw q (found-pair (ground-written (c .ground)) t u (rw (← q) (omega arith)))
 
   pub pair-closed : (t u p : ℕ) (answer : Outcome) (after : List ℕ) → p ≡ pairBelow s t u n → (p ≡ 0 → ⊥) → answer ≡ Sound p
       → after ≡ set before rec (leaves (typeAt s p)) → Closed s (pairDeclared t u) rec (pairOf s t u) answer before after
@@ -81,9 +81,9 @@ module _ (s : List ℕ) (n : ℕ) (table : List ℕ) (rec : ℕ) (before : List 
   part-is-type t zero x y r e f ey l h = absurd (omega arith)
   part-is-type t (suc zero) x y r e f ey l h = absurd (omega arith)
   part-is-type t (suc (suc zero)) x y r e f ey l h =
-      rw ey (first-part (ground-written s n table (c .ground)) t (r .there) (pair-kind s t x e f))
+      rw ey (first-part (ground-written (c .ground)) t (r .there) (pair-kind s t x e f))
   part-is-type t (suc (suc (suc zero))) x y r e f ey l h =
-      rw ey (second-part (ground-written s n table (c .ground)) t (r .there) (pair-kind s t x e f))
+      rw ey (second-part (ground-written (c .ground)) t (r .there) (pair-kind s t x e f))
   part-is-type t (suc (suc (suc (suc k)))) x y r e f ey l h = absurd (omega arith)
 
   pub part-closed : (t k x y : ℕ) (answer : Outcome) (after : List ℕ) → x ≡ word s t 0 → x ≡ 17 → y ≡ word s t k → answer ≡ Sound y

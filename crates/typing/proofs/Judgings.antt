@@ -201,17 +201,17 @@ scope-at zero stack k h = absurd (omega arith)
 scope-at (suc n) stack zero h = ap (λ (i : ℕ). getD stack i 0) (omega arith)
 scope-at (suc n) stack (suc k) h = scope-at n stack k (omega arith) ∙ ap (λ (i : ℕ). getD stack i 0) (omega arith)
 
-module _ (s : List ℕ) (n : ℕ) (table : List ℕ) (rec : ℕ) (w0 : List ℕ) (c : Closing s n table rec w0) (stack : List ℕ) (names k : ℕ) where
+module _ {s : List ℕ} {n : ℕ} {table : List ℕ} {rec : ℕ} {w0 : List ℕ} (c : Closing s n table rec w0) (stack : List ℕ) (names k : ℕ) where
   pub name-outside : names ≤ k → Closed s (inScope k (length (scopeOf names stack))) rec (getD (scopeOf names stack) k 0) (Fault rec) w0 w0
   name-outside h =
-      fails-closed s n table rec w0 c (inScope k (length (scopeOf names stack))) (getD (scopeOf names stack) k 0)
+      fails-closed c (inScope k (length (scopeOf names stack))) (getD (scopeOf names stack) k 0)
       (rw (scope-length names stack) (le-ltb k names h))
 
   pub name-inside : (x : ℕ) (ans : Outcome) (w1 : List ℕ) → k < names → x ≡ getD stack (names - 1 - k) 0 → ans ≡ Sound x
       → w1 ≡ set w0 rec (leaves (typeAt s x)) → Closed s (inScope k (length (scopeOf names stack))) rec (getD (scopeOf names stack) k 0) ans w0 w1
   name-inside x ans w1 h ex a n =
       let q : x ≡ getD (scopeOf names stack) k 0 = ex ∙ sym (scope-at names stack k h) in
-      noted-closed s _ table rec w0 c (inScope k (length (scopeOf names stack))) (getD (scopeOf names stack) k 0) ans w1
+      noted-closed c (inScope k (length (scopeOf names stack))) (getD (scopeOf names stack) k 0) ans w1
       (rw (scope-length names stack) (lt-ltb k names h)) (a ∙ ap Sound q) (n ∙ ap (λ (y : ℕ). set w0 rec (leaves (typeAt s y))) q)
 
   pub name-typed : (x : ℕ) → k < names → x ≡ getD stack (names - 1 - k) 0 → Context s (scopeOf names stack) → TypeRecord s x
