@@ -1,9 +1,9 @@
 -- The constructor count of a leaf of a type, found by going down the type's parts: a leaf of a pair is one of its first part's where
 -- its number is below that part's leaves, and else one of its second's. Assumes nothing.
 use mathlib.Core.Path.{_≡_, refl, sym, _∙_, ap}
-use mathlib.Core.Bool.{Bool, true, false}
+use mathlib.Core.Bool.{true, false}
 use mathlib.Core.List.{List, _++_}
-use Prim.Native.Nat.{ℕ, zero, suc, min, _+_, _-_, _≤_, _<_}
+use Prim.Native.Nat.{ℕ, _+_, _-_, _≤_, _<_}
 use native.Mathlib.Omega.{arith}
 use borrow.Author.Tests.{ne-eqb}
 use lib.ListN.{length, getD, List·getD-append}
@@ -11,7 +11,7 @@ use lib.Seq.{getD-append-add}
 use Rattle.picoella.specs.Types.{Ty, Flat, TyTuple, bounds, leaves}
 use Rattle.records.specs.Words.{count, word, wordA, wordB}
 use Rattle.records.specs.Kinds.{typeOf, flat, pair, types, TypeKind}
-use Rattle.records.specs.Says.{kindAt, sortAt}
+use Rattle.records.specs.Says.{kindAt}
 use Rattle.records.specs.TypeRecords.{typeAt, TypeRecord}
 use Rattle.records.specs.Written.{Written, TypesFit}
 use Rattle.records.proofs.Tests.{never-both}

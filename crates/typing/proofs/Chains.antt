@@ -1,13 +1,13 @@
 -- The leaves of a type taken off a chain: for a pair type those of its first part and then those of its second, for a flat type one
 -- leaf, no greater than the type's count. Assumes nothing.
-use mathlib.Core.Path.{_≡_, refl, sym, _∙_, ap}
-use mathlib.Core.Bool.{Bool, true, false, _&&_}
+use mathlib.Core.Path.{_≡_, refl, sym, _∙_}
+use mathlib.Core.Bool.{true, false}
 use mathlib.Core.List.{List, [], _∷_, _++_, append-assoc, append-nil}
 use Prim.Native.Nat.{ℕ, zero, suc, _≤_, _<_}
 use native.Mathlib.Omega.{arith}
 use borrow.Author.Tests.{lt-leb, le-leb, ne-eqb}
 use lib.Dec.{eqb}
-use Rattle.picoella.specs.Types.{TyTuple, bounds}
+use Rattle.picoella.specs.Types.{bounds}
 use Rattle.records.specs.Words.{count, word, wordA, wordB, nextWord}
 use Rattle.records.specs.Kinds.{typeOf, flat, pair, types, TypeKind, leafs}
 use Rattle.records.specs.Says.{kindAt, sortAt}

@@ -1,28 +1,25 @@
 -- The last judgement of an expression: where its rule fails it is the fault, and where it holds the type's leaf count is noted.
 -- Assumes nothing.
-use mathlib.Core.Path.{_≡_, refl, sym, _∙_, ap}
+use mathlib.Core.Path.{_≡_, refl, _∙_, ap}
 use mathlib.Core.Bool.{Bool, true, false}
-use mathlib.Core.List.{List, [], _∷_}
+use mathlib.Core.List.{List, _∷_}
 use Prim.Native.Nat.{ℕ, zero, suc, _+_, _-_, _≤_, _<_}
 use native.Mathlib.Omega.{arith}
 use native.Mathlib.Numerals.{add-one}
-use borrow.Author.Tests.{lt-ltb, le-ltb, ne-eqb, eq-eqb}
-use lib.Dec.{ltb, eqb}
-use lib.ListN.{length, getD, set, length-set}
+use borrow.Author.Tests.{lt-ltb, ne-eqb, eq-eqb}
+use lib.ListN.{length, set, length-set}
 use lib.Seq.{getD-set-same, getD-set-other}
 use Rattle.picoella.specs.Types.{leaves}
-use Rattle.records.specs.Words.{count, word}
-use Rattle.records.specs.Kinds.{typeOf, pair}
-use Rattle.records.specs.Says.{kindAt}
+use Rattle.records.specs.Words.{word}
 use Rattle.records.specs.TypeRecords.{typeAt, TypeRecord, pairOf, pairBelow}
 use Rattle.records.proofs.CodeTable.{pair-number}
 use Rattle.records.proofs.TypeRecords.{found-pair, first-part, second-part}
 use Rattle.structure.proofs.LeafCounts.{pair-kind}
 use Rattle.typing.specs.Judgements.{Rule, holds, pairDeclared, pairType, sameType}
-use Rattle.typing.specs.Judging.{Ground, Closing, Closed, lastly, scopeOf}
+use Rattle.typing.specs.Judging.{Closing, Closed, lastly, scopeOf}
 use Rattle.typing.specs.declared.Outcome.{Outcome}
 use Rattle.typing.specs.declared.Outcome.the-variants.{Sound, Fault}
-use Rattle.typing.proofs.Bounds.{ground-written, leaves-counted}
+use Rattle.typing.proofs.Bounds.{ground-written}
 
 -- a store above a stack's names leaves them
 below-store : (stack : List ℕ) (m v n : ℕ) → n ≤ m → scopeOf n (set stack m v) ≡ scopeOf n stack

@@ -1,14 +1,14 @@
 -- The laws of `Parts` at a record: the tree of a record of each kind is made of the trees of its parts, so what judging the parts gave
 -- is what judging the record gives. Assumes nothing.
-use mathlib.Core.Path.{_≡_, refl, sym, _∙_, ap, subst}
-use mathlib.Core.List.{List, [], _∷_, _++_}
-use mathlib.Core.Option.{none, some}
-use Prim.Native.Nat.{ℕ, zero, suc, _+_, _-_, _≤_, _<_}
+use mathlib.Core.Path.{_≡_, refl, sym, _∙_, ap}
+use mathlib.Core.List.{List, _∷_}
+use mathlib.Core.Option.{none}
+use Prim.Native.Nat.{ℕ, zero, suc, _-_, _≤_, _<_}
 use native.Mathlib.Omega.{arith}
 use borrow.Author.Tests.{lt-ltb, le-ltb}
 use lib.ListN.{length, getD, set}
 use Rattle.picoella.specs.Types.{leaves}
-use Rattle.records.specs.Words.{count, word, wordA, wordB, wordC, wordD}
+use Rattle.records.specs.Words.{count, word, wordA, wordB, wordC}
 use Rattle.records.specs.Kinds.{
   expression,
   constant,
@@ -26,11 +26,11 @@ use Rattle.records.specs.TypeRecords.{typeAt, TypeRecord, pairOf}
 use Rattle.records.specs.Trees.{treeAt, chain, alternatives, constantOf, tupleOf, letOf, feedbackOf, ifOf, delayOf}
 use Rattle.records.specs.Written.{Written}
 use Rattle.records.proofs.Trees.{tree-of}
-use Rattle.typing.specs.Judgements.{holds, leavesFit, inScope, pairDeclared, pairType, sameType, patternHas, judge, judgements, firstFailing}
+use Rattle.typing.specs.Judgements.{holds, leavesFit, inScope, pairDeclared, pairType, sameType, patternHas, judge, firstFailing}
 use Rattle.typing.specs.Judging.{Judged, Closed, Closing, PartAt, at-first, at-second, lastly, scopeOf, Context}
 use Rattle.typing.specs.declared.Outcome.{Outcome}
 use Rattle.typing.specs.declared.Outcome.the-variants.{Sound, Fault}
-use Rattle.typing.proofs.Outcomes.{Passed, lastly-holds, lastly-fails}
+use Rattle.typing.proofs.Outcomes.{Passed, lastly-fails}
 use Rattle.typing.proofs.Closings.{fails-closed, noted-closed}
 use Rattle.typing.proofs.Parts.{
   first-faults,

@@ -1,8 +1,8 @@
 -- An expression that is ready to be judged has parts that are: they are higher expressions, one deeper, so that there is room for
 -- one name more; and what an expression was judged to have is a type record. Assumes nothing.
-use mathlib.Core.Path.{_≡_, refl, sym, _∙_, ap, subst}
+use mathlib.Core.Path.{_≡_, refl, sym, subst}
 use mathlib.Core.Bool.{true, _&&_}
-use mathlib.Core.List.{List, [], _∷_}
+use mathlib.Core.List.{List, _∷_}
 use Prim.Native.Nat.{ℕ, suc, _+_, _≤_, _<_}
 use native.Mathlib.Omega.{arith}
 use lib.Dec.{ltb}
@@ -14,7 +14,7 @@ use Rattle.records.specs.Kinds.{Kind, expressions, patterns, leafs, part, lower
 use Rattle.records.specs.Says.{kindAt, sortAt}
 use Rattle.records.specs.TypeRecords.{TypeRecord}
 use Rattle.records.specs.Trees.{treeAt}
-use Rattle.records.specs.Written.{Written, NamedOnce}
+use Rattle.records.specs.Written.{Written}
 use Rattle.records.proofs.Table.{askOfKind}
 use Rattle.records.proofs.Asked.{part-of-kind, past-header}
 use Rattle.records.proofs.Grown.{grown-tree}

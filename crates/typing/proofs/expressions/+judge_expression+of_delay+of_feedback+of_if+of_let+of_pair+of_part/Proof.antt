@@ -34,7 +34,7 @@ use Rattle.typing.proofs.closing.pair_type.Reads as pair-type-reads
 use Rattle.typing.proofs.closing.part_type.Reads as part-type-reads
 use Rattle.typing.proofs.patterns.pattern_type.Reads as pattern-type-reads
 use Rattle.typing.proofs.closing.same_type.Reads as same-type-reads
-use Rattle.typing.proofs.expressions.with_name.Reads as with-name-reads
+use Rattle.typing.proofs.scopes.with_name.Reads as with-name-reads
 use Rattle.typing.proofs.expressions.+judge_expression+of_delay+of_feedback+of_if+of_let+of_pair+of_part.{statement}
 use Rattle.typing.proofs.expressions.+judge_expression+of_delay+of_feedback+of_if+of_let+of_pair+of_part.Tie.{close}
 use borrow.Author.Needs.{needs}

@@ -2,7 +2,7 @@
 use borrow.Author.Needs.{needs}
 use Rattle.typing.proofs.expressions.of_constant.Statement.{statement}
 use Rattle.typing.proofs.expressions.of_constant.Tie as tie
-use mathlib.Core.Path.{refl, sym, _∙_, ap}
+use mathlib.Core.Path.{refl, _∙_, ap}
 use Prim.Native.Nat.{ℕ}
 use lib.ListN.{set}
 use denote.Ref.{now}

@@ -4,7 +4,6 @@ use Rattle.typing.proofs.leaves.bound_at.Statement.{statement}
 use Rattle.typing.proofs.leaves.bound_at.Tie as tie
 use borrow.Author.Needs.{needs}
 use native.Mathlib.Omega.{arith}
-use denote.Ref.{now}
 use Rattle.typing.specs.Judging.{Ground}
 use Rattle.typing.proofs.Bounds.{Reached, reached-itself, reached-first, reached-second, reached-flat, first-typed, parts-lower, below-count, leaves-counted, few-of}
 
