@@ -51,12 +51,21 @@ slot-low {m} {index} links slot = go (decLt 0 (getD index slot 0))
 
 module _ (s index : List ℕ) (a b : ℕ) where
   -- a slot that holds another pair type is not empty
-  pub another-some : (slot : ℕ) → another s index a b slot ≡ true → 0 < getD index slot 0
+  another-some : (slot : ℕ) → another s index a b slot ≡ true → 0 < getD index slot 0
   another-some slot e = go (getD index slot 0) refl
     where
       go : (q : ℕ) → getD index slot 0 ≡ q → 0 < q
       go zero z = absurd (false≢true (rw z at e))
       go (suc q) z = omega arith
+
+  -- a search that goes on comes to a later slot
+  pub goes-on : {m slot : ℕ} {r : Bool} → Linked m index → m ≤ 4096 → (bits : ℕ) → r ≡ another s index a b slot → r ≡ true
+      → (slot < onwards index slot bits) × (onwards index slot bits < 12288) × (another s index a b slot ≡ true)
+  goes-on {slot = slot} links few bits e t =
+      let on = sym e ∙ t in
+      let low = links .lower slot (another-some slot on) in
+      let later = links .later slot (another-some slot on) in
+      (omega arith, omega arith, on)
 
   same-end : (k l slot bits e f : ℕ) → Ends s index a b k slot bits e → Ends s index a b l slot bits f → e ≡ f
   same-end zero zero slot bits e f p q = sym (p .1) ∙ q .1
