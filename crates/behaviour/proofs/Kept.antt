@@ -8,6 +8,8 @@ use Rattle.behaviour.proofs.Stimulus.{cycles-joined, cycles-counted}
 use Rattle.behaviour.proofs.Run.{run-outputs, run-sheet}
 use Rattle.behaviour.proofs.Reduces.{run-reduces}
 use Rattle.behaviour.proofs.Afterwards.{afterwards}
+use Rattle.behaviour.proofs.SheetRunOrdered.{sheet-run-ordered, late-scanner}
+use Rattle.behaviour.proofs.LateToggle.{late-input, late-delay}
 use Rattle.behaviour.proofs.Answers.{lowest-first, refusal-unaltered}
 
 pub kept : RunPromises
@@ -25,4 +27,8 @@ kept = record {
       (run-outputs undecided law s t v inputs given, run-sheet undecided law s t v inputs given);
   run-reduces = run-reduces;
   holds-afterwards = afterwards;
+  sheet-run-ordered = sheet-run-ordered;
+  late-scanner = late-scanner;
+  late-input = late-input;
+  late-delay = late-delay;
 }

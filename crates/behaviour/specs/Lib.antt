@@ -8,5 +8,6 @@ pub mod Cycle
 pub mod Stimulus
 pub mod Run
 pub mod Afterwards
-pub mod Promises
 pub mod Bench
+pub mod SheetOrder
+pub mod Promises
