@@ -151,7 +151,7 @@ SheetRunOrdered =
 
 -- A late scanner (document 02, (c)): two well-formed calls on sheets in order, whose stimuli are of equal length and the first leaf by
 -- leaf at or below the second. Every output leaf of the first is at or below that of the second, and so is each delay leaf of the
--- next sheets, which again differ in delay leaves alone.
+-- next sheets, which again differ in delay leaves alone. Any number of cycles, none included.
 abbrev pub LateScanner : Type 0
 LateScanner =
     (s s′ stimulus stimulus′ outputs outputs′ next next′ : List ℕ)
