@@ -21,6 +21,9 @@ pub mod stimulus;
 pub mod values;
 pub mod watch;
 
+// Texts.
+pub mod text;
+
 // Sheets.
 pub mod draft;
 pub mod faults;
@@ -36,6 +39,8 @@ pub mod survey;
 mod generate_tests;
 #[cfg(test)]
 mod simulator_tests;
+#[cfg(test)]
+mod text_tests;
 #[cfg(test)]
 mod typing_tests;
 #[cfg(test)]
