@@ -2,6 +2,7 @@
 //! names.
 
 pub mod constants;
+pub mod generate;
 pub mod grammar;
 pub mod layout;
 pub mod lexer;
