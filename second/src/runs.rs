@@ -6,7 +6,6 @@ mod cases;
 mod compare;
 mod faults;
 mod jobs;
-mod memory;
 mod plan;
 mod program;
 mod tally;

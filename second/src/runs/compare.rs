@@ -11,9 +11,9 @@ use second::run_mistakes::RunMistake;
 use second::simulator::{run_watched, Call, Outcome};
 use second::watch::Watch;
 
-use super::memory::{Area, Placement};
 use super::tally::Tally;
 use crate::external;
+use crate::memory::{Area, Placement};
 use crate::report::{self, hex};
 use crate::workers::{self, Halt};
 

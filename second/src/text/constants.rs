@@ -6,12 +6,8 @@ use super::mistakes::TextMistake;
 use super::names::Names;
 use super::syntax::{Constant, Definition, Expression, Syntax};
 
-/// The type of each constant, or the place of the first pair without one.
-pub fn constant_types(
-    syntax: &Syntax,
-    names: &Names,
-    mistake: Option<TextMistake>,
-) -> Result<Vec<usize>, usize> {
+/// The type of each constant, if it has one.
+pub fn types(syntax: &Syntax, names: &Names, mistake: Option<TextMistake>) -> Vec<Option<usize>> {
     let pairs = pair_types(syntax, names, mistake);
     let mut types: Vec<Option<usize>> = Vec::new();
     for constant in &syntax.constants {
@@ -24,6 +20,16 @@ pub fn constant_types(
             },
         });
     }
+    types
+}
+
+/// The type of each constant, or the place of the first pair without one.
+pub fn all_types(
+    syntax: &Syntax,
+    names: &Names,
+    mistake: Option<TextMistake>,
+) -> Result<Vec<usize>, usize> {
+    let types = types(syntax, names, mistake);
     // A pair over a part without a type has none, so the first place is that
     // of a whole constant.
     let places = syntax.expressions.iter().filter_map(|expression| match expression {
@@ -34,7 +40,7 @@ pub fn constant_types(
     });
     match places.min() {
         Some(place) => Err(place),
-        None => Ok(types.into_iter().map(|of| of.unwrap_or(0)).collect()),
+        None => Ok(types.into_iter().flatten().collect()),
     }
 }
 

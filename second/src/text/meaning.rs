@@ -18,6 +18,9 @@ pub enum Undecided {
     Agreed,
 }
 
+/// The rule in force.
+pub const IN_FORCE: Undecided = Undecided::Undefined;
+
 /// The outputs of a text, cycle for cycle; each input is the leaves of one.
 pub fn outputs<'a>(
     syntax: &Syntax,

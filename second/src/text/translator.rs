@@ -1,6 +1,6 @@
 //! The translation of a text into a lent slice: codes 13, 14, 15 and 0.
 
-use super::constants::constant_types;
+use super::constants;
 use super::layout;
 use super::lexer;
 use super::mistakes::TextMistake;
@@ -31,7 +31,7 @@ pub fn syntax(text: &[u8], mistake: Option<TextMistake>) -> Result<Syntax, Answe
 pub fn records(syntax: &Syntax, mistake: Option<TextMistake>) -> Result<Vec<Record>, Answer> {
     let bad = |place: usize| answer(14, place);
     let names = names::resolve(syntax, mistake).map_err(bad)?;
-    let types = constant_types(syntax, &names, mistake).map_err(bad)?;
+    let types = constants::all_types(syntax, &names, mistake).map_err(bad)?;
     Ok(layout::records(syntax, &names, &types, mistake))
 }
 

@@ -28,8 +28,8 @@ pub fn refused(code: u8, marked: &str) {
     assert_eq!(found, (code, place as u32), "{marked}");
 }
 
-/// A text is refused with no code.
-pub fn accepted(text: &str) {
+/// A text is translated.
+pub fn translated(text: &str) {
     assert_eq!(answer(text.as_bytes(), LONG).0, 0, "{text}");
 }
 

@@ -1,6 +1,6 @@
 //! Code 14.
 
-use super::expected::{accepted, refused, BIT, TWO};
+use super::expected::{refused, translated, BIT, TWO};
 
 /// A name of a whole text is bad at the mark.
 fn bad(marked: &str) {
@@ -13,7 +13,7 @@ fn bad_in(marked: &str) {
 }
 
 fn good_in(expression: &str) {
-    accepted(&format!("{BIT}{expression}"));
+    translated(&format!("{BIT}{expression}"));
 }
 
 #[test]
@@ -68,7 +68,7 @@ fn reading_10_declared_from_in_on() {
     bad("TYPE a = b IN TYPE c = (a, @c) IN INPUT a b");
     bad("TYPE a = b IN TYPE c = (@c, a) IN INPUT a b");
     bad("TYPE c = (@d, d) IN TYPE d = e IN INPUT d e");
-    accepted("TYPE d = e IN TYPE c = (d, d) IN INPUT c e");
+    translated("TYPE d = e IN TYPE c = (d, d) IN INPUT c e");
 }
 
 #[test]
@@ -98,7 +98,7 @@ fn reading_11_kinds() {
 fn reading_12_constant_pairs() {
     bad_in("(DELAY (@(hi, lo), input))");
     bad_in("(DELAY ( @( ( hi , lo ) , hi ) , input))");
-    accepted(&format!("{TWO}(DELAY ((hi, lo), input))"));
+    translated(&format!("{TWO}(DELAY ((hi, lo), input))"));
     // The inner pair has a type, the outer has none.
     let outer = "(DELAY (@((hi, lo), hi), input))";
     bad(&format!("{TWO}{outer}"));
@@ -109,9 +109,9 @@ fn reading_12_constant_pairs() {
     // The first declared pair type of the parts; an undefined part keeps its own.
     let types = "TYPE bit = hi | lo IN TYPE two = (bit, bit) IN TYPE again = (bit, bit) IN ";
     let first = format!("{types}TYPE four = (two, two) IN INPUT bit ");
-    accepted(&format!("{first}(DELAY (((hi, lo), ?two), input))"));
+    translated(&format!("{first}(DELAY (((hi, lo), ?two), input))"));
     bad(&format!("{first}(DELAY (@((hi, lo), ?again), input))"));
     let again = format!("{types}TYPE four = (again, two) IN INPUT bit ");
-    accepted(&format!("{again}(DELAY ((?again, (hi, lo)), input))"));
+    translated(&format!("{again}(DELAY ((?again, (hi, lo)), input))"));
     bad(&format!("{again}(DELAY (@((hi, lo), (hi, lo)), input))"));
 }

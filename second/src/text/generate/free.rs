@@ -239,27 +239,27 @@ impl Grower<'_> {
     fn delay(&mut self, room: usize) {
         let of = self.any_type();
         self.fixed("( DELAY (");
-        self.constant(of);
+        self.constant(of, 6);
         self.fixed(",");
         self.expression(room - 1);
         self.fixed(") )");
     }
 
-    /// A constant that has a type of its own: a pair only where this is the
-    /// first pair type of its parts.
-    fn constant(&mut self, of: usize) {
-        if self.untyped && self.random.one_in(4) {
+    /// A constant of a type, of pairs no more than so deep: a pair only where
+    /// this is the first pair type of its parts. Or any pair, if `untyped`.
+    fn constant(&mut self, of: usize, depth: usize) {
+        if self.untyped && depth > 0 && self.random.one_in(4) {
             let (first, second) = (self.any_type(), self.any_type());
-            return self.constant_pair(first, second);
+            return self.constant_pair(first, second, depth);
         }
-        let parts = self.types[of].parts;
+        let parts = self.types[of].parts.filter(|_| depth > 0 && self.is_first(of));
         match parts {
-            None if !self.random.one_in(4) => {
+            Some((first, second)) if !self.random.one_in(4) => {
+                self.constant_pair(first, second, depth);
+            }
+            None if self.types[of].parts.is_none() && !self.random.one_in(4) => {
                 let name = self.constructor(of);
                 self.sentence.name(&name, Role::Constant);
-            }
-            Some((first, second)) if self.is_first(of) && !self.random.one_in(4) => {
-                self.constant_pair(first, second);
             }
             _ => {
                 self.fixed("?");
@@ -268,11 +268,11 @@ impl Grower<'_> {
         }
     }
 
-    fn constant_pair(&mut self, first: usize, second: usize) {
+    fn constant_pair(&mut self, first: usize, second: usize, depth: usize) {
         self.fixed("(");
-        self.constant(first);
+        self.constant(first, depth - 1);
         self.fixed(",");
-        self.constant(second);
+        self.constant(second, depth - 1);
         self.fixed(")");
     }
 
