@@ -132,10 +132,7 @@ impl<'a> Layout<'a> {
             Expression::Name(_) => self.name(number, slot),
             Expression::Undefined(name) => {
                 let of = self.of(name);
-                let zeros = vec![0; self.leaves[of - 1]];
-                let record = self.write(slot, CONSTANT);
-                self.set(record, A, of);
-                self.leaf_chain(record, &zeros);
+                self.constant(slot, of, &vec![0; self.leaves[of - 1]]);
             }
             Expression::Pair(first, second) => {
                 let record = self.write(slot, PAIR);
@@ -175,9 +172,7 @@ impl<'a> Layout<'a> {
     fn name(&mut self, number: usize, slot: Slot) {
         match self.names.meant[number] {
             Some(Meant::Constructor(constructor)) => {
-                let record = self.write(slot, CONSTANT);
-                self.set(record, A, constructor.of);
-                self.leaf_chain(record, &[constructor.number]);
+                self.constant(slot, constructor.of, &[constructor.number]);
             }
             meant => {
                 let record = self.write(slot, NAME);
@@ -186,6 +181,12 @@ impl<'a> Layout<'a> {
                 }
             }
         }
+    }
+
+    fn constant(&mut self, slot: Slot, of: usize, values: &[usize]) {
+        let record = self.write(slot, CONSTANT);
+        self.set(record, A, of);
+        self.leaf_chain(record, values);
     }
 
     /// An IF: the pattern is the last of its parts.

@@ -81,11 +81,7 @@ impl Rules {
                 let (v, tested) = self.reduce(tested);
                 let (yes, then) = self.reduce(then);
                 let (no, other) = self.reduce(other);
-                let value = match matches(pattern, &v) {
-                    Match::Yes => yes,
-                    Match::No => no,
-                    Match::Undecided => self.undecided(&yes, &no),
-                };
+                let value = self.chosen(matches(pattern, &v), yes, no);
                 (value, Rc::new(Term::If(tested, pattern.clone(), then, other)))
             }
             Term::Delay(held, part) => {
@@ -117,6 +113,15 @@ impl Rules {
                 return (value, next);
             }
             value = given;
+        }
+    }
+
+    /// The value of an IF from those of its branches.
+    fn chosen(&self, answer: Match, yes: Value, no: Value) -> Value {
+        match answer {
+            Match::Yes => yes,
+            Match::No => no,
+            Match::Undecided => self.undecided(&yes, &no),
         }
     }
 

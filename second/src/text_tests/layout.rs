@@ -112,7 +112,11 @@ fn reading_13_parts_and_names() {
             &[33],
         ],
     );
-    // A delay's leaves and then its part; (hi, lo) outside is a pair expression.
+}
+
+/// A delay's leaves and then its part; (hi, lo) outside is a pair expression.
+#[test]
+fn reading_13_delays() {
     has_records(
         &format!("{TWO}(DELAY ((hi, ?bit), (lo, hi)))"),
         &[
