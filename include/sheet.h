@@ -1,7 +1,16 @@
 /*
- * Sheets of picoELLA circuits: the calls that a host in C or C++ makes, and how to read what they return.
+ * sheet.h: sheets of picoELLA circuits, checked and run. For hosts in C (C99 or later) and C++.
  *
- * Rules for every call:
+ *     uint64_t sheet_check(sheet, length)
+ *         Is the sheet well formed and well typed, and what is the type of its output?
+ *     uint64_t sheet_run(sheet, sheet_length, stim, stim_length, out, out_length, next, next_length)
+ *         What does it put out, cycle by cycle, and what is the sheet then?
+ *
+ * A result holds a code and a place: take them with sheet_code_of and sheet_place_of, and turn a code into a sentence with
+ * sheet_sentence. What a sheet is, what a cycle computes and when each code is given is in docs/SHEETS.md.
+ *
+ * RULES FOR EVERY CALL
+ *
  * - A slice is lent as a pointer to its first byte and then its length in bytes. The pointer is valid even where the length is 0:
  *   never null.
  * - Slices lent to one call do not overlap, and nothing else writes to them while the call runs.
@@ -9,6 +18,19 @@
  *   threads may call at the same time.
  * - Any content and any length is a good call. What is wrong with a sheet is said by the result, and a refusal leaves every lent
  *   slice unaltered.
+ *
+ * PLATFORM
+ *
+ * x86-64 Linux; calls follow the System V ABI. A host links one of two archives:
+ *
+ *     libchecker.a    sheet_check alone, with nothing of the simulator in it    rt staticlib checker
+ *     libsheets.a     every call                                                rt staticlib sheets
+ *
+ * rt writes them to target/staticlib/. They need nothing but memcpy, memmove, memset, memcmp and bcmp of the C library:
+ *
+ *     cc -Iinclude host.c target/staticlib/libsheets.a
+ *
+ * examples/check.c and examples/run.c are whole hosts.
  */
 #ifndef SHEET_H
 #define SHEET_H
@@ -20,15 +42,30 @@
 extern "C" {
 #endif
 
+/*
+ * The version of this header and of the archives that go with it. The first number rises where a host that was right may no longer
+ * be, the second where a call or a code is added, the third where neither is so.
+ */
+#define SHEET_VERSION_MAJOR 1
+#define SHEET_VERSION_MINOR 0
+#define SHEET_VERSION_PATCH 0
+
+/* The same as text, and as one number to compare: 1.2.3 is 10203. */
+#define SHEET_VERSION "1.0.0"
+#define SHEET_VERSION_NUMBER (SHEET_VERSION_MAJOR * 10000 + SHEET_VERSION_MINOR * 100 + SHEET_VERSION_PATCH)
+
 /* The most bytes that a sheet may have: 4,096 records of 12. */
 #define SHEET_LONGEST 49152
 
 /* The most bytes that a stimulus may have. */
 #define SHEET_LONGEST_STIMULUS 65535
 
+/* The most bytes that a run puts out: 65,535 cycles of 64 leaves. */
+#define SHEET_LONGEST_OUTPUT 4194240
+
 /*
  * A result is code * 2^32 + place. The lowest code that applies is returned, with its place. Above each code stands what its
- * place says; `sheet_sentence` has a sentence on it for people.
+ * place says; sheet_sentence has a sentence on it for people.
  */
 enum sheet_code {
     /* The check's place is the record of the output's type, a run's the number of cycles done. */
@@ -52,7 +89,7 @@ enum sheet_code {
     SHEET_WRONG_STIMULUS = 8,
     /* The first such byte of the stimulus, counted from 0. */
     SHEET_WRONG_INPUT = 9,
-    /* The length that is needed. */
+    /* Codes 10 and 11: the length that is needed, in bytes. */
     SHEET_WRONG_OUTPUT_LENGTH = 10,
     SHEET_WRONG_NEXT_LENGTH = 11,
 
@@ -94,32 +131,56 @@ static inline const char *sheet_sentence(uint32_t code)
 }
 
 /*
- * The check, in libtyping.a: whether the sheet is accepted, and with which type. Codes 0 to 7.
+ * The check: whether the sheet is accepted, and with which type. Codes 0 to 7.
  *
- * Its stack need in bytes, rounded up, from the caller's frame down. It does not grow with the sheet beyond this: expressions lie
- * at most 64 deep, types of at most 64 leaves bound the depth of patterns, and chains are loops. Measured by host/tests.c on the
- * deepest sheets and on sheets of 4,096 records: the stack is filled with a pattern before the call, and after it the lowest byte
- * that changed is looked for. The tests fail where a call uses more than this figure, or never half of it.
+ *     uint64_t result = sheet_check(sheet, length);
+ *     if (sheet_code_of(result) == SHEET_ACCEPTED)
+ *         printf("type %u\n", (unsigned)sheet_place_of(result));
+ *     else
+ *         printf("record %u: %s\n", (unsigned)sheet_place_of(result), sheet_sentence(sheet_code_of(result)));
  */
-#define SHEET_CHECK_STACK 65536
 uint64_t sheet_check(const uint8_t *sheet, size_t length);
 
 /*
- * The run, in libsimulator.a. The check is in it, so a host that does not call `sheet_check` needs no other archive. Codes 0 to
- * 11.
+ * The check's stack need in bytes, rounded up, from the caller's frame down. It does not grow with the sheet beyond this:
+ * expressions lie at most 64 deep, types of at most 64 leaves bound the depth of patterns, and chains are loops. Measured by
+ * host/tests.c on the deepest sheets and on sheets of 4,096 records: the stack is filled with a pattern before the call, and after
+ * it the lowest byte that changed is looked for. The tests fail where a call uses more than this figure, or never half of it.
+ */
+#define SHEET_CHECK_STACK 65536
+
+/*
+ * The run: what the sheet puts out for a stimulus, and the sheet after it. It begins with the check. Codes 0 to 11.
  *
  * Each cycle takes as many bytes of the stimulus as the input has leaves. On success `out` holds the output's leaves of each cycle
  * after those of the cycle before, and `next` the sheet after the last cycle: the sheet with what its delays then hold. A run that
- * begins from there goes on where this one ended, so many cycles may be run in one call or in several. `out` is as long as the
- * cycles times the output's leaves, and `next` as long as the sheet; where a length is wrong, the place of codes 10 and 11 says
- * the one that is needed.
+ * begins from there goes on where this one ended, so many cycles may be run in one call or in several.
  *
- * Its stack need, measured as above. It does not grow with the cycles, nor with the sheet beyond this: besides the bounds above,
- * a feedback is applied at most 65 times, once more than a type has leaves, and lies in the defining parts of at most two others.
+ * `next` is to be as long as the sheet, and `out` as long as the cycles times the output's leaves, which the host need not know:
+ * lend `out` with length 0. A good sheet with a good stimulus is then refused with code 10, whose place is the length that `out`
+ * needs, 1 to SHEET_LONGEST_OUTPUT; a lower code says what is wrong with them. Code 10 goes before 11, so the answer does not depend
+ * on `next`. Nothing is written, as on every refusal. That length divided by the number of cycles is the number of output leaves.
+ *
+ *     uint8_t none[1], *out = none;
+ *     uint64_t result = sheet_run(sheet, length, stim, stim_length, none, 0, next, length);
+ *     if (sheet_code_of(result) == SHEET_WRONG_OUTPUT_LENGTH) {
+ *         size_t needed = sheet_place_of(result);
+ *         out = malloc(needed);
+ *         if (out != NULL)
+ *             result = sheet_run(sheet, length, stim, stim_length, out, needed, next, length);
+ *     }
+ *     if (sheet_code_of(result) == SHEET_ACCEPTED)
+ *         printf("%u cycles\n", (unsigned)sheet_place_of(result));
  */
-#define SHEET_RUN_STACK 98304
 uint64_t sheet_run(const uint8_t *sheet, size_t sheet_length, const uint8_t *stim, size_t stim_length, uint8_t *out,
                    size_t out_length, uint8_t *next, size_t next_length);
+
+/*
+ * The run's stack need, measured as the check's. It does not grow with the cycles, nor with the sheet beyond this: besides the
+ * bounds above, a feedback is applied at most 65 times, once more than a type has leaves, and lies in the defining parts of at
+ * most two others.
+ */
+#define SHEET_RUN_STACK 98304
 
 #ifdef __cplusplus
 }

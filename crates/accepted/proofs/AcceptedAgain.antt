@@ -37,15 +37,15 @@ use Rattle.records.specs.Decoding.{leafValues}
 use Rattle.records.specs.Rewritten.{OnlyLeaves}
 use Rattle.records.proofs.Table.{is-pair}
 use Rattle.records.proofs.Rewritten.{SameWords, same-kind, same-pair-of, same-circuit, leaf-or-same}
-use Rattle.judging.specs.Judgements.{patternFits, typeOf}
-use Rattle.layout.specs.Passes.{Passes}
-use Rattle.typing.specs.Verdict.{inputs, verdict}
-use Rattle.typing.specs.declared.Verdict.the-variants.{Accepted}
-use Rattle.layout.proofs.Passes.{written}
-use Rattle.typing.proofs.Places.{accepted-by-types}
-use Rattle.judging.proofs.Judged.{Judged, judged-passed}
-use Rattle.judging.proofs.Typings.{within-fits, fits-within}
-use Rattle.typing.proofs.Exact.{types-accept, accepted-judged}
+use Rattle.typing.specs.Judgements.{patternFits, typeRecordOf}
+use Rattle.structure.specs.Passes.{Passes}
+use Rattle.verdict.specs.Verdict.{inputs, verdict}
+use Rattle.verdict.specs.declared.Verdict.the-variants.{Accepted}
+use Rattle.structure.proofs.Passes.{written}
+use Rattle.verdict.proofs.Places.{accepted-by-types}
+use Rattle.typing.proofs.Judged.{RulesHold, judged-passed}
+use Rattle.typing.proofs.Typings.{within-fits, fits-within}
+use Rattle.verdict.proofs.Exact.{types-accept, accepted-judged}
 use Rattle.accepted.proofs.PassesAgain.{passes-again}
 
 -- the leaves of each constant and each delay fit its type
@@ -62,14 +62,14 @@ Fitting s (ifOf r a p b c) = Fitting s a × Fitting s b × Fitting s c
 Fitting s (delayOf r t ls a) = OfType (typeAt s t) (leafValues s ls) × Fitting s a
 
 -- so they do where the rules hold
-pub judged-fitting : (s Γ : List ℕ) (e : Tree) → Judged s Γ e → Fitting s e
+pub judged-fitting : (s Γ : List ℕ) (e : Tree) → RulesHold s Γ e → Fitting s e
 judged-fitting s Γ noExpression j = tt
 judged-fitting s Γ (constantOf r t ls) j = within-fits (bounds (typeAt s t)) (leafValues s ls) j
 judged-fitting s Γ (nameOf r k) j = tt
 judged-fitting s Γ (tupleOf r a b) j = (judged-fitting s Γ a (j .0), judged-fitting s Γ b (j .1))
 judged-fitting s Γ (firstOf r a) j = judged-fitting s Γ a (j .0)
 judged-fitting s Γ (secondOf r a) j = judged-fitting s Γ a (j .0)
-judged-fitting s Γ (letOf r a b) j = (judged-fitting s Γ a (j .0), judged-fitting s (typeOf s Γ a ∷ Γ) b (j .1))
+judged-fitting s Γ (letOf r a b) j = (judged-fitting s Γ a (j .0), judged-fitting s (typeRecordOf s Γ a ∷ Γ) b (j .1))
 judged-fitting s Γ (feedbackOf r t a b) j = (judged-fitting s (t ∷ Γ) a (j .0), judged-fitting s (t ∷ Γ) b (j .1))
 judged-fitting s Γ (ifOf r a p b c) j = (judged-fitting s Γ a (j .0), judged-fitting s Γ b (j .2), judged-fitting s Γ c (j .3))
 judged-fitting s Γ (delayOf r t ls a) j = (within-fits (bounds (typeAt s t)) (leafValues s ls) (j .1), judged-fitting s Γ a (j .0))
@@ -93,25 +93,25 @@ module _ (s s′ : List ℕ) (o : OnlyLeaves s s′) where
   pair-words : (t : ℕ) → isPair (kindAt s t) ≡ true → (k : ℕ) → k < 6 → word s′ t k ≡ word s t k
   pair-words t e k h = o .others t (λ f. let g = is-pair (kindAt s t) e in let z : _≡_ {A = ℕ} 0 1 = cc in omega arith) k h
 
-  judged-again : (Γ : List ℕ) (e : Tree) → Judged s Γ e → Fitting s′ e → Judged s′ Γ e × (typeOf s′ Γ e ≡ typeOf s Γ e)
+  judged-again : (Γ : List ℕ) (e : Tree) → RulesHold s Γ e → Fitting s′ e → RulesHold s′ Γ e × (typeRecordOf s′ Γ e ≡ typeRecordOf s Γ e)
   judged-again Γ noExpression j f = (j, refl)
   judged-again Γ (constantOf r t ls) j f = (fits-within (bounds (typeAt s′ t)) (leafValues s′ ls) f, refl)
   judged-again Γ (nameOf r k) j f = (j, refl)
   judged-again Γ (tupleOf r a b) j f =
       let ja = judged-again Γ a (j .0) (f .0) in
       let jb = judged-again Γ b (j .1) (f .1) in
-      let e : pairOf s′ (typeOf s′ Γ a) (typeOf s′ Γ b) ≡ pairOf s (typeOf s Γ a) (typeOf s Γ b) =
-      ap₂ (pairOf s′) (ja .1) (jb .1) ∙ same-pair-of s s′ o (typeOf s Γ a) (typeOf s Γ b) in
+      let e : pairOf s′ (typeRecordOf s′ Γ a) (typeRecordOf s′ Γ b) ≡ pairOf s (typeRecordOf s Γ a) (typeRecordOf s Γ b) =
+      ap₂ (pairOf s′) (ja .1) (jb .1) ∙ same-pair-of s s′ o (typeRecordOf s Γ a) (typeRecordOf s Γ b) in
       ((ja .0, jb .0, rw e (j .2)), e)
   judged-again Γ (firstOf r a) j f =
       let ja = judged-again Γ a (j .0) f in
-      ((ja .0, rw (ja .1, same-kind s s′ o (typeOf s Γ a)) (j .1)), rw (ja .1) (pair-words (typeOf s Γ a) (j .1) 2 (omega arith)))
+      ((ja .0, rw (ja .1, same-kind s s′ o (typeRecordOf s Γ a)) (j .1)), rw (ja .1) (pair-words (typeRecordOf s Γ a) (j .1) 2 (omega arith)))
   judged-again Γ (secondOf r a) j f =
       let ja = judged-again Γ a (j .0) f in
-      ((ja .0, rw (ja .1, same-kind s s′ o (typeOf s Γ a)) (j .1)), rw (ja .1) (pair-words (typeOf s Γ a) (j .1) 3 (omega arith)))
+      ((ja .0, rw (ja .1, same-kind s s′ o (typeRecordOf s Γ a)) (j .1)), rw (ja .1) (pair-words (typeRecordOf s Γ a) (j .1) 3 (omega arith)))
   judged-again Γ (letOf r a b) j f =
       let ja = judged-again Γ a (j .0) (f .0) in
-      let jb = judged-again (typeOf s Γ a ∷ Γ) b (j .1) (f .1) in
+      let jb = judged-again (typeRecordOf s Γ a ∷ Γ) b (j .1) (f .1) in
       ((ja .0, rw (ja .1) (jb .0)), rw (ja .1) (jb .1))
   judged-again Γ (feedbackOf r t a b) j f =
       let ja = judged-again (t ∷ Γ) a (j .0) (f .0) in
@@ -121,7 +121,7 @@ module _ (s s′ : List ℕ) (o : OnlyLeaves s s′) where
       let ja = judged-again Γ a (j .0) (f .0) in
       let jb = judged-again Γ b (j .2) (f .1) in
       let jc = judged-again Γ c (j .3) (f .2) in
-      ((ja .0, rw (ja .1, pattern-again p (typeOf s Γ a)) (j .1), jb .0, jc .0, rw (jb .1, jc .1) (j .4)), jb .1)
+      ((ja .0, rw (ja .1, pattern-again p (typeRecordOf s Γ a)) (j .1), jb .0, jc .0, rw (jb .1, jc .1) (j .4)), jb .1)
   judged-again Γ (delayOf r t ls a) j f =
       let ja = judged-again Γ a (j .0) (f .1) in
       ((ja .0, fits-within (bounds (typeAt s′ t)) (leafValues s′ ls) (f .0), rw (ja .1) (j .2)), refl)
@@ -134,7 +134,7 @@ module _ (s s′ : List ℕ) (o : OnlyLeaves s s′) where
       let j = accepted-judged t p v in
       let again = judged-again (inputs s) (circuit s) (j .0) f in
       let input : inputs s′ ≡ inputs s = ap (λ u. u ∷ []) (input-same p) in
-      let passed : Judged s′ (inputs s′) (circuit s′) = rw (same-circuit s s′ o, input) (again .0) in
+      let passed : RulesHold s′ (inputs s′) (circuit s′) = rw (same-circuit s s′ o, input) (again .0) in
       accepted-by-types s′ t .1 (
         passes-again s s′ o p small,
         types-accept s′ t .1

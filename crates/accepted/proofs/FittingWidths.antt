@@ -32,14 +32,14 @@ use Rattle.records.proofs.Asked.{part-of-kind}
 use Rattle.records.proofs.Types.{flat-type, pair-type, few-leaves}
 use Rattle.records.proofs.TypeRecords.{first-part, second-part}
 use Rattle.records.proofs.Grown.{GrownPattern, grown-pattern}
-use Rattle.layout.specs.Passes.{Passes}
-use Rattle.layout.proofs.Passes.{written, types-fit}
-use Rattle.judging.specs.Judgements.{patternFits, typeOf}
-use Rattle.judging.specs.Judging.{width}
-use Rattle.typing.specs.Verdict.{verdict}
-use Rattle.typing.specs.Scopes.{Scope, if-tested}
-use Rattle.typing.specs.Widths.{patternLeaves, Widths}
-use Rattle.typing.specs.declared.Verdict.the-variants.{Accepted}
+use Rattle.structure.specs.Passes.{Passes}
+use Rattle.structure.proofs.Passes.{written, types-fit}
+use Rattle.typing.specs.Judgements.{patternFits, typeRecordOf}
+use Rattle.typing.specs.Judging.{width}
+use Rattle.verdict.specs.Verdict.{verdict}
+use Rattle.verdict.specs.Scopes.{Scope, if-tested}
+use Rattle.verdict.specs.Widths.{patternLeaves, Widths}
+use Rattle.verdict.specs.declared.Verdict.the-variants.{Accepted}
 use Rattle.accepted.proofs.Scopes.{scope-checked, judged-by-kind, checked-type}
 
 pub fitting-leaves : {s : List ℕ} → Written s → (p : Alternatives) (t : ℕ) → TypeRecord s t → GrownPattern s p
@@ -63,11 +63,11 @@ fitting-leaves {s} w (pairOfPatterns r a b m) t u g f =
 module _ (s : List ℕ) (q : ℕ) (Γ : List ℕ) (t : ℕ) (p : Passes s) (v : verdict s ≡ Accepted t) (c : Scope s q Γ)
     (e : kindAt s q ≡ expression ifMatches)
   where
-    pub tested-type : TypeRecord s (typeOf s Γ (treeAt s (wordA s q)))
+    pub tested-type : TypeRecord s (typeRecordOf s Γ (treeAt s (wordA s q)))
     tested-type = checked-type p (scope-checked t p v (if-tested e c))
 
     pub tested-few : width s Γ (treeAt s (wordA s q)) ≤ 64
-    tested-few = few-leaves (types-fit p) (typeOf s Γ (treeAt s (wordA s q))) (tested-type .there) (tested-type .sort)
+    tested-few = few-leaves (types-fit p) (typeRecordOf s Γ (treeAt s (wordA s q))) (tested-type .there) (tested-type .sort)
 
     named-pattern : (wordD s q < count s) × (sortAt s (wordD s q) ≡ patterns)
     named-pattern =
@@ -78,7 +78,7 @@ module _ (s : List ℕ) (q : ℕ) (Γ : List ℕ) (t : ℕ) (p : Passes s) (v : 
     -- its pattern has the leaves of what is tested
     pub tested-leaves : patternLeaves s (alternatives s (wordD s q)) ≡ width s Γ (treeAt s (wordA s q))
     tested-leaves =
-        fitting-leaves (written p) (alternatives s (wordD s q)) (typeOf s Γ (treeAt s (wordA s q))) tested-type
+        fitting-leaves (written p) (alternatives s (wordD s q)) (typeRecordOf s Γ (treeAt s (wordA s q))) tested-type
         (grown-pattern (written p) (wordD s q) (named-pattern .0) (named-pattern .1))
         (judged-by-kind p (scope-checked t p v c) ifMatches e .1)
 

@@ -1,7 +1,10 @@
--- Laws of accepted sheets, and instances of what the check's functions ask.
+-- Laws of accepted sheets, and instances of what the check's functions ask. `Laws` hands on those of the check's own.
 pub mod AcceptedAgain
 pub mod FittingWidths
+pub mod Laws
+pub mod LeafBounds
 pub mod PassesAgain
 pub mod Requirements
 pub mod Scopes
+pub mod Small
 pub mod Witness

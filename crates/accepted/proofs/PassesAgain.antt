@@ -17,12 +17,12 @@ use Rattle.records.specs.Rewritten.{OnlyLeaves}
 use Rattle.records.specs.Written.{Written}
 use Rattle.records.proofs.Rewritten.{SameWords, same-count, same-kind, same-type, same-pair-below, same-namings, leaf-or-same}
 use Rattle.records.proofs.WrittenAgain.{written-again}
-use Rattle.layout.specs.Lowest.{lowest}
-use Rattle.layout.specs.Depth.{ancestryWithin, ancestry, depth, isFeedback, howMany, nesting}
-use Rattle.layout.specs.Rules.{wrongLength, wrongHeader, wrongRecord, wrongNaming, wrongType, tooDeep}
-use Rattle.layout.specs.Passes.{Passes}
-use Rattle.layout.proofs.Lowest.{lowest-none}
-use Rattle.layout.proofs.Passes.{written}
+use Rattle.answers.specs.Lowest.{lowest}
+use Rattle.structure.specs.Depth.{ancestryWithin, ancestry, depth, isFeedback, howMany, nesting}
+use Rattle.structure.specs.Rules.{wrongLength, wrongHeader, wrongRecord, wrongNaming, wrongType, tooDeep}
+use Rattle.structure.specs.Passes.{Passes}
+use Rattle.answers.proofs.Lowest.{lowest-none}
+use Rattle.structure.proofs.Passes.{written}
 
 -- codes 2 and 3 do not apply to a written sheet
 header-passes : {s : List ℕ} → Written s → wrongHeader s ≡ false

@@ -17,17 +17,18 @@ use Rattle.records.specs.Kinds as Kinds
 use Rattle.records.specs.Says.{sortAt}
 use Rattle.records.specs.Sized.{Sized}
 use Rattle.records.specs.Namings.{namings}
-use Rattle.layout.specs.Passes.{Passes}
-use Rattle.layout.specs.Depth.{depth, nesting}
-use Rattle.layout.specs.NamerTable.{summary, Holds}
-use Rattle.layout.specs.LeafTable.{typeLeaves, Counts}
-use Rattle.layout.specs.DepthTable.{Capped, Placed, Placing}
-use Rattle.layout.proofs.Passes.{written, named-once, length-fits}
-use Rattle.judging.specs.Judging.{Ground, Ready, Closing}
-use Rattle.typing.specs.Stages.{Fitted}
-use Rattle.typing.specs.Widths.{PatternsFrom, patternEntry, Widths}
-use Rattle.typing.proofs.Stages.{root-ready}
-use Rattle.typing.proofs.Widths.{judged-widths, entry-stored, unpatterned, whole-table}
+use Rattle.structure.specs.Passes.{Passes}
+use Rattle.structure.specs.Depth.{depth, nesting}
+use Rattle.structure.specs.NamerTable.{summary, Holds}
+use Rattle.structure.specs.LeafTable.{typeLeaves, Counts}
+use Rattle.structure.specs.DepthTable.{Capped, Placed, Placing}
+use Rattle.structure.proofs.Passes.{written, named-once, length-fits}
+use Rattle.typing.specs.Judging.{Ground, Judging, Closing}
+use Rattle.typing.proofs.Bounds.{counts-leaves}
+use Rattle.verdict.specs.Stages.{CheckingDepths}
+use Rattle.verdict.specs.Widths.{PatternsFrom, patternEntry, Widths}
+use Rattle.verdict.proofs.Stages.{root-ready}
+use Rattle.verdict.proofs.Widths.{judged-widths, entry-stored, unpatterned, whole-table}
 
 -- a table of n entries with any entries
 tabulated : (f : ℕ → ℕ) (n : ℕ) → (t : List ℕ) × (length t ≡ n) × ((r : ℕ) → r < n → getD t r 0 ≡ f r)
@@ -49,7 +50,7 @@ module _ (s : List ℕ) (p : Passes s) (whole : length s ≡ 12 * count s) where
   pub sized : Sized s (count s)
   sized = record { counted = refl; whole = whole; some = length-fits s (p .length) .0; few = few }
 
-  pub fitted : Fitted s (count s)
+  pub fitted : CheckingDepths s (count s)
   fitted = record {
     named = record {
       recorded = record {
@@ -109,9 +110,9 @@ module _ (s : List ℕ) (p : Passes s) (whole : length s ≡ 12 * count s) where
       )
 
   pub ground : (table : List ℕ) × Ground s (count s) table
-  ground = let c = counts in (c .0, record { sized = sized; passes = p; counts = c .1 })
+  ground = let c = counts in (c .0, record { sized = sized; passes = p; leaves = counts-leaves s (count s) (c .0) refl p (c .1) })
 
-  pub ready : (table : List ℕ) × (stack : List ℕ) × (widths : List ℕ) × Ready s (count s) table stack 1 (wordB s 0) widths
+  pub ready : (table : List ℕ) × (stack : List ℕ) × (widths : List ℕ) × Judging s (count s) table stack 1 (wordB s 0) widths
   ready =
       let g = ground in
       let t = tabulated (λ r. wordA s 0) 64 in
@@ -142,7 +143,7 @@ module _ (s : List ℕ) (p : Passes s) (whole : length s ≡ 12 * count s) where
       go Kinds.types e = other Kinds.types e (λ z. let y = ap sortNumber z in omega arith)
       go Kinds.expressions e = other Kinds.expressions e (λ z. let y = ap sortNumber z in omega arith)
       go Kinds.leafs e = other Kinds.leafs e (λ z. let y = ap sortNumber z in omega arith)
-      go Kinds.none e = other Kinds.none e (λ z. let y = ap sortNumber z in omega arith)
+      go Kinds.noSort e = other Kinds.noSort e (λ z. let y = ap sortNumber z in omega arith)
 
   all-lower : (m : ℕ) → m ≤ count s → (table : List ℕ) → PatternsFrom s m table → (lower : List ℕ) × PatternsFrom s 0 lower
   all-lower zero h table o = (table, o)

@@ -10,7 +10,7 @@ use mathlib.Core.Path.{_≡_, refl, sym, ap, _∙_}
 use native.Mathlib.Omega.{arith}
 use lib.ListN.{length, getD, length-map}
 use lib.Dec.{ltb}
-use Rattle.picoella.specs.Types.{Ty, leaves, bounds, Within, none, leaf, OfType}
+use Rattle.picoella.specs.Types.{Ty, leaves, bounds, Within, within-none, within-leaf, OfType}
 use Rattle.picoella.specs.Typing.{Typed}
 use Rattle.records.specs.Words.{word, count, wordA, wordB, wordC, wordD}
 use Rattle.records.specs.Kinds.{
@@ -37,11 +37,11 @@ use Rattle.records.proofs.Types.{few-leaves, leaves-of-bounds}
 use Rattle.records.proofs.TypeRecords.{type-word}
 use Rattle.records.proofs.Trees.{tree-of}
 use Rattle.records.proofs.Grown.{grown-tree}
-use Rattle.layout.specs.Depth.{depth}
-use Rattle.judging.specs.Judgements.{typeOf}
-use Rattle.layout.specs.Passes.{Passes}
-use Rattle.typing.specs.Verdict.{verdict}
-use Rattle.typing.specs.Scopes.{
+use Rattle.structure.specs.Depth.{depth}
+use Rattle.typing.specs.Judgements.{typeRecordOf}
+use Rattle.structure.specs.Passes.{Passes}
+use Rattle.verdict.specs.Verdict.{verdict}
+use Rattle.verdict.specs.Scopes.{
   Scope,
   root,
   tuple-first,
@@ -57,34 +57,34 @@ use Rattle.typing.specs.Scopes.{
   if-else,
   of-delay,
 }
-use Rattle.typing.specs.declared.Verdict.the-variants.{Accepted}
-use Rattle.layout.proofs.Passes.{written, named-once, types-fit, not-deep}
-use Rattle.layout.proofs.Depths.{depth-of-part, depth-of-root}
-use Rattle.judging.proofs.Judged.{Judged}
-use Rattle.judging.specs.Judging.{Context}
-use Rattle.judging.proofs.TypeRecordsOf.{in-context, type-of-record}
-use Rattle.judging.proofs.Typings.{within-fits, judged-typed}
-use Rattle.typing.proofs.Exact.{input-context, accepted-judged}
+use Rattle.verdict.specs.declared.Verdict.the-variants.{Accepted}
+use Rattle.structure.proofs.Passes.{written, named-once, types-fit, not-deep}
+use Rattle.structure.proofs.Depths.{depth-of-part, depth-of-root}
+use Rattle.typing.proofs.Judged.{RulesHold}
+use Rattle.typing.specs.Judging.{Context}
+use Rattle.typing.proofs.TypeRecordsOf.{in-context, type-of-record}
+use Rattle.typing.proofs.Typings.{within-fits, judged-typed}
+use Rattle.verdict.proofs.Exact.{input-context, accepted-judged}
 
 -- what holds at an expression of an accepted circuit
 pub record Checked (s : List ℕ) (q : ℕ) (Γ : List ℕ) : Type 0 where
   pub past : 0 < q
   pub there : q < count s
   pub sort : sortAt s q ≡ expressions
-  pub judged : Judged s Γ (treeAt s q)
+  pub judged : RulesHold s Γ (treeAt s q)
   pub context : Context s Γ
   pub names : length Γ ≤ depth s q
 
 -- the rules of a record's tree, by its kind
 pub judged-by-kind : {s : List ℕ} {q : ℕ} {Γ : List ℕ} → Passes s → Checked s q Γ → (k : ExpressionKind)
     → kindAt s q ≡ expression k
-    → Judged s Γ (treeStep s (treeAt s) (expression k) q (wordA s q) (wordB s q) (wordC s q) (wordD s q))
+    → RulesHold s Γ (treeStep s (treeAt s) (expression k) q (wordA s q) (wordB s q) (wordC s q) (wordD s q))
 judged-by-kind {s} {q} p o k e = rw (tree-of (written p) q (o .there) (expression k) e) at (o .judged)
 
 -- a part, where its rules hold with at most one name more
 part-checked : {s : List ℕ} {q : ℕ} {Γ : List ℕ} → Passes s → Checked s q Γ → (k : ExpressionKind) → kindAt s q ≡ expression k
     → (j : ℕ) → (ltb 0 j && ltb j 6) ≡ true → askOfKind (expression k) j ≡ part expressions → (Δ : List ℕ)
-    → Judged s Δ (treeAt s (word s q j)) → Context s Δ → length Δ ≤ suc (length Γ) → Checked s (word s q j) Δ
+    → RulesHold s Δ (treeAt s (word s q j)) → Context s Δ → length Δ ≤ suc (length Γ) → Checked s (word s q j) Δ
 part-checked {s} {q} {Γ} p o k e j t a Δ judged context few =
     let w = written p in
     let f = part-of-kind w q (expression k) expressions (o .there) e j t a in
@@ -94,7 +94,7 @@ part-checked {s} {q} {Γ} p o k e j t a Δ judged context few =
 
 -- a part with the same names in scope
 same-names : {s : List ℕ} {q : ℕ} {Γ : List ℕ} → Passes s → Checked s q Γ → (k : ExpressionKind) → kindAt s q ≡ expression k
-    → (j : ℕ) → (ltb 0 j && ltb j 6) ≡ true → askOfKind (expression k) j ≡ part expressions → Judged s Γ (treeAt s (word s q j))
+    → (j : ℕ) → (ltb 0 j && ltb j 6) ≡ true → askOfKind (expression k) j ≡ part expressions → RulesHold s Γ (treeAt s (word s q j))
     → Checked s (word s q j) Γ
 same-names {Γ = Γ} p o k e j t a judged = part-checked p o k e j t a Γ judged (o .context) (omega arith)
 
@@ -128,7 +128,7 @@ scope-checked {s} t p v (let-body {q = q} {Γ = Γ} e c) =
     let w = written p in
     let f = part-of-kind w q (expression letIn) expressions (o .there) e 2 refl (unfold askOfKind in refl) in
     let u = type-of-record w Γ (treeAt s (wordA s q)) (grown-tree w (wordA s q) (f .1) (f .2)) (o .context) (j .0) in
-    part-checked p o letIn e 3 refl (unfold askOfKind in refl) (typeOf s Γ (treeAt s (wordA s q)) ∷ Γ) (j .1) (u, o .context)
+    part-checked p o letIn e 3 refl (unfold askOfKind in refl) (typeRecordOf s Γ (treeAt s (wordA s q)) ∷ Γ) (j .1) (u, o .context)
     (omega arith)
 scope-checked {s} t p v (feedback-defining {q = q} {Γ = Γ} e c) =
     let o = scope-checked t p v c in
@@ -159,12 +159,12 @@ small-names {s} {q} {Γ} p o k h =
     let u = in-context s Γ k (o .context) h in few-leaves (types-fit p) (getD Γ k 0) (u .there) (u .sort)
 
 -- the expression has a type record, and its expression that type
-pub checked-type : {s : List ℕ} {q : ℕ} {Γ : List ℕ} → Passes s → Checked s q Γ → TypeRecord s (typeOf s Γ (treeAt s q))
+pub checked-type : {s : List ℕ} {q : ℕ} {Γ : List ℕ} → Passes s → Checked s q Γ → TypeRecord s (typeRecordOf s Γ (treeAt s q))
 checked-type {s} {q} {Γ} p o =
     type-of-record (written p) Γ (treeAt s q) (grown-tree (written p) q (o .there) (o .sort)) (o .context) (o .judged)
 
 pub checked-typed : {s : List ℕ} {q : ℕ} {Γ : List ℕ} → Passes s → Checked s q Γ
-    → Typed (Declared s) (map (typeAt s) Γ) (expressionOf s (treeAt s q)) (typeAt s (typeOf s Γ (treeAt s q)))
+    → Typed (Declared s) (map (typeAt s) Γ) (expressionOf s (treeAt s q)) (typeAt s (typeRecordOf s Γ (treeAt s q)))
 checked-typed {s} {q} {Γ} p o =
     judged-typed (written p) Γ (treeAt s q) (grown-tree (written p) q (o .there) (o .sort)) (o .context) (o .judged)
 
@@ -181,8 +181,8 @@ delay-fits {s} {q} p o e =
 
 -- leaves that fit a type are as many as the type has
 same-length : (ns vs : List ℕ) → Within ns vs → length ns ≡ length vs
-same-length ns vs none = refl
-same-length xs ys (leaf {ns = ns} {vs = vs} h f) = ap suc (same-length ns vs f)
+same-length ns vs within-none = refl
+same-length xs ys (within-leaf {ns = ns} {vs = vs} h f) = ap suc (same-length ns vs f)
 
 pub as-many-leaves : (s : List ℕ) (τ : Ty) (ls : List ℕ) → OfType τ (leafValues s ls) → length ls ≡ leaves τ
 as-many-leaves s τ ls f = sym (leaves-of-bounds τ ∙ same-length (bounds τ) (leafValues s ls) f ∙ length-map ls (wordA s))

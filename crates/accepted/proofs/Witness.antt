@@ -10,22 +10,22 @@ use Rattle.records.specs.Says.{wellSaid}
 use Rattle.records.specs.Namings.{namings}
 use Rattle.records.specs.TypeRecords.{typeWithin, typeAt, pairOf}
 use Rattle.records.specs.Trees.{chainWithin, chain, alternativesWithin, alternatives, treeWithin, treeAt, circuit}
-use Rattle.layout.specs.Depth.{ancestryWithin, ancestry, depth, nesting}
-use Rattle.layout.specs.Rules.{wrongLength, wrongHeader, wrongRecord, wrongNaming, wrongType, tooDeep}
-use Rattle.layout.specs.Passes.{Passes}
-use Rattle.typing.specs.Verdict.{inputs, byTypes, byRecords, verdict}
-use Rattle.typing.specs.Promises.{WellTyped}
-use Rattle.typing.specs.Scopes.{root}
-use Rattle.typing.specs.declared.Verdict.the-variants.{Accepted}
+use Rattle.structure.specs.Depth.{ancestryWithin, ancestry, depth, nesting}
+use Rattle.structure.specs.Rules.{wrongLength, wrongHeader, wrongRecord, wrongNaming, wrongType, tooDeep}
+use Rattle.structure.specs.Passes.{Passes}
+use Rattle.verdict.specs.Verdict.{inputs, byTypes, byRecords, verdict}
+use Rattle.verdict.specs.Promises.{WellTyped}
+use Rattle.verdict.specs.Scopes.{root}
+use Rattle.verdict.specs.declared.Verdict.the-variants.{Accepted}
 use native.Mathlib.Omega.{arith}
 use lib.ListN.{length}
 use Rattle.records.specs.Sized.{Sized}
-use Rattle.layout.specs.DepthTable.{Placed, Placing}
-use Rattle.judging.specs.Judging.{Ready, Closing, Matching}
-use Rattle.typing.specs.Stages.{Fitted}
-use Rattle.typing.specs.Widths.{PatternsFrom}
+use Rattle.structure.specs.DepthTable.{Placed, Placing}
+use Rattle.typing.specs.Judging.{Judging, Closing, Fitting}
+use Rattle.verdict.specs.Stages.{CheckingDepths}
+use Rattle.verdict.specs.Widths.{PatternsFrom}
 use Rattle.accepted.proofs.Requirements.{sized, fitted, placing, placed, ready, closing, patterns}
-use Rattle.typing.proofs.Exact.{exact}
+use Rattle.verdict.proofs.Exact.{exact}
 use Rattle.accepted.proofs.Scopes.{Checked, scope-checked}
 
 -- the bytes of words, low byte first
@@ -74,7 +74,7 @@ full = refl
 sized-there : Sized sheet (count sheet)
 sized-there = sized sheet (passes .0) full
 
-fitted-there : Fitted sheet (count sheet)
+fitted-there : CheckingDepths sheet (count sheet)
 fitted-there = fitted sheet (passes .0) full
 
 placing-there : (namers : List ℕ) × (depths : List ℕ) × (nestings : List ℕ) × Placing sheet (count sheet) 1 namers depths nestings
@@ -83,7 +83,7 @@ placing-there = placing sheet (passes .0) full
 placed-there : (depths : List ℕ) × (nestings : List ℕ) × Placed sheet (count sheet) depths nestings
 placed-there = placed sheet (passes .0) full
 
-ready-there : (table : List ℕ) × (stack : List ℕ) × (widths : List ℕ) × Ready sheet (count sheet) table stack 1 (wordB sheet 0) widths
+ready-there : (table : List ℕ) × (stack : List ℕ) × (widths : List ℕ) × Judging sheet (count sheet) table stack 1 (wordB sheet 0) widths
 ready-there = ready sheet (passes .0) full
 
 closing-there : (table : List ℕ) × (widths : List ℕ) × Closing sheet (count sheet) table (wordB sheet 0) widths
@@ -93,7 +93,7 @@ patterns-there : (table : List ℕ) × PatternsFrom sheet (count sheet) table
 patterns-there = patterns sheet (passes .0) full
 
 -- the pattern of record 7 is held against the type of record 1
-matching-there : Matching sheet (count sheet) 7 1
+matching-there : Fitting sheet (count sheet) 7 1
 unfolding count kindOf rowOf word
 matching-there = record {
   sized = sized-there;

@@ -1,1 +1,22 @@
-// Laws of accepted sheets, for the crates above the check. No code: theorems in proofs/ about the definitions of the crates below.
+// The one door from the check to the crates above it: laws of accepted sheets in proofs/, and what is read off an accepted sheet
+// with the table that the check filled.
+ghost use mathlib.Core.Path.{_≡_};
+ghost use lib.ListN.{length};
+ghost use Rattle.picoella.specs.Types.{bounds, leaves};
+ghost use Rattle.records.specs.TypeRecords.{typeAt, TypeRecord};
+ghost use Rattle.accepted.specs.Accepting.{Accepting};
+use records::Widths;
+use typing::bound_at;
+
+// The constructor counts of the leaves of type t.
+pub fn fill_bounds(sheet: &[u8], n: usize, widths: &Widths, t: usize, out: &mut [u8])
+    requires { ⌜ Accepting (now sheet) n (now widths) × TypeRecord (now sheet) t × (length (now out) ≡ leaves (typeAt (now sheet) t)) ⌝ }
+    ensures { λ _. ⌜ now (out .exit) ≡ bounds (typeAt (now (sheet .entry)) t) ⌝ }
+{
+    let all = out.len();
+    let mut i = 0;
+    while i < all {
+        out[i] = bound_at(sheet, n, widths, t, i) as u8;
+        i += 1;
+    }
+}

@@ -17,17 +17,17 @@ use Rattle.records.specs.Decoding.{leafValues}
 use Rattle.records.proofs.Table.{askOfKind}
 use Rattle.records.proofs.Asked.{part-of-kind}
 use Rattle.records.proofs.Trees.{tree-of}
-use Rattle.judging.specs.Judgements.{typeOf}
-use Rattle.typing.specs.Scopes.{Scope, if-tested, if-then, if-else, of-delay}
+use Rattle.typing.specs.Judgements.{typeRecordOf}
+use Rattle.verdict.specs.Scopes.{Scope, if-tested, if-then, if-else, of-delay}
 use Rattle.accepted.proofs.Scopes.{judged-by-kind}
 use Rattle.meaning.specs.Undecided.{undefinedLeaves}
-use Rattle.cycles.specs.Delays.{assigned, putAll, enter}
-use Rattle.cycles.specs.Evaluated.{valueAt, storedAt}
-use Rattle.cycles.proofs.Evaluated.{if-value, if-stored, delay-value, delay-stored}
+use Rattle.behaviour.specs.Delays.{assigned, putAll, enter}
+use Rattle.behaviour.specs.Evaluated.{valueAt, storedAt}
+use Rattle.behaviour.proofs.Evaluated.{if-value, if-stored, delay-value, delay-stored}
 use Rattle.values.specs.Chained.{Chained}
-use Rattle.values.specs.Matchings.{Matched, Chosen}
+use Rattle.values.specs.Matchings.{Matching, Chosen}
 use Rattle.values.specs.Slots.{frames}
-use Rattle.evaluator.specs.Evaluating.{Ready, Done, Evaluates}
+use Rattle.evaluator.specs.Evaluating.{EvaluatingIn, EvaluatedIn, Evaluated}
 use Rattle.evaluator.proofs.Frames.{back-long, back-part, lent-long, zeros-long}
 use Rattle.evaluator.proofs.Readiness.{
   ready-passes,
@@ -45,7 +45,7 @@ use Rattle.evaluator.proofs.Readiness.{
 }
 use Rattle.evaluator.proofs.Parts.{fits-room, room-done, room-wide}
 
-module _ (s : List ℕ) (n : ℕ) (W env : List ℕ) (names rec : ℕ) (out Γ : List ℕ) (r : Ready s n W env names rec out Γ) where
+module _ (s : List ℕ) (n : ℕ) (W env : List ℕ) (names rec : ℕ) (out Γ : List ℕ) (r : EvaluatingIn s n W env names rec out Γ) where
   abbrev ρ : List (List ℕ)
   ρ = frames s Γ env
 
@@ -59,7 +59,7 @@ module _ (s : List ℕ) (n : ℕ) (W env : List ℕ) (names rec : ℕ) (out Γ :
   b = ready-there s n W env names rec out Γ r
 
   -- the entry of the record
-  own-entry : length out ≡ leaves (typeAt s (typeOf s Γ (treeAt s rec)))
+  own-entry : length out ≡ leaves (typeAt s (typeRecordOf s Γ (treeAt s rec)))
   own-entry = r .room ∙ entry-is s n W env names rec out Γ r rec Γ (r .scope)
 
   module _ (e : kindAt s rec ≡ expression ifMatches) (x y z p : ℕ) (ex : x ≡ word s rec 2) (ey : y ≡ word s rec 3) (ez : z ≡ word s rec 4)
@@ -78,27 +78,27 @@ module _ (s : List ℕ) (n : ℕ) (W env : List ℕ) (names rec : ℕ) (out Γ :
         own-entry ∙ rw (tree-of w rec b (expression ifMatches) e, ey)
         (sym (entry-is s n W env names rec out Γ r (word s rec 3) Γ (if-then e (r .scope))))
 
-    same-types : typeOf s Γ (treeAt s y) ≡ typeOf s Γ (treeAt s z)
+    same-types : typeRecordOf s Γ (treeAt s y) ≡ typeRecordOf s Γ (treeAt s z)
     same-types =
         rw (ey, ez)
-        (eqb-true (typeOf s Γ (treeAt s (wordB s rec))) (typeOf s Γ (treeAt s (wordC s rec)))
+        (eqb-true (typeRecordOf s Γ (treeAt s (wordB s rec))) (typeRecordOf s Γ (treeAt s (wordC s rec)))
         (judged-by-kind (ready-passes s n W env names rec out Γ r) (in-circuit s n W env names rec out Γ r rec Γ (r .scope)) ifMatches e .4))
 
     else-entry : length out ≡ getD W z 0
     else-entry =
         then-entry ∙ entry-is s n W env names rec out Γ r y Γ then-scope ∙ rw same-types (sym (entry-is s n W env names rec out Γ r z Γ else-scope))
 
-    module _ (held env₁ held₁ o₁ : List ℕ) (p₁ : Evaluates s n W env names x held (take (c - 0) R) env₁ held₁ o₁) where
-      d₁ : Done s Γ env names x held env₁ held₁ o₁
+    module _ (held env₁ held₁ o₁ : List ℕ) (p₁ : Evaluated s n W env names x held (take (c - 0) R) env₁ held₁ o₁) where
+      d₁ : EvaluatedIn s Γ env names x held env₁ held₁ o₁
       d₁ = room-done s n W env names rec out Γ r x tested-scope c ec R eR held env₁ held₁ o₁ p₁
 
-      pub then-ready : Ready s n W env₁ names y out Γ
+      pub then-ready : EvaluatingIn s n W env₁ names y out Γ
       then-ready =
           ready-at s n W env names rec out Γ r y Γ then-scope env₁ names out (r .many) (d₁ .wide) then-entry
           (same-values s n W env names rec out Γ r env₁ (d₁ .kept))
 
-      module _ (env₂ held₂ o₂ : List ℕ) (p₂ : Evaluates s n W env₁ names y held₁ out env₂ held₂ o₂) where
-        d₂ : Done s Γ env₁ names y held₁ env₂ held₂ o₂
+      module _ (env₂ held₂ o₂ : List ℕ) (p₂ : Evaluated s n W env₁ names y held₁ out env₂ held₂ o₂) where
+        d₂ : EvaluatedIn s Γ env₁ names y held₁ env₂ held₂ o₂
         d₂ = p₂ .done Γ then-ready
 
         f₁ : frames s Γ env₁ ≡ ρ
@@ -121,13 +121,13 @@ module _ (s : List ℕ) (n : ℕ) (W env : List ℕ) (names rec : ℕ) (out Γ :
               let t = then-long in
               omega arith
 
-          pub else-ready : Ready s n W env₂ names z (take (length o₂ - 0) Q) Γ
+          pub else-ready : EvaluatingIn s n W env₂ names z (take (length o₂ - 0) Q) Γ
           else-ready =
               ready-at s n W env names rec out Γ r z Γ else-scope env₂ names (take (length o₂ - 0) Q) (r .many) (d₂ .wide)
               (lent-long (length o₂) Q else-fits ∙ then-long ∙ else-entry) (same-values s n W env names rec out Γ r env₂ kept₂)
 
-          module _ (env₃ held₃ o₃ : List ℕ) (p₃ : Evaluates s n W env₂ names z held₂ (take (length o₂ - 0) Q) env₃ held₃ o₃) where
-            d₃ : Done s Γ env₂ names z held₂ env₃ held₃ o₃
+          module _ (env₃ held₃ o₃ : List ℕ) (p₃ : Evaluated s n W env₂ names z held₂ (take (length o₂ - 0) Q) env₃ held₃ o₃) where
+            d₃ : EvaluatedIn s Γ env₂ names z held₂ env₃ held₃ o₃
             d₃ = p₃ .done Γ else-ready
 
             f₂ : frames s Γ env₂ ≡ ρ
@@ -167,13 +167,13 @@ module _ (s : List ℕ) (n : ℕ) (W env : List ℕ) (names rec : ℕ) (out Γ :
             pub as-long : length otherwise ≡ length o₂
             as-long = ap length otherwise-is ∙ else-long
 
-            pub pattern-matched : Matched s n W p tested
+            pub pattern-matched : Matching s n W p tested
             pattern-matched =
                 let q = part-of-kind w rec (expression ifMatches) patterns b e 5 refl (unfold askOfKind in refl) in
                 let counted = r .sized .counted in
                 let j = judged-by-kind (ready-passes s n W env names rec out Γ r) (in-circuit s n W env names rec out Γ r rec Γ (r .scope)) ifMatches e in
                 record {
-                  type = typeOf s Γ (treeAt s x);
+                  type = typeRecordOf s Γ (treeAt s x);
                   against = record {
                     sized = r .sized;
                     passes = ready-passes s n W env names rec out Γ r;
@@ -189,7 +189,7 @@ module _ (s : List ℕ) (n : ℕ) (W env : List ℕ) (names rec : ℕ) (out Γ :
             pub if-wide : length env₃ ≡ length env
             if-wide = d₃ .wide ∙ sym (r .wide)
 
-            pub if-done : (out′ : List ℕ) → Chosen s p tested otherwise o₂ out′ → Done s Γ env names rec held env₃ held₃ out′
+            pub if-done : (out′ : List ℕ) → Chosen s p tested otherwise o₂ out′ → EvaluatedIn s Γ env names rec held env₃ held₃ out′
             if-done out′ g =
                 let h₂ : held₂ ≡ storedAt undefinedLeaves s Γ ρ y held₁ = rw f₁ at (d₂ .stored) in
                 let h₃ : held₃ ≡ storedAt undefinedLeaves s Γ ρ z held₂ = rw f₂ at (d₃ .stored) in
@@ -205,21 +205,21 @@ module _ (s : List ℕ) (n : ℕ) (W env : List ℕ) (names rec : ℕ) (out Γ :
     delayed-scope : Scope s x Γ
     delayed-scope = rw ex (of-delay e (r .scope))
 
-    delayed-type : typeOf s Γ (treeAt s x) ≡ wordA s rec
+    delayed-type : typeRecordOf s Γ (treeAt s x) ≡ wordA s rec
     delayed-type =
         rw ex
-        (eqb-true (typeOf s Γ (treeAt s (wordC s rec))) (wordA s rec)
+        (eqb-true (typeRecordOf s Γ (treeAt s (wordC s rec))) (wordA s rec)
         (judged-by-kind (ready-passes s n W env names rec out Γ r) (in-circuit s n W env names rec out Γ r rec Γ (r .scope)) delay e .2))
 
     delayed-entry : length out ≡ getD W x 0
     delayed-entry =
         own-entry ∙ rw (tree-of w rec b (expression delay) e, ← delayed-type) (sym (entry-is s n W env names rec out Γ r x Γ delayed-scope))
 
-    pub delayed-ready : Ready s n W env names x out Γ
+    pub delayed-ready : EvaluatingIn s n W env names x out Γ
     delayed-ready =
         ready-at s n W env names rec out Γ r x Γ delayed-scope env names out (r .many) (r .wide) delayed-entry (r .values)
 
-    pub delay-chained : (held env₁ held₁ o : List ℕ) → Evaluates s n W env names x held out env₁ held₁ o → Chained s n l (length o)
+    pub delay-chained : (held env₁ held₁ o : List ℕ) → Evaluated s n W env names x held out env₁ held₁ o → Chained s n l (length o)
     delay-chained held env₁ held₁ o p₁ =
         let eo = ap length (p₁ .done Γ delayed-ready .value) ∙ value-long s n W env names rec out Γ r x Γ delayed-scope ρ (r .values) ∙ sym delayed-entry in
         let q = part-of-kind w rec (expression delay) leafs b e 3 refl (unfold askOfKind in refl) in
@@ -235,9 +235,9 @@ module _ (s : List ℕ) (n : ℕ) (W env : List ℕ) (names rec : ℕ) (out Γ :
               ∙ ready-value s n W env names rec out Γ r ∙ sym eo);
         }
 
-    pub delay-done : (held env₁ held₁ o₁ held₂ o₂ : List ℕ) → Evaluates s n W env names x held out env₁ held₁ o₁
+    pub delay-done : (held env₁ held₁ o₁ held₂ o₂ : List ℕ) → Evaluated s n W env names x held out env₁ held₁ o₁
         → held₂ ≡ putAll enter (assigned (chain s l) o₁) held₁ → o₂ ≡ leafValues s (chain s l)
-        → Done s Γ env names rec held env₁ held₂ o₂
+        → EvaluatedIn s Γ env names rec held env₁ held₂ o₂
     delay-done held env₁ held₁ o₁ held₂ o₂ p₁ h g =
         let d = p₁ .done Γ delayed-ready in
         record {

@@ -14,8 +14,8 @@ use Rattle.records.specs.Says.{kindAt}
 use Rattle.records.specs.TypeRecords.{typeAt, Declared}
 use Rattle.records.specs.Written.{Written}
 use Rattle.records.specs.Trees.{treeAt}
-use Rattle.judging.specs.Judgements.{typeOf}
-use Rattle.typing.specs.Scopes.{Scope, feedback-defining, feedback-body}
+use Rattle.typing.specs.Judgements.{typeRecordOf}
+use Rattle.verdict.specs.Scopes.{Scope, feedback-defining, feedback-body}
 use Rattle.accepted.proofs.Scopes.{judged-by-kind}
 use Rattle.meaning.specs.Values.{undefined, zeros, ValuesOf, more-values}
 use Rattle.meaning.specs.Elaboration.{Term, Elaborated}
@@ -24,15 +24,15 @@ use Rattle.meaning.specs.Evaluation.{application, settled}
 use Rattle.meaning.proofs.Order.{value-length, zeros-length, undefined-typed}
 use Rattle.meaning.proofs.UndefinedLeavesLawful.{undefined-lawful}
 use Rattle.meaning.proofs.FeedbackLeast.{undefined-rises, feedback-typed}
-use Rattle.cycles.specs.Terms.{term}
-use Rattle.cycles.specs.Evaluated.{valueAt, storedAt}
-use Rattle.cycles.proofs.Evaluated.{feedback-value, feedback-stored}
+use Rattle.behaviour.specs.Terms.{term}
+use Rattle.behaviour.specs.Evaluated.{valueAt, storedAt}
+use Rattle.behaviour.proofs.Evaluated.{feedback-value, feedback-stored}
 use Rattle.values.specs.Slots.{slot, entered, frames}
-use Rattle.evaluator.specs.Evaluating.{Ready, Done, Evaluates, Settling, Settled, Settles, leadsTo}
+use Rattle.evaluator.specs.Evaluating.{EvaluatingIn, EvaluatedIn, Evaluated, SettlingIn, SettledIn, Settled, leadsTo}
 use Rattle.evaluator.proofs.Frames.{front-kept, frames-kept, lent-long, zeros-long, zeros-front}
 use Rattle.evaluator.proofs.Readiness.{ready-passes, ready-written, ready-there, ready-value, ready-at, in-circuit, names-few, names-small, elaborated, entry-is, entry-few, value-long, room-there, name-wide, name-kept, name-slot, name-frames, name-values}
 
-module _ (s : List ℕ) (n : ℕ) (W env : List ℕ) (names rec : ℕ) (out Γ : List ℕ) (r : Ready s n W env names rec out Γ)
+module _ (s : List ℕ) (n : ℕ) (W env : List ℕ) (names rec : ℕ) (out Γ : List ℕ) (r : EvaluatingIn s n W env names rec out Γ)
     (e : kindAt s rec ≡ expression feedback) (d y : ℕ) (ed : d ≡ word s rec 3) (ey : y ≡ word s rec 4) (c : ℕ) (ec : c ≡ getD W d 0)
     (R : List ℕ) (eR : R ≡ replicate 64 0)
   where
@@ -60,10 +60,10 @@ module _ (s : List ℕ) (n : ℕ) (W env : List ℕ) (names rec : ℕ) (out Γ :
     body-scope : Scope s y (t ∷ Γ)
     body-scope = rw ey (feedback-body e (r .scope))
 
-    same-type : typeOf s (t ∷ Γ) (treeAt s d) ≡ t
+    same-type : typeRecordOf s (t ∷ Γ) (treeAt s d) ≡ t
     same-type =
         rw ed
-        (eqb-true (typeOf s (t ∷ Γ) (treeAt s (wordB s rec))) t
+        (eqb-true (typeRecordOf s (t ∷ Γ) (treeAt s (wordB s rec))) t
         (judged-by-kind (ready-passes s n W env names rec out Γ r) (in-circuit s n W env names rec out Γ r rec Γ (r .scope)) feedback e .2))
 
     entry : c ≡ leaves τ
@@ -117,7 +117,7 @@ module _ (s : List ℕ) (n : ℕ) (W env : List ℕ) (names rec : ℕ) (out Γ :
       unfolding valueAt
       applies = refl
 
-      pub feedback-settling : Settling s n W env₁ names d (take (c - 0) R) t Γ
+      pub feedback-settling : SettlingIn s n W env₁ names d (take (c - 0) R) t Γ
       feedback-settling =
           record {
             ready = ready-at s n W env names rec out Γ r d (t ∷ Γ) part-scope env₁ (names + 1) (take (c - 0) R)
@@ -141,8 +141,8 @@ module _ (s : List ℕ) (n : ℕ) (W env : List ℕ) (names rec : ℕ) (out Γ :
           let f = feedback-small in
           omega arith
 
-      module _ (held env₂ held₁ : List ℕ) (p : Settles s n W env₁ names d held (take (c - 0) R) env₂ held₁) where
-        f₁ : Settled s t Γ env₁ names d held env₂ held₁
+      module _ (held env₂ held₁ : List ℕ) (p : Settled s n W env₁ names d held (take (c - 0) R) env₂ held₁) where
+        f₁ : SettledIn s t Γ env₁ names d held env₂ held₁
         f₁ = p .settled t Γ feedback-settling
 
         abbrev u : List ℕ
@@ -170,15 +170,15 @@ module _ (s : List ℕ) (n : ℕ) (W env : List ℕ) (names rec : ℕ) (out Γ :
         body-value : valueAt undefinedLeaves s Γ π rec ≡ valueAt undefinedLeaves s (t ∷ Γ) (frames s (t ∷ Γ) env₂) y
         body-value = rw (framed₂, ed, ey) (feedback-value undefinedLeaves s w Γ π rec b e)
 
-        pub feedback-body-ready : Ready s n W env₂ (names + 1) y out (t ∷ Γ)
+        pub feedback-body-ready : EvaluatingIn s n W env₂ (names + 1) y out (t ∷ Γ)
         feedback-body-ready =
             ready-at s n W env names rec out Γ r y (t ∷ Γ) body-scope env₂ (names + 1) out (rw (r .many, add-one names) refl) (f₁ .wide)
             (sym (ready-value s n W env names rec out Γ r) ∙ ap length body-value
             ∙ value-long s n W env names rec out Γ r y (t ∷ Γ) body-scope (frames s (t ∷ Γ) env₂) body-values)
             body-values
 
-        pub feedback-done : (env₃ held₂ o : List ℕ) → Evaluates s n W env₂ (names + 1) y held₁ out env₃ held₂ o
-            → Done s Γ env names rec held env₃ held₂ o
+        pub feedback-done : (env₃ held₂ o : List ℕ) → Evaluated s n W env₂ (names + 1) y held₁ out env₃ held₂ o
+            → EvaluatedIn s Γ env names rec held env₃ held₂ o
         feedback-done env₃ held₂ o q =
             let d₂ = q .done (t ∷ Γ) feedback-body-ready in
             let h₁ : held₁ ≡ storedAt undefinedLeaves s (t ∷ Γ) (u ∷ π) d held = rw (leads, ρ₁) at (f₁ .stored) in

@@ -15,15 +15,15 @@ use Rattle.records.specs.TypeRecords.{typeAt}
 use Rattle.records.specs.Trees.{treeAt}
 use Rattle.records.specs.Written.{Written}
 use Rattle.records.proofs.Trees.{tree-of}
-use Rattle.judging.specs.Judgements.{typeOf}
-use Rattle.typing.specs.Scopes.{Scope, let-defining, let-body}
+use Rattle.typing.specs.Judgements.{typeRecordOf}
+use Rattle.verdict.specs.Scopes.{Scope, let-defining, let-body}
 use Rattle.accepted.proofs.Scopes.{judged-by-kind}
 use Rattle.meaning.specs.Values.{ValuesOf}
 use Rattle.meaning.specs.Undecided.{undefinedLeaves}
-use Rattle.cycles.specs.Evaluated.{valueAt, storedAt}
-use Rattle.cycles.proofs.Evaluated.{name-value, name-stored, let-value, let-stored}
+use Rattle.behaviour.specs.Evaluated.{valueAt, storedAt}
+use Rattle.behaviour.proofs.Evaluated.{name-value, name-stored, let-value, let-stored}
 use Rattle.values.specs.Slots.{slot, entered, frames}
-use Rattle.evaluator.specs.Evaluating.{Ready, Done, Evaluates}
+use Rattle.evaluator.specs.Evaluating.{EvaluatingIn, EvaluatedIn, Evaluated}
 use Rattle.evaluator.proofs.Frames.{front-kept, frame-at, back-part, back-long}
 use Rattle.evaluator.proofs.Readiness.{
   ready-passes,
@@ -46,7 +46,7 @@ use Rattle.evaluator.proofs.Readiness.{
 }
 use Rattle.evaluator.proofs.Parts.{fits-room, room-done, room-wide}
 
-module _ (s : List ℕ) (n : ℕ) (W env : List ℕ) (names rec : ℕ) (out Γ : List ℕ) (r : Ready s n W env names rec out Γ) where
+module _ (s : List ℕ) (n : ℕ) (W env : List ℕ) (names rec : ℕ) (out Γ : List ℕ) (r : EvaluatingIn s n W env names rec out Γ) where
   abbrev ρ : List (List ℕ)
   ρ = frames s Γ env
 
@@ -77,7 +77,7 @@ module _ (s : List ℕ) (n : ℕ) (W env : List ℕ) (names rec : ℕ) (out Γ :
     name-leaves =
         r .room ∙ entry-is s n W env names rec out Γ r rec Γ (r .scope) ∙ rw (tree-of w rec b (expression name) e, ek) refl
 
-    pub name-done : (held out′ : List ℕ) → out′ ≡ slot (names - 1 - k) (length out) env → Done s Γ env names rec held env held out′
+    pub name-done : (held out′ : List ℕ) → out′ ≡ slot (names - 1 - k) (length out) env → EvaluatedIn s Γ env names rec held env held out′
     name-done held out′ g =
         let there : slot (names - 1 - k) (length out) env ≡ getD ρ k [] =
         rw (name-leaves, ← r .many) (sym (frame-at s Γ env k (let h = name-in-scope in let m = r .many in omega arith))) in
@@ -94,7 +94,7 @@ module _ (s : List ℕ) (n : ℕ) (W env : List ℕ) (names rec : ℕ) (out Γ :
     defining-scope = rw ex (let-defining e (r .scope))
 
     abbrev t : ℕ
-    t = typeOf s Γ (treeAt s x)
+    t = typeRecordOf s Γ (treeAt s x)
 
     body-scope : Scope s y (t ∷ Γ)
     body-scope = rw (ex, ey) (let-body e (r .scope))
@@ -108,8 +108,8 @@ module _ (s : List ℕ) (n : ℕ) (W env : List ℕ) (names rec : ℕ) (out Γ :
         let i = entry-is s n W env names rec out Γ r x Γ defining-scope in
         omega arith
 
-    module _ (held env₁ held₁ o₁ : List ℕ) (p₁ : Evaluates s n W env names x held (take (c - 0) R) env₁ held₁ o₁) where
-      d₁ : Done s Γ env names x held env₁ held₁ o₁
+    module _ (held env₁ held₁ o₁ : List ℕ) (p₁ : Evaluated s n W env names x held (take (c - 0) R) env₁ held₁ o₁) where
+      d₁ : EvaluatedIn s Γ env names x held env₁ held₁ o₁
       d₁ = room-done s n W env names rec out Γ r x defining-scope c ec R eR held env₁ held₁ o₁ p₁
 
       typed : OfType (typeAt s t) o₁
@@ -149,7 +149,7 @@ module _ (s : List ℕ) (n : ℕ) (W env : List ℕ) (names rec : ℕ) (out Γ :
         body-value : valueAt undefinedLeaves s Γ ρ rec ≡ valueAt undefinedLeaves s (t ∷ Γ) (frames s (t ∷ Γ) env₂) y
         body-value = rw (framed, ex, ey) (let-value undefinedLeaves s w Γ ρ rec b e)
 
-        pub let-body-ready : Ready s n W env₂ (names + 1) y out (t ∷ Γ)
+        pub let-body-ready : EvaluatingIn s n W env₂ (names + 1) y out (t ∷ Γ)
         let-body-ready =
             ready-at s n W env names rec out Γ r y (t ∷ Γ) body-scope env₂ (names + 1) out
             (rw (r .many, add-one names) refl)
@@ -158,8 +158,8 @@ module _ (s : List ℕ) (n : ℕ) (W env : List ℕ) (names rec : ℕ) (out Γ :
             ∙ value-long s n W env names rec out Γ r y (t ∷ Γ) body-scope (frames s (t ∷ Γ) env₂) body-values)
             body-values
 
-        pub let-done : (env₃ held₂ o₂ : List ℕ) → Evaluates s n W env₂ (names + 1) y held₁ out env₃ held₂ o₂
-            → Done s Γ env names rec held env₃ held₂ o₂
+        pub let-done : (env₃ held₂ o₂ : List ℕ) → Evaluated s n W env₂ (names + 1) y held₁ out env₃ held₂ o₂
+            → EvaluatedIn s Γ env names rec held env₃ held₂ o₂
         let-done env₃ held₂ o₂ p₂ =
             let d₂ = p₂ .done (t ∷ Γ) let-body-ready in
             let h₂ : held₂ ≡ storedAt undefinedLeaves s (t ∷ Γ) (valueAt undefinedLeaves s Γ ρ x ∷ ρ) y held₁ =

@@ -15,18 +15,18 @@ use Rattle.records.specs.Decoding.{leafValues}
 use Rattle.records.specs.Written.{Written}
 use Rattle.records.proofs.Table.{askOfKind}
 use Rattle.records.proofs.Asked.{part-of-kind}
-use Rattle.judging.specs.Judgements.{typeOf}
-use Rattle.typing.specs.Scopes.{Scope, tuple-first, tuple-second, of-first, of-second}
+use Rattle.typing.specs.Judgements.{typeRecordOf}
+use Rattle.verdict.specs.Scopes.{Scope, tuple-first, tuple-second, of-first, of-second}
 use Rattle.meaning.specs.Undecided.{undefinedLeaves}
-use Rattle.cycles.specs.Evaluated.{valueAt, storedAt}
-use Rattle.cycles.proofs.Evaluated.{constant-value, constant-stored, tuple-value, tuple-stored, first-value, first-stored, second-value, second-stored}
+use Rattle.behaviour.specs.Evaluated.{valueAt, storedAt}
+use Rattle.behaviour.proofs.Evaluated.{constant-value, constant-stored, tuple-value, tuple-stored, first-value, first-stored, second-value, second-stored}
 use Rattle.values.specs.Chained.{Chained}
 use Rattle.values.specs.Slots.{frames}
-use Rattle.evaluator.specs.Evaluating.{Ready, Done, Evaluates}
+use Rattle.evaluator.specs.Evaluating.{EvaluatingIn, EvaluatedIn, Evaluated}
 use Rattle.evaluator.proofs.Frames.{back-long, rest-long, both-back, lent-long, zeros-long, front-own, front-few, end-own, end-few, front-of-back, end-of-back, put-whole}
 use Rattle.evaluator.proofs.Readiness.{ready-written, ready-there, ready-value, ready-at, value-long, same-frames, same-values, entry-few}
 
-module _ (s : List ℕ) (n : ℕ) (W env : List ℕ) (names rec : ℕ) (out Γ : List ℕ) (r : Ready s n W env names rec out Γ) where
+module _ (s : List ℕ) (n : ℕ) (W env : List ℕ) (names rec : ℕ) (out Γ : List ℕ) (r : EvaluatingIn s n W env names rec out Γ) where
   abbrev ρ : List (List ℕ)
   ρ = frames s Γ env
 
@@ -58,7 +58,7 @@ module _ (s : List ℕ) (n : ℕ) (W env : List ℕ) (names rec : ℕ) (out Γ :
         long ls = length-map ls (wordA s)
 
     pub constant-done : (x : ℕ) → x ≡ word s rec 3 → (held out′ : List ℕ) → out′ ≡ leafValues s (chain s x)
-        → Done s Γ env names rec held env held out′
+        → EvaluatedIn s Γ env names rec held env held out′
     constant-done x ex held out′ g =
         record {
           value = g ∙ rw ex (sym (constant-value undefinedLeaves s sheet-written Γ ρ rec record-there e));
@@ -93,13 +93,13 @@ module _ (s : List ℕ) (n : ℕ) (W env : List ℕ) (names rec : ℕ) (out Γ :
       pub pair-cut : w ≤ length out
       pair-cut = let p = pair-widths in omega arith
 
-      pub pair-first-ready : Ready s n W env names x (take (w - 0) out) Γ
+      pub pair-first-ready : EvaluatingIn s n W env names x (take (w - 0) out) Γ
       pair-first-ready =
           ready-at s n W env names rec out Γ r x Γ scope-a env names (take (w - 0) out) (r .many) (r .wide)
           (lent-long w out pair-cut ∙ ew) (r .values)
 
-      module _ (held env₁ held₁ o₁ : List ℕ) (p₁ : Evaluates s n W env names x held (take (w - 0) out) env₁ held₁ o₁) where
-        d₁ : Done s Γ env names x held env₁ held₁ o₁
+      module _ (held env₁ held₁ o₁ : List ℕ) (p₁ : Evaluated s n W env names x held (take (w - 0) out) env₁ held₁ o₁) where
+        d₁ : EvaluatedIn s Γ env names x held env₁ held₁ o₁
         d₁ = p₁ .done Γ pair-first-ready
 
         first-wide : length o₁ ≡ w
@@ -111,14 +111,14 @@ module _ (s : List ℕ) (n : ℕ) (W env : List ℕ) (names rec : ℕ) (out Γ :
         abbrev rest : List ℕ
         rest = take (length (o₁ ++ drop (w - 0) out) - w) (drop w (o₁ ++ drop (w - 0) out))
 
-        pub pair-second-ready : Ready s n W env₁ names y rest Γ
+        pub pair-second-ready : EvaluatingIn s n W env₁ names y rest Γ
         pair-second-ready =
             ready-at s n W env names rec out Γ r y Γ scope-b env₁ names rest (r .many) (d₁ .wide)
             (let l = rest-long w out o₁ first-wide pair-cut in let p = pair-widths in omega arith)
             (same-values s n W env names rec out Γ r env₁ (d₁ .kept))
 
-        pub pair-done : (env₂ held₂ o₂ : List ℕ) → Evaluates s n W env₁ names y held₁ rest env₂ held₂ o₂
-            → Done s Γ env names rec held env₂ held₂
+        pub pair-done : (env₂ held₂ o₂ : List ℕ) → Evaluated s n W env₁ names y held₁ rest env₂ held₂ o₂
+            → EvaluatedIn s Γ env names rec held env₂ held₂
             (take w (o₁ ++ drop (w - 0) out)
             ++ (o₂ ++ drop (length (o₁ ++ drop (w - 0) out) - w) (drop w (o₁ ++ drop (w - 0) out))))
         pair-done env₂ held₂ o₂ p₂ =
@@ -141,12 +141,12 @@ module _ (s : List ℕ) (n : ℕ) (W env : List ℕ) (names rec : ℕ) (out Γ :
         let f = entry-few s n W env names rec out Γ r x Γ c in
         omega arith
 
-    pub room-ready : Ready s n W env names x (take (w - 0) R) Γ
+    pub room-ready : EvaluatingIn s n W env names x (take (w - 0) R) Γ
     room-ready =
         ready-at s n W env names rec out Γ r x Γ c env names (take (w - 0) R) (r .many) (r .wide) (lent-long w R fits-room ∙ ew) (r .values)
 
-    module _ (held env₁ held₁ o₁ : List ℕ) (p₁ : Evaluates s n W env names x held (take (w - 0) R) env₁ held₁ o₁) where
-      pub room-done : Done s Γ env names x held env₁ held₁ o₁
+    module _ (held env₁ held₁ o₁ : List ℕ) (p₁ : Evaluated s n W env names x held (take (w - 0) R) env₁ held₁ o₁) where
+      pub room-done : EvaluatedIn s Γ env names x held env₁ held₁ o₁
       room-done = p₁ .done Γ room-ready
 
       pub room-wide : length o₁ ≡ w
@@ -157,9 +157,9 @@ module _ (s : List ℕ) (n : ℕ) (W env : List ℕ) (names rec : ℕ) (out Γ :
     pub first-scope : Scope s x Γ
     first-scope = rw ex (of-first e (r .scope))
 
-    module _ (held env₁ held₁ o₁ : List ℕ) (p₁ : Evaluates s n W env names x held (take (w - 0) R) env₁ held₁ o₁) where
+    module _ (held env₁ held₁ o₁ : List ℕ) (p₁ : Evaluated s n W env names x held (take (w - 0) R) env₁ held₁ o₁) where
       abbrev cut : ℕ
-      cut = leaves (typeAt s (wordA s (typeOf s Γ (treeAt s (wordA s rec)))))
+      cut = leaves (typeAt s (wordA s (typeRecordOf s Γ (treeAt s (wordA s rec)))))
 
       front : val rec ≡ take cut o₁
       front =
@@ -193,7 +193,7 @@ module _ (s : List ℕ) (n : ℕ) (W env : List ℕ) (names rec : ℕ) (out Γ :
 
       pub first-done : (out′ : List ℕ)
           → out′ ≡ take (length out - 0) (o₁ ++ drop (w - 0) R) ++ drop (length (take (length out - 0) (o₁ ++ drop (w - 0) R))) out
-          → Done s Γ env names rec held env₁ held₁ out′
+          → EvaluatedIn s Γ env names rec held env₁ held₁ out′
       first-done out′ g =
           let d = room-done x first-scope w ew R eR held env₁ held₁ o₁ p₁ in
           record {
@@ -208,9 +208,9 @@ module _ (s : List ℕ) (n : ℕ) (W env : List ℕ) (names rec : ℕ) (out Γ :
     pub second-scope : Scope s x Γ
     second-scope = rw ex (of-second e (r .scope))
 
-    module _ (held env₁ held₁ o₁ : List ℕ) (p₁ : Evaluates s n W env names x held (take (w - 0) R) env₁ held₁ o₁) where
+    module _ (held env₁ held₁ o₁ : List ℕ) (p₁ : Evaluated s n W env names x held (take (w - 0) R) env₁ held₁ o₁) where
       abbrev cut′ : ℕ
-      cut′ = leaves (typeAt s (wordA s (typeOf s Γ (treeAt s (wordA s rec)))))
+      cut′ = leaves (typeAt s (wordA s (typeRecordOf s Γ (treeAt s (wordA s rec)))))
 
       end : val rec ≡ drop cut′ o₁
       end =
@@ -247,7 +247,7 @@ module _ (s : List ℕ) (n : ℕ) (W env : List ℕ) (names rec : ℕ) (out Γ :
       pub second-fits : length piece ≡ length out
       second-fits = ap length piece-is ∙ sym end-long
 
-      pub second-done : (out′ : List ℕ) → out′ ≡ piece ++ drop (length piece) out → Done s Γ env names rec held env₁ held₁ out′
+      pub second-done : (out′ : List ℕ) → out′ ≡ piece ++ drop (length piece) out → EvaluatedIn s Γ env names rec held env₁ held₁ out′
       second-done out′ g =
           let d = room-done x second-scope w ew R eR held env₁ held₁ o₁ p₁ in
           record {

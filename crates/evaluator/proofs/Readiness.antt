@@ -20,11 +20,11 @@ use Rattle.records.specs.Written.{Written}
 use Rattle.records.proofs.Table.{askOfKind}
 use Rattle.records.proofs.Asked.{part-of-kind}
 use Rattle.records.proofs.Types.{few-leaves}
-use Rattle.layout.specs.Passes.{Passes}
-use Rattle.layout.proofs.Passes.{written, types-fit}
-use Rattle.judging.specs.Judgements.{typeOf}
-use Rattle.typing.specs.Scopes.{Scope}
-use Rattle.typing.proofs.Exact.{exact}
+use Rattle.structure.specs.Passes.{Passes}
+use Rattle.accepted.proofs.Laws.{written, types-fit}
+use Rattle.typing.specs.Judgements.{typeRecordOf}
+use Rattle.verdict.specs.Scopes.{Scope}
+use Rattle.accepted.proofs.Laws.{exact}
 use Rattle.accepted.proofs.Scopes.{Checked, scope-checked, few-names, small-names, checked-type}
 use Rattle.meaning.specs.Values.{ValuesOf, more-values}
 use Rattle.meaning.specs.Elaboration.{Elaborated}
@@ -32,14 +32,14 @@ use Rattle.meaning.specs.Undecided.{undefinedLeaves}
 use Rattle.meaning.proofs.Order.{value-length}
 use Rattle.meaning.proofs.EvaluationMonotone.{eval-typed}
 use Rattle.meaning.proofs.UndefinedLeavesLawful.{undefined-lawful}
-use Rattle.cycles.specs.Terms.{term}
-use Rattle.cycles.specs.Evaluated.{valueAt}
-use Rattle.cycles.proofs.Terms.{checked-term}
+use Rattle.behaviour.specs.Terms.{term}
+use Rattle.behaviour.specs.Evaluated.{valueAt}
+use Rattle.behaviour.proofs.Terms.{checked-term}
 use Rattle.values.specs.Slots.{slot, entered, frames}
-use Rattle.evaluator.specs.Evaluating.{Ready}
+use Rattle.evaluator.specs.Evaluating.{EvaluatingIn}
 use Rattle.evaluator.proofs.Frames.{Small, frames-kept, entered-kept, entered-slot, entered-long}
 
-module _ (s : List ℕ) (n : ℕ) (W env : List ℕ) (names rec : ℕ) (out Γ : List ℕ) (r : Ready s n W env names rec out Γ) where
+module _ (s : List ℕ) (n : ℕ) (W env : List ℕ) (names rec : ℕ) (out Γ : List ℕ) (r : EvaluatingIn s n W env names rec out Γ) where
   pub ready-passes : Passes s
   ready-passes = exact s (r .type) .0 (r .accepted) .0
 
@@ -57,31 +57,31 @@ module _ (s : List ℕ) (n : ℕ) (W env : List ℕ) (names rec : ℕ) (out Γ :
     pub names-small : Small s Δ
     names-small = small-names ready-passes in-circuit
 
-    pub type-there : TypeRecord s (typeOf s Δ (treeAt s x))
+    pub type-there : TypeRecord s (typeRecordOf s Δ (treeAt s x))
     type-there = checked-type ready-passes in-circuit
 
-    pub entry-is : getD W x 0 ≡ leaves (typeAt s (typeOf s Δ (treeAt s x)))
+    pub entry-is : getD W x 0 ≡ leaves (typeAt s (typeRecordOf s Δ (treeAt s x)))
     entry-is = r .table .expressions c
 
     pub entry-few : getD W x 0 ≤ 64
     entry-few =
-        let f = few-leaves (types-fit ready-passes) (typeOf s Δ (treeAt s x)) (type-there .there) (type-there .sort) in
+        let f = few-leaves (types-fit ready-passes) (typeRecordOf s Δ (treeAt s x)) (type-there .there) (type-there .sort) in
         let e = entry-is in
         omega arith
 
-    pub elaborated : Elaborated (Declared s) (map (typeAt s) Δ) (term s Δ (treeAt s x)) (typeAt s (typeOf s Δ (treeAt s x)))
+    pub elaborated : Elaborated (Declared s) (map (typeAt s) Δ) (term s Δ (treeAt s x)) (typeAt s (typeRecordOf s Δ (treeAt s x)))
     elaborated = checked-term ready-passes in-circuit
 
     module _ (ρ : List (List ℕ)) (v : ValuesOf (map (typeAt s) Δ) ρ) where
-      pub value-typed : OfType (typeAt s (typeOf s Δ (treeAt s x))) (valueAt undefinedLeaves s Δ ρ x)
+      pub value-typed : OfType (typeAt s (typeRecordOf s Δ (treeAt s x))) (valueAt undefinedLeaves s Δ ρ x)
       unfolding valueAt
       value-typed = eval-typed undefinedLeaves undefined-lawful (Declared s) elaborated v
 
       pub value-long : length (valueAt undefinedLeaves s Δ ρ x) ≡ getD W x 0
-      value-long = value-length (typeAt s (typeOf s Δ (treeAt s x))) value-typed ∙ sym entry-is
+      value-long = value-length (typeAt s (typeRecordOf s Δ (treeAt s x))) value-typed ∙ sym entry-is
 
     pub ready-at : (env′ : List ℕ) (names′ : ℕ) (out′ : List ℕ) → length Δ ≡ names′ → length env′ ≡ 4096
-        → length out′ ≡ getD W x 0 → ValuesOf (map (typeAt s) Δ) (frames s Δ env′) → Ready s n W env′ names′ x out′ Δ
+        → length out′ ≡ getD W x 0 → ValuesOf (map (typeAt s) Δ) (frames s Δ env′) → EvaluatingIn s n W env′ names′ x out′ Δ
     ready-at env′ names′ out′ many wide room values =
         record {
           sized = r .sized;

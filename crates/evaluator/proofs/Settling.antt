@@ -19,12 +19,12 @@ use Rattle.meaning.specs.Evaluation.{application, iterate, settled}
 use Rattle.meaning.proofs.Order.{value-length}
 use Rattle.meaning.proofs.UndefinedLeavesLawful.{undefined-lawful}
 use Rattle.meaning.proofs.FeedbackLeast.{application-monotone, application-typed, application-falls, iterate-unchanged, iterate-again}
-use Rattle.cycles.specs.Terms.{term}
-use Rattle.cycles.specs.Evaluated.{valueAt, storedAt}
-use Rattle.cycles.proofs.Evaluated.{stored-again}
+use Rattle.behaviour.specs.Terms.{term}
+use Rattle.behaviour.specs.Evaluated.{valueAt, storedAt}
+use Rattle.behaviour.proofs.Evaluated.{stored-again}
 use Rattle.values.specs.Answers.{Agrees}
 use Rattle.values.specs.Slots.{slot, entered, frames}
-use Rattle.evaluator.specs.Evaluating.{Ready, Done, Evaluates, Settling, Settled, Settles, approximation, leadsTo}
+use Rattle.evaluator.specs.Evaluating.{EvaluatingIn, EvaluatedIn, Evaluated, SettlingIn, SettledIn, Settled, approximation, leadsTo}
 use Rattle.evaluator.proofs.Frames.{front-kept, slot-kept, frames-kept, entered-kept, entered-slot, entered-long}
 use Rattle.evaluator.proofs.Readiness.{ready-written, ready-there, ready-at, names-few, names-small, elaborated, entry-is, entry-few}
 
@@ -34,8 +34,8 @@ values-parts (more-values h r) = (h, r)
 one-less : {m k : ℕ} → suc m ≡ k + 1 → m ≡ k
 one-less e = omega arith
 
-module _ (s : List ℕ) (n : ℕ) (W env : List ℕ) (names d : ℕ) (value : List ℕ) (t : ℕ) (Γ : List ℕ) (g : Settling s n W env names d value t Γ) where
-  abbrev r : Ready s n W env (names + 1) d value (t ∷ Γ)
+module _ (s : List ℕ) (n : ℕ) (W env : List ℕ) (names d : ℕ) (value : List ℕ) (t : ℕ) (Γ : List ℕ) (g : SettlingIn s n W env names d value t Γ) where
+  abbrev r : EvaluatingIn s n W env (names + 1) d value (t ∷ Γ)
   r = g .ready
 
   abbrev σ : Ty
@@ -85,8 +85,8 @@ module _ (s : List ℕ) (n : ℕ) (W env : List ℕ) (names d : ℕ) (value : Li
   pub value-wide : length value ≡ leaves σ
   value-wide = r .room ∙ wide-leaves
 
-  module _ (held env₁ held₁ o : List ℕ) (p : Evaluates s n W env (names + 1) d held value env₁ held₁ o) where
-    d₁ : Done s (t ∷ Γ) env (names + 1) d held env₁ held₁ o
+  module _ (held env₁ held₁ o : List ℕ) (p : Evaluated s n W env (names + 1) d held value env₁ held₁ o) where
+    d₁ : EvaluatedIn s (t ∷ Γ) env (names + 1) d held env₁ held₁ o
     d₁ = p .done (t ∷ Γ) r
 
     given : o ≡ application undefinedLeaves ρ part v
@@ -116,7 +116,7 @@ module _ (s : List ℕ) (n : ℕ) (W env : List ℕ) (names d : ℕ) (value : Li
       standing : slot names (length o) env₁ ≡ v
       standing = rw given-long same-slot
 
-      pub unchanged-settled : answer ≡ true → Settled s t Γ env names d held env₁ held₁
+      pub unchanged-settled : answer ≡ true → SettledIn s t Γ env names d held env₁ held₁
       unchanged-settled e =
           let u : application undefinedLeaves ρ part v ≡ v = sym given ∙ a .same e ∙ standing in
           let i : iterate undefinedLeaves ρ σ part v ≡ v =
@@ -157,7 +157,7 @@ module _ (s : List ℕ) (n : ℕ) (W env : List ℕ) (names d : ℕ) (value : Li
             rw given (application-monotone undefinedLeaves undefined-lawful (Declared s) {ρ = ρ} {t = part} typed (typed-values .1) v
             (application undefinedLeaves ρ part v) rises)
 
-        pub settling-again : Settling s n W env₂ names d o t Γ
+        pub settling-again : SettlingIn s n W env₂ names d o t Γ
         settling-again =
             record {
               ready = ready-at s n W env (names + 1) d value (t ∷ Γ) r d (t ∷ Γ) (r .scope) env₂ (names + 1) o (r .many) wide₂
@@ -176,8 +176,8 @@ module _ (s : List ℕ) (n : ℕ) (W env : List ℕ) (names d : ℕ) (value : Li
             rw (ρ₂, slot₂, given)
             (sym (iterate-again undefinedLeaves undefined-lawful (Declared s) {ρ = ρ} {t = part} typed (typed-values .1) rises))
 
-        pub changed-settled : (env₃ held₂ : List ℕ) → Settles s n W env₂ names d held₁ o env₃ held₂
-            → Settled s t Γ env names d held env₃ held₂
+        pub changed-settled : (env₃ held₂ : List ℕ) → Settled s n W env₂ names d held₁ o env₃ held₂
+            → SettledIn s t Γ env names d held env₃ held₂
         changed-settled env₃ held₂ q =
             let f = q .settled t Γ settling-again in
             let h : held₂ ≡ storedAt undefinedLeaves s (t ∷ Γ) (leadsTo s t Γ d names env ∷ ρ) d held₁ = rw (leads, ρ₂) at (f .stored) in

@@ -8,20 +8,20 @@ use Rattle.picoella.specs.Types.{bounds, leaves}
 use Rattle.records.specs.Sized.{Sized}
 use Rattle.records.specs.TypeRecords.{typeAt}
 use Rattle.records.specs.Trees.{treeAt}
-use Rattle.judging.specs.Judgements.{typeOf}
-use Rattle.typing.specs.Verdict.{verdict}
-use Rattle.typing.specs.Scopes.{Scope}
-use Rattle.typing.specs.Widths.{Widths}
-use Rattle.typing.specs.declared.Verdict.the-variants.{Accepted}
+use Rattle.typing.specs.Judgements.{typeRecordOf}
+use Rattle.verdict.specs.Verdict.{verdict}
+use Rattle.verdict.specs.Scopes.{Scope}
+use Rattle.verdict.specs.Widths.{Widths}
+use Rattle.verdict.specs.declared.Verdict.the-variants.{Accepted}
 use Rattle.meaning.specs.Values.{Both, ValuesOf}
 use Rattle.meaning.specs.Undecided.{undefinedLeaves}
 use Rattle.meaning.specs.Evaluation.{iterate}
-use Rattle.cycles.specs.Terms.{term}
-use Rattle.cycles.specs.Evaluated.{valueAt, storedAt}
+use Rattle.behaviour.specs.Terms.{term}
+use Rattle.behaviour.specs.Evaluated.{valueAt, storedAt}
 use Rattle.values.specs.Slots.{slot, frames}
 
 -- an expression is evaluated: record rec of an accepted sheet, with the names of Γ in scope, into a slice as wide as its type
-pub record Ready (s : List ℕ) (n : ℕ) (widths env : List ℕ) (names rec : ℕ) (out Γ : List ℕ) : Type 0 where
+pub record EvaluatingIn (s : List ℕ) (n : ℕ) (widths env : List ℕ) (names rec : ℕ) (out Γ : List ℕ) : Type 0 where
   pub sized : Sized s n
   pub type : ℕ
   pub accepted : verdict s ≡ Accepted type
@@ -33,7 +33,7 @@ pub record Ready (s : List ℕ) (n : ℕ) (widths env : List ℕ) (names rec : �
   pub values : ValuesOf (map (typeAt s) Γ) (frames s Γ env)
 
 -- what comes of it: the value, the table of the delays' next values, and an environment with the same names
-pub record Done (s Γ env : List ℕ) (names rec : ℕ) (held env′ held′ out′ : List ℕ) : Type 0 where
+pub record EvaluatedIn (s Γ env : List ℕ) (names rec : ℕ) (held env′ held′ out′ : List ℕ) : Type 0 where
   pub value : out′ ≡ valueAt undefinedLeaves s Γ (frames s Γ env) rec
   pub stored : held′ ≡ storedAt undefinedLeaves s Γ (frames s Γ env) rec held
   pub wide : length env′ ≡ 4096
@@ -50,22 +50,22 @@ leadsTo s t Γ d names env =
 
 -- a feedback of type t is settled, with the names of Γ around it, from an approximation that lies at or below what the defining
 -- part gives for it
-pub record Settling (s : List ℕ) (n : ℕ) (widths env : List ℕ) (names d : ℕ) (value : List ℕ) (t : ℕ) (Γ : List ℕ) : Type 0 where
-  pub ready : Ready s n widths env (names + 1) d value (t ∷ Γ)
-  pub same : typeOf s (t ∷ Γ) (treeAt s d) ≡ t
+pub record SettlingIn (s : List ℕ) (n : ℕ) (widths env : List ℕ) (names d : ℕ) (value : List ℕ) (t : ℕ) (Γ : List ℕ) : Type 0 where
+  pub ready : EvaluatingIn s n widths env (names + 1) d value (t ∷ Γ)
+  pub same : typeRecordOf s (t ∷ Γ) (treeAt s d) ≡ t
   pub rises
       : Both (bounds (typeAt s t)) (approximation s t names env)
       (valueAt undefinedLeaves s (t ∷ Γ) (frames s (t ∷ Γ) env) d)
 
-pub record Settled (s : List ℕ) (t : ℕ) (Γ env : List ℕ) (names d : ℕ) (held env′ held′ : List ℕ) : Type 0 where
+pub record SettledIn (s : List ℕ) (t : ℕ) (Γ env : List ℕ) (names d : ℕ) (held env′ held′ : List ℕ) : Type 0 where
   pub reached : approximation s t names env′ ≡ leadsTo s t Γ d names env
   pub stored : held′ ≡ storedAt undefinedLeaves s (t ∷ Γ) (leadsTo s t Γ d names env ∷ frames s Γ env) d held
   pub wide : length env′ ≡ 4096
   pub kept : take (64 * names) env′ ≡ take (64 * names) env
 
 -- The contracts: for every list of names in scope with which the call is ready.
-pub record Evaluates (s : List ℕ) (n : ℕ) (widths env : List ℕ) (names rec : ℕ) (held out env′ held′ out′ : List ℕ) : Type 0 where
-  pub done : (Γ : List ℕ) → Ready s n widths env names rec out Γ → Done s Γ env names rec held env′ held′ out′
+pub record Evaluated (s : List ℕ) (n : ℕ) (widths env : List ℕ) (names rec : ℕ) (held out env′ held′ out′ : List ℕ) : Type 0 where
+  pub done : (Γ : List ℕ) → EvaluatingIn s n widths env names rec out Γ → EvaluatedIn s Γ env names rec held env′ held′ out′
 
-pub record Settles (s : List ℕ) (n : ℕ) (widths env : List ℕ) (names d : ℕ) (held value env′ held′ : List ℕ) : Type 0 where
-  pub settled : (t : ℕ) (Γ : List ℕ) → Settling s n widths env names d value t Γ → Settled s t Γ env names d held env′ held′
+pub record Settled (s : List ℕ) (n : ℕ) (widths env : List ℕ) (names d : ℕ) (held value env′ held′ : List ℕ) : Type 0 where
+  pub settled : (t : ℕ) (Γ : List ℕ) → SettlingIn s n widths env names d value t Γ → SettledIn s t Γ env names d held env′ held′

@@ -5,8 +5,23 @@ ghost use mathlib.Core.List.{List};
 ghost use Prim.Native.Nat.{ℕ};
 ghost use Rattle.records.specs.Kinds.{expression, name, tuple, first, second, letIn, feedback, ifMatches, delay};
 ghost use Rattle.records.specs.Says.{kindAt};
-ghost use Rattle.evaluator.specs.Evaluating.{Ready, Evaluates, Settling, Settles};
+ghost use Rattle.evaluator.specs.Evaluating.{EvaluatingIn, Evaluated, SettlingIn, Settled};
+use records::KIND_CONSTANT;
+use records::KIND_FEEDBACK;
+use records::KIND_FIRST;
+use records::KIND_IF;
+use records::KIND_LET;
+use records::KIND_NAME;
+use records::KIND_PAIR;
+use records::KIND_SECOND;
+use records::WORD_A;
+use records::WORD_B;
+use records::WORD_C;
+use records::WORD_D;
+use records::WORD_KIND;
+use records::Widths;
 use records::word;
+use values::NextValues;
 use values::choose_value;
 use values::copy_value;
 use values::enter_value;
@@ -20,16 +35,16 @@ use values::stands_at;
 fn of_name(
     sheet: &[u8],
     n: usize,
-    widths: &[u8; 4096],
+    widths: &Widths,
     env: &[u8],
     names: usize,
     rec: usize,
     out: &mut [u8],
 )
-    requires { ⌜ ((Γ : List ℕ) × Ready (now sheet) n (now widths) (now env) names rec (now out) Γ) × (kindAt (now sheet) rec ≡ expression name) ⌝ }
-    ensures { λ _. ⌜ ((held : List ℕ) → Evaluates (now (sheet .entry)) n (now (widths .entry)) (now (env .entry)) names rec held (now (out .entry)) (now (env .entry)) held (now (out .exit))) ⌝ }
+    requires { ⌜ ((Γ : List ℕ) × EvaluatingIn (now sheet) n (now widths) (now env) names rec (now out) Γ) × (kindAt (now sheet) rec ≡ expression name) ⌝ }
+    ensures { λ _. ⌜ ((held : List ℕ) → Evaluated (now (sheet .entry)) n (now (widths .entry)) (now (env .entry)) names rec held (now (out .entry)) (now (env .entry)) held (now (out .exit))) ⌝ }
 {
-    let k = word(sheet, n, rec, 2);
+    let k = word(sheet, n, rec, WORD_A);
     copy_value(env, names - 1 - k, out);
 }
 
@@ -37,46 +52,46 @@ fn of_name(
 pub fn eval(
     sheet: &[u8],
     n: usize,
-    widths: &[u8; 4096],
+    widths: &Widths,
     env: &mut [u8],
     names: usize,
-    held: &mut [u8; 4096],
+    held: &mut NextValues,
     rec: usize,
     out: &mut [u8],
 )
-    requires { ⌜ ((Γ : List ℕ) × Ready (now sheet) n (now widths) (now env) names rec (now out) Γ) ⌝ }
-    ensures { λ _. ⌜ Evaluates (now (sheet .entry)) n (now (widths .entry)) (now (env .entry)) names rec (now (held .entry)) (now (out .entry)) (now (env .exit)) (now (held .exit)) (now (out .exit)) ⌝ }
+    requires { ⌜ ((Γ : List ℕ) × EvaluatingIn (now sheet) n (now widths) (now env) names rec (now out) Γ) ⌝ }
+    ensures { λ _. ⌜ Evaluated (now (sheet .entry)) n (now (widths .entry)) (now (env .entry)) names rec (now (held .entry)) (now (out .entry)) (now (env .exit)) (now (held .exit)) (now (out .exit)) ⌝ }
 {
-    let kind = word(sheet, n, rec, 0);
-    if kind == 32 {
-        read_leaves(sheet, n, word(sheet, n, rec, 3), out);
+    let kind = word(sheet, n, rec, WORD_KIND);
+    if kind == KIND_CONSTANT {
+        read_leaves(sheet, n, word(sheet, n, rec, WORD_B), out);
         return;
     }
-    if kind == 33 {
+    if kind == KIND_NAME {
         of_name(sheet, n, widths, env, names, rec, out);
         return;
     }
-    if kind == 34 {
+    if kind == KIND_PAIR {
         of_pair(sheet, n, widths, env, names, held, rec, out);
         return;
     }
-    if kind == 35 {
+    if kind == KIND_FIRST {
         of_first(sheet, n, widths, env, names, held, rec, out);
         return;
     }
-    if kind == 36 {
+    if kind == KIND_SECOND {
         of_second(sheet, n, widths, env, names, held, rec, out);
         return;
     }
-    if kind == 37 {
+    if kind == KIND_LET {
         of_let(sheet, n, widths, env, names, held, rec, out);
         return;
     }
-    if kind == 38 {
+    if kind == KIND_FEEDBACK {
         of_feedback(sheet, n, widths, env, names, held, rec, out);
         return;
     }
-    if kind == 39 {
+    if kind == KIND_IF {
         of_if(sheet, n, widths, env, names, held, rec, out);
         return;
     }
@@ -86,37 +101,37 @@ pub fn eval(
 fn of_pair(
     sheet: &[u8],
     n: usize,
-    widths: &[u8; 4096],
+    widths: &Widths,
     env: &mut [u8],
     names: usize,
-    held: &mut [u8; 4096],
+    held: &mut NextValues,
     rec: usize,
     out: &mut [u8],
 )
-    requires { ⌜ ((Γ : List ℕ) × Ready (now sheet) n (now widths) (now env) names rec (now out) Γ) × (kindAt (now sheet) rec ≡ expression tuple) ⌝ }
-    ensures { λ _. ⌜ Evaluates (now (sheet .entry)) n (now (widths .entry)) (now (env .entry)) names rec (now (held .entry)) (now (out .entry)) (now (env .exit)) (now (held .exit)) (now (out .exit)) ⌝ }
+    requires { ⌜ ((Γ : List ℕ) × EvaluatingIn (now sheet) n (now widths) (now env) names rec (now out) Γ) × (kindAt (now sheet) rec ≡ expression tuple) ⌝ }
+    ensures { λ _. ⌜ Evaluated (now (sheet .entry)) n (now (widths .entry)) (now (env .entry)) names rec (now (held .entry)) (now (out .entry)) (now (env .exit)) (now (held .exit)) (now (out .exit)) ⌝ }
 {
-    let a = word(sheet, n, rec, 2);
+    let a = word(sheet, n, rec, WORD_A);
     let w = widths[a] as usize;
     eval(sheet, n, widths, env, names, held, a, &mut out[0..w]);
-    let b = word(sheet, n, rec, 3);
+    let b = word(sheet, n, rec, WORD_B);
     eval(sheet, n, widths, env, names, held, b, &mut out[w..]);
 }
 
 fn of_first(
     sheet: &[u8],
     n: usize,
-    widths: &[u8; 4096],
+    widths: &Widths,
     env: &mut [u8],
     names: usize,
-    held: &mut [u8; 4096],
+    held: &mut NextValues,
     rec: usize,
     out: &mut [u8],
 )
-    requires { ⌜ ((Γ : List ℕ) × Ready (now sheet) n (now widths) (now env) names rec (now out) Γ) × (kindAt (now sheet) rec ≡ expression first) ⌝ }
-    ensures { λ _. ⌜ Evaluates (now (sheet .entry)) n (now (widths .entry)) (now (env .entry)) names rec (now (held .entry)) (now (out .entry)) (now (env .exit)) (now (held .exit)) (now (out .exit)) ⌝ }
+    requires { ⌜ ((Γ : List ℕ) × EvaluatingIn (now sheet) n (now widths) (now env) names rec (now out) Γ) × (kindAt (now sheet) rec ≡ expression first) ⌝ }
+    ensures { λ _. ⌜ Evaluated (now (sheet .entry)) n (now (widths .entry)) (now (env .entry)) names rec (now (held .entry)) (now (out .entry)) (now (env .exit)) (now (held .exit)) (now (out .exit)) ⌝ }
 {
-    let a = word(sheet, n, rec, 2);
+    let a = word(sheet, n, rec, WORD_A);
     let w = widths[a] as usize;
     let mut whole = room();
     eval(sheet, n, widths, env, names, held, a, &mut whole[0..w]);
@@ -126,17 +141,17 @@ fn of_first(
 fn of_second(
     sheet: &[u8],
     n: usize,
-    widths: &[u8; 4096],
+    widths: &Widths,
     env: &mut [u8],
     names: usize,
-    held: &mut [u8; 4096],
+    held: &mut NextValues,
     rec: usize,
     out: &mut [u8],
 )
-    requires { ⌜ ((Γ : List ℕ) × Ready (now sheet) n (now widths) (now env) names rec (now out) Γ) × (kindAt (now sheet) rec ≡ expression second) ⌝ }
-    ensures { λ _. ⌜ Evaluates (now (sheet .entry)) n (now (widths .entry)) (now (env .entry)) names rec (now (held .entry)) (now (out .entry)) (now (env .exit)) (now (held .exit)) (now (out .exit)) ⌝ }
+    requires { ⌜ ((Γ : List ℕ) × EvaluatingIn (now sheet) n (now widths) (now env) names rec (now out) Γ) × (kindAt (now sheet) rec ≡ expression second) ⌝ }
+    ensures { λ _. ⌜ Evaluated (now (sheet .entry)) n (now (widths .entry)) (now (env .entry)) names rec (now (held .entry)) (now (out .entry)) (now (env .exit)) (now (held .exit)) (now (out .exit)) ⌝ }
 {
-    let a = word(sheet, n, rec, 2);
+    let a = word(sheet, n, rec, WORD_A);
     let w = widths[a] as usize;
     let mut whole = room();
     eval(sheet, n, widths, env, names, held, a, &mut whole[0..w]);
@@ -146,44 +161,44 @@ fn of_second(
 fn of_let(
     sheet: &[u8],
     n: usize,
-    widths: &[u8; 4096],
+    widths: &Widths,
     env: &mut [u8],
     names: usize,
-    held: &mut [u8; 4096],
+    held: &mut NextValues,
     rec: usize,
     out: &mut [u8],
 )
-    requires { ⌜ ((Γ : List ℕ) × Ready (now sheet) n (now widths) (now env) names rec (now out) Γ) × (kindAt (now sheet) rec ≡ expression letIn) ⌝ }
-    ensures { λ _. ⌜ Evaluates (now (sheet .entry)) n (now (widths .entry)) (now (env .entry)) names rec (now (held .entry)) (now (out .entry)) (now (env .exit)) (now (held .exit)) (now (out .exit)) ⌝ }
+    requires { ⌜ ((Γ : List ℕ) × EvaluatingIn (now sheet) n (now widths) (now env) names rec (now out) Γ) × (kindAt (now sheet) rec ≡ expression letIn) ⌝ }
+    ensures { λ _. ⌜ Evaluated (now (sheet .entry)) n (now (widths .entry)) (now (env .entry)) names rec (now (held .entry)) (now (out .entry)) (now (env .exit)) (now (held .exit)) (now (out .exit)) ⌝ }
 {
-    let a = word(sheet, n, rec, 2);
+    let a = word(sheet, n, rec, WORD_A);
     let w = widths[a] as usize;
     let mut value = room();
     eval(sheet, n, widths, env, names, held, a, &mut value[0..w]);
     enter_value(env, names, &value[0..w]);
-    let b = word(sheet, n, rec, 3);
+    let b = word(sheet, n, rec, WORD_B);
     eval(sheet, n, widths, env, names + 1, held, b, out);
 }
 
 fn of_feedback(
     sheet: &[u8],
     n: usize,
-    widths: &[u8; 4096],
+    widths: &Widths,
     env: &mut [u8],
     names: usize,
-    held: &mut [u8; 4096],
+    held: &mut NextValues,
     rec: usize,
     out: &mut [u8],
 )
-    requires { ⌜ ((Γ : List ℕ) × Ready (now sheet) n (now widths) (now env) names rec (now out) Γ) × (kindAt (now sheet) rec ≡ expression feedback) ⌝ }
-    ensures { λ _. ⌜ Evaluates (now (sheet .entry)) n (now (widths .entry)) (now (env .entry)) names rec (now (held .entry)) (now (out .entry)) (now (env .exit)) (now (held .exit)) (now (out .exit)) ⌝ }
+    requires { ⌜ ((Γ : List ℕ) × EvaluatingIn (now sheet) n (now widths) (now env) names rec (now out) Γ) × (kindAt (now sheet) rec ≡ expression feedback) ⌝ }
+    ensures { λ _. ⌜ Evaluated (now (sheet .entry)) n (now (widths .entry)) (now (env .entry)) names rec (now (held .entry)) (now (out .entry)) (now (env .exit)) (now (held .exit)) (now (out .exit)) ⌝ }
 {
-    let d = word(sheet, n, rec, 3);
+    let d = word(sheet, n, rec, WORD_B);
     let w = widths[d] as usize;
     let mut settled = room();
     enter_value(env, names, &settled[0..w]);
     settle(sheet, n, widths, env, names, held, d, &mut settled[0..w]);
-    let b = word(sheet, n, rec, 4);
+    let b = word(sheet, n, rec, WORD_C);
     eval(sheet, n, widths, env, names + 1, held, b, out);
 }
 
@@ -191,15 +206,15 @@ fn of_feedback(
 fn settle(
     sheet: &[u8],
     n: usize,
-    widths: &[u8; 4096],
+    widths: &Widths,
     env: &mut [u8],
     names: usize,
-    held: &mut [u8; 4096],
+    held: &mut NextValues,
     d: usize,
     value: &mut [u8],
 )
-    requires { ⌜ ((t : ℕ) × (Γ : List ℕ) × Settling (now sheet) n (now widths) (now env) names d (now value) t Γ) ⌝ }
-    ensures { λ _. ⌜ Settles (now (sheet .entry)) n (now (widths .entry)) (now (env .entry)) names d (now (held .entry)) (now (value .entry)) (now (env .exit)) (now (held .exit)) ⌝ }
+    requires { ⌜ ((t : ℕ) × (Γ : List ℕ) × SettlingIn (now sheet) n (now widths) (now env) names d (now value) t Γ) ⌝ }
+    ensures { λ _. ⌜ Settled (now (sheet .entry)) n (now (widths .entry)) (now (env .entry)) names d (now (held .entry)) (now (value .entry)) (now (env .exit)) (now (held .exit)) ⌝ }
 {
     eval(sheet, n, widths, env, names + 1, held, d, value);
     if stands_at(env, names, value) {
@@ -212,23 +227,23 @@ fn settle(
 fn of_if(
     sheet: &[u8],
     n: usize,
-    widths: &[u8; 4096],
+    widths: &Widths,
     env: &mut [u8],
     names: usize,
-    held: &mut [u8; 4096],
+    held: &mut NextValues,
     rec: usize,
     out: &mut [u8],
 )
-    requires { ⌜ ((Γ : List ℕ) × Ready (now sheet) n (now widths) (now env) names rec (now out) Γ) × (kindAt (now sheet) rec ≡ expression ifMatches) ⌝ }
-    ensures { λ _. ⌜ Evaluates (now (sheet .entry)) n (now (widths .entry)) (now (env .entry)) names rec (now (held .entry)) (now (out .entry)) (now (env .exit)) (now (held .exit)) (now (out .exit)) ⌝ }
+    requires { ⌜ ((Γ : List ℕ) × EvaluatingIn (now sheet) n (now widths) (now env) names rec (now out) Γ) × (kindAt (now sheet) rec ≡ expression ifMatches) ⌝ }
+    ensures { λ _. ⌜ Evaluated (now (sheet .entry)) n (now (widths .entry)) (now (env .entry)) names rec (now (held .entry)) (now (out .entry)) (now (env .exit)) (now (held .exit)) (now (out .exit)) ⌝ }
 {
-    let a = word(sheet, n, rec, 2);
+    let a = word(sheet, n, rec, WORD_A);
     let w = widths[a] as usize;
     let mut tested = room();
     eval(sheet, n, widths, env, names, held, a, &mut tested[0..w]);
-    let b = word(sheet, n, rec, 3);
+    let b = word(sheet, n, rec, WORD_B);
     eval(sheet, n, widths, env, names, held, b, out);
-    let other = word(sheet, n, rec, 4);
+    let other = word(sheet, n, rec, WORD_C);
     let all = out.len();
     let mut otherwise = room();
     eval(
@@ -241,26 +256,26 @@ fn of_if(
         other,
         &mut otherwise[0..all],
     );
-    let p = word(sheet, n, rec, 5);
+    let p = word(sheet, n, rec, WORD_D);
     choose_value(sheet, n, widths, p, &tested[0..w], &otherwise[0..all], out);
 }
 
 fn of_delay(
     sheet: &[u8],
     n: usize,
-    widths: &[u8; 4096],
+    widths: &Widths,
     env: &mut [u8],
     names: usize,
-    held: &mut [u8; 4096],
+    held: &mut NextValues,
     rec: usize,
     out: &mut [u8],
 )
-    requires { ⌜ ((Γ : List ℕ) × Ready (now sheet) n (now widths) (now env) names rec (now out) Γ) × (kindAt (now sheet) rec ≡ expression delay) ⌝ }
-    ensures { λ _. ⌜ Evaluates (now (sheet .entry)) n (now (widths .entry)) (now (env .entry)) names rec (now (held .entry)) (now (out .entry)) (now (env .exit)) (now (held .exit)) (now (out .exit)) ⌝ }
+    requires { ⌜ ((Γ : List ℕ) × EvaluatingIn (now sheet) n (now widths) (now env) names rec (now out) Γ) × (kindAt (now sheet) rec ≡ expression delay) ⌝ }
+    ensures { λ _. ⌜ Evaluated (now (sheet .entry)) n (now (widths .entry)) (now (env .entry)) names rec (now (held .entry)) (now (out .entry)) (now (env .exit)) (now (held .exit)) (now (out .exit)) ⌝ }
 {
-    let c = word(sheet, n, rec, 4);
+    let c = word(sheet, n, rec, WORD_C);
     eval(sheet, n, widths, env, names, held, c, out);
-    let first = word(sheet, n, rec, 3);
+    let first = word(sheet, n, rec, WORD_B);
     hold_leaves(sheet, n, first, out, held);
     read_leaves(sheet, n, first, out);
 }

@@ -10,7 +10,7 @@ use lib.ListN.{length, take, drop}
 use lib.Seq.{drop-drop}
 use Rattle.listing.specs.Lines.{cycleLine, cycleLines}
 use Rattle.listing.specs.Wrote.{Wrote}
-use Rattle.listing.specs.Fills.{Fillable, Filling, Fills, Printed, nothing, piece, Whole}
+use Rattle.listing.specs.Fills.{Fillable, Filling, Fills, Printed, nothing, piece, WholeListing}
 use Rattle.listing.proofs.Written.{wrote-none, wrote-then}
 
 -- the lines of m cycles and then of n more
@@ -98,7 +98,7 @@ printed-inside : (w k first : ℕ) (outputs text : List ℕ) → Printed w outpu
 printed-inside w k first outputs text nothing = omega arith
 printed-inside w k first outputs text (piece buffer at after count next end p h) = h .lines .inside
 
-pub whole : Whole
+pub whole : WholeListing
 whole w k first outputs text some p left =
     let lines = printed-lines w k first outputs text p in
     let inside = printed-inside w k first outputs text p in

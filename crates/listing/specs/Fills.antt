@@ -38,8 +38,8 @@ pub data Printed (w : ℕ) (outputs : List ℕ) : (k first : ℕ) (text : List �
       Printed w outputs (k + count) next (text ++ cycleLines w count k (drop first outputs))
 
 -- where no cycle is left, they are the listing's lines and their count; kept by `whole` (proofs/Filling.antt)
-abbrev pub Whole : Type 0
-Whole =
+abbrev pub WholeListing : Type 0
+WholeListing =
     (w k first : ℕ) (outputs text : List ℕ) →
     0 < w →
     Printed w outputs k first text →

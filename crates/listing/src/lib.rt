@@ -9,6 +9,9 @@ ghost use Rattle.listing.specs.Lines.{wordLine, typeLine, cyclesLine, re
 ghost use Rattle.listing.specs.Wrote.{Wrote};
 ghost use Rattle.listing.specs.Fills.{Fillable, Fills};
 
+// The room that a line is given.
+pub const LINE_BYTES: usize = 280;
+
 fn put_byte(buffer: &mut [u8], at: usize, b: u8) -> usize
     requires { ⌜ at < length (now buffer) ⌝ }
     ensures { λ r. ⌜ Wrote (now (buffer .entry)) at (b ∷ []) (now (buffer .exit)) r ⌝ }
@@ -134,7 +137,7 @@ pub fn put_lines(
     let mut next = first;
     let mut end = at;
     while w <= outputs.len() - next {
-        if buffer.len() - end < 280 {
+        if buffer.len() - end < LINE_BYTES {
             return Filled { count, next, end };
         }
         let until = next + w;

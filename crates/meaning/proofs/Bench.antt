@@ -6,7 +6,7 @@ use Prim.Native.Nat.{ℕ}
 use native.Mathlib.Omega.{arith}
 use mathlib.Core.Path.{_≡_, refl}
 use mathlib.Core.List.{List, [], _∷_}
-use Rattle.picoella.specs.Types.{Ty, Flat, TyTuple, none, leaf, OfType}
+use Rattle.picoella.specs.Types.{Ty, Flat, TyTuple, within-none, within-leaf, OfType}
 use Rattle.picoella.specs.Patterns.{Pattern, Whole, Constructor, Parts, Bar, p-constructor}
 use Rattle.picoella.specs.Typing.{here, there}
 use Rattle.meaning.specs.Matching.{Yes, Undecided, matches}
@@ -108,10 +108,10 @@ unfolding after eval next
 toggle-after = refl
 
 hi-typed : OfType bit (1 ∷ [])
-hi-typed = leaf {n = 2} {v = 1} (omega arith) none
+hi-typed = within-leaf {n = 2} {v = 1} (omega arith) within-none
 
 lo-typed : OfType bit (2 ∷ [])
-lo-typed = leaf {n = 2} {v = 2} (omega arith) none
+lo-typed = within-leaf {n = 2} {v = 2} (omega arith) within-none
 
 toggle-typed : (Declared : Ty → Type 0) → Elaborated Declared (bit ∷ []) (toggle 2) bit
 toggle-typed Declared =

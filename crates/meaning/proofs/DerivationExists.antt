@@ -12,7 +12,7 @@ use Rattle.picoella.specs.Types.{Ty, Flat, TyTuple, bounds, leaves, OfType}
 use Rattle.picoella.specs.Expressions.{Expr, Index1, Index2}
 use Rattle.picoella.specs.Typing.{Named, here, there}
 use Rattle.meaning.specs.Values.{zeros, undefined, Both, ValuesOf, no-values, more-values}
-use Rattle.meaning.specs.Matching.{Answer, Yes, No, Undecided, matches}
+use Rattle.meaning.specs.Matching.{Decision, Yes, No, Undecided, matches}
 use Rattle.meaning.specs.Elaboration.{
   Term,
   erase,
@@ -137,14 +137,14 @@ module _
 
     -- the branch that 000's rule takes has the leaves that evaluation chooses
     branch-typed
-        : (a : Answer) {τ : Ty} {c d : ConstantTree} → ConstantOf τ c → ConstantOf τ d
+        : (a : Decision) {τ : Ty} {c d : ConstantTree} → ConstantOf τ c → ConstantOf τ d
         → ConstantOf τ (branch tree (answer3 a) c d)
     branch-typed Yes h k = h
     branch-typed No h k = k
     branch-typed Undecided h k = agree .of-type h k
 
     branch-flattens
-        : (a : Answer) {τ : Ty} {c d : ConstantTree} → ConstantOf τ c → ConstantOf τ d
+        : (a : Decision) {τ : Ty} {c d : ConstantTree} → ConstantOf τ c → ConstantOf τ d
         → flatten (branch tree (answer3 a) c d) ≡ choose undecided a (flatten c) (flatten d)
     branch-flattens Yes h k = refl
     branch-flattens No h k = refl
@@ -258,7 +258,7 @@ module _
         let (c, i, p, r) = derived te env in
         let (b, j, q, w) = derived se env in
         let (d, k, m, x) = derived re env in
-        let answer : Answer = matches pattern (eval undecided ρ t) in (
+        let answer : Decision = matches pattern (eval undecided ρ t) in (
           branch tree (answer3 answer) b d,
           branch-typed answer j k,
           branch-flattens answer j k ∙ ap₂ (choose undecided answer) q m,

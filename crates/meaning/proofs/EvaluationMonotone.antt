@@ -16,7 +16,7 @@ use Rattle.meaning.specs.Values.{
   both-no-values,
   both-more-values,
 }
-use Rattle.meaning.specs.Matching.{Answer, Yes, No, Undecided, AnswerBelow}
+use Rattle.meaning.specs.Matching.{Decision, Yes, No, Undecided, DecisionBelow}
 use Rattle.meaning.specs.Elaboration.{
   Term,
   Elaborated,
@@ -63,21 +63,21 @@ iter-monotone F G f (suc k) v w r = f (iter F k v) (iter G k w) (iter-monotone F
 
 module _ (undecided : List ℕ → List ℕ → List ℕ) (law : Lawful undecided) where
   choose-undecided
-      : (a : Answer) {b v v′ w w′ : List ℕ} → Both b v v′ → Both b w w′
+      : (a : Decision) {b v v′ w w′ : List ℕ} → Both b v v′ → Both b w w′
       → Both b (undecided v w) (choose undecided a v′ w′)
   choose-undecided Yes r s = both-trans (law .below-then (both-lower r) (both-lower s)) r
   choose-undecided No r s = both-trans (law .below-else (both-lower r) (both-lower s)) s
   choose-undecided Undecided r s = law .monotone r s
 
   choose-decided
-      : (a : Answer) {b v v′ w w′ : List ℕ} → Both b v v′ → Both b w w′
+      : (a : Decision) {b v v′ w w′ : List ℕ} → Both b v v′ → Both b w w′
       → Both b (choose undecided a v w) (choose undecided a v′ w′)
   choose-decided Yes r s = r
   choose-decided No r s = s
   choose-decided Undecided r s = law .monotone r s
 
   choose-monotone
-      : {a a′ : Answer} {b v v′ w w′ : List ℕ} → AnswerBelow a a′ → Both b v v′ → Both b w w′
+      : {a a′ : Decision} {b v v′ w w′ : List ℕ} → DecisionBelow a a′ → Both b v v′ → Both b w w′
       → Both b (choose undecided a v w) (choose undecided a′ v′ w′)
   choose-monotone {a′} (inl p) r s = rw p (choose-undecided a′ r s)
   choose-monotone {a′} (inr p) r s = rw p (choose-decided a′ r s)

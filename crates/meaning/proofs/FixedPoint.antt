@@ -12,7 +12,7 @@ use mathlib.Core.List.{List, [], _∷_}
 use lib.Dec.{T, eqb, eqb→eq, eqb-refl}
 use lib.ListN.{replicate}
 use Rattle.meaning.specs.Values.{zeros, Both, both-none, both-leaf}
-use Rattle.meaning.specs.Evaluation.{iter, unchanged, counted}
+use Rattle.meaning.specs.Evaluation.{iter, unchanged, countedFrom}
 
 -- of two values in order the upper one is the same or has fewer undefined leaves
 zeros-under : (n : ℕ) (vs ws : List ℕ) → zeros ws < zeros vs → zeros (n ∷ ws) < zeros (n ∷ vs)
@@ -118,33 +118,33 @@ unchanged-refl (v ∷ vs) = go (eqb v v) (eqb-refl v) (unchanged-refl vs)
 abbrev step : Bool → ℕ → ℕ
 step x n = elim x [ true ↦ 0 | false ↦ suc n ]
 
-pub counted-most : (F : List ℕ → List ℕ) (k : ℕ) (v : List ℕ) → counted F k v ≤ k
+pub counted-most : (F : List ℕ → List ℕ) (k : ℕ) (v : List ℕ) → countedFrom F k v ≤ k
 counted-most F zero v = zero-le
 counted-most F (suc k) v = go (unchanged (F v) v) (counted-most F k (F v))
   where
-    go : (x : Bool) → counted F k (F v) ≤ k → step x (counted F k (F v)) ≤ suc k
+    go : (x : Bool) → countedFrom F k (F v) ≤ k → step x (countedFrom F k (F v)) ≤ suc k
     go true h = zero-le
     go false h = suc-le-suc h
 
-pub counted-reaches : (F : List ℕ → List ℕ) (k : ℕ) (v : List ℕ) → iter F (counted F k v) v ≡ iter F k v
+pub counted-reaches : (F : List ℕ → List ℕ) (k : ℕ) (v : List ℕ) → iter F (countedFrom F k v) v ≡ iter F k v
 counted-reaches F zero v = refl
 counted-reaches F (suc k) v = go (unchanged (F v) v) (unchanged-same (F v) v) (counted-reaches F k (F v))
   where
     go
-        : (x : Bool) → (T x → F v ≡ v) → iter F (counted F k (F v)) (F v) ≡ iter F k (F v)
-        → iter F (step x (counted F k (F v))) v ≡ F (iter F k v)
+        : (x : Bool) → (T x → F v ≡ v) → iter F (countedFrom F k (F v)) (F v) ≡ iter F k (F v)
+        → iter F (step x (countedFrom F k (F v))) v ≡ F (iter F k v)
     go true p q = sym (iter-fixed F (suc k) (p tt))
-    go false p q = sym (iter-inside F (counted F k (F v)) v) ∙ q ∙ iter-inside F k v
+    go false p q = sym (iter-inside F (countedFrom F k (F v)) v) ∙ q ∙ iter-inside F k v
 
 pub counted-changes
-    : (F : List ℕ → List ℕ) (k : ℕ) (v : List ℕ) (j : ℕ) → j < counted F k v → F (iter F j v) ≢ iter F j v
+    : (F : List ℕ → List ℕ) (k : ℕ) (v : List ℕ) (j : ℕ) → j < countedFrom F k v → F (iter F j v) ≢ iter F j v
 counted-changes F zero v j h = absurd (not-suc-le-zero h)
 counted-changes F (suc k) v j h = go (unchanged (F v) v) refl (counted-changes F k (F v)) j h
   where
     go
         : (x : Bool) → unchanged (F v) v ≡ x
-        → ((i : ℕ) → i < counted F k (F v) → F (iter F i (F v)) ≢ iter F i (F v))
-        → (i : ℕ) → i < step x (counted F k (F v)) → F (iter F i v) ≢ iter F i v
+        → ((i : ℕ) → i < countedFrom F k (F v) → F (iter F i (F v)) ≢ iter F i (F v))
+        → (i : ℕ) → i < step x (countedFrom F k (F v)) → F (iter F i v) ≢ iter F i v
     go true e q i l p = not-suc-le-zero l
     go false e q zero l p = subst T (ap (λ w. unchanged w v) (sym p) ∙ e) (unchanged-refl v)
     go false e q (suc i) l p = q i (le-of-suc-le-suc l) (ap F (iter-inside F i v) ∙ p ∙ sym (iter-inside F i v))

@@ -6,13 +6,13 @@ use mathlib.Core.Path.{_≡_, refl, sym, ap, ap₂, _∙_}
 use mathlib.Core.List.{List, _++_, head-eq-of-cons-eq}
 use lib.ListN.{take, drop, take-append-drop}
 use lib.Seq.{take-at, drop-at}
-use Rattle.picoella.specs.Types.{Ty, Flat, TyTuple, leaves, none, leaf, OfType}
+use Rattle.picoella.specs.Types.{Ty, Flat, TyTuple, leaves, within-none, within-leaf, OfType}
 use Rattle.meaning.specs.Constants.{ConstantTree, Cons, CoTuple, ConstantOf, of-cons, of-tuple, flatten}
 use Rattle.meaning.proofs.Order.{within-append, value-length, type-take, type-drop}
 
 -- onto values of the type
 pub flatten-typed : {τ : Ty} {c : ConstantTree} → ConstantOf τ c → OfType τ (flatten c)
-flatten-typed (of-cons h) = leaf h none
+flatten-typed (of-cons h) = within-leaf h within-none
 flatten-typed (of-tuple h k) = within-append (flatten-typed h) (flatten-typed k)
 
 pub flatten-first
@@ -35,7 +35,7 @@ flatten-one (of-tuple {σ} {c} {d} h k) (of-tuple {c = a} {d = b} i j) p =
 -- every value of the type is reached
 pub flatten-onto
     : (τ : Ty) {v : List ℕ} → OfType τ v → (c : ConstantTree) × ConstantOf τ c × (flatten c ≡ v)
-flatten-onto (Flat r n) (leaf {v} h none) = (Cons v r, of-cons h, refl)
+flatten-onto (Flat r n) (within-leaf {v} h within-none) = (Cons v r, of-cons h, refl)
 flatten-onto (TyTuple σ τ) {v} h =
     let (c, i, p) = flatten-onto σ (type-take σ τ h) in
     let (d, j, q) = flatten-onto τ (type-drop σ τ h) in

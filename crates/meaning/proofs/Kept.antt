@@ -10,7 +10,7 @@ use Rattle.meaning.specs.Elaboration.{Term, Elaborated}
 use Rattle.meaning.specs.Constants.{ConstantTree}
 use Rattle.meaning.specs.Undecided.{Lawful, Agreeing}
 use Rattle.meaning.specs.Evaluation.{eval, next}
-use Rattle.meaning.specs.Promises.{IterateEquations, Settles, Promises, AllPromises}
+use Rattle.meaning.specs.Promises.{IterateEquations, Settles, Promises, MeaningPromises}
 use Rattle.meaning.proofs.Order.{both-below, both-of}
 use Rattle.meaning.proofs.MatchMonotone.{match-monotone}
 use Rattle.meaning.proofs.EvaluationMonotone.{eval-monotone, eval-typed}
@@ -98,7 +98,7 @@ module _
           run-unique = λ l inputs cs ds e f g r s. reduces-seq-one tree r s;
         }
 
-pub kept : AllPromises
+pub kept : MeaningPromises
 kept =
     record {
       every-rule = kept-promises;

@@ -8,14 +8,14 @@ use lib.Dec.{eqb}
 use Rattle.picoella.specs.Types.{Ty}
 use Rattle.picoella.specs.Patterns.{Pattern, HasType, p-whole, p-constructor, p-parts, p-bar}
 use Rattle.meaning.specs.Matching.{
-  Answer,
+  Decision,
   Yes,
   No,
   Undecided,
   decided,
-  constructorAnswer,
-  pairAnswer,
-  chainAnswer,
+  constructorDecision,
+  pairDecision,
+  chainDecision,
   matches,
 }
 use Rattle.meaning.specs.Constants.{
@@ -38,11 +38,11 @@ decided-agrees : (b : Bool) → answer3 (decided b) ≡ bool3 b
 decided-agrees true = refl
 decided-agrees false = refl
 
-constructor-agrees : (k i : ℕ) → answer3 (constructorAnswer k i) ≡ matchConstructor k i
+constructor-agrees : (k i : ℕ) → answer3 (constructorDecision k i) ≡ matchConstructor k i
 constructor-agrees k zero = refl
 constructor-agrees k (suc i) = decided-agrees (eqb (suc i) k)
 
-pair-agrees : (a b : Answer) → answer3 (pairAnswer a b) ≡ and3 (answer3 a) (answer3 b)
+pair-agrees : (a b : Decision) → answer3 (pairDecision a b) ≡ and3 (answer3 a) (answer3 b)
 pair-agrees Yes Yes = refl
 pair-agrees Yes No = refl
 pair-agrees Yes Undecided = refl
@@ -51,7 +51,7 @@ pair-agrees Undecided Yes = refl
 pair-agrees Undecided No = refl
 pair-agrees Undecided Undecided = refl
 
-chain-agrees : (a b : Answer) → answer3 (chainAnswer a b) ≡ or3 (answer3 a) (answer3 b)
+chain-agrees : (a b : Decision) → answer3 (chainDecision a b) ≡ or3 (answer3 a) (answer3 b)
 chain-agrees Yes b = refl
 chain-agrees No Yes = refl
 chain-agrees No No = refl

@@ -7,7 +7,7 @@ use mathlib.Core.Path.{_≡_, refl, ap, _∙_}
 use mathlib.Core.Logic.{inl, inr}
 use mathlib.Core.List.{List, [], _∷_, _++_}
 use lib.ListN.{length, take, drop, replicate, length-append}
-use Rattle.picoella.specs.Types.{Ty, Flat, TyTuple, bounds, leaves, Within, none, leaf, OfType}
+use Rattle.picoella.specs.Types.{Ty, Flat, TyTuple, bounds, leaves, Within, within-none, within-leaf, OfType}
 use Rattle.meaning.specs.Values.{
   undefined,
   zeros,
@@ -22,24 +22,24 @@ use Rattle.meaning.specs.Values.{
 
 -- the halves, and the whole from its halves
 pub both-lower : {b v w : List ℕ} → Both b v w → Within b v
-both-lower both-none = none
-both-lower (both-leaf h k o r) = leaf h (both-lower r)
+both-lower both-none = within-none
+both-lower (both-leaf h k o r) = within-leaf h (both-lower r)
 
 pub both-upper : {b v w : List ℕ} → Both b v w → Within b w
-both-upper both-none = none
-both-upper (both-leaf h k o r) = leaf k (both-upper r)
+both-upper both-none = within-none
+both-upper (both-leaf h k o r) = within-leaf k (both-upper r)
 
 pub both-below : {b v w : List ℕ} → Both b v w → v ⊑ w
 both-below both-none = below-none
 both-below (both-leaf h k o r) = below-leaf o (both-below r)
 
 pub both-of : {b v w : List ℕ} → Within b v → Within b w → v ⊑ w → Both b v w
-both-of none none below-none = both-none
-both-of (leaf h r) (leaf k s) (below-leaf o q) = both-leaf h k o (both-of r s q)
+both-of within-none within-none below-none = both-none
+both-of (within-leaf h r) (within-leaf k s) (below-leaf o q) = both-leaf h k o (both-of r s q)
 
 pub both-refl : {b v : List ℕ} → Within b v → Both b v v
-both-refl none = both-none
-both-refl (leaf h r) = both-leaf h h (inr refl) (both-refl r)
+both-refl within-none = both-none
+both-refl (within-leaf h r) = both-leaf h h (inr refl) (both-refl r)
 
 leaf-trans : {x y z : ℕ} → LeafBelow x y → LeafBelow y z → LeafBelow x z
 leaf-trans (inl p) (inl q) = inl (cc)
@@ -53,8 +53,8 @@ both-trans (both-leaf h k o r) (both-leaf i j p s) = both-leaf h j (leaf-trans o
 
 -- lengths
 pub within-length : {b v : List ℕ} → Within b v → length v ≡ length b
-within-length none = refl
-within-length (leaf h r) = ap suc (within-length r)
+within-length within-none = refl
+within-length (within-leaf h r) = ap suc (within-length r)
 
 pub bounds-length : (τ : Ty) → length (bounds τ) ≡ leaves τ
 bounds-length (Flat r n) = refl
@@ -101,15 +101,15 @@ type-drop σ τ h = both-lower (both-drop σ τ (both-refl h))
 
 -- undefined is of its type, and at or below every value of it
 pub undefined-within : (b : List ℕ) → Within b (replicate (length b) 0)
-undefined-within [] = none
-undefined-within (n ∷ b) = leaf zero-le (undefined-within b)
+undefined-within [] = within-none
+undefined-within (n ∷ b) = within-leaf zero-le (undefined-within b)
 
 pub undefined-typed : (τ : Ty) → OfType τ (undefined τ)
 undefined-typed τ = rw (bounds-length τ) at (undefined-within (bounds τ))
 
 pub undefined-lowest : {b v : List ℕ} → Within b v → Both b (replicate (length b) 0) v
-undefined-lowest none = both-none
-undefined-lowest (leaf h r) = both-leaf zero-le h (inl refl) (undefined-lowest r)
+undefined-lowest within-none = both-none
+undefined-lowest (within-leaf h r) = both-leaf zero-le h (inl refl) (undefined-lowest r)
 
 pub undefined-below : (τ : Ty) {v : List ℕ} → OfType τ v → Both (bounds τ) (undefined τ) v
 undefined-below τ h = rw (bounds-length τ) at (undefined-lowest h)

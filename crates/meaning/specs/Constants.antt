@@ -9,7 +9,7 @@ use mathlib.Core.List.{List, [], _∷_, _++_}
 use lib.Dec.{eqb}
 use Rattle.picoella.specs.Types.{Ty, Flat, TyTuple}
 use Rattle.picoella.specs.Patterns.{Pattern, Whole, Constructor, Parts, Bar}
-use Rattle.meaning.specs.Matching.{Answer, Yes, No, Undecided}
+use Rattle.meaning.specs.Matching.{Decision, Yes, No, Undecided}
 
 pub data ConstantTree : Type 0 where
   Cons : (constructor type : ℕ) → ConstantTree
@@ -49,7 +49,7 @@ pub data Bool3 : Type 0 where
   tt3 ff3 uu3 : Bool3
 
 -- the answers of document 01 in 000's words
-abbrev pub answer3 : Answer → Bool3
+abbrev pub answer3 : Decision → Bool3
 answer3 Yes = tt3
 answer3 No = ff3
 answer3 Undecided = uu3

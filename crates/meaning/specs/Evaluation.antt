@@ -10,7 +10,7 @@ use lib.Dec.{eqb}
 use lib.ListN.{getD, take, drop}
 use Rattle.picoella.specs.Types.{Ty, leaves}
 use Rattle.meaning.specs.Values.{undefined}
-use Rattle.meaning.specs.Matching.{Answer, Yes, No, Undecided, matches}
+use Rattle.meaning.specs.Matching.{Decision, Yes, No, Undecided, matches}
 use Rattle.meaning.specs.Elaboration.{
   Term,
   Constant,
@@ -38,13 +38,13 @@ unchanged (v ∷ vs) (w ∷ ws) = eqb v w && unchanged vs ws
 
 -- The number of applications, counted from v, that reach a value that one more gives back unchanged, at most so many: one
 -- that only finds the value unchanged is not counted.
-abbrev pub counted : (List ℕ → List ℕ) → ℕ → List ℕ → ℕ
-counted F zero v = 0
-counted F (suc k) v = elim (unchanged (F v) v) [ true ↦ 0 | false ↦ suc (counted F k (F v)) ]
+abbrev pub countedFrom : (List ℕ → List ℕ) → ℕ → List ℕ → ℕ
+countedFrom F zero v = 0
+countedFrom F (suc k) v = elim (unchanged (F v) v) [ true ↦ 0 | false ↦ suc (countedFrom F k (F v)) ]
 
 module _ (undecided : List ℕ → List ℕ → List ℕ) where
   -- an IF: yes gives the then value, no the else value
-  abbrev pub choose : Answer → List ℕ → List ℕ → List ℕ
+  abbrev pub choose : Decision → List ℕ → List ℕ → List ℕ
   choose Yes v w = v
   choose No v w = w
   choose Undecided v w = undecided v w
@@ -76,7 +76,7 @@ module _ (undecided : List ℕ → List ℕ → List ℕ) where
 
   -- the applications that reach the feedback's value from undefined
   abbrev pub applications : List (List ℕ) → Ty → Term → ℕ
-  applications ρ σ t = counted (application ρ t) (leaves σ) (undefined σ)
+  applications ρ σ t = countedFrom (application ρ t) (leaves σ) (undefined σ)
 
   -- the term after the cycle: each delay holds its part's value from this cycle, in a feedback at the settled value
   unfoldable pub next : List (List ℕ) → Term → Term

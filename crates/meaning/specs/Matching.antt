@@ -12,48 +12,48 @@ use lib.ListN.{getD, take, drop}
 use Rattle.picoella.specs.Types.{leaves}
 use Rattle.picoella.specs.Patterns.{Pattern, Whole, Constructor, Parts, Bar}
 
-pub data Answer : Type 0 where
-  Yes No Undecided : Answer
+pub data Decision : Type 0 where
+  Yes No Undecided : Decision
 
 -- an answer is at or below another when it is undecided or the same (000: `le3`)
-abbrev pub AnswerBelow : Answer → Answer → Type 0
-AnswerBelow a b = (a ≡ Undecided) ⊎ (a ≡ b)
+abbrev pub DecisionBelow : Decision → Decision → Type 0
+DecisionBelow a b = (a ≡ Undecided) ⊎ (a ≡ b)
 
-abbrev pub decided : Bool → Answer
+abbrev pub decided : Bool → Decision
 decided true = Yes
 decided false = No
 
 -- constructor: undecided on 0, else yes or no
-abbrev pub constructorAnswer : (constructor leaf : ℕ) → Answer
-constructorAnswer k zero = Undecided
-constructorAnswer k (suc v) = decided (eqb (suc v) k)
+abbrev pub constructorDecision : (constructor leaf : ℕ) → Decision
+constructorDecision k zero = Undecided
+constructorDecision k (suc v) = decided (eqb (suc v) k)
 
 -- pair: no if either part says no, yes if both say yes, else undecided
-abbrev pub pairAnswer : Answer → Answer → Answer
-pairAnswer No b = No
-pairAnswer Yes b = b
-pairAnswer Undecided No = No
-pairAnswer Undecided Yes = Undecided
-pairAnswer Undecided Undecided = Undecided
+abbrev pub pairDecision : Decision → Decision → Decision
+pairDecision No b = No
+pairDecision Yes b = b
+pairDecision Undecided No = No
+pairDecision Undecided Yes = Undecided
+pairDecision Undecided Undecided = Undecided
 
 -- chain: yes if some alternative says yes, no if all say no, else undecided
-abbrev pub chainAnswer : Answer → Answer → Answer
-chainAnswer Yes b = Yes
-chainAnswer No b = b
-chainAnswer Undecided Yes = Yes
-chainAnswer Undecided No = Undecided
-chainAnswer Undecided Undecided = Undecided
+abbrev pub chainDecision : Decision → Decision → Decision
+chainDecision Yes b = Yes
+chainDecision No b = b
+chainDecision Undecided Yes = Yes
+chainDecision Undecided No = Undecided
+chainDecision Undecided Undecided = Undecided
 
 -- the number of leaves of the values that a pattern is for
-abbrev pub width : Pattern → ℕ
-width (Whole τ) = leaves τ
-width (Constructor r n k) = 1
-width (Parts p q) = width p + width q
-width (Bar p q) = width p
+abbrev pub patternWidth : Pattern → ℕ
+patternWidth (Whole τ) = leaves τ
+patternWidth (Constructor r n k) = 1
+patternWidth (Parts p q) = patternWidth p + patternWidth q
+patternWidth (Bar p q) = patternWidth p
 
 -- whole type: yes, also on undefined
-abbrev pub matches : Pattern → List ℕ → Answer
+abbrev pub matches : Pattern → List ℕ → Decision
 matches (Whole τ) v = Yes
-matches (Constructor r n k) v = constructorAnswer k (getD v 0 0)
-matches (Parts p q) v = pairAnswer (matches p (take (width p) v)) (matches q (drop (width p) v))
-matches (Bar p q) v = chainAnswer (matches p v) (matches q v)
+matches (Constructor r n k) v = constructorDecision k (getD v 0 0)
+matches (Parts p q) v = pairDecision (matches p (take (patternWidth p) v)) (matches q (drop (patternWidth p) v))
+matches (Bar p q) v = chainDecision (matches p v) (matches q v)

@@ -12,7 +12,7 @@ use Rattle.picoella.specs.Patterns.{Pattern, HasType}
 use Rattle.picoella.specs.Expressions.{Expr}
 use Rattle.picoella.specs.Typing.{Typed}
 use Rattle.meaning.specs.Values.{undefined, _⊑_, ValuesOf, BothValues, AllOf}
-use Rattle.meaning.specs.Matching.{matches, AnswerBelow}
+use Rattle.meaning.specs.Matching.{matches, DecisionBelow}
 use Rattle.meaning.specs.Elaboration.{Term, Feedback, Elaborated, erase, moved, frame}
 use Rattle.meaning.specs.Constants.{
   ConstantTree,
@@ -81,7 +81,7 @@ module _
     abbrev pub MatchMonotone : Type 0
     MatchMonotone =
         (p : Pattern) (τ : Ty) (v w : List ℕ)
-        → HasType p τ → OfType τ v → OfType τ w → v ⊑ w → AnswerBelow (matches p v) (matches p w)
+        → HasType p τ → OfType τ v → OfType τ w → v ⊑ w → DecisionBelow (matches p v) (matches p w)
 
     abbrev pub EvaluationMonotone : Type 0
     EvaluationMonotone =
@@ -204,7 +204,7 @@ abbrev pub UndefinedAgreeing : Type 0
 UndefinedAgreeing = Agreeing undefinedLeaves bottomOfThen
 
 -- all of them
-pub record AllPromises : Type 1 where
+pub record MeaningPromises : Type 1 where
   pub every-rule : (undecided : List ℕ → List ℕ → List ℕ)
       (law : Lawful undecided)
       (tree : ConstantTree → ConstantTree → ConstantTree)

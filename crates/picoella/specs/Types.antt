@@ -21,8 +21,8 @@ leaves (TyTuple σ τ) = leaves σ + leaves τ
 -- A value is its leaves. It is of a type when it has as many leaves as the type, each no greater than its flat type's count;
 -- 0 is undefined.
 pub data Within : List ℕ → List ℕ → Type 0 where
-  none : Within [] []
-  leaf : {n v : ℕ} {ns vs : List ℕ} → v ≤ n → Within ns vs → Within (n ∷ ns) (v ∷ vs)
+  within-none : Within [] []
+  within-leaf : {n v : ℕ} {ns vs : List ℕ} → v ≤ n → Within ns vs → Within (n ∷ ns) (v ∷ vs)
 
 abbrev pub OfType : Ty → List ℕ → Type 0
 OfType τ v = Within (bounds τ) v

@@ -13,7 +13,7 @@ use Rattle.records.specs.Kinds.{
   zeroed,
   nextOf,
   part,
-  inputType,
+  anyType,
   lowerType,
   lowerFlat,
   constructorOf,
@@ -31,13 +31,13 @@ use Rattle.records.specs.Says.{meets, higher, boundedBy}
 abbrev pub askBelow : ℕ → Ask
 askBelow a =
     cond (eqb a 0) zeroed
-    (cond (eqb a 1) inputType (cond (eqb a 2) lowerType (cond (eqb a 3) lowerFlat constructorOf)))
+    (cond (eqb a 1) anyType (cond (eqb a 2) lowerType (cond (eqb a 3) lowerFlat constructorOf)))
 
 below-five : (x : Ask) → askNumber x < 5 → x ≡ askBelow (askNumber x)
 below-five zeroed h = refl
 below-five (nextOf σ) h = absurd (omega arith)
 below-five (part σ) h = absurd (omega arith)
-below-five inputType h = refl
+below-five anyType h = refl
 below-five lowerType h = refl
 below-five lowerFlat h = refl
 below-five constructorOf h = refl
@@ -57,7 +57,7 @@ bounded-by-number : (s : List ℕ) (r w : ℕ) (x : Ask) → 5 ≤ askNumber x �
 bounded-by-number s r w zeroed h l = absurd (omega arith)
 bounded-by-number s r w (nextOf σ) h l = absurd (omega arith)
 bounded-by-number s r w (part σ) h l = absurd (omega arith)
-bounded-by-number s r w inputType h l = absurd (omega arith)
+bounded-by-number s r w anyType h l = absurd (omega arith)
 bounded-by-number s r w lowerType h l = absurd (omega arith)
 bounded-by-number s r w lowerFlat h l = absurd (omega arith)
 bounded-by-number s r w constructorOf h l = absurd (omega arith)
@@ -84,13 +84,13 @@ sort-below-six Sort.types = omega arith
 sort-below-six Sort.expressions = omega arith
 sort-below-six Sort.patterns = omega arith
 sort-below-six Sort.leafs = omega arith
-sort-below-six Sort.none = omega arith
+sort-below-six Sort.noSort = omega arith
 
 pub ranged : (x : Ask) → Ranged x
 ranged zeroed = small (omega arith)
 ranged (nextOf σ) = next σ refl (sort-below-six σ)
 ranged (part σ) = named σ refl
-ranged inputType = small (omega arith)
+ranged anyType = small (omega arith)
 ranged lowerType = small (omega arith)
 ranged lowerFlat = small (omega arith)
 ranged constructorOf = small (omega arith)

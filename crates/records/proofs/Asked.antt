@@ -23,7 +23,7 @@ use Rattle.records.specs.Kinds.{
   zeroed,
   nextOf,
   part,
-  inputType,
+  anyType,
   lowerType,
   lowerFlat,
   constructorOf,
@@ -66,7 +66,7 @@ abbrev pub Means : List ℕ → ℕ → Ask → ℕ → Type 0
 Means s r zeroed w = w ≡ 0
 Means s r (nextOf σ) w = 0 < w → (r < w) × (w < count s) × (sortAt s w ≡ σ)
 Means s r (part σ) w = (r < w) × (w < count s) × (sortAt s w ≡ σ)
-Means s r inputType w = (0 < w) × (w < count s) × (sortAt s w ≡ types)
+Means s r anyType w = (0 < w) × (w < count s) × (sortAt s w ≡ types)
 Means s r lowerType w = (w < r) × (sortAt s w ≡ types)
 Means s r lowerFlat w = (w < r) × (kindAt s w ≡ typeOf flat)
 Means s r constructorOf w = (0 < w) × (w ≤ wordA s (wordA s r))
@@ -95,7 +95,7 @@ pub means : (s : List ℕ) (r : ℕ) (a : Ask) (w : ℕ) → meets s r a w ≡ t
 means s r zeroed w e = eqb-true w 0 e
 means s r (nextOf σ) w e = next-is s r σ w e
 means s r (part σ) w e = higher-is s r σ w e
-means s r inputType w e = higher-is s 0 types w e
+means s r anyType w e = higher-is s 0 types w e
 means s r lowerType w e = (
   ltb-true w r (both-left (ltb w r) (sameSort (sortAt s w) types) e),
   same-sort (sortAt s w) types (both-right (ltb w r) (sameSort (sortAt s w) types) e),

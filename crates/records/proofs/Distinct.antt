@@ -18,7 +18,7 @@ use mathlib.Core.Path.{_≡_, refl}
 use mathlib.Core.Logic.{_⊎_, inl, inr}
 use native.Mathlib.Omega.{arith}
 use lib.Dec.{ltb}
-use Rattle.records.specs.Words.{word, count, next, wordA, wordB, wordC, wordD}
+use Rattle.records.specs.Words.{word, count, nextWord, wordA, wordB, wordC, wordD}
 use Rattle.records.specs.Kinds.{
   expression,
   ExpressionKind,
@@ -137,10 +137,10 @@ apart-both rs ls ks a b = λ x m n. go x m (List·Memᴰ·append-cases ls n)
 -- the rest of a chain
 rest-piece : {s : List ℕ} → Written s → (r : ℕ) → r < count s → sortAt s r ≡ leafs
     → ((q : ℕ) → r < q → q < count s → sortAt s q ≡ leafs → Only (Under s q) (chain s q))
-    → Below s r (follow [] (chain s) (next s r))
-rest-piece {s} w r h e above = go (next s r) refl
+    → Below s r (follow [] (chain s) (nextWord s r))
+rest-piece {s} w r h e above = go (nextWord s r) refl
   where
-    go : (n : ℕ) → next s r ≡ n → Below s r (follow [] (chain s) n)
+    go : (n : ℕ) → nextWord s r ≡ n → Below s r (follow [] (chain s) n)
     go zero q = record { distinct = tt; all = λ x m. elim m [ ] }
     go (suc n) q =
         let p = next-leaf w r h e (rw q (omega arith)) in
@@ -149,7 +149,7 @@ rest-piece {s} w r h e above = go (next s r) refl
         (record {
           named = next-names s r leaf leafs h (kind-of-sort leafs (kindAt s r) e) (unfold askOfKind in refl);
           higher = p .0;
-          only = above (next s r) (p .0) (p .1) (p .2);
+          only = above (nextWord s r) (p .0) (p .1) (p .2);
         }))
 
 pub chain-only : {s : List ℕ} → Written s → (r : ℕ) → r < count s → sortAt s r ≡ leafs → Only (Under s r) (chain s r)
@@ -157,7 +157,7 @@ chain-only {s} w = from-above (count s) (λ r. sortAt s r ≡ leafs → Only (Un
   where
     step : (r : ℕ) → r < count s → ((q : ℕ) → r < q → q < count s → sortAt s q ≡ leafs → Only (Under s q) (chain s q))
         → sortAt s r ≡ leafs → Only (Under s r) (chain s r)
-    step r h above e = rw (chain-of w r h e) (with-own true (follow [] (chain s) (next s r)) (rest-piece w r h e above))
+    step r h above e = rw (chain-of w r h e) (with-own true (follow [] (chain s) (nextWord s r)) (rest-piece w r h e above))
 
 -- a record with two pieces
 two : {s : List ℕ} {r j k : ℕ} {rs ls : List ℕ} → Written s → NamedOnce s → (x : Bool) → Piece s r j rs → Piece s r k ls

@@ -7,7 +7,7 @@ use mathlib.Core.List.{List}
 use mathlib.Core.Path.{_≡_, refl}
 use native.Mathlib.Omega.{arith}
 use lib.Dec.{ltb}
-use Rattle.records.specs.Words.{word, count, next, wordA, wordB}
+use Rattle.records.specs.Words.{word, count, nextWord, wordA, wordB}
 use Rattle.records.specs.Kinds.{
   Kind,
   typeOf,
@@ -139,8 +139,8 @@ grown-pattern {s} w = from-above (count s) (λ r. sortAt s r ≡ patterns → Gr
     step r h above e =
         let k = kind-of-sort patterns (kindAt s r) e in
         rw (alternatives-of w r h (pattern (k .0)) (k .1))
-        (pattern-step s (k .0) r (next s r) (wordA s r) (wordB s r)
-        (λ a some. let p = next-of-kind w r (pattern (k .0)) patterns h (k .1) a some in above (next s r) (p .0) (p .1) (p .2))
+        (pattern-step s (k .0) r (nextWord s r) (wordA s r) (wordB s r)
+        (λ a some. let p = next-of-kind w r (pattern (k .0)) patterns h (k .1) a some in above (nextWord s r) (p .0) (p .1) (p .2))
         (λ a. let p = part-of-kind w r (pattern (k .0)) patterns h (k .1) 2 refl a in above (wordA s r) (p .0) (p .1) (p .2))
         (λ a. let p = part-of-kind w r (pattern (k .0)) patterns h (k .1) 3 refl a in above (wordB s r) (p .0) (p .1) (p .2))
         (λ a. type-word w r (pattern (k .0)) h (k .1) 2 refl a)

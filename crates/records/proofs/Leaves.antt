@@ -17,7 +17,7 @@ use mathlib.Core.Path.{_≡_, refl}
 use mathlib.Core.Logic.{_⊎_, inl, inr}
 use native.Mathlib.Omega.{arith}
 use lib.Dec.{ltb}
-use Rattle.records.specs.Words.{word, count, next, wordB}
+use Rattle.records.specs.Words.{word, count, nextWord, wordB}
 use Rattle.records.specs.Kinds.{
   expression,
   ExpressionKind,
@@ -76,8 +76,8 @@ chain-leaves {s} w = from-above (count s) (λ r. sortAt s r ≡ leafs → AllLea
         → sortAt s r ≡ leafs → AllLeaves s (chain s r)
     step r h above e =
         rw (chain-of w r h e)
-        (all-cons s r (follow [] (chain s) (next s r)) (record { there = h; sort = e })
-        (followed s (next s r) (λ some. let p = next-leaf w r h e some in above (next s r) (p .0) (p .1) (p .2))))
+        (all-cons s r (follow [] (chain s) (nextWord s r)) (record { there = h; sort = e })
+        (followed s (nextWord s r) (λ some. let p = next-leaf w r h e some in above (nextWord s r) (p .0) (p .1) (p .2))))
 
 node-leaves : {s : List ℕ} (c d : Bool) (k : ExpressionKind) (r : ℕ) (words : ℕ → ℕ)
     → ((j : ℕ) → (ltb 0 j && ltb j 6) ≡ true → askOfKind (expression k) j ≡ part expressions

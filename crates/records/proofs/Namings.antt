@@ -29,7 +29,7 @@ use Rattle.records.specs.Kinds.{
   zeroed,
   nextOf,
   part,
-  inputType,
+  anyType,
   lowerType,
   lowerFlat,
   constructorOf,
@@ -126,7 +126,7 @@ named-higher : (s : List ℕ) (q w : ℕ) (a : Ask) → names a ≡ true → Mea
 named-higher s q w (nextOf σ) e m h = let f = m h in (f .0, f .1)
 named-higher s q w (part σ) e m h = (m .0, m .1)
 named-higher s q w zeroed e m h = absurd (never-both false e refl)
-named-higher s q w inputType e m h = absurd (never-both false e refl)
+named-higher s q w anyType e m h = absurd (never-both false e refl)
 named-higher s q w lowerType e m h = absurd (never-both false e refl)
 named-higher s q w lowerFlat e m h = absurd (never-both false e refl)
 named-higher s q w constructorOf e m h = absurd (never-both false e refl)

@@ -10,7 +10,7 @@ use mathlib.Core.Logic.{_⊎_, inl, inr}
 use native.Mathlib.Omega.{arith}
 use native.Mathlib.Decide.{ℕ-discrete}
 use lib.ListN.{length}
-use Rattle.records.specs.Words.{word, count, next, wordA, wordB, wordC, wordD}
+use Rattle.records.specs.Words.{word, count, nextWord, wordA, wordB, wordC, wordD}
 use Rattle.records.specs.Kinds.{
   Kind,
   header,
@@ -70,7 +70,7 @@ module _ (s s′ : List ℕ) (o : OnlyLeaves s s′) where
   pub same-kind : (r : ℕ) → kindAt s′ r ≡ kindAt s r
   same-kind r = ap kindOf (o .leaves r 0 (omega arith) (λ e. omega arith))
 
-  pub same-next : (r : ℕ) → next s′ r ≡ next s r
+  pub same-next : (r : ℕ) → nextWord s′ r ≡ nextWord s r
   same-next r = o .leaves r 1 (omega arith) (λ e. omega arith)
 
   -- a record is a leaf or has the same words

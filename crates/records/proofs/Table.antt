@@ -17,7 +17,7 @@ use Rattle.records.specs.Kinds.{
   expressions,
   patterns,
   leafs,
-  none,
+  noSort,
   TypeKind,
   flat,
   pair,
@@ -56,7 +56,7 @@ use Rattle.records.specs.Kinds.{
   askNumber,
   Row,
   row,
-  table,
+  kindRows,
   numberIn,
   kindIn,
   asksIn,
@@ -110,7 +110,7 @@ looked-up P (x ∷ xs) n all rest =
 asks-by-kind : (n : ℕ) → asksIn (rowOf n) ≡ asksIn (rowOf (numberOf (kindIn (rowOf n))))
 unfolding rowOf
 asks-by-kind n =
-    looked-up (λ x. asksIn x ≡ asksIn (rowOf (numberOf (kindIn x)))) table n
+    looked-up (λ x. asksIn x ≡ asksIn (rowOf (numberOf (kindIn x)))) kindRows n
     (refl, (refl, (refl, (refl, (refl, (refl, (refl, (refl, (refl, (refl, (refl, (refl, (refl, (refl, (refl, (refl, tt)))))))))))))))) refl
 
 ask-by-number : (n j : ℕ) → askOf n j ≡ askOfKind (kindOf n) j
@@ -141,7 +141,7 @@ no-flat e = absurd (false≢true e)
 pub constructor-of-flat : (n j : ℕ) → askOf n j ≡ constructorOf → askOf n 2 ≡ lowerFlat
 unfolding askOf asksConstructor
 constructor-of-flat n j e =
-    looked-up (λ x. some asksConstructor (asksIn x) ≡ true → getD (asksIn x) 2 zeroed ≡ lowerFlat) table n (
+    looked-up (λ x. some asksConstructor (asksIn x) ≡ true → getD (asksIn x) 2 zeroed ≡ lowerFlat) kindRows n (
       no-flat,
       (
         no-flat,
@@ -184,7 +184,7 @@ constructor-of-flat n j e =
     (some-at asksConstructor (asksIn (rowOf n)) j refl (rw e))
 
 sortWith : ℕ → Sort
-sortWith zero = none
+sortWith zero = noSort
 sortWith (suc zero) = headers
 sortWith (suc (suc zero)) = types
 sortWith (suc (suc (suc zero))) = expressions
@@ -193,7 +193,7 @@ sortWith (suc (suc (suc (suc (suc n))))) = leafs
 
 sort-with-number : (σ : Sort) → sortWith (sortNumber σ) ≡ σ
 unfolding sortWith
-sort-with-number none = refl
+sort-with-number noSort = refl
 sort-with-number headers = refl
 sort-with-number types = refl
 sort-with-number expressions = refl
@@ -236,7 +236,7 @@ OfSort types k = (t : TypeKind) × (k ≡ typeOf t)
 OfSort expressions k = (e : ExpressionKind) × (k ≡ expression e)
 OfSort patterns k = (p : PatternKind) × (k ≡ pattern p)
 OfSort leafs k = k ≡ leaf
-OfSort none k = k ≡ unknown
+OfSort noSort k = k ≡ unknown
 
 of-sort : (k : Kind) → OfSort (sortOf k) k
 of-sort header = refl

@@ -8,7 +8,7 @@ use mathlib.Core.List.{List, [], _∷_}
 use mathlib.Core.Path.{_≡_, refl, ap, ap₂, _∙_}
 use native.Mathlib.Omega.{arith}
 use lib.Dec.{ltb}
-use Rattle.records.specs.Words.{word, count, next, wordA, wordB, wordC, wordD}
+use Rattle.records.specs.Words.{word, count, nextWord, wordA, wordB, wordC, wordD}
 use Rattle.records.specs.Kinds.{
   Kind,
   header,
@@ -79,8 +79,8 @@ follow-agrees stop go other zero agree = refl
 follow-agrees stop go other (suc n) agree = agree (omega arith)
 
 -- the next of a leaf is a leaf
-pub next-leaf : {s : List ℕ} → Written s → (r : ℕ) → r < count s → sortAt s r ≡ leafs → 0 < next s r
-    → (r < next s r) × (next s r < count s) × (sortAt s (next s r) ≡ leafs)
+pub next-leaf : {s : List ℕ} → Written s → (r : ℕ) → r < count s → sortAt s r ≡ leafs → 0 < nextWord s r
+    → (r < nextWord s r) × (nextWord s r < count s) × (sortAt s (nextWord s r) ≡ leafs)
 next-leaf {s} w r h e = next-of-kind w r leaf leafs h (kind-of-sort leafs (kindAt s r) e) (unfold askOfKind in refl)
 
 chain-steps : {s : List ℕ} → Written s → (m n r : ℕ) → r < count s → sortAt s r ≡ leafs → count s ≤ m + r → count s ≤ n + r
@@ -90,12 +90,12 @@ chain-steps {s} w zero n r h e hm hn = absurd (omega arith)
 chain-steps {s} w (suc m) zero r h e hm hn = absurd (omega arith)
 chain-steps {s} w (suc m) (suc n) r h e hm hn =
     ap (_∷_ r)
-    (follow-agrees [] (chainWithin s m) (chainWithin s n) (next s r)
-    (λ some. let p = next-leaf w r h e some in chain-steps w m n (next s r) (p .1) (p .2) (omega arith) (omega arith)))
+    (follow-agrees [] (chainWithin s m) (chainWithin s n) (nextWord s r)
+    (λ some. let p = next-leaf w r h e some in chain-steps w m n (nextWord s r) (p .1) (p .2) (omega arith) (omega arith)))
 
 -- a chain is its first record and the chain of the next
 pub chain-of : {s : List ℕ} → Written s → (r : ℕ) → r < count s → sortAt s r ≡ leafs
-    → chain s r ≡ r ∷ follow [] (chain s) (next s r)
+    → chain s r ≡ r ∷ follow [] (chain s) (nextWord s r)
 unfolding chain chainWithin
 chain-of {s} w r h e = chain-steps w (count s) (suc (count s)) r h e (omega arith) (omega arith)
 
@@ -123,9 +123,9 @@ unfolding alternativesWithin
 alternatives-steps {s} w zero n r h hm hn = absurd (omega arith)
 alternatives-steps {s} w (suc m) zero r h hm hn = absurd (omega arith)
 alternatives-steps {s} w (suc m) (suc n) r h hm hn =
-    alternative-agrees (alternativesWithin s m) (alternativesWithin s n) (kindAt s r) r (next s r) (wordA s r) (wordB s r)
+    alternative-agrees (alternativesWithin s m) (alternativesWithin s n) (kindAt s r) r (nextWord s r) (wordA s r) (wordB s r)
     (λ a some. let p = next-of-kind w r (kindAt s r) patterns h refl a some in
-    alternatives-steps w m n (next s r) (p .1) (omega arith) (omega arith))
+    alternatives-steps w m n (nextWord s r) (p .1) (omega arith) (omega arith))
     (λ a. let p = part-of-kind w r (kindAt s r) patterns h refl 2 refl a in
     alternatives-steps w m n (wordA s r) (p .1) (omega arith) (omega arith))
     (λ a. let p = part-of-kind w r (kindAt s r) patterns h refl 3 refl a in
@@ -133,11 +133,11 @@ alternatives-steps {s} w (suc m) (suc n) r h hm hn =
 
 -- the alternatives from a record are by its kind, with those of its parts and its next; at a kind this computes
 pub alternatives-of : {s : List ℕ} → Written s → (r : ℕ) → r < count s → (k : Kind) → kindAt s r ≡ k
-    → alternatives s r ≡ alternativeStep (alternatives s) k r (next s r) (wordA s r) (wordB s r)
+    → alternatives s r ≡ alternativeStep (alternatives s) k r (nextWord s r) (wordA s r) (wordB s r)
 unfolding alternatives alternativesWithin
 alternatives-of {s} w r h k e =
     alternatives-steps w (count s) (suc (count s)) r h (omega arith) (omega arith)
-    ∙ ap (λ k. alternativeStep (alternativesWithin s (count s)) k r (next s r) (wordA s r) (wordB s r)) e
+    ∙ ap (λ k. alternativeStep (alternativesWithin s (count s)) k r (nextWord s r) (wordA s r) (wordB s r)) e
 
 tree-agrees : (s : List ℕ) (go other : ℕ → Tree) (k : Kind) (r : ℕ) (words : ℕ → ℕ)
     → ((j : ℕ) → (ltb 0 j && ltb j 6) ≡ true → askOfKind k j ≡ part expressions → go (words j) ≡ other (words j))

@@ -20,7 +20,7 @@ use Rattle.records.specs.Kinds.{
   zeroed,
   nextOf,
   part,
-  inputType,
+  anyType,
   lowerType,
   lowerFlat,
   constructorOf,
@@ -63,7 +63,7 @@ module _ (s s′ : List ℕ) (w : Written s) (o : OnlyLeaves s s′)
   meets-again r zeroed v bound e = e
   meets-again r (nextOf σ) v bound e = rw (same-higher r σ v) e
   meets-again r (part σ) v bound e = rw (same-higher r σ v) e
-  meets-again r inputType v bound e = rw (same-higher 0 types v) e
+  meets-again r anyType v bound e = rw (same-higher 0 types v) e
   meets-again r lowerType v bound e = rw (same-kind s s′ o v) e
   meets-again r lowerFlat v bound e = rw (same-kind s s′ o v) e
   meets-again r constructorOf v bound e = rw (bound refl) e

@@ -7,7 +7,7 @@ use lib.ListN.{getD}
 use lib.Dec.{eqb}
 
 pub data Sort : Type 0 where
-  headers types expressions patterns leafs none : Sort
+  headers types expressions patterns leafs noSort : Sort
 
 pub data TypeKind : Type 0 where
   flat pair : TypeKind
@@ -32,14 +32,14 @@ sortOf (typeOf k) = types
 sortOf (expression k) = expressions
 sortOf (pattern k) = patterns
 sortOf leaf = leafs
-sortOf unknown = none
+sortOf unknown = noSort
 
 -- What a word asks of the number in it.
 pub data Ask : Type 0 where
   zeroed : Ask  -- not mentioned for the kind: zero
   nextOf : Sort → Ask  -- zero, or a higher record of this sort, which it names
   part : Sort → Ask  -- a higher record of this sort, which it names
-  inputType : Ask  -- the header's a: any type record; it does not name it
+  anyType : Ask  -- the header's a: any type record; it does not name it
   lowerType : Ask  -- a type record with a lower number; it does not name it
   lowerFlat : Ask  -- a flat type's record with a lower number; it does not name it
   constructorOf : Ask  -- 1 up to the count of the flat type in word a
@@ -52,9 +52,9 @@ pub data Ask : Type 0 where
 pub data Row : Type 0 where
   row : (number : ℕ) (kind : Kind) (next a b c d : Ask) → Row
 
-pub table : List Row
-table =
-    row 1 header (part types) inputType (part expressions) total zeroed
+pub kindRows : List Row
+kindRows =
+    row 1 header (part types) anyType (part expressions) total zeroed
     ∷ row 16 (typeOf flat) (nextOf types) counted zeroed zeroed zeroed
     ∷ row 17 (typeOf pair) (nextOf types) lowerType lowerType zeroed zeroed
     ∷ row 32 (expression constant) zeroed lowerType (part leafs) zeroed zeroed
@@ -88,8 +88,8 @@ lookUp [] n = row n unknown never never never never never
 lookUp (x ∷ xs) n = cond (eqb (numberIn x) n) x (lookUp xs n)
 
 unfoldable pub rowOf : ℕ → Row
-unfolding table
-rowOf n = lookUp table n
+unfolding kindRows
+rowOf n = lookUp kindRows n
 
 unfoldable pub kindOf : ℕ → Kind
 unfolding rowOf
@@ -101,7 +101,7 @@ askOf n k = getD (asksIn (rowOf n)) k zeroed
 
 -- Numbers for sorts and asks, by which they are compared and by which the code's table holds them.
 abbrev pub sortNumber : Sort → ℕ
-sortNumber none = 0
+sortNumber noSort = 0
 sortNumber headers = 1
 sortNumber types = 2
 sortNumber expressions = 3
@@ -110,7 +110,7 @@ sortNumber leafs = 5
 
 abbrev pub askNumber : Ask → ℕ
 askNumber zeroed = 0
-askNumber inputType = 1
+askNumber anyType = 1
 askNumber lowerType = 2
 askNumber lowerFlat = 3
 askNumber constructorOf = 4

@@ -12,7 +12,7 @@ use Rattle.records.specs.Kinds.{
   zeroed,
   nextOf,
   part,
-  inputType,
+  anyType,
   lowerType,
   lowerFlat,
   constructorOf,
@@ -33,7 +33,7 @@ abbrev pub names : Ask → Bool
 names zeroed = false
 names (nextOf σ) = true
 names (part σ) = true
-names inputType = false
+names anyType = false
 names lowerType = false
 names lowerFlat = false
 names constructorOf = false

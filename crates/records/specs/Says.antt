@@ -15,7 +15,7 @@ use Rattle.records.specs.Kinds.{
   zeroed,
   nextOf,
   part,
-  inputType,
+  anyType,
   lowerType,
   lowerFlat,
   constructorOf,
@@ -52,7 +52,7 @@ abbrev pub meets : List ℕ → ℕ → Ask → ℕ → Bool
 meets s r zeroed w = eqb w 0
 meets s r (nextOf σ) w = eqb w 0 || higher s r σ w
 meets s r (part σ) w = higher s r σ w
-meets s r inputType w = higher s 0 types w
+meets s r anyType w = higher s 0 types w
 meets s r lowerType w = ltb w r && sameSort (sortAt s w) types
 meets s r lowerFlat w = ltb w r && isFlat (kindAt s w)
 meets s r constructorOf w = ltb 0 w && leb w (wordA s (wordA s r))

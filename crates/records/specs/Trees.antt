@@ -4,7 +4,7 @@
 -- the sort that is looked for, or the steps run out, the tree has `noExpression` or `noPattern` there, which no sheet has that passes codes 1 to 6.
 use Prim.Native.Nat.{ℕ, zero, suc}
 use mathlib.Core.List.{List, [], _∷_}
-use Rattle.records.specs.Words.{count, next, wordA, wordB, wordC, wordD}
+use Rattle.records.specs.Words.{count, nextWord, wordA, wordB, wordC, wordD}
 use Rattle.records.specs.Kinds.{
   Kind,
   header,
@@ -56,12 +56,12 @@ follow a go (suc r) = go (suc r)
 -- the records of a chain, from its first
 unfoldable pub chainWithin : List ℕ → ℕ → ℕ → List ℕ
 chainWithin s zero r = []
-chainWithin s (suc fuel) r = r ∷ follow [] (chainWithin s fuel) (next s r)
+chainWithin s (suc fuel) r = r ∷ follow [] (chainWithin s fuel) (nextWord s r)
 
 unfoldable pub chain : List ℕ → ℕ → List ℕ
 chain s r = chainWithin s (count s) r
 
-abbrev pub alternativeStep : (ℕ → Alternatives) → Kind → (r next a b : ℕ) → Alternatives
+abbrev pub alternativeStep : (ℕ → Alternatives) → Kind → (r nextWord a b : ℕ) → Alternatives
 alternativeStep go header r n a b = noPattern
 alternativeStep go (typeOf k) r n a b = noPattern
 alternativeStep go (expression k) r n a b = noPattern
@@ -74,7 +74,7 @@ alternativeStep go unknown r n a b = noPattern
 unfoldable pub alternativesWithin : List ℕ → ℕ → ℕ → Alternatives
 alternativesWithin s zero r = noPattern
 alternativesWithin s (suc fuel) r =
-    alternativeStep (alternativesWithin s fuel) (kindAt s r) r (next s r) (wordA s r) (wordB s r)
+    alternativeStep (alternativesWithin s fuel) (kindAt s r) r (nextWord s r) (wordA s r) (wordB s r)
 
 unfoldable pub alternatives : List ℕ → ℕ → Alternatives
 alternatives s r = alternativesWithin s (count s) r

@@ -15,8 +15,8 @@ word s r k = getD s (12 * r + 2 * k) 0 + 256 * getD s (12 * r + 2 * k + 1) 0
 abbrev pub kindWord : List ℕ → ℕ → ℕ
 kindWord s r = word s r 0
 
-abbrev pub next : List ℕ → ℕ → ℕ
-next s r = word s r 1
+abbrev pub nextWord : List ℕ → ℕ → ℕ
+nextWord s r = word s r 1
 
 abbrev pub wordA : List ℕ → ℕ → ℕ
 wordA s r = word s r 2

@@ -2,94 +2,36 @@
 ghost use Prim.Native.Nat.{_+_, _≤_, _<_};
 ghost use mathlib.Core.Path.{_≡_};
 ghost use lib.ListN.{length};
-ghost use Rattle.io.specs.Counts.{Counts};
+use answers::NO_FILE;
+use answers::PLACES;
+use answers::WRONG_OUTPUT;
+use files::flush;
+use files::read_named;
+use files::refuse;
+use files::replace;
 use libc::STDOUT_FILENO;
 use listing::put_cycles;
 use listing::put_lines;
-use listing::put_refused;
 use listing::put_type;
-use simulator::sheet_run;
-use typing::sheet_check;
+use simulator::run;
+use verdict::check;
 
-// The longest sheet and a byte more, so that a longer file is refused for its length and not cut.
-fn sheet_room() -> [u8; 49153]
+// The longest sheet and a byte more, and the longest output: 65,535 cycles of 64 leaves.
+const SHEET_ROOM: usize = 49153;
+
+const OUTPUT_ROOM: usize = 4194240;
+
+// A longer file is refused for its length and not cut.
+fn sheet_room() -> [u8; SHEET_ROOM]
     ensures { λ r. ⌜ 49153 ≡ length r ⌝ }
 {
-    [0; 49153]
+    [0; SHEET_ROOM]
 }
 
-// The longest output: 65,535 cycles of 64 leaves.
-fn output_room() -> [u8; 4194240]
+fn output_room() -> [u8; OUTPUT_ROOM]
     ensures { λ r. ⌜ 4194240 ≡ length r ⌝ }
 {
-    [0; 4194240]
-}
-
-// What reading gave: so many bytes, unless it failed.
-struct Got {
-    ok: bool,
-    n: usize,
-}
-
-// Reads once; 0 bytes at the file's end.
-fn read_some(fd: i32, buffer: &mut [u8]) -> Got
-    ensures { λ r. ⌜ r .n ≤ length (now (buffer .exit)) ⌝ }
-{
-    let got = libc::read(fd, buffer);
-    if got < 0 {
-        return Got { ok: false, n: 0 };
-    }
-    let n = io::count(got, buffer);
-    Got { ok: true, n }
-}
-
-// Reads a file to its end, or until the buffer is full.
-fn read_file(fd: i32, buffer: &mut [u8]) -> Got
-    ensures { λ r. ⌜ Counts (r .n) (now (buffer .exit)) ⌝ }
-{
-    let mut n = 0;
-    while n < buffer.len() {
-        let got = read_some(fd, &mut buffer[n..]);
-        if !got.ok {
-            return Got { ok: false, n: 0 };
-        }
-        if got.n == 0 {
-            return Got { ok: true, n };
-        }
-        n += got.n;
-    }
-    Got { ok: true, n }
-}
-
-// Opens a file and reads it.
-fn read_named(path: &[u8], buffer: &mut [u8]) -> Got
-    ensures { λ r. ⌜ Counts (r .n) (now (buffer .exit)) ⌝ }
-{
-    let fd = os::open_read(path);
-    if fd < 0 {
-        return Got { ok: false, n: 0 };
-    }
-    let got = read_file(fd, buffer);
-    libc::close(fd);
-    got
-}
-
-fn refuse(code: u64, place: u64) {
-    let mut line = [0u8; 280];
-    let end = put_refused(&mut line, 0, code, place);
-    io::write_all(STDOUT_FILENO, &line[0..end]);
-}
-
-// Writes out the text before `at` where a line more might not fit, and gives the place for the next one.
-fn flush(buffer: &[u8], at: usize) -> usize
-    requires { ⌜ (280 ≤ length (now buffer)) × (at ≤ length (now buffer)) ⌝ }
-    ensures { λ r. ⌜ r + 280 ≤ length (now (buffer .entry)) ⌝ }
-{
-    if 280 <= buffer.len() - at {
-        return at;
-    }
-    io::write_all(STDOUT_FILENO, &buffer[0..at]);
-    0
+    [0; OUTPUT_ROOM]
 }
 
 // Prints what stands before `start`, the lines of all cycles and their count.
@@ -119,16 +61,6 @@ fn print_listing(t: u64, w: usize, outputs: &[u8])
     print_cycles(&mut buffer, start, w, outputs);
 }
 
-// Replaces next.bin. Where that can't be done, nothing more is: the listing is printed already.
-fn write_next(next: &[u8]) {
-    let fd = os::open_overwrite(b"next.bin");
-    if fd < 0 {
-        return;
-    }
-    io::write_all(fd, next);
-    libc::close(fd);
-}
-
 // The leaves of a cycle, from those of all. By the run's promise there are 1 to 64, and the tests change nothing.
 fn width(all: usize, cycles: usize) -> usize
     ensures { λ r. ⌜ (0 < r) × (r ≤ 64) ⌝ }
@@ -148,41 +80,42 @@ fn width(all: usize, cycles: usize) -> usize
 
 // Runs with slices of the right lengths.
 fn run_into(sheet: &[u8], stim: &[u8], output: &mut [u8], next: &mut [u8]) {
-    let answer = sheet_run(sheet, stim, output, next);
-    let place = answer % 4294967296;
-    if answer / 4294967296 != 0 {
-        refuse(answer / 4294967296, place);
+    let answer = run(sheet, stim, output, next);
+    let place = answer % PLACES;
+    if answer / PLACES != 0 {
+        refuse(answer / PLACES, place);
         return;
     }
     print_listing(
-        sheet_check(sheet) % 4294967296,
+        check(sheet) % PLACES,
         width(output.len(), place as usize),
         output,
     );
-    write_next(next);
+    // where next.bin can't be written, nothing more is done: the listing is printed already
+    replace(b"next.bin", next);
 }
 
 // The answer where there is no room for outputs: a refusal, which by code 10 gives the length that they need.
 fn ask(sheet: &[u8], stim: &[u8]) -> u64 {
     let mut output = [0u8; 1];
     let mut next = [0u8; 1];
-    sheet_run(sheet, stim, &mut output[0..0], &mut next[0..0])
+    run(sheet, stim, &mut output[0..0], &mut next[0..0])
 }
 
-fn run(sheet: &[u8], stim: &[u8])
+fn run_files(sheet: &[u8], stim: &[u8])
     requires { ⌜ length (now sheet) ≤ 49153 ⌝ }
 {
     let asked = ask(sheet, stim);
-    let code = asked / 4294967296;
-    let place = asked % 4294967296;
+    let code = asked / PLACES;
+    let place = asked % PLACES;
     let needed = place as usize;
     let length = sheet.len();
-    if code != 10 {
+    if code != WRONG_OUTPUT {
         refuse(code, place);
         return;
     }
     // by the run's promise there is always room
-    if 4194240 < needed {
+    if OUTPUT_ROOM < needed {
         refuse(code, place);
         return;
     }
@@ -196,15 +129,15 @@ fn main() {
     let mut stim = io::large_buffer();
     let sheet_got = read_named(b"sheet.bin", &mut sheet);
     if !sheet_got.ok {
-        refuse(12, 1);
+        refuse(NO_FILE, 1);
         return;
     }
     let stim_got = read_named(b"stim.bin", &mut stim);
     if !stim_got.ok {
-        refuse(12, 2);
+        refuse(NO_FILE, 2);
         return;
     }
     let n = sheet_got.n;
     let m = stim_got.n;
-    run(&sheet[..n], &stim[..m]);
+    run_files(&sheet[..n], &stim[..m]);
 }

@@ -15,25 +15,25 @@ use Rattle.records.specs.TypeRecords.{typeAt}
 use Rattle.records.specs.Rewritten.{OnlyLeaves}
 use Rattle.records.proofs.Rewritten.{same-type}
 use Rattle.records.proofs.Types.{few-leaves, some-leaves}
-use Rattle.layout.proofs.Passes.{types-fit}
-use Rattle.typing.proofs.Exact.{exact}
-use Rattle.typing.specs.Verdict.{verdict}
-use Rattle.typing.specs.declared.Verdict.the-variants.{Accepted}
+use Rattle.accepted.proofs.Laws.{types-fit}
+use Rattle.accepted.proofs.Laws.{exact}
+use Rattle.verdict.specs.Verdict.{verdict}
+use Rattle.verdict.specs.declared.Verdict.the-variants.{Accepted}
 use Rattle.meaning.specs.Values.{AllOf}
 use Rattle.meaning.specs.Undecided.{undefinedLeaves}
 use Rattle.meaning.proofs.UndefinedLeavesLawful.{undefined-lawful}
 use Rattle.meaning.proofs.Order.{value-length}
-use Rattle.cycles.specs.Sheets.{OnlyDelays}
-use Rattle.cycles.specs.Cycle.{output, after}
-use Rattle.cycles.proofs.Cycle.{output-typed}
-use Rattle.cycles.proofs.Sheets.{only-leaves, header-same, accepted-written}
-use Rattle.runs.specs.Stimulus.{inputType, endToEnd, cycles}
-use Rattle.runs.specs.Run.{outputsBy, sheetBefore}
-use Rattle.runs.proofs.Stimulus.{stimulus-whole, cycles-typed, cycles-counted, cycle-at}
-use Rattle.runs.proofs.Run.{sheet-last, sheet-first, sheet-next, output-at, outputs-counted, sheet-accepted, sheet-only-delays}
-use Rattle.runs.proofs.Afterwards.{all-at}
+use Rattle.behaviour.specs.Sheets.{OnlyDelays}
+use Rattle.behaviour.specs.Cycle.{output, sheetAfterCycle}
+use Rattle.behaviour.proofs.Cycle.{output-typed}
+use Rattle.behaviour.proofs.Sheets.{only-leaves, header-same, accepted-written}
+use Rattle.stimulus.specs.Stimulus.{inputType, endToEnd, cycles}
+use Rattle.behaviour.specs.Run.{outputsBy, sheetBefore}
+use Rattle.stimulus.proofs.Stimulus.{stimulus-whole, cycles-typed, cycles-counted, cycle-at}
+use Rattle.behaviour.proofs.Run.{sheet-last, sheet-first, sheet-next, output-at, outputs-counted, sheet-accepted, sheet-only-delays}
+use Rattle.behaviour.proofs.Afterwards.{all-at}
 use Rattle.stepper.specs.Cycling.{Cycling, Cycled}
-use Rattle.simulator.specs.Running.{Lending, Lent, Running, Ran}
+use Rattle.simulator.specs.Running.{Lending, Lent, RunningCycles, RanCycles}
 
 -- a part from a, of b bytes
 pub from-there : (a b : ℕ) → a + b - a ≡ b
@@ -75,7 +75,7 @@ pub record Before (s stim : List ℕ) (wi wo count : ℕ) (out₀ : List ℕ) (k
   pub outputs : take at out ≡ endToEnd (take k (outputsBy undefinedLeaves s (cycles s stim)))
 
 module _ (s : List ℕ) (n : ℕ) (W stim : List ℕ) (wi wo count : ℕ) (current₀ out₀ : List ℕ)
-    (r : Running s n W stim wi wo count current₀ out₀)
+    (r : RunningCycles s n W stim wi wo count current₀ out₀)
   where
     inputs-typed : AllOf (inputType s) (cycles s stim)
     inputs-typed = cycles-typed s stim (r .whole) (r .fitting)
@@ -255,7 +255,7 @@ module _ (s : List ℕ) (n : ℕ) (W stim : List ℕ) (wi wo count : ℕ) (curre
         ∙ ap length (sym (r .start))
 
     pub ended : (k from at : ℕ) (env held current out : List ℕ) → Before s stim wi wo count out₀ k from at env held current out → count ≤ k
-        → Ran s stim current out
+        → RanCycles s stim current out
     ended k from at env held current out b h =
         let f = b .few in
         let e : k ≡ count = omega arith in

@@ -15,28 +15,28 @@ use Rattle.records.specs.Kinds.{rowOf, kindOf, expression, feedback, leafs, pat
 use Rattle.records.specs.Says.{kindAt, sortAt}
 use Rattle.records.specs.TypeRecords.{typeWithin, typeAt, TypeRecord}
 use Rattle.records.specs.Trees.{chainWithin, chain, alternativesWithin, alternatives}
-use Rattle.layout.specs.Passes.{Passes}
-use Rattle.layout.proofs.Passes.{written}
-use Rattle.judging.specs.Judgements.{patternFits}
-use Rattle.typing.specs.Verdict.{inputs}
+use Rattle.structure.specs.Passes.{Passes}
+use Rattle.accepted.proofs.Laws.{written}
+use Rattle.typing.specs.Judgements.{patternFits}
+use Rattle.verdict.specs.Verdict.{inputs}
 use Rattle.accepted.proofs.Requirements.{widths}
 use Rattle.accepted.proofs.Requirements as Requirements
-use Rattle.runs.specs.Stimulus.{inputLeaves, cycleCount}
-use Rattle.runs.specs.Afterwards.{WellFormed}
-use Rattle.runs.specs.Bench.{toggle}
-use Rattle.runs.proofs.Stimulus.{stimulus-whole}
-use Rattle.runs.proofs.Witness.{ones, room, lent, toggle-formed}
+use Rattle.stimulus.specs.Stimulus.{inputLeaves, cycleCount}
+use Rattle.behaviour.specs.Afterwards.{WellFormed}
+use Rattle.behaviour.specs.Bench.{toggle}
+use Rattle.stimulus.proofs.Stimulus.{stimulus-whole}
+use Rattle.behaviour.proofs.Witness.{ones, room, lent, toggle-formed}
 use Rattle.values.specs.Chained.{Chained}
-use Rattle.values.specs.Matchings.{Matched}
+use Rattle.values.specs.Matchings.{Matching}
 use Rattle.values.specs.Slots.{entered}
-use Rattle.evaluator.specs.Evaluating.{Ready, Settling}
+use Rattle.evaluator.specs.Evaluating.{EvaluatingIn, SettlingIn}
 use Rattle.evaluator.proofs.Frames.{zeros-long}
 use Rattle.evaluator.proofs.Feedbacks.{feedback-settling}
 use Rattle.stepper.specs.Cycling.{Copying, Cycling}
 use Rattle.stepper.proofs.Cycling.{root-ready, copying}
-use Rattle.simulator.specs.Running.{Lending, Running}
+use Rattle.simulator.specs.Running.{Lending, RunningCycles}
 use Rattle.simulator.proofs.Running.{at-first, lending}
-use Rattle.simulator.proofs.Calls.{call-passes, call-records}
+use Rattle.accepted.proofs.Small.{accepted-passes, accepted-records}
 
 abbrev names : List ℕ
 names = replicate 4096 0
@@ -44,15 +44,15 @@ names = replicate 4096 0
 -- a well-formed call
 module _ (s stim out next : List ℕ) (t : ℕ) (h : WellFormed s stim out next t) where
   passes : Passes s
-  passes = call-passes s t (h .accepted)
+  passes = accepted-passes s t (h .accepted)
 
   full : length s ≡ 12 * count s
-  full = call-records s t (h .accepted)
+  full = accepted-records s t (h .accepted)
 
   abbrev table : List ℕ
   table = widths s passes full .0
 
-  running : Running s (count s) table stim (inputLeaves s) (leaves (typeAt s t)) (cycleCount s stim) s out
+  running : RunningCycles s (count s) table stim (inputLeaves s) (leaves (typeAt s t)) (cycleCount s stim) s out
   running =
       record {
         sized = Requirements.sized s passes full;
@@ -95,7 +95,7 @@ module _ (s stim out next : List ℕ) (t : ℕ) (h : WellFormed s stim out next 
   first-copying : Copying s (count s) s
   first-copying = copying s (count s) table names names input s part first-cycling
 
-  first-ready : Ready s (count s) table (entered 0 input names) 1 (wordB s 0) part (inputs s)
+  first-ready : EvaluatingIn s (count s) table (entered 0 input names) 1 (wordB s 0) part (inputs s)
   first-ready = root-ready s (count s) table names names input s part first-cycling (wordB s 0) refl (entered 0 input names) refl
 
   -- where the root is a feedback
@@ -103,7 +103,7 @@ module _ (s stim out next : List ℕ) (t : ℕ) (h : WellFormed s stim out next 
   started = entered 1 (take (getD table (word s (wordB s 0) 3) 0 - 0) (replicate 64 0)) (entered 0 input names)
 
   settling : kindAt s (wordB s 0) ≡ expression feedback
-      → Settling s (count s) table started 1 (word s (wordB s 0) 3) (take (getD table (word s (wordB s 0) 3) 0 - 0) (replicate 64 0))
+      → SettlingIn s (count s) table started 1 (word s (wordB s 0) 3) (take (getD table (word s (wordB s 0) 3) 0 - 0) (replicate 64 0))
       (wordA s (wordB s 0)) (inputs s)
   settling e =
       feedback-settling s (count s) table (entered 0 input names) 1 (wordB s 0) part (inputs s) first-ready e (word s (wordB s 0) 3)
@@ -115,7 +115,7 @@ module _ (s stim out next : List ℕ) (t : ℕ) (h : WellFormed s stim out next 
       record { sized = Requirements.sized s passes full; written = written passes; there = k; sort = e; many = refl }
 
   matched : (p u : ℕ) (v : List ℕ) → p < count s → sortAt s p ≡ patterns → TypeRecord s u → patternFits s (alternatives s p) u ≡ true
-      → length v ≡ leaves (typeAt s u) → Matched s (count s) table p v
+      → length v ≡ leaves (typeAt s u) → Matching s (count s) table p v
   matched p u v k e typed f l =
       record {
         type = u;
@@ -127,7 +127,7 @@ module _ (s stim out next : List ℕ) (t : ℕ) (h : WellFormed s stim out next 
 
 -- sheet T
 toggle-running
-    : Running toggle (count toggle) (table toggle ones room lent 1 toggle-formed) ones (inputLeaves toggle) (leaves (typeAt toggle 1))
+    : RunningCycles toggle (count toggle) (table toggle ones room lent 1 toggle-formed) ones (inputLeaves toggle) (leaves (typeAt toggle 1))
     (cycleCount toggle ones) toggle room
 toggle-running = running toggle ones room lent 1 toggle-formed
 
@@ -145,12 +145,12 @@ toggle-copying : Copying toggle (count toggle) toggle
 toggle-copying = first-copying toggle ones room lent 1 toggle-formed
 
 toggle-ready
-    : Ready toggle (count toggle) (table toggle ones room lent 1 toggle-formed) (entered 0 (input toggle ones room lent 1 toggle-formed) names) 1
+    : EvaluatingIn toggle (count toggle) (table toggle ones room lent 1 toggle-formed) (entered 0 (input toggle ones room lent 1 toggle-formed) names) 1
     (wordB toggle 0) (part toggle ones room lent 1 toggle-formed) (inputs toggle)
 toggle-ready = first-ready toggle ones room lent 1 toggle-formed
 
 toggle-settling
-    : Settling toggle (count toggle) (table toggle ones room lent 1 toggle-formed) (started toggle ones room lent 1 toggle-formed) 1
+    : SettlingIn toggle (count toggle) (table toggle ones room lent 1 toggle-formed) (started toggle ones room lent 1 toggle-formed) 1
     (word toggle (wordB toggle 0) 3)
     (take (getD (table toggle ones room lent 1 toggle-formed) (word toggle (wordB toggle 0) 3) 0 - 0) (replicate 64 0))
     (wordA toggle (wordB toggle 0)) (inputs toggle)
@@ -161,7 +161,7 @@ toggle-chained : Chained toggle (count toggle) 4 1
 unfolding count word kindOf rowOf chain chainWithin
 toggle-chained = chained toggle ones room lent 1 toggle-formed 4 (omega arith) refl
 
-toggle-matched : Matched toggle (count toggle) (table toggle ones room lent 1 toggle-formed) 7 (1 ∷ [])
+toggle-matched : Matching toggle (count toggle) (table toggle ones room lent 1 toggle-formed) 7 (1 ∷ [])
 unfolding count word kindOf rowOf alternatives alternativesWithin typeAt typeWithin
 toggle-matched =
     matched toggle ones room lent 1 toggle-formed 7 1 (1 ∷ []) (omega arith) refl

@@ -1,34 +1,25 @@
 -- The run of an accepted sheet: its stimulus held against the leaves' counts, one cycle lent its parts of the slices, all cycles, and
 -- the call as a whole.
-use Prim.Native.Nat.{ℕ, _+_, _*_, _%_, _≤_}
+use Prim.Native.Nat.{ℕ, _+_, _*_, _≤_}
 use mathlib.Core.Path.{_≡_}
-use mathlib.Core.Bool.{Bool, false, not, _||_}
+use mathlib.Core.Bool.{false}
 use mathlib.Core.List.{List, _++_}
 use mathlib.Core.Option.{none}
-use lib.Dec.{eqb, ltb}
-use lib.ListN.{length, getD, take, drop}
+use lib.ListN.{length, take, drop}
 use Rattle.picoella.specs.Types.{leaves}
 use Rattle.records.specs.Sized.{Sized}
 use Rattle.records.specs.TypeRecords.{typeAt}
-use Rattle.layout.specs.Lowest.{lowest}
-use Rattle.typing.specs.Verdict.{verdict}
-use Rattle.typing.specs.Widths.{Widths}
-use Rattle.typing.specs.declared.Verdict.the-variants.{Accepted}
+use Rattle.answers.specs.Lowest.{lowest}
+use Rattle.verdict.specs.Verdict.{verdict}
+use Rattle.verdict.specs.Widths.{Widths}
+use Rattle.verdict.specs.declared.Verdict.the-variants.{Accepted}
 use Rattle.meaning.specs.Undecided.{undefinedLeaves}
-use Rattle.cycles.specs.Sheets.{Bytes}
-use Rattle.cycles.specs.Cycle.{output, after}
-use Rattle.runs.specs.Stimulus.{inputLeaves, cycleCount, endToEnd, cycles, wrongStimulus, wrongByte}
-use Rattle.runs.specs.Run.{outputsBy, sheetAfter, Gives}
-use Rattle.runs.specs.Afterwards.{WellFormed, Afterwards}
+use Rattle.behaviour.specs.Sheets.{Bytes}
+use Rattle.behaviour.specs.Cycle.{output, sheetAfterCycle}
+use Rattle.stimulus.specs.Stimulus.{inputLeaves, cycleCount, endToEnd, cycles, wrongStimulus, wrongByte}
+use Rattle.behaviour.specs.Run.{outputsBy, sheetAfter, Gives}
+use Rattle.behaviour.specs.Afterwards.{WellFormed, Afterwards}
 use Rattle.stepper.specs.Cycling.{Cycling}
-
--- a stimulus of so many bytes is refused, where a cycle takes w
-abbrev pub notWhole : (all w : ℕ) → Bool
-notWhole all w = eqb all 0 || (ltb 65535 all || not (eqb (all % w) 0))
-
--- byte i of a stimulus is above its leaf's count
-abbrev pub above : (bounds stimulus : List ℕ) → ℕ → Bool
-above bs stim i = ltb (getD bs (i % length bs) 0) (getD stim i 0)
 
 -- one cycle is lent its parts of the stimulus, from `from`, and of the output, from `at`
 pub record Lending
@@ -49,12 +40,12 @@ pub record Lending
 -- and fills only that
 pub record Lent (stim : List ℕ) (from wi : ℕ) (current out : List ℕ) (at wo : ℕ) (env′ held′ current′ out′ : List ℕ) : Type 0 where
   pub filled : out′ ≡ take at out ++ (output current (take wi (drop from stim)) ++ drop (at + wo) out)
-  pub next : current′ ≡ after current (take wi (drop from stim))
+  pub next : current′ ≡ sheetAfterCycle current (take wi (drop from stim))
   pub wide : length env′ ≡ 4096
   pub long : length held′ ≡ 4096
 
 -- all cycles are run, into slices of the right lengths; `current` begins as the sheet
-pub record Running (s : List ℕ) (n : ℕ) (widths stim : List ℕ) (wi wo count : ℕ) (current out : List ℕ) : Type 0 where
+pub record RunningCycles (s : List ℕ) (n : ℕ) (widths stim : List ℕ) (wi wo count : ℕ) (current out : List ℕ) : Type 0 where
   pub sized : Sized s n
   pub type : ℕ
   pub accepted : verdict s ≡ Accepted type
@@ -67,12 +58,18 @@ pub record Running (s : List ℕ) (n : ℕ) (widths stim : List ℕ) (wi wo coun
   pub room : length out ≡ count * wo
   pub start : current ≡ s
 
-pub record Ran (s stim current′ out′ : List ℕ) : Type 0 where
+pub record RanCycles (s stim current′ out′ : List ℕ) : Type 0 where
   pub outputs : out′ ≡ endToEnd (outputsBy undefinedLeaves s (cycles s stim))
   pub next : current′ ≡ sheetAfter undefinedLeaves s (cycles s stim)
 
+-- an accepted sheet with output type t is run, with the table that the check filled
+pub record RunningAccepted (s : List ℕ) (n : ℕ) (widths : List ℕ) (t : ℕ) : Type 0 where
+  pub sized : Sized s n
+  pub accepted : verdict s ≡ Accepted t
+  pub table : Widths s widths
+
 -- the call: what it gives, and demand 3; the sheet handed in is one of bytes, and so, by demand 3, is each after it
-pub record Runs (sheet stimulus out next : List ℕ) (result : ℕ) (out′ next′ : List ℕ) : Type 0 where
+pub record Ran (sheet stimulus out next : List ℕ) (result : ℕ) (out′ next′ : List ℕ) : Type 0 where
   pub gives : Gives sheet stimulus out next result out′ next′
   pub bytes : Bytes sheet
   pub afterwards : (t : ℕ) → WellFormed sheet stimulus out next t → Afterwards sheet stimulus t result out′ next′

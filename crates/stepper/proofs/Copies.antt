@@ -10,7 +10,7 @@ use lib.Dec.{eqb}
 use borrow.Author.Tests.{eqb-true}
 use lib.Seq.{lt-length-set}
 use lib.ListN.{length, getD, set, length-set}
-use Rattle.records.specs.Words.{count, next, word, wordB}
+use Rattle.records.specs.Words.{count, nextWord, word, wordB}
 use Rattle.records.specs.Kinds.{
   Kind,
   header,
@@ -38,8 +38,8 @@ use Rattle.records.proofs.Trees.{chain-of, next-leaf}
 use Rattle.records.proofs.Table.{askOfKind}
 use Rattle.records.proofs.Asked.{past-header, part-of-kind}
 use Rattle.values.proofs.Matches.{left, left-falls}
-use Rattle.cycles.specs.Sheets.{putWord}
-use Rattle.cycles.specs.Copies.{copied, leavesOf, delayChains}
+use Rattle.behaviour.specs.Sheets.{putWord}
+use Rattle.behaviour.specs.Copies.{copied, leavesOf, delayChains}
 use Rattle.stepper.specs.Cycling.{Copying}
 
 abbrev isDelay : Kind → Bool
@@ -103,13 +103,13 @@ module _ (s : List ℕ) (n : ℕ) (before h : List ℕ) (g : Copying s n before)
     pub high-byte : 12 * l + 4 + 1 < length (set now (12 * l + 4) (getD h l 0))
     high-byte = lt-length-set now (12 * l + 4) (getD h l 0) leaf-bytes
 
-    pub next-left : (x : ℕ) → x ≡ next s l
+    pub next-left : (x : ℕ) → x ≡ nextWord s l
         → Left s h all before x (set (set now (12 * l + 4) (getD h l 0)) (12 * l + 4 + 1) 0)
     next-left x ex =
         record {
           long = length-set (set now (12 * l + 4) (getD h l 0)) (12 * l + 4 + 1) 0 ∙ length-set now (12 * l + 4) (getD h l 0) ∙ r .long;
-          there = rw ex (go (next s l) refl .0);
-          sort = λ z. rw ex (go (next s l) refl .1 (λ y. z (ex ∙ y)));
+          there = rw ex (go (nextWord s l) refl .0);
+          sort = λ z. rw ex (go (nextWord s l) refl .1 (λ y. z (ex ∙ y)));
           rest =
               rw (high l, ex)
               (ap (λ ls. copied h ls now) (sym (chain-of (g .written) l (r .there) (r .sort f)) ∙ sym (follows l f)) ∙ r .rest);
@@ -118,16 +118,16 @@ module _ (s : List ℕ) (n : ℕ) (before h : List ℕ) (g : Copying s n before)
         high : (l : ℕ) → 12 * l + 4 + 1 ≡ 12 * l + 5
         high l = omega arith
 
-        go : (y : ℕ) → y ≡ next s l → (next s l < count s) × ((next s l ≡ 0 → ⊥) → sortAt s (next s l) ≡ leafs)
+        go : (y : ℕ) → y ≡ nextWord s l → (nextWord s l < count s) × ((nextWord s l ≡ 0 → ⊥) → sortAt s (nextWord s l) ≡ leafs)
         go zero e = (let t = r .there in omega arith, λ z. absurd (z (sym e)))
         go (suc y) e = let p = next-leaf (g .written) l (r .there) (r .sort f) (omega arith) in (p .1, λ _. p .2)
 
-    pub next-falls : (x : ℕ) → x ≡ next s l → left n x < left n l
+    pub next-falls : (x : ℕ) → x ≡ nextWord s l → left n x < left n l
     next-falls x ex = left-falls n l x f leaf-there (λ z. higher (λ y. z (ex ∙ y)))
       where
-        higher : (next s l ≡ 0 → ⊥) → (l < x) × (x < n)
+        higher : (nextWord s l ≡ 0 → ⊥) → (l < x) × (x < n)
         higher z =
-            let p = next-leaf (g .written) l (r .there) (r .sort f) (positive (next s l) z) in
+            let p = next-leaf (g .written) l (r .there) (r .sort f) (positive (nextWord s l) z) in
             let c = g .sized .counted in
             (rw ex (p .0), omega (arith, p .1, ex))
           where

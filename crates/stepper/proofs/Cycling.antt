@@ -19,29 +19,29 @@ use Rattle.records.specs.Rewritten.{OnlyLeaves}
 use Rattle.records.proofs.Rewritten.{same-kind, same-chain, same-type}
 use Rattle.records.proofs.Types.{few-leaves}
 use Rattle.records.proofs.TypeRecords.{input-type}
-use Rattle.layout.proofs.Passes.{written, types-fit}
-use Rattle.typing.specs.Verdict.{inputs}
-use Rattle.typing.specs.Scopes.{root}
-use Rattle.typing.specs.Widths.{Widths}
-use Rattle.typing.proofs.Exact.{exact, accepted-judged}
+use Rattle.accepted.proofs.Laws.{written, types-fit}
+use Rattle.verdict.specs.Verdict.{inputs}
+use Rattle.verdict.specs.Scopes.{root}
+use Rattle.verdict.specs.Widths.{Widths}
+use Rattle.accepted.proofs.Laws.{exact, accepted-judged}
 use Rattle.meaning.specs.Values.{no-values, more-values}
 use Rattle.meaning.specs.Undecided.{undefinedLeaves}
 use Rattle.meaning.specs.Evaluation.{next}
 use Rattle.meaning.proofs.Order.{value-length}
 use Rattle.meaning.proofs.UndefinedLeavesLawful.{undefined-lawful}
-use Rattle.cycles.specs.Terms.{circuitTerm}
-use Rattle.cycles.specs.Delays.{store}
-use Rattle.cycles.specs.Copies.{copied, leavesOf, delayChains}
-use Rattle.cycles.specs.Cycle.{output, after, afterBy}
-use Rattle.cycles.specs.Evaluated.{valueAt}
-use Rattle.cycles.proofs.Evaluated.{root-value, root-stored}
-use Rattle.cycles.proofs.Cycle.{cycle-writable}
-use Rattle.cycles.proofs.Stores.{leaves-in-table, store-length}
-use Rattle.cycles.proofs.DelayRecords.{write-copied-chains}
+use Rattle.behaviour.specs.Terms.{circuitTerm}
+use Rattle.behaviour.specs.Delays.{store}
+use Rattle.behaviour.specs.Copies.{copied, leavesOf, delayChains}
+use Rattle.behaviour.specs.Cycle.{output, sheetAfterCycle, afterBy}
+use Rattle.behaviour.specs.Evaluated.{valueAt}
+use Rattle.behaviour.proofs.Evaluated.{root-value, root-stored}
+use Rattle.behaviour.proofs.Cycle.{cycle-writable}
+use Rattle.behaviour.proofs.Stores.{leaves-in-table, store-length}
+use Rattle.behaviour.proofs.DelayRecords.{write-copied-chains}
 use Rattle.values.specs.Slots.{entered, frames}
-use Rattle.evaluator.specs.Evaluating.{Ready, Evaluates}
+use Rattle.evaluator.specs.Evaluating.{EvaluatingIn, Evaluated}
 use Rattle.evaluator.proofs.Frames.{entered-slot, entered-long}
-use Rattle.stepper.specs.Cycling.{Copying, Cycling, Cycled}
+use Rattle.stepper.specs.Cycling.{Copying, Cycling, Looked, Cycled}
 use Rattle.stepper.proofs.WidthsAgain.{sized-again, widths-again}
 
 module _ (s : List ℕ) (n : ℕ) (W env held input current out : List ℕ) (g : Cycling s n W env held input current out) where
@@ -95,7 +95,7 @@ module _ (s : List ℕ) (n : ℕ) (W env held input current out : List ℕ) (g :
         let j = accepted-judged (g .type) (exact current (g .type) .0 (g .again) .0) (g .again) in
         g .room ∙ sym (table .expressions root ∙ rw (j .1, same-type s current o (g .type)) refl)
 
-    pub root-ready : Ready current n W env₁ 1 x out (inputs current)
+    pub root-ready : EvaluatingIn current n W env₁ 1 x out (inputs current)
     root-ready =
         record {
           sized = sized-again s current o n (g .sized);
@@ -109,41 +109,48 @@ module _ (s : List ℕ) (n : ℕ) (W env held input current out : List ℕ) (g :
           values = rw framed (more-values input-typed no-values);
         }
 
-    -- the chains are where they were
-    same-leaves : (r : ℕ) (k : Kind) → kindAt s r ≡ k → leavesOf k (chain s (wordB s r)) ≡ leavesOf k (chain current (wordB current r))
-    same-leaves r k ek =
-        ap (leavesOf k) (sym (same-chain s current o (wordB s r)) ∙ ap (chain current) (sym (o .leaves r 3 (omega arith) (λ z. omega arith))))
-
-    same-chains : (m : ℕ) → delayChains s m ≡ delayChains current m
-    same-chains zero = refl
-    same-chains (suc r) =
-        ap₂ _++_ (same-chains r)
-        (same-leaves r (kindAt s r) refl ∙ ap (λ k. leavesOf k (chain current (wordB current r))) (sym (same-kind s current o r)))
-
-    room : (l : ℕ) → List·Memᴰ l (delayLeaves (circuit current)) → l < length held
-    room l m = let h = leaves-in-table current (g .type) (g .again) l m in let w = g .long in omega arith
-
-    written-after : after current input
-        ≡ copied (store (next undefinedLeaves (input ∷ []) (circuitTerm current)) held) (delayChains current (count current)) current
-    unfolding afterBy
-    written-after =
-        write-copied-chains current (g .type) (g .again) (next undefinedLeaves (input ∷ []) (circuitTerm current))
-        (cycle-writable undefinedLeaves undefined-lawful current (g .type) (g .again) input input-typed) held room
-
-    pub cycle-done : (env₂ held₁ o₁ : List ℕ) → Evaluates current n W env₁ 1 x held out env₂ held₁ o₁
-        → (current′ : List ℕ) → current′ ≡ copied held₁ (delayChains s n) current → Cycled input current env₂ held₁ current′ o₁
-    cycle-done env₂ held₁ o₁ p current′ c =
+    pub look-done : (env₂ held₁ o₁ : List ℕ) → Evaluated current n W env₁ 1 x held out env₂ held₁ o₁
+        → Looked input current held env₂ held₁ o₁
+    look-done env₂ held₁ o₁ p =
         let d = p .done (inputs current) root-ready in
         let v : o₁ ≡ valueAt undefinedLeaves current (inputs current) (input ∷ []) (wordB current 0) = rw (framed, at-root) at (d .value) in
         let h : held₁ ≡ store (next undefinedLeaves (input ∷ []) (circuitTerm current)) held =
         rw (framed, at-root) at (d .stored) ∙ sym (root-stored undefinedLeaves current input held) in
-        let counted : n ≡ count current = sized-again s current o n (g .sized) .counted in
         record {
           wide = d .wide;
           long = rw h (store-length (next undefinedLeaves (input ∷ []) (circuitTerm current)) held ∙ g .long);
           value = v ∙ sym (root-value undefinedLeaves current input);
-          next =
-              c
-              ∙ rw (h, same-chains n, counted)
-              (sym written-after);
+          stored = h;
         }
+
+  -- the chains are where they were
+  same-leaves : (r : ℕ) (k : Kind) → kindAt s r ≡ k → leavesOf k (chain s (wordB s r)) ≡ leavesOf k (chain current (wordB current r))
+  same-leaves r k ek =
+      ap (leavesOf k) (sym (same-chain s current o (wordB s r)) ∙ ap (chain current) (sym (o .leaves r 3 (omega arith) (λ z. omega arith))))
+
+  same-chains : (m : ℕ) → delayChains s m ≡ delayChains current m
+  same-chains zero = refl
+  same-chains (suc r) =
+      ap₂ _++_ (same-chains r)
+      (same-leaves r (kindAt s r) refl ∙ ap (λ k. leavesOf k (chain current (wordB current r))) (sym (same-kind s current o r)))
+
+  room : (l : ℕ) → List·Memᴰ l (delayLeaves (circuit current)) → l < length held
+  room l m = let h = leaves-in-table current (g .type) (g .again) l m in let w = g .long in omega arith
+
+  written-after : sheetAfterCycle current input
+      ≡ copied (store (next undefinedLeaves (input ∷ []) (circuitTerm current)) held) (delayChains current (count current)) current
+  unfolding afterBy
+  written-after =
+      write-copied-chains current (g .type) (g .again) (next undefinedLeaves (input ∷ []) (circuitTerm current))
+      (cycle-writable undefinedLeaves undefined-lawful current (g .type) (g .again) input input-typed) held room
+
+  pub cycle-done : (env₂ held₁ o₁ : List ℕ) → Looked input current held env₂ held₁ o₁
+      → (current′ : List ℕ) → current′ ≡ copied held₁ (delayChains s n) current → Cycled input current env₂ held₁ current′ o₁
+  cycle-done env₂ held₁ o₁ l current′ c =
+      let counted : n ≡ count current = sized-again s current o n (g .sized) .counted in
+      record {
+        wide = l .wide;
+        long = l .long;
+        value = l .value;
+        next = c ∙ rw (l .stored, same-chains n, counted) (sym written-after);
+      }

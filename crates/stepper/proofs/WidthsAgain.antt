@@ -24,17 +24,17 @@ use Rattle.records.specs.Trees.{
 use Rattle.records.specs.Rewritten.{OnlyLeaves}
 use Rattle.records.proofs.Rewritten.{same-count, same-kind, same-type, same-alternatives, same-tree}
 use Rattle.records.proofs.Grown.{grown-tree}
-use Rattle.layout.proofs.Passes.{written}
-use Rattle.judging.specs.Judgements.{typeOf}
-use Rattle.judging.specs.Judging.{width}
-use Rattle.typing.specs.Verdict.{verdict}
-use Rattle.typing.specs.Scopes.{Scope}
-use Rattle.typing.specs.Widths.{patternLeaves, patternEntry, Widths}
-use Rattle.typing.specs.declared.Verdict.the-variants.{Accepted}
-use Rattle.typing.proofs.Exact.{exact}
+use Rattle.accepted.proofs.Laws.{written}
+use Rattle.typing.specs.Judgements.{typeRecordOf}
+use Rattle.typing.specs.Judging.{width}
+use Rattle.verdict.specs.Verdict.{verdict}
+use Rattle.verdict.specs.Scopes.{Scope}
+use Rattle.verdict.specs.Widths.{patternLeaves, patternEntry, Widths}
+use Rattle.verdict.specs.declared.Verdict.the-variants.{Accepted}
+use Rattle.accepted.proofs.Laws.{exact}
 use Rattle.accepted.proofs.Scopes.{scope-checked}
-use Rattle.cycles.proofs.TermsAgain.{type-of-same}
-use Rattle.cycles.proofs.ScopesAgain.{scope-again}
+use Rattle.behaviour.proofs.TermsAgain.{type-of-same}
+use Rattle.behaviour.proofs.ScopesAgain.{scope-again}
 
 -- and back
 pub leaves-back : (s s′ : List ℕ) → OnlyLeaves s s′ → OnlyLeaves s′ s
@@ -75,7 +75,7 @@ module _ (s s′ : List ℕ) (o : OnlyLeaves s s′) where
         let k = scope-checked t p v c in
         let w = written p in
         let e = type-of-same s s′ o w Γ (treeAt s q) (grown-tree w q (k .there) (k .sort)) (k .context) (k .judged) in
-        rw (same-tree s s′ o q, e, same-type s s′ o (typeOf s Γ (treeAt s q))) refl
+        rw (same-tree s s′ o q, e, same-type s s′ o (typeRecordOf s Γ (treeAt s q))) refl
 
     pub widths-again : (table : List ℕ) → Widths s table → Widths s′ table
     widths-again table w =

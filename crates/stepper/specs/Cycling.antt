@@ -2,7 +2,7 @@
 -- alone, and are accepted with the same type.
 use Prim.Native.Nat.{ℕ}
 use mathlib.Core.Path.{_≡_}
-use mathlib.Core.List.{List}
+use mathlib.Core.List.{List, [], _∷_}
 use lib.ListN.{length}
 use Rattle.picoella.specs.Types.{leaves, OfType}
 use Rattle.records.specs.Words.{wordA}
@@ -10,10 +10,14 @@ use Rattle.records.specs.Sized.{Sized}
 use Rattle.records.specs.TypeRecords.{typeAt}
 use Rattle.records.specs.Written.{Written}
 use Rattle.records.specs.Rewritten.{OnlyLeaves}
-use Rattle.typing.specs.Verdict.{verdict}
-use Rattle.typing.specs.Widths.{Widths}
-use Rattle.typing.specs.declared.Verdict.the-variants.{Accepted}
-use Rattle.cycles.specs.Cycle.{output, after}
+use Rattle.verdict.specs.Verdict.{verdict}
+use Rattle.verdict.specs.Widths.{Widths}
+use Rattle.verdict.specs.declared.Verdict.the-variants.{Accepted}
+use Rattle.meaning.specs.Undecided.{undefinedLeaves}
+use Rattle.meaning.specs.Evaluation.{next}
+use Rattle.behaviour.specs.Terms.{circuitTerm}
+use Rattle.behaviour.specs.Delays.{store}
+use Rattle.behaviour.specs.Cycle.{output, sheetAfterCycle}
 
 -- a table is copied to a sheet, along chains of the first one
 pub record Copying (first : List ℕ) (n : ℕ) (current : List ℕ) : Type 0 where
@@ -34,9 +38,16 @@ pub record Cycling (first : List ℕ) (n : ℕ) (widths env held input current o
   pub typed : OfType (typeAt first (wordA first 0)) input
   pub room : length out ≡ leaves (typeAt first type)
 
--- and this is what comes of it; the room stays as long as it was
+-- the root is evaluated: the output, and the delays' next values in their table; the sheet is only read
+pub record Looked (input current held env′ held′ out′ : List ℕ) : Type 0 where
+  pub value : out′ ≡ output current input
+  pub stored : held′ ≡ store (next undefinedLeaves (input ∷ []) (circuitTerm current)) held
+  pub wide : length env′ ≡ 4096
+  pub long : length held′ ≡ 4096
+
+-- and a whole cycle; the room stays as long as it was
 pub record Cycled (input current env′ held′ current′ out′ : List ℕ) : Type 0 where
   pub value : out′ ≡ output current input
-  pub next : current′ ≡ after current input
+  pub next : current′ ≡ sheetAfterCycle current input
   pub wide : length env′ ≡ 4096
   pub long : length held′ ≡ 4096

@@ -5,39 +5,49 @@ ghost use Rattle.records.specs.Words.{wordB};
 ghost use Rattle.records.specs.Kinds.{leafs};
 ghost use Rattle.records.specs.Says.{kindAt, sortAt};
 ghost use Rattle.records.specs.Trees.{chain};
-ghost use Rattle.cycles.specs.Copies.{copied, leavesOf, delayChains};
-ghost use Rattle.stepper.specs.Cycling.{Copying, Cycling, Cycled};
+ghost use Rattle.behaviour.specs.Copies.{copied, leavesOf, delayChains};
+ghost use Rattle.stepper.specs.Cycling.{Copying, Cycling, Looked, Cycled};
 use evaluator::eval;
+use records::KIND_DELAY;
+use records::RECORD_BYTES;
+use records::WORD_B;
+use records::WORD_KIND;
+use records::WORD_NEXT;
+use records::Widths;
 use records::word;
+use values::NextValues;
 use values::enter_value;
 
+// Where a leaf's value begins in its record: word a.
+const VALUE_AT: usize = 4;
+
 // Copies a table's entries to the leaves from `first`: word a, low byte first.
-fn copy_chain(sheet: &[u8], n: usize, first: usize, held: &[u8; 4096], current: &mut [u8])
+fn copy_chain(sheet: &[u8], n: usize, first: usize, held: &NextValues, current: &mut [u8])
     requires { ⌜ Copying (now sheet) n (now current) × (first < n) × (sortAt (now sheet) first ≡ leafs) ⌝ }
     ensures { λ _. ⌜ now (current .exit) ≡ copied (now (held .entry)) (chain (now (sheet .entry)) first) (now (current .entry)) ⌝ }
 {
     let mut leaf = first;
     while leaf != 0 {
-        let at = 12 * leaf + 4;
+        let at = RECORD_BYTES * leaf + VALUE_AT;
         current[at] = held[leaf];
         current[at + 1] = 0;
-        leaf = word(sheet, n, leaf, 1);
+        leaf = word(sheet, n, leaf, WORD_NEXT);
     }
 }
 
 // Copies a table's entries to the leaves of rec, where that is a delay.
-fn copy_record(sheet: &[u8], n: usize, rec: usize, held: &[u8; 4096], current: &mut [u8])
+fn copy_record(sheet: &[u8], n: usize, rec: usize, held: &NextValues, current: &mut [u8])
     requires { ⌜ Copying (now sheet) n (now current) × (rec < n) ⌝ }
     ensures { λ _. ⌜ now (current .exit) ≡ copied (now (held .entry)) (leavesOf (kindAt (now (sheet .entry)) rec) (chain (now (sheet .entry)) (wordB (now (sheet .entry)) rec))) (now (current .entry)) ⌝ }
 {
-    if word(sheet, n, rec, 0) != 40 {
+    if word(sheet, n, rec, WORD_KIND) != KIND_DELAY {
         return;
     }
-    copy_chain(sheet, n, word(sheet, n, rec, 3), held, current);
+    copy_chain(sheet, n, word(sheet, n, rec, WORD_B), held, current);
 }
 
 // Copies a table's entries to the leaves of every delay.
-fn copy_all(sheet: &[u8], n: usize, held: &[u8; 4096], current: &mut [u8])
+fn copy_all(sheet: &[u8], n: usize, held: &NextValues, current: &mut [u8])
     requires { ⌜ Copying (now sheet) n (now current) ⌝ }
     ensures { λ _. ⌜ now (current .exit) ≡ copied (now (held .entry)) (delayChains (now (sheet .entry)) n) (now (current .entry)) ⌝ }
 {
@@ -48,14 +58,33 @@ fn copy_all(sheet: &[u8], n: usize, held: &[u8; 4096], current: &mut [u8])
     }
 }
 
-// One cycle from the sheet in `current`: the output goes to `out`, and the sheet after the cycle to `current`. The sheet that was
-// checked is read for its records alone; `env` and `held` are room.
+// The evaluating half of a cycle from the sheet in `current`: the output goes to `out`, and the delays' next values to `held`. The
+// sheet that was checked is read for its records alone; `env` is room.
+pub fn look(
+    sheet: &[u8],
+    n: usize,
+    widths: &Widths,
+    env: &mut [u8],
+    held: &mut NextValues,
+    input: &[u8],
+    current: &[u8],
+    out: &mut [u8],
+)
+    requires { ⌜ Cycling (now sheet) n (now widths) (now env) (now held) (now input) (now current) (now out) ⌝ }
+    ensures { λ _. ⌜ Looked (now (input .entry)) (now (current .entry)) (now (held .entry)) (now (env .exit)) (now (held .exit)) (now (out .exit)) ⌝ }
+{
+    enter_value(env, 0, input);
+    let root = word(sheet, n, 0, WORD_B);
+    eval(current, n, widths, env, 1, held, root, out);
+}
+
+// One cycle from the sheet in `current`: the output goes to `out`, and the sheet after the cycle to `current`.
 pub fn cycle(
     sheet: &[u8],
     n: usize,
-    widths: &[u8; 4096],
+    widths: &Widths,
     env: &mut [u8],
-    held: &mut [u8; 4096],
+    held: &mut NextValues,
     input: &[u8],
     current: &mut [u8],
     out: &mut [u8],
@@ -63,8 +92,6 @@ pub fn cycle(
     requires { ⌜ Cycling (now sheet) n (now widths) (now env) (now held) (now input) (now current) (now out) ⌝ }
     ensures { λ _. ⌜ Cycled (now (input .entry)) (now (current .entry)) (now (env .exit)) (now (held .exit)) (now (current .exit)) (now (out .exit)) ⌝ }
 {
-    enter_value(env, 0, input);
-    let root = word(sheet, n, 0, 3);
-    eval(current, n, widths, env, 1, held, root, out);
+    look(sheet, n, widths, env, held, input, current, out);
     copy_all(sheet, n, held, current);
 }

@@ -1,10 +1,16 @@
 -- Laws that belong to no one function.
-pub mod Exact
-pub mod FirstFailure
-pub mod Lending
-pub mod Noted
-pub mod Places
-pub mod PlacesSmall
-pub mod Stages
-pub mod Stores
-pub mod Widths
+pub mod Alternatives
+pub mod Bounds
+pub mod Chains
+pub mod Closings
+pub mod Failing
+pub mod Judged
+pub mod Judgings
+pub mod KindNumbers
+pub mod Outcomes
+pub mod Parts
+pub mod PatternNumbers
+pub mod PatternTypes
+pub mod Readiness
+pub mod TypeRecordsOf
+pub mod Typings

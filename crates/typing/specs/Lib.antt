@@ -1,6 +1,3 @@
--- The check of document 01: the verdict on a byte string, what it promises, and the table of an accepted sheet.
-pub mod Stages
-pub mod Verdict
-pub mod Promises
-pub mod Scopes
-pub mod Widths
+-- The type rules of document 01 on expressions: its judgements in their order, and what judging an expression gives.
+pub mod Judgements
+pub mod Judging

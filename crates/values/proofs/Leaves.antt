@@ -8,7 +8,7 @@ use native.Mathlib.Numerals.{add-one}
 use lib.ListN as ListN
 use lib.ListN.{length, getD, set, take, drop, length-drop}
 use lib.Seq.{take-length, drop-length, drop-cons, append-snoc, take-suc-set}
-use Rattle.records.specs.Words.{count, next, wordA}
+use Rattle.records.specs.Words.{count, nextWord, wordA}
 use Rattle.records.specs.Kinds.{leaf, leafs}
 use Rattle.records.specs.Says.{kindAt, sortAt}
 use Rattle.records.specs.Trees.{chain, follow}
@@ -17,7 +17,7 @@ use Rattle.records.specs.Written.{Written}
 use Rattle.records.proofs.Table.{askOfKind, kind-of-sort}
 use Rattle.records.proofs.Asked.{as-kind-asks}
 use Rattle.records.proofs.Trees.{chain-of, next-leaf}
-use Rattle.cycles.specs.Delays.{assigned, putAll, enter}
+use Rattle.behaviour.specs.Delays.{assigned, putAll, enter}
 
 module _ (s : List ℕ) (w : Written s) where
   -- a leaf record's word a is a byte
@@ -35,10 +35,10 @@ module _ (s : List ℕ) (w : Written s) where
     from-first h e = record { there = λ _. h; sort = λ _. e; rest = λ _. refl }
 
     module _ (i l : ℕ) (a : Along i l) (h : i < length (chain s first)) where
-      after : drop i (chain s first) ≡ l ∷ follow [] (chain s) (next s l)
+      after : drop i (chain s first) ≡ l ∷ follow [] (chain s) (nextWord s l)
       after = a .rest h ∙ chain-of w l (a .there h) (a .sort h)
 
-      rest-after : drop (suc i) (chain s first) ≡ follow [] (chain s) (next s l)
+      rest-after : drop (suc i) (chain s first) ≡ follow [] (chain s) (nextWord s l)
       rest-after = ap tail (sym (drop-cons (chain s first) i 0 h) ∙ after)
         where
           tail : List ℕ → List ℕ
@@ -48,10 +48,10 @@ module _ (s : List ℕ) (w : Written s) where
       pub here : drop i (chain s first) ≡ l ∷ drop (suc i) (chain s first)
       here = after ∙ ap (λ ls. l ∷ ls) (sym rest-after)
 
-      pub along-next : (x : ℕ) → x ≡ next s l → Along (i + 1) x
-      along-next x e = rw (e, add-one i) (go (next s l) refl)
+      pub along-next : (x : ℕ) → x ≡ nextWord s l → Along (i + 1) x
+      along-next x e = rw (e, add-one i) (go (nextWord s l) refl)
         where
-          go : (y : ℕ) → y ≡ next s l → Along (suc i) y
+          go : (y : ℕ) → y ≡ nextWord s l → Along (suc i) y
           go zero z =
               let none : suc i < length (chain s first) → ⊥ = λ m.
               let g = length-drop (suc i) (chain s first) in

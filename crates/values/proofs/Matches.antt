@@ -12,7 +12,7 @@ use lib.ListN.{length, getD, take, drop, length-drop}
 use lib.Seq.{length-take-le, take-all}
 use Rattle.picoella.specs.Types.{Ty, Flat, TyTuple, leaves}
 use Rattle.picoella.specs.Patterns.{Pattern, Whole, Constructor, Parts}
-use Rattle.records.specs.Words.{count, next, word, wordA, wordB}
+use Rattle.records.specs.Words.{count, nextWord, word, wordA, wordB}
 use Rattle.records.specs.Kinds.{PatternKind, pattern, whole, constructor, parts, patterns, isPair}
 use Rattle.records.specs.Says.{kindAt}
 use Rattle.records.specs.TypeRecords.{typeAt}
@@ -34,22 +34,22 @@ use Rattle.records.proofs.CodeTable.{pair-number}
 use Rattle.records.proofs.Types.{pair-type, few-leaves}
 use Rattle.records.proofs.Trees.{alternatives-of}
 use Rattle.records.proofs.Grown.{GrownPattern, grown-pattern}
-use Rattle.typing.specs.Widths.{patternLeaves}
-use Rattle.layout.proofs.Passes.{written, types-fit}
-use Rattle.judging.specs.Judgements.{patternFits}
-use Rattle.judging.proofs.PatternNumbers.{pattern-kind, no-pattern}
-use Rattle.judging.proofs.Alternatives.{in-sheet, next-matching, first-matching, second-matching}
-use Rattle.judging.specs.Judging.{Matching}
+use Rattle.verdict.specs.Widths.{patternLeaves}
+use Rattle.accepted.proofs.Laws.{written, types-fit}
+use Rattle.typing.specs.Judgements.{patternFits}
+use Rattle.accepted.proofs.Laws.{pattern-kind, no-pattern}
+use Rattle.accepted.proofs.Laws.{in-sheet, next-matching, first-matching, second-matching}
+use Rattle.typing.specs.Judging.{Fitting}
 use Rattle.accepted.proofs.FittingWidths.{fitting-leaves}
-use Rattle.meaning.specs.Matching.{Answer, Yes, No, Undecided, pairAnswer, chainAnswer, constructorAnswer, width, matches}
-use Rattle.values.specs.Matchings.{Matched, withRest, MatchesAll, MatchesOne, Chosen}
+use Rattle.meaning.specs.Matching.{Decision, Yes, No, Undecided, pairDecision, chainDecision, constructorDecision, patternWidth, matches}
+use Rattle.values.specs.Matchings.{Matching, withRest, MatchedAll, MatchedOne, Chosen}
 use Rattle.meaning.specs.Evaluation.{choose}
 use Rattle.meaning.specs.Undecided.{undefinedLeaves}
-use Rattle.values.specs.Answers.{answerOf}
+use Rattle.values.specs.Answers.{decisionOf}
 use Rattle.values.specs.declared.Match.{Match}
 use Rattle.values.specs.declared.Match.the-variants as Matched′
 
-chain-associates : (a b c : Answer) → chainAnswer (chainAnswer a b) c ≡ chainAnswer a (chainAnswer b c)
+chain-associates : (a b c : Decision) → chainDecision (chainDecision a b) c ≡ chainDecision a (chainDecision b c)
 chain-associates Yes b c = refl
 chain-associates No b c = refl
 chain-associates Undecided Yes c = refl
@@ -67,15 +67,15 @@ one-with-rest s p (wholeType r t m) v = refl
 one-with-rest s p (oneConstructor r t k m) v = refl
 one-with-rest s p (pairOfPatterns r a b m) v = refl
 
-chain-with-rest : (a b : Answer) (s : List ℕ) (m : Alternatives) (v : List ℕ)
-    → chainAnswer a (withRest b s m v) ≡ withRest (chainAnswer a b) s m v
+chain-with-rest : (a b : Decision) (s : List ℕ) (m : Alternatives) (v : List ℕ)
+    → chainDecision a (withRest b s m v) ≡ withRest (chainDecision a b) s m v
 chain-with-rest a b s end v = refl
 chain-with-rest a b s noPattern v = refl
 chain-with-rest a b s (wholeType r t m) v = sym (chain-associates a b (matches (patternOf s (wholeType r t m)) v))
 chain-with-rest a b s (oneConstructor r t k m) v = sym (chain-associates a b (matches (patternOf s (oneConstructor r t k m)) v))
 chain-with-rest a b s (pairOfPatterns r p q m) v = sym (chain-associates a b (matches (patternOf s (pairOfPatterns r p q m)) v))
 
-width-of-first : (p : Pattern) (m : Alternatives) (q : Pattern) → width (orElse p m q) ≡ width p
+width-of-first : (p : Pattern) (m : Alternatives) (q : Pattern) → patternWidth (orElse p m q) ≡ patternWidth p
 width-of-first p end q = refl
 width-of-first p noPattern q = refl
 width-of-first p (wholeType r t m) q = refl
@@ -83,7 +83,7 @@ width-of-first p (oneConstructor r t k m) q = refl
 width-of-first p (pairOfPatterns r a b m) q = refl
 
 -- a pattern that is there has the leaves of its first alternative
-width-leaves : (s : List ℕ) (m : Alternatives) → GrownPattern s m → width (patternOf s m) ≡ patternLeaves s m
+width-leaves : (s : List ℕ) (m : Alternatives) → GrownPattern s m → patternWidth (patternOf s m) ≡ patternLeaves s m
 width-leaves s end g = absurd g
 width-leaves s noPattern g = absurd g
 width-leaves s (wholeType r t m) g = width-of-first (Whole (typeAt s t)) m (patternOf s m)
@@ -91,7 +91,7 @@ width-leaves s (oneConstructor r t k m) g = width-of-first (Constructor t (wordA
 width-leaves s (pairOfPatterns r a b m) g =
     width-of-first (Parts (patternOf s a) (patternOf s b)) m (patternOf s m) ∙ rw (width-leaves s a (g .0), width-leaves s b (g .1)) refl
 
-module _ (s : List ℕ) (n : ℕ) (widths : List ℕ) (p : ℕ) (value : List ℕ) (m : Matched s n widths p value) where
+module _ (s : List ℕ) (n : ℕ) (widths : List ℕ) (p : ℕ) (value : List ℕ) (m : Matching s n widths p value) where
   w : Written s
   w = written (m .against .passes)
 
@@ -99,7 +99,7 @@ module _ (s : List ℕ) (n : ℕ) (widths : List ℕ) (p : ℕ) (value : List �
   there = in-sheet s n p (m .type) (m .against)
 
   abbrev rest : Bool
-  rest = patternFits s (follow end (alternatives s) (next s p)) (m .type)
+  rest = patternFits s (follow end (alternatives s) (nextWord s p)) (m .type)
 
   kind : (k : PatternKind) × (kindAt s p ≡ pattern k)
   kind = kind-of-sort patterns (kindAt s p) (m .against .sort)
@@ -115,10 +115,10 @@ module _ (s : List ℕ) (n : ℕ) (widths : List ℕ) (p : ℕ) (value : List �
   to-the-end = omega arith
 
   -- what follows fits too
-  rest-fits : patternFits s (follow end (alternatives s) (next s p)) (m .type) ≡ true
+  rest-fits : patternFits s (follow end (alternatives s) (nextWord s p)) (m .type) ≡ true
   rest-fits = go (kind .0) (kind .1)
     where
-      go : (q : PatternKind) → kindAt s p ≡ pattern q → patternFits s (follow end (alternatives s) (next s p)) (m .type) ≡ true
+      go : (q : PatternKind) → kindAt s p ≡ pattern q → patternFits s (follow end (alternatives s) (nextWord s p)) (m .type) ≡ true
       go whole e = both-right (eqb (wordA s p) (m .type)) rest (rw (alternatives-of w p there (pattern whole) e) at (m .fits))
       go constructor e = both-right (eqb (wordA s p) (m .type)) rest (rw (alternatives-of w p there (pattern constructor) e) at (m .fits))
       go parts e =
@@ -128,7 +128,7 @@ module _ (s : List ℕ) (n : ℕ) (widths : List ℕ) (p : ℕ) (value : List �
           (both-right a (b && rest)
           (both-right (isPair (kindAt s (m .type))) (a && (b && rest)) (rw (alternatives-of w p there (pattern parts) e) at (m .fits))))
 
-  pub next-matched : (x : ℕ) → x ≡ word s p 1 → (x ≡ 0 → ⊥) → (p < x) × Matched s n widths x value
+  pub next-matched : (x : ℕ) → x ≡ word s p 1 → (x ≡ 0 → ⊥) → (p < x) × Matching s n widths x value
   next-matched x e f =
       let q = next-matching s n p (m .type) (m .against) x e f in
       (q .0, record { type = m .type; against = q .1; table = m .table; fits = rw (← follows x f, e) rest-fits; long = m .long })
@@ -138,32 +138,32 @@ module _ (s : List ℕ) (n : ℕ) (widths : List ℕ) (p : ℕ) (value : List �
       follows (suc x) f = refl
 
   -- an alternative is there
-  rest-is : (a : Answer) → withRest a s (alternatives s p) value ≡ chainAnswer a (matches (patternOf s (alternatives s p)) value)
+  rest-is : (a : Decision) → withRest a s (alternatives s p) value ≡ chainDecision a (matches (patternOf s (alternatives s p)) value)
   rest-is a = go (kind .0) (kind .1)
     where
       go : (q : PatternKind) → kindAt s p ≡ pattern q
-          → withRest a s (alternatives s p) value ≡ chainAnswer a (matches (patternOf s (alternatives s p)) value)
+          → withRest a s (alternatives s p) value ≡ chainDecision a (matches (patternOf s (alternatives s p)) value)
       go whole e = rw (alternatives-of w p there (pattern whole) e) refl
       go constructor e = rw (alternatives-of w p there (pattern constructor) e) refl
       go parts e = rw (alternatives-of w p there (pattern parts) e) refl
 
   -- one more alternative taken in
-  pub taken-in : (so-far one now : Match) (x : ℕ) → MatchesOne s p value one → answerOf now ≡ chainAnswer (answerOf so-far) (answerOf one)
+  pub taken-in : (so-far one now : Match) (x : ℕ) → MatchedOne s p value one → decisionOf now ≡ chainDecision (decisionOf so-far) (decisionOf one)
       → x ≡ word s p 1
-      → withRest (answerOf so-far) s (alternatives s p) value ≡ withRest (answerOf now) s (follow end (alternatives s) x) value
+      → withRest (decisionOf so-far) s (alternatives s p) value ≡ withRest (decisionOf now) s (follow end (alternatives s) x) value
   taken-in so-far one now x o e ex =
-      rest-is (answerOf so-far) ∙ rw (o, e, ex) (chain-with-rest (answerOf so-far) (answerOf one) s (follow end (alternatives s) (next s p)) value)
+      rest-is (decisionOf so-far) ∙ rw (o, e, ex) (chain-with-rest (decisionOf so-far) (decisionOf one) s (follow end (alternatives s) (nextWord s p)) value)
 
   module _ (k : ℕ) (ek : k ≡ word s p 0) where
-    pub whole-matches : k ≡ 48 → MatchesOne s p value Matched′.Yes
+    pub whole-matches : k ≡ 48 → MatchedOne s p value Matched′.Yes
     whole-matches e =
-        rw (alternatives-of w p there (pattern whole) (pattern-kind s p k ek whole e)) (one-with-rest s _ (follow end (alternatives s) (next s p)) value)
+        rw (alternatives-of w p there (pattern whole) (pattern-kind s p k ek whole e)) (one-with-rest s _ (follow end (alternatives s) (nextWord s p)) value)
 
-    pub constructor-matches : (x : ℕ) (r : Match) → k ≡ 49 → x ≡ word s p 3 → answerOf r ≡ constructorAnswer x (getD value 0 0)
-        → MatchesOne s p value r
+    pub constructor-matches : (x : ℕ) (r : Match) → k ≡ 49 → x ≡ word s p 3 → decisionOf r ≡ constructorDecision x (getD value 0 0)
+        → MatchedOne s p value r
     constructor-matches x r e ex er =
         rw (er, ex, alternatives-of w p there (pattern constructor) (pattern-kind s p k ek constructor e))
-        (one-with-rest s _ (follow end (alternatives s) (next s p)) value)
+        (one-with-rest s _ (follow end (alternatives s) (nextWord s p)) value)
 
     -- no other kind: a pair pattern
     module _ (no-whole : k ≡ 48 → ⊥) (no-constructor : k ≡ 49 → ⊥) where
@@ -175,7 +175,7 @@ module _ (s : List ℕ) (n : ℕ) (widths : List ℕ) (p : ℕ) (value : List �
           go (no f) = absurd (no-pattern s p k ek no-whole no-constructor f (m .against .sort))
 
       two-parts : alternatives s p
-          ≡ pairOfPatterns p (alternatives s (wordA s p)) (alternatives s (wordB s p)) (follow end (alternatives s) (next s p))
+          ≡ pairOfPatterns p (alternatives s (wordA s p)) (alternatives s (wordB s p)) (follow end (alternatives s) (nextWord s p))
       two-parts = alternatives-of w p there (pattern parts) (pattern-kind s p k ek parts fifty)
 
       abbrev t : ℕ
@@ -203,7 +203,7 @@ module _ (s : List ℕ) (n : ℕ) (widths : List ℕ) (p : ℕ) (value : List �
       leaves-of-pair = rw (pair-type w t (m .against .typed .there) (is-pair (kindAt s t) pair-type-kind)) refl
 
       module _ (x : ℕ) (ex : x ≡ word s p 2) where
-        first-against : (p < x) × Matching s n x (wordA s t)
+        first-against : (p < x) × Fitting s n x (wordA s t)
         first-against =
             first-matching s n p t (m .against) k ek fifty (word s t 0) refl seventeen x (wordA s t) ex refl
 
@@ -238,7 +238,7 @@ module _ (s : List ℕ) (n : ℕ) (widths : List ℕ) (p : ℕ) (value : List �
           pub cut-inside : c ≤ length value
           cut-inside = let e = cut in let l = m .long in let f = leaves-of-pair in omega arith
 
-          pub first-matched : (p < x) × Matched s n widths x (take c value)
+          pub first-matched : (p < x) × Matching s n widths x (take c value)
           first-matched = (
             first-against .0,
             record {
@@ -250,7 +250,7 @@ module _ (s : List ℕ) (n : ℕ) (widths : List ℕ) (p : ℕ) (value : List �
             },
           )
 
-          pub second-matched : (y : ℕ) → y ≡ word s p 3 → (p < y) × Matched s n widths y (drop c value)
+          pub second-matched : (y : ℕ) → y ≡ word s p 3 → (p < y) × Matching s n widths y (drop c value)
           second-matched y ey =
               let q = second-matching s n p t (m .against) k ek fifty (word s t 0) refl seventeen y (wordB s t) ey refl in (
                 q .0,
@@ -266,38 +266,38 @@ module _ (s : List ℕ) (n : ℕ) (widths : List ℕ) (p : ℕ) (value : List �
           from-front : c - 0 ≡ c
           from-front = omega arith
 
-          pub first-lent : (p < x) × Matched s n widths x (take (c - 0) value)
+          pub first-lent : (p < x) × Matching s n widths x (take (c - 0) value)
           first-lent = rw from-front first-matched
 
           whole-rest : take (length value - c) (drop c value) ≡ drop c value
           whole-rest = let l = length-drop c value in take-all (length value - c) (drop c value) (omega arith)
 
-          pub second-lent : (y : ℕ) → y ≡ word s p 3 → (p < y) × Matched s n widths y (take (length value - c) (drop c value))
+          pub second-lent : (y : ℕ) → y ≡ word s p 3 → (p < y) × Matching s n widths y (take (length value - c) (drop c value))
           second-lent y ey = rw whole-rest (second-matched y ey)
 
-          pub pair-matches : (y : ℕ) (a b r : Match) → y ≡ word s p 3 → MatchesAll s x (take (c - 0) value) a → MatchesAll s y (take (length value - c) (drop c value)) b
-              → answerOf r ≡ pairAnswer (answerOf a) (answerOf b) → MatchesOne s p value r
+          pub pair-matches : (y : ℕ) (a b r : Match) → y ≡ word s p 3 → MatchedAll s x (take (c - 0) value) a → MatchedAll s y (take (length value - c) (drop c value)) b
+              → decisionOf r ≡ pairDecision (decisionOf a) (decisionOf b) → MatchedOne s p value r
           pair-matches y a b r ey ea eb er =
               rw (two-parts, er, rw from-front at ea, rw whole-rest at eb, ex, ey, ← wide)
-              (one-with-rest s (Parts (patternOf s (alternatives s (wordA s p))) (patternOf s (alternatives s (wordB s p)))) (follow end (alternatives s) (next s p)) value)
+              (one-with-rest s (Parts (patternOf s (alternatives s (wordA s p))) (patternOf s (alternatives s (wordB s p)))) (follow end (alternatives s) (nextWord s p)) value)
             where
-              wide : width (patternOf s (alternatives s (wordA s p))) ≡ c
+              wide : patternWidth (patternOf s (alternatives s (wordA s p))) ≡ c
               wide = rw (← ex) (width-leaves s (alternatives s x) (grown-pattern w x first-in (first-against .1 .sort)) ∙ first-leaves ∙ sym cut)
 
 -- the whole chain from p is what was matched so far, with what is left from x
 abbrev pub Gathered : List ℕ → ℕ → List ℕ → Match → ℕ → Type 0
-Gathered s p v a x = matches (patternOf s (alternatives s p)) v ≡ withRest (answerOf a) s (follow end (alternatives s) x) v
+Gathered s p v a x = matches (patternOf s (alternatives s p)) v ≡ withRest (decisionOf a) s (follow end (alternatives s) x) v
 
-pub begun : (s : List ℕ) (p : ℕ) (v : List ℕ) (a : Match) (x : ℕ) → MatchesOne s p v a → x ≡ word s p 1 → Gathered s p v a x
+pub begun : (s : List ℕ) (p : ℕ) (v : List ℕ) (a : Match) (x : ℕ) → MatchedOne s p v a → x ≡ word s p 1 → Gathered s p v a x
 begun s p v a x o e = rw e o
 
-pub gone-on : (s : List ℕ) (n : ℕ) (widths : List ℕ) (p : ℕ) (v : List ℕ) (at : ℕ) → Matched s n widths at v
-    → (a b c : Match) (x : ℕ) → (at ≡ 0 → ⊥) → Gathered s p v a at → MatchesOne s at v b → answerOf c ≡ chainAnswer (answerOf a) (answerOf b)
+pub gone-on : (s : List ℕ) (n : ℕ) (widths : List ℕ) (p : ℕ) (v : List ℕ) (at : ℕ) → Matching s n widths at v
+    → (a b c : Match) (x : ℕ) → (at ≡ 0 → ⊥) → Gathered s p v a at → MatchedOne s at v b → decisionOf c ≡ chainDecision (decisionOf a) (decisionOf b)
     → x ≡ word s at 1 → Gathered s p v c x
 gone-on s n widths p v zero m a b c x f h o e ex = absurd (f refl)
 gone-on s n widths p v (suc at) m a b c x f h o e ex = h ∙ taken-in s n widths (suc at) v m a b c x o e ex
 
-pub ended : (s : List ℕ) (p : ℕ) (v : List ℕ) (a : Match) (x : ℕ) → Gathered s p v a x → x ≡ 0 → MatchesAll s p v a
+pub ended : (s : List ℕ) (p : ℕ) (v : List ℕ) (a : Match) (x : ℕ) → Gathered s p v a x → x ≡ 0 → MatchedAll s p v a
 ended s p v a x h e = sym (rw e at h)
 
 -- what is left of the records, and nothing at the end of a chain
@@ -311,6 +311,6 @@ left-falls n (suc at) zero f h g = omega arith
 left-falls n (suc at) (suc x) f h g = let q = g (λ z. omega arith) in omega (arith, q .0, q .1)
 
 -- the value of an IF, by the answer of its match
-pub chosen : (s : List ℕ) (p : ℕ) (v otherwise out out′ : List ℕ) (a : Match) → MatchesAll s p v a
-    → out′ ≡ choose undefinedLeaves (answerOf a) out otherwise → Chosen s p v otherwise out out′
+pub chosen : (s : List ℕ) (p : ℕ) (v otherwise out out′ : List ℕ) (a : Match) → MatchedAll s p v a
+    → out′ ≡ choose undefinedLeaves (decisionOf a) out otherwise → Chosen s p v otherwise out out′
 chosen s p v otherwise out out′ a e g = rw (← e) g

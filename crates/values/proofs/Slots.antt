@@ -11,10 +11,10 @@ use borrow.Author.Tests.{eq-eqb, ne-eqb}
 use lib.ListN.{length, getD, set, take, drop, replicate, length-drop, length-set}
 use lib.Seq.{take-length, take-all, take-take, take-suc, take-suc-set, drop-length, length-take-le, getD-take, paste, paste-zero, paste-suc, length-paste}
 use Rattle.records.proofs.Tests.{never-both}
-use Rattle.meaning.specs.Matching.{Yes, No, constructorAnswer}
+use Rattle.meaning.specs.Matching.{Yes, No, constructorDecision}
 use Rattle.meaning.specs.Evaluation.{choose}
 use Rattle.meaning.specs.Undecided.{undefinedLeaves}
-use Rattle.values.specs.Answers.{answerOf, Agrees}
+use Rattle.values.specs.Answers.{decisionOf, Agrees}
 use Rattle.values.specs.declared.Match.{Match}
 use Rattle.values.specs.declared.Match.the-variants as Matches
 
@@ -72,11 +72,11 @@ module _ (value slot : List ℕ) (room : length value ≤ length slot) where
         other = λ _ e. d (sym (ap (λ v. getD v i 0) e ∙ getD-take (length value) slot i 0 h));
       }
 
-pub leaf-is : (k v : ℕ) → v ≢ 0 → v ≡ k → Yes ≡ constructorAnswer k v
+pub leaf-is : (k v : ℕ) → v ≢ 0 → v ≡ k → Yes ≡ constructorDecision k v
 leaf-is k zero n e = absurd (n refl)
 leaf-is k (suc v) n e = rw (eq-eqb (suc v) k e) refl
 
-pub leaf-is-other : (k v : ℕ) → v ≢ 0 → v ≢ k → No ≡ constructorAnswer k v
+pub leaf-is-other : (k v : ℕ) → v ≢ 0 → v ≢ k → No ≡ constructorDecision k v
 leaf-is-other k zero n e = absurd (n refl)
 leaf-is-other k (suc v) n e = rw (ne-eqb (suc v) k e) refl
 
@@ -136,9 +136,9 @@ all-cleared out₀ i out h c =
 
 -- the value of an IF by the answer of its match
 pub otherwise-chosen : (a : Match) (otherwise out out′ : List ℕ) → a ≡ Matches.No → length otherwise ≡ length out
-    → out′ ≡ otherwise ++ drop (length otherwise) out → out′ ≡ choose undefinedLeaves (answerOf a) out otherwise
+    → out′ ≡ otherwise ++ drop (length otherwise) out → out′ ≡ choose undefinedLeaves (decisionOf a) out otherwise
 otherwise-chosen a otherwise out out′ e l g = g ∙ rw (e, l, drop-length out) (append-nil otherwise)
 
 pub undefined-chosen : (a : Match) (otherwise out out′ : List ℕ) → a ≡ Matches.Undecided → out′ ≡ replicate (length out) 0
-    → out′ ≡ choose undefinedLeaves (answerOf a) out otherwise
+    → out′ ≡ choose undefinedLeaves (decisionOf a) out otherwise
 undefined-chosen a otherwise out out′ e g = g ∙ rw e refl

@@ -5,16 +5,27 @@ ghost use lib.ListN.{length, take, drop, replicate};
 ghost use Rattle.records.specs.Sized.{Sized};
 ghost use Rattle.records.specs.Trees.{chain};
 ghost use Rattle.records.specs.Decoding.{leafValues};
-ghost use Rattle.cycles.specs.Delays.{assigned, putAll, enter};
+ghost use Rattle.behaviour.specs.Delays.{assigned, putAll, enter};
 ghost use mathlib.Core.List.{List, _++_};
-ghost use Rattle.meaning.specs.Matching.{constructorAnswer, pairAnswer, chainAnswer};
+ghost use Rattle.meaning.specs.Matching.{constructorDecision, pairDecision, chainDecision};
 ghost use Rattle.values.specs.Chained.{Chained};
-ghost use Rattle.values.specs.Answers.{answerOf, Agrees};
-ghost use Rattle.values.specs.Matchings.{Matched, MatchesAll, MatchesOne, Chosen};
+ghost use Rattle.values.specs.Answers.{decisionOf, Agrees};
+ghost use Rattle.values.specs.Matchings.{Matching, MatchedAll, MatchedOne, Chosen};
 ghost use Rattle.values.specs.Slots.{slot, entered};
 ghost use Rattle.meaning.specs.Evaluation.{choose};
 ghost use Rattle.meaning.specs.Undecided.{undefinedLeaves};
+use records::KIND_CONSTRUCTOR_PATTERN;
+use records::KIND_WHOLE_PATTERN;
+use records::RECORDS;
+use records::WORD_A;
+use records::WORD_B;
+use records::WORD_KIND;
+use records::WORD_NEXT;
+use records::Widths;
 use records::word;
+
+// A table of the delays' next values, one byte a record.
+pub type NextValues = [u8; RECORDS];
 
 // Reads the leaves from `first`.
 pub fn read_leaves(sheet: &[u8], n: usize, first: usize, out: &mut [u8])
@@ -25,14 +36,14 @@ pub fn read_leaves(sheet: &[u8], n: usize, first: usize, out: &mut [u8])
     let mut leaf = first;
     let mut i = 0;
     while i < all {
-        out[i] = word(sheet, n, leaf, 2) as u8;
-        leaf = word(sheet, n, leaf, 1);
+        out[i] = word(sheet, n, leaf, WORD_A) as u8;
+        leaf = word(sheet, n, leaf, WORD_NEXT);
         i += 1;
     }
 }
 
 // Holds a value at the leaves from `first`.
-pub fn hold_leaves(sheet: &[u8], n: usize, first: usize, value: &[u8], held: &mut [u8; 4096])
+pub fn hold_leaves(sheet: &[u8], n: usize, first: usize, value: &[u8], held: &mut NextValues)
     requires { ⌜ Chained (now sheet) n first (length (now value)) ⌝ }
     ensures { λ _. ⌜ now (held .exit) ≡ putAll enter (assigned (chain (now (sheet .entry)) first) (now (value .entry))) (now (held .entry)) ⌝ }
 {
@@ -41,7 +52,7 @@ pub fn hold_leaves(sheet: &[u8], n: usize, first: usize, value: &[u8], held: &mu
     let mut i = 0;
     while i < all {
         held[leaf] = value[i];
-        leaf = word(sheet, n, leaf, 1);
+        leaf = word(sheet, n, leaf, WORD_NEXT);
         i += 1;
     }
 }
@@ -137,7 +148,7 @@ pub enum Match {
 
 // The answer of constructor k on a leaf.
 fn on_leaf(k: usize, leaf: u8) -> Match
-    ensures { λ r. ⌜ answerOf r ≡ constructorAnswer k leaf ⌝ }
+    ensures { λ r. ⌜ decisionOf r ≡ constructorDecision k leaf ⌝ }
 {
     if leaf == 0 {
         return Match::Undecided;
@@ -150,7 +161,7 @@ fn on_leaf(k: usize, leaf: u8) -> Match
 
 // The answer of a pair pattern, from those of its parts.
 fn both(a: Match, b: Match) -> Match
-    ensures { λ r. ⌜ answerOf r ≡ pairAnswer (answerOf a) (answerOf b) ⌝ }
+    ensures { λ r. ⌜ decisionOf r ≡ pairDecision (decisionOf a) (decisionOf b) ⌝ }
 {
     match a {
         Match::No => Match::No,
@@ -165,7 +176,7 @@ fn both(a: Match, b: Match) -> Match
 
 // The answer of a chain, from that of its first alternatives and that of the next one.
 fn either(a: Match, b: Match) -> Match
-    ensures { λ r. ⌜ answerOf r ≡ chainAnswer (answerOf a) (answerOf b) ⌝ }
+    ensures { λ r. ⌜ decisionOf r ≡ chainDecision (decisionOf a) (decisionOf b) ⌝ }
 {
     match a {
         Match::Yes => Match::Yes,
@@ -179,42 +190,42 @@ fn either(a: Match, b: Match) -> Match
 }
 
 // Matches a value against the alternatives from p.
-pub fn match_all(sheet: &[u8], n: usize, widths: &[u8; 4096], p: usize, value: &[u8]) -> Match
-    requires { ⌜ Matched (now sheet) n (now widths) p (now value) ⌝ }
-    ensures { λ r. ⌜ MatchesAll (now (sheet .entry)) p (now (value .entry)) r ⌝ }
+pub fn match_all(sheet: &[u8], n: usize, widths: &Widths, p: usize, value: &[u8]) -> Match
+    requires { ⌜ Matching (now sheet) n (now widths) p (now value) ⌝ }
+    ensures { λ r. ⌜ MatchedAll (now (sheet .entry)) p (now (value .entry)) r ⌝ }
 {
     let mut answer = match_one(sheet, n, widths, p, value);
-    let mut at = word(sheet, n, p, 1);
+    let mut at = word(sheet, n, p, WORD_NEXT);
     while at != 0 {
         answer = either(answer, match_one(sheet, n, widths, at, value));
-        at = word(sheet, n, at, 1);
+        at = word(sheet, n, at, WORD_NEXT);
     }
     answer
 }
 
 // Matches a value against the alternative at p, a pair pattern part by part.
-fn match_one(sheet: &[u8], n: usize, widths: &[u8; 4096], p: usize, value: &[u8]) -> Match
-    requires { ⌜ Matched (now sheet) n (now widths) p (now value) ⌝ }
-    ensures { λ r. ⌜ MatchesOne (now (sheet .entry)) p (now (value .entry)) r ⌝ }
+fn match_one(sheet: &[u8], n: usize, widths: &Widths, p: usize, value: &[u8]) -> Match
+    requires { ⌜ Matching (now sheet) n (now widths) p (now value) ⌝ }
+    ensures { λ r. ⌜ MatchedOne (now (sheet .entry)) p (now (value .entry)) r ⌝ }
 {
-    let kind = word(sheet, n, p, 0);
-    if kind == 48 {
+    let kind = word(sheet, n, p, WORD_KIND);
+    if kind == KIND_WHOLE_PATTERN {
         return Match::Yes;
     }
-    if kind == 49 {
-        return on_leaf(word(sheet, n, p, 3), value[0]);
+    if kind == KIND_CONSTRUCTOR_PATTERN {
+        return on_leaf(word(sheet, n, p, WORD_B), value[0]);
     }
-    let first = word(sheet, n, p, 2);
+    let first = word(sheet, n, p, WORD_A);
     let w = widths[first] as usize;
     let a = match_all(sheet, n, widths, first, &value[0..w]);
-    let b = match_all(sheet, n, widths, word(sheet, n, p, 3), &value[w..]);
+    let b = match_all(sheet, n, widths, word(sheet, n, p, WORD_B), &value[w..]);
     both(a, b)
 }
 
 // The value of an IF by the answer of its match, where the then value is in `out`.
 fn by_answer(answer: Match, otherwise: &[u8], out: &mut [u8])
     requires { ⌜ length (now otherwise) ≡ length (now out) ⌝ }
-    ensures { λ _. ⌜ now (out .exit) ≡ choose undefinedLeaves (answerOf answer) (now (out .entry)) (now (otherwise .entry)) ⌝ }
+    ensures { λ _. ⌜ now (out .exit) ≡ choose undefinedLeaves (decisionOf answer) (now (out .entry)) (now (otherwise .entry)) ⌝ }
 {
     match answer {
         Match::Yes => return,
@@ -227,13 +238,13 @@ fn by_answer(answer: Match, otherwise: &[u8], out: &mut [u8])
 pub fn choose_value(
     sheet: &[u8],
     n: usize,
-    widths: &[u8; 4096],
+    widths: &Widths,
     p: usize,
     tested: &[u8],
     otherwise: &[u8],
     out: &mut [u8],
 )
-    requires { ⌜ Matched (now sheet) n (now widths) p (now tested) × (length (now otherwise) ≡ length (now out)) ⌝ }
+    requires { ⌜ Matching (now sheet) n (now widths) p (now tested) × (length (now otherwise) ≡ length (now out)) ⌝ }
     ensures { λ _. ⌜ Chosen (now (sheet .entry)) p (now (tested .entry)) (now (otherwise .entry)) (now (out .entry)) (now (out .exit)) ⌝ }
 {
     by_answer(match_all(sheet, n, widths, p, tested), otherwise, out);

@@ -55,7 +55,7 @@ use Rattle.meaning.specs.Values.{zeros}
 use Rattle.values.specs.Slots.{slot}
 use Rattle.records.specs.Kinds.{expression, constant, name, tuple, first, second, letIn, feedback, ifMatches, delay, kindOf}
 use Rattle.records.proofs.Table.{askOfKind}
-use Rattle.judging.proofs.KindNumbers.{numbered, last-kind}
+use Rattle.accepted.proofs.Laws.{numbered, last-kind}
 use Rattle.evaluator.proofs.Frames.{from-none, to-the-end}
 use Rattle.evaluator.proofs.Readiness.{ready-word, ready-few, in-circuit, entry-few, entry-there, higher}
 use Rattle.evaluator.proofs.Parts.{constant-chained, constant-done, pair-small, pair-cut, pair-first-ready, pair-rest, pair-second-ready, pair-done, fits-room, room-ready, first-scope, first-fits, first-inside, first-done, second-scope, second-few, second-from, second-inside, second-fits, second-done}

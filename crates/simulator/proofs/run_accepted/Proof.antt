@@ -1,70 +1,62 @@
 -- Assumes nothing.
+use Rattle.simulator.proofs.Calls.{call-accepting, output-there, output-few, refused-stimulus, count-few, needed-few, refused-output, refused-next, call-running, call-done}
+use Rattle.stimulus.proofs.Holding.{input-there, input-few}
 use native.Mathlib.Omega.{arith}
 use denote.Ref.{now}
-use Rattle.simulator.proofs.Calls.{call-sized, call-passes, call-input, input-there, input-few, input-takes, input-some, output-there, output-few, refused-stimulus, refused-byte, byte-small, needed-few, refused-output, refused-next, call-running, call-done}
 use borrow.Author.Needs.{needs}
 use Rattle.simulator.proofs.run_accepted.Statement.{statement}
 use Rattle.simulator.proofs.run_accepted.Tie as tie
 
-word-requires : tie.Need-word-requires
-word-requires c κs = (call-sized _ _ _ (c .before .before .before .before .pre .0) (c .before .before .before .before .pre .1), call-sized _ _ _ (c .before .before .before .before .pre .0) (c .before .before .before .before .pre .1) .some, omega arith)
+check-stimulus-requires : tie.Need-check-stimulus-requires
+check-stimulus-requires c κs = search needs
 
-element-copy-out-wi : tie.Need-element-copy-out-wi
-element-copy-out-wi c = input-there _ _ _ (c .before .before .before .before .before .pre .0) (c .before .before .before .before .before .pre .1) _ (c .word .ensures .0)
-
-cast-wi : tie.Need-cast-wi
-cast-wi c = let f = input-few _ _ _ (c .before .before .before .before .before .before .pre .0) (c .before .before .before .before .before .before .pre .1) _ (c .before .word .ensures .0) in omega arith
-
-element-copy-out-wo : tie.Need-element-copy-out-wo
-element-copy-out-wo c = output-there _ _ _ (c .before .before .before .before .before .before .pre .0) (c .before .before .before .before .before .before .pre .1)
-
-cast-wo : tie.Need-cast-wo
-cast-wo c = let f = output-few _ _ _ (c .before .before .before .before .before .before .before .pre .0) (c .before .before .before .before .before .before .before .pre .1) in omega arith
-
-not-whole-requires : tie.Need-not-whole-requires
-not-whole-requires c κs = input-some _ _ _ (c .before .before .before .before .before .before .before .pre .0) (c .before .before .before .before .before .before .before .pre .1) _ (c .before .before .word .ensures .0)
-
-returns : tie.Need-returns
-returns c = refused-stimulus _ _ _ (c .before .before .before .before .before .before .before .before .before .pre .0) (c .before .before .before .before .before .before .before .before .before .pre .1) _ (c .before .before .before .before .word .ensures .0) (now (c .before .before .before .before .before .before .before .before .before .args .stim)) (now (c .before .before .before .before .before .before .before .before .before .args .out)) (now (c .before .before .before .before .before .before .before .before .before .args .next)) _ (c .before .not-whole .ensures) (c .if1 .taken)
-
-first-above-requires : tie.Need-first-above-requires
-first-above-requires c κs = (call-sized _ _ _ (c .before .before .before .before .before .before .before .before .before .pre .0) (c .before .before .before .before .before .before .before .before .before .pre .1), call-passes _ _ (c .before .before .before .before .before .before .before .before .before .pre .0), call-input _ _ _ (c .before .before .before .before .before .before .before .before .before .pre .0) (c .before .before .before .before .before .before .before .before .before .pre .1) _ (c .before .before .before .before .word .ensures .0), input-takes _ _ _ (c .before .before .before .before .before .before .before .before .before .pre .0) (c .before .before .before .before .before .before .before .before .before .pre .1) _ (c .before .before .before .before .word .ensures .0))
-
-enum-known-wrong : tie.Need-enum-known-wrong
-enum-known-wrong c = search needs
-
-add-result : tie.Need-add-result
-add-result c = let f = byte-small _ _ _ (c .before .before .before .before .before .before .before .before .before .before .before .before .before .pre .0) (c .before .before .before .before .before .before .before .before .before .before .before .before .before .pre .1) _ (c .before .before .before .before .before .before .before .before .word .ensures .0) (now (c .before .before .before .before .before .before .before .before .before .before .before .before .before .args .stim)) (now (c .before .before .before .before .before .before .before .before .before .before .before .before .before .args .out)) (now (c .before .before .before .before .before .before .before .before .before .before .before .before .before .args .next)) _ (c .before .before .before .before .before .not-whole .ensures) (c .before .before .before .before .if1 .left) (c .before .before .before .first-above .result) (c .before .before .before .first-above .ensures) _ (c .before .wrong .given .1) in omega arith
-
-returns-2 : tie.Need-returns-2
-returns-2 c = refused-byte _ _ _ (c .before .before .before .before .before .before .before .before .before .before .before .before .before .pre .0) (c .before .before .before .before .before .before .before .before .before .before .before .before .before .pre .1) _ (c .before .before .before .before .before .before .before .before .word .ensures .0) (now (c .before .before .before .before .before .before .before .before .before .before .before .before .before .args .stim)) (now (c .before .before .before .before .before .before .before .before .before .before .before .before .before .args .out)) (now (c .before .before .before .before .before .before .before .before .before .before .before .before .before .args .next)) _ (c .before .before .before .before .before .not-whole .ensures) (c .before .before .before .before .if1 .left) (c .before .before .before .first-above .result) (c .before .before .before .first-above .ensures) _ (c .before .wrong .given .1)
+enum-known-held : tie.Need-enum-known-held
+enum-known-held c = search needs
 
 enum-told : tie.Need-enum-told
 enum-told c = search needs
 
-div-count : tie.Need-div-count
-div-count c = input-some _ _ _ (c .before .before .before .before .before .before .before .before .before .before .before .before .pre .0) (c .before .before .before .before .before .before .before .before .before .before .before .before .pre .1) _ (c .before .before .before .before .before .before .before .word .ensures .0)
+packed-requires : tie.Need-packed-requires
+packed-requires c κs = search needs
+
+returns : tie.Need-returns
+returns c = refused-stimulus (c .before .before .before .before .before .before .before .before .pre) (now (c .before .before .before .before .before .before .before .before .args .stim)) (now (c .before .before .before .before .before .before .before .before .args .out)) (now (c .before .before .before .before .before .before .before .before .args .next)) _ (c .before .before .before .check-stimulus .ensures) _ _ (c .before .enum-told .given .1) _ (c .packed .ensures)
+
+word-requires : tie.Need-word-requires
+word-requires c κs = search needs
+
+element-copy-out-wi : tie.Need-element-copy-out-wi
+element-copy-out-wi c = input-there (call-accepting (c .before .before .before .before .before .before .before .before .before .pre)) (c .word .ensures .0)
+
+cast-wi : tie.Need-cast-wi
+cast-wi c = let f = input-few (call-accepting (c .before .before .before .before .before .before .before .before .before .before .pre)) (c .before .word .ensures .0) in omega arith
+
+element-copy-out-wo : tie.Need-element-copy-out-wo
+element-copy-out-wo c = output-there (c .before .before .before .before .before .before .before .before .before .before .pre)
+
+cast-wo : tie.Need-cast-wo
+cast-wo c = let f = output-few (c .before .before .before .before .before .before .before .before .before .before .before .pre) in omega arith
 
 mul-needed : tie.Need-mul-needed
-mul-needed c = let f = needed-few _ _ _ (c .before .before .before .before .before .before .before .before .before .before .before .before .pre .0) (c .before .before .before .before .before .before .before .before .before .before .before .before .pre .1) _ (c .before .before .before .before .before .before .before .word .ensures .0) (now (c .before .before .before .before .before .before .before .before .before .before .before .before .args .stim)) (now (c .before .before .before .before .before .before .before .before .before .before .before .before .args .out)) (now (c .before .before .before .before .before .before .before .before .before .before .before .before .args .next)) _ (c .before .before .before .before .not-whole .ensures) (c .before .before .before .if1 .left) (c .before .before .first-above .result) (c .before .before .first-above .ensures) (c .enum-told .given .1) in omega arith
+mul-needed c = let f = needed-few (c .before .before .before .before .before .before .before .before .before .before .before .pre) (now (c .before .before .before .before .before .before .before .before .before .before .before .args .stim)) (now (c .before .before .before .before .before .before .before .before .before .before .before .args .out)) (now (c .before .before .before .before .before .before .before .before .before .before .before .args .next)) _ (c .before .before .before .before .before .before .check-stimulus .ensures) _ (c .before .before .before .before .held .given .1) in omega arith
 
-add-result-2 : tie.Need-add-result-2
-add-result-2 c = let f = needed-few _ _ _ (c .before .before .before .before .before .before .before .before .before .before .before .before .before .pre .0) (c .before .before .before .before .before .before .before .before .before .before .before .before .before .pre .1) _ (c .before .before .before .before .before .before .before .before .word .ensures .0) (now (c .before .before .before .before .before .before .before .before .before .before .before .before .before .args .stim)) (now (c .before .before .before .before .before .before .before .before .before .before .before .before .before .args .out)) (now (c .before .before .before .before .before .before .before .before .before .before .before .before .before .args .next)) _ (c .before .before .before .before .before .not-whole .ensures) (c .before .before .before .before .if1 .left) (c .before .before .before .first-above .result) (c .before .before .before .first-above .ensures) (c .before .enum-told .given .1) in omega arith
+in-one-requires : tie.Need-in-one-requires
+in-one-requires c κs = let f = needed-few (c .before .before .before .before .before .before .before .before .before .before .before .before .pre) (now (c .before .before .before .before .before .before .before .before .before .before .before .before .args .stim)) (now (c .before .before .before .before .before .before .before .before .before .before .before .before .args .out)) (now (c .before .before .before .before .before .before .before .before .before .before .before .before .args .next)) _ (c .before .before .before .before .before .before .before .check-stimulus .ensures) _ (c .before .before .before .before .before .held .given .1) in (omega arith, omega arith)
+
+returns-2 : tie.Need-returns-2
+returns-2 c = refused-output (c .before .before .before .before .before .before .before .before .before .before .before .before .before .pre) (now (c .before .before .before .before .before .before .before .before .before .before .before .before .before .args .stim)) (now (c .before .before .before .before .before .before .before .before .before .before .before .before .before .args .out)) (now (c .before .before .before .before .before .before .before .before .before .before .before .before .before .args .next)) _ (c .before .before .before .before .before .before .before .before .check-stimulus .ensures) _ (c .before .before .before .before .before .before .held .given .1) (c .before .if1 .taken) _ (c .in-one .ensures)
+
+in-one-requires-2 : tie.Need-in-one-requires-2
+in-one-requires-2 c κs = search needs
 
 returns-3 : tie.Need-returns-3
-returns-3 c = refused-output _ _ _ (c .before .before .before .before .before .before .before .before .before .before .before .before .before .pre .0) (c .before .before .before .before .before .before .before .before .before .before .before .before .before .pre .1) _ (c .before .before .before .before .before .before .before .before .word .ensures .0) (now (c .before .before .before .before .before .before .before .before .before .before .before .before .before .args .stim)) (now (c .before .before .before .before .before .before .before .before .before .before .before .before .before .args .out)) (now (c .before .before .before .before .before .before .before .before .before .before .before .before .before .args .next)) _ (c .before .before .before .before .before .not-whole .ensures) (c .before .before .before .before .if1 .left) (c .before .before .before .first-above .result) (c .before .before .before .first-above .ensures) (c .before .enum-told .given .1) (c .if2 .taken)
-
-add-result-3 : tie.Need-add-result-3
-add-result-3 c = search needs
-
-returns-4 : tie.Need-returns-4
-returns-4 c = refused-next _ _ _ (c .before .before .before .before .before .before .before .before .before .before .before .before .before .before .pre .0) (c .before .before .before .before .before .before .before .before .before .before .before .before .before .before .pre .1) _ (c .before .before .before .before .before .before .before .before .before .word .ensures .0) (now (c .before .before .before .before .before .before .before .before .before .before .before .before .before .before .args .stim)) (now (c .before .before .before .before .before .before .before .before .before .before .before .before .before .before .args .out)) (now (c .before .before .before .before .before .before .before .before .before .before .before .before .before .before .args .next)) _ (c .before .before .before .before .before .before .not-whole .ensures) (c .before .before .before .before .before .if1 .left) (c .before .before .before .before .first-above .result) (c .before .before .before .before .first-above .ensures) (c .before .before .enum-told .given .1) (c .before .if2 .left) (c .if3 .taken)
+returns-3 c = refused-next (c .before .before .before .before .before .before .before .before .before .before .before .before .before .before .pre) (now (c .before .before .before .before .before .before .before .before .before .before .before .before .before .before .args .stim)) (now (c .before .before .before .before .before .before .before .before .before .before .before .before .before .before .args .out)) (now (c .before .before .before .before .before .before .before .before .before .before .before .before .before .before .args .next)) _ (c .before .before .before .before .before .before .before .before .before .check-stimulus .ensures) _ (c .before .before .before .before .before .before .before .held .given .1) (c .before .before .if1 .left) (c .before .if2 .taken) _ (c .in-one2 .ensures)
 
 put-requires : tie.Need-put-requires
 put-requires c κs = search needs
 
 run-from-requires : tie.Need-run-from-requires
-run-from-requires c κs = call-running _ _ _ (c .before .before .before .before .before .before .before .before .before .before .before .before .before .before .before .before .before .before .before .before .pre .0) (c .before .before .before .before .before .before .before .before .before .before .before .before .before .before .before .before .before .before .before .before .pre .1) _ (c .before .before .before .before .before .before .before .before .before .before .before .before .before .before .before .word .ensures .0) (now (c .before .before .before .before .before .before .before .before .before .before .before .before .before .before .before .before .before .before .before .before .args .stim)) (now (c .before .before .before .before .before .before .before .before .before .before .before .before .before .before .before .before .before .before .before .before .args .out)) (now (c .before .before .before .before .before .before .before .before .before .before .before .before .before .before .before .before .before .before .before .before .args .next)) _ (c .before .before .before .before .before .before .before .before .before .before .before .before .not-whole .ensures) (c .before .before .before .before .before .before .before .before .before .before .before .if1 .left) (c .before .before .before .before .before .before .before .before .before .before .first-above .result) (c .before .before .before .before .before .before .before .before .before .before .first-above .ensures) (c .before .before .before .before .before .before .before .before .enum-told .given .1) (c .before .before .before .before .before .before .before .if2 .left) (c .before .before .before .before .before .before .if3 .left) _ (c .before .before .before .before .put .ensures)
+run-from-requires c κs = call-running (c .before .before .before .before .before .before .before .before .before .before .before .before .before .before .before .before .before .before .before .pre) (now (c .before .before .before .before .before .before .before .before .before .before .before .before .before .before .before .before .before .before .before .args .stim)) (now (c .before .before .before .before .before .before .before .before .before .before .before .before .before .before .before .before .before .before .before .args .out)) (now (c .before .before .before .before .before .before .before .before .before .before .before .before .before .before .before .before .before .before .before .args .next)) _ (c .before .before .before .before .before .before .before .before .before .before .before .before .before .before .check-stimulus .ensures) _ (c .before .before .before .before .before .before .before .before .before .before .before .before .held .given .1) (c .before .before .before .before .before .before .before .if1 .left) (c .before .before .before .before .before .before .if2 .left) _ (c .before .before .before .before .before .before .before .before .before .before .word .ensures .0) _ (c .before .before .before .before .put .ensures)
 
 same-length : tie.Need-same-length
 same-length c = search needs
@@ -72,33 +64,30 @@ same-length c = search needs
 same-length-2 : tie.Need-same-length-2
 same-length-2 c = search needs
 
-returns-5 : tie.Need-returns-5
-returns-5 c = call-done _ _ _ (c .before .before .before .before .before .before .before .before .before .before .before .before .before .before .before .before .before .before .before .before .before .before .before .before .before .pre .0) (c .before .before .before .before .before .before .before .before .before .before .before .before .before .before .before .before .before .before .before .before .before .before .before .before .before .pre .1) _ (c .before .before .before .before .before .before .before .before .before .before .before .before .before .before .before .before .before .before .before .before .word .ensures .0) (now (c .before .before .before .before .before .before .before .before .before .before .before .before .before .before .before .before .before .before .before .before .before .before .before .before .before .args .stim)) (now (c .before .before .before .before .before .before .before .before .before .before .before .before .before .before .before .before .before .before .before .before .before .before .before .before .before .args .out)) (now (c .before .before .before .before .before .before .before .before .before .before .before .before .before .before .before .before .before .before .before .before .before .before .before .before .before .args .next)) _ (c .before .before .before .before .before .before .before .before .before .before .before .before .before .before .before .before .before .not-whole .ensures) (c .before .before .before .before .before .before .before .before .before .before .before .before .before .before .before .before .if1 .left) (c .before .before .before .before .before .before .before .before .before .before .before .before .before .before .before .first-above .result) (c .before .before .before .before .before .before .before .before .before .before .before .before .before .before .before .first-above .ensures) (c .before .before .before .before .before .before .before .before .before .before .before .before .before .enum-told .given .1) (c .before .before .before .before .before .before .before .before .before .before .before .before .if2 .left) (c .before .before .before .before .before .before .before .before .before .before .before .if3 .left) _ _ (c .before .before .before .before .run-from .ensures)
+returns-4 : tie.Need-returns-4
+returns-4 c = call-done (c .before .before .before .before .before .before .before .before .before .before .before .before .before .before .before .before .before .before .before .before .before .before .before .before .pre) (now (c .before .before .before .before .before .before .before .before .before .before .before .before .before .before .before .before .before .before .before .before .before .before .before .before .args .stim)) (now (c .before .before .before .before .before .before .before .before .before .before .before .before .before .before .before .before .before .before .before .before .before .before .before .before .args .out)) (now (c .before .before .before .before .before .before .before .before .before .before .before .before .before .before .before .before .before .before .before .before .before .before .before .before .args .next)) _ (c .before .before .before .before .before .before .before .before .before .before .before .before .before .before .before .before .before .before .before .check-stimulus .ensures) _ (c .before .before .before .before .before .before .before .before .before .before .before .before .before .before .before .before .before .held .given .1) (c .before .before .before .before .before .before .before .before .before .before .before .before .if1 .left) (c .before .before .before .before .before .before .before .before .before .before .before .if2 .left) _ _ (c .before .before .before .before .run-from .ensures)
 
 pub run-accepted-spec : {M : Type 1} → statement M
 run-accepted-spec =
     tie.close
     (tie.spec
+    check-stimulus-requires
+    enum-known-held
+    enum-told
+    packed-requires
+    returns
     word-requires
     element-copy-out-wi
     cast-wi
     element-copy-out-wo
     cast-wo
-    not-whole-requires
-    returns
-    first-above-requires
-    enum-known-wrong
-    add-result
-    returns-2
-    enum-told
-    div-count
     mul-needed
-    add-result-2
+    in-one-requires
+    returns-2
+    in-one-requires-2
     returns-3
-    add-result-3
-    returns-4
     put-requires
     run-from-requires
     same-length
     same-length-2
-    returns-5)
+    returns-4)

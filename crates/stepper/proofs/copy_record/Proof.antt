@@ -1,7 +1,7 @@
 -- Assumes nothing.
 use mathlib.Core.Path.{refl}
 use Rattle.records.specs.Kinds.{expression, delay, kindOf}
-use Rattle.judging.proofs.KindNumbers.{numbered}
+use Rattle.accepted.proofs.Laws.{numbered}
 use Rattle.stepper.proofs.Copies.{no-delay, delay-leaves, delay-copied}
 use borrow.Author.Needs.{needs}
 use Rattle.stepper.proofs.copy_record.Statement.{statement}

@@ -4,7 +4,7 @@ use borrow.Author.Needs.{needs}
 use native.Mathlib.Omega.{arith}
 use Prim.Native.Nat.{_+_, _*_, _-_}
 use mathlib.Core.Path.{_≡_, refl}
-use Rattle.values.specs.Matchings.{Matched}
+use Rattle.values.specs.Matchings.{Matching}
 use Rattle.values.proofs.Matches.{Gathered, begun, gone-on, ended, left, left-falls, next-matched, some-leaf, to-the-end, whole-matches, constructor-matches, first-in, cut-small, from-none, cut-inside, first-lent, second-lent, pair-matches}
 use Prim.Native.Nat.{ℕ, _<_}
 use borrow.Fn.Kinds.{In}
@@ -44,7 +44,7 @@ match-one-below t =
 
 abbrev match-all-Inv-loop : match-all-lts.InvT-loop
 match-all-Inv-loop sheet n widths p value answer₀ at₀ answer at =
-    Gathered sheet p value answer at × ((at ≡ 0 → ⊥) → (p < at) × Matched sheet n widths at value)
+    Gathered sheet p value answer at × ((at ≡ 0 → ⊥) → (p < at) × Matching sheet n widths at value)
 
 abbrev match-all-μ-loop : match-all-lts.MeasureT-loop
 match-all-μ-loop sheet n widths p value answer₀ at₀ answer at = left n at

@@ -1,0 +1,4 @@
+-- The laws of answers, of lists of checks and of searches.
+pub mod Lowest
+pub mod First
+pub mod Kept

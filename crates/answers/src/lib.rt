@@ -1,0 +1,63 @@
+// The answers of all calls: code and place in one number, and what a search found.
+ghost use mathlib.Core.Path.{_≡_};
+ghost use Prim.Native.Nat.{_<_};
+ghost use Rattle.answers.specs.Answers.{inOne, code, place, packed};
+
+// The places that a code has: a result is code * PLACES + place.
+pub const PLACES: u64 = 4294967296;
+
+// The codes of refusals (docs/SHEETS.md, "Codes").
+pub const WRONG_LENGTH: u64 = 1;
+
+pub const WRONG_HEADER: u64 = 2;
+
+pub const WRONG_RECORD: u64 = 3;
+
+pub const WRONG_NAMING: u64 = 4;
+
+pub const WRONG_TYPE: u64 = 5;
+
+pub const TOO_DEEP: u64 = 6;
+
+pub const ILL_TYPED: u64 = 7;
+
+pub const WRONG_STIMULUS: u64 = 8;
+
+pub const WRONG_BYTE: u64 = 9;
+
+pub const WRONG_OUTPUT: u64 = 10;
+
+pub const WRONG_NEXT: u64 = 11;
+
+pub const NO_FILE: u64 = 12;
+
+// The number that a search found, if it found one.
+pub enum Found {
+    At(usize),
+    Nothing,
+}
+
+// The answer of a call: done, with a place, or refused, with a code and a place.
+pub enum Answer {
+    Done(u64),
+    Refused(u64, u64),
+}
+
+// A code and a place in one number.
+pub fn in_one(code: u64, place: u64) -> u64
+    requires { ⌜ (code < 256) × (place < 4294967296) ⌝ }
+    ensures { λ r. ⌜ r ≡ inOne code place ⌝ }
+{
+    code * PLACES + place
+}
+
+// The code and the place of an answer in one number.
+pub fn packed(a: Answer) -> u64
+    requires { ⌜ (code a < 256) × (place a < 4294967296) ⌝ }
+    ensures { λ r. ⌜ r ≡ packed a ⌝ }
+{
+    match a {
+        Answer::Done(place) => place,
+        Answer::Refused(code, place) => in_one(code, place),
+    }
+}

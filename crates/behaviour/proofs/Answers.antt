@@ -1,0 +1,241 @@
+-- Each answer says what its code says, at its place, and no check before it applies; and no other answer does. A refusal leaves the
+-- slices as they were. And what a call gives in each case, from what is found there.
+-- Assumes nothing.
+use Prim.Native.Nat.{ℕ, _*_, _≤_, _<_, _^_}
+use mathlib.Core.Bool.{Bool, true, false, not}
+use mathlib.Core.List.{List, [], _∷_, _++_}
+use mathlib.Core.Option.{Option, none, some}
+use mathlib.Core.Path.{_≡_, refl, sym, ap, subst, _∙_}
+use mathlib.Core.Logic.{_≢_}
+use native.Mathlib.Omega.{arith}
+use native.Mathlib.Nat.{mul-le-mul-left}
+use lib.ListN.{length}
+use lib.Dec.{eqb}
+use borrow.Author.Tests.{eqb-true, eqb-false, eq-eqb, ne-eqb, not-false}
+use Rattle.answers.specs.Answers.{code, place, inOne, packed, whenDone, onDone}
+use Rattle.answers.specs.Checks.{Check, check, when, orRefused, firstOf, NoneApplies, Refuses, SaysOf}
+use Rattle.answers.specs.Lowest.{lowest}
+use Rattle.answers.specs.declared.Answer.{Answer}
+use Rattle.answers.specs.declared.Answer.the-variants.{Done, Refused}
+use Rattle.answers.proofs.Lowest.{lowest-some-passes}
+use Rattle.answers.proofs.First.{when-none, first-says, says-first}
+use Rattle.verdict.specs.Verdict.{verdictAnswer, sheetChecks, outputType, verdict}
+use Rattle.verdict.specs.declared.Verdict.{Verdict}
+use Rattle.verdict.specs.declared.Verdict.the-variants.{Accepted}
+use Rattle.verdict.specs.declared.Verdict.the-variants as Verdicts
+use Rattle.picoella.specs.Types.{leaves}
+use Rattle.records.specs.TypeRecords.{typeAt}
+use Rattle.records.proofs.Types.{some-leaves}
+use Rattle.accepted.proofs.Laws.{verdict-first, verdict-place, first-accepted}
+use Rattle.accepted.proofs.Small.{accepted-length, accepted-few}
+use Rattle.meaning.specs.Undecided.{undefinedLeaves}
+use Rattle.stimulus.specs.Stimulus.{inputType, inputLeaves, cycleCount, endToEnd, cycles, wrongStimulus, wrongByte, stimulusChecks}
+use Rattle.stimulus.proofs.Stimulus.{stimulus-whole}
+use Rattle.behaviour.specs.Run.{
+  outputsBy,
+  sheetAfter,
+  outputNeeded,
+  lengthChecks,
+  runChecks,
+  bySlices,
+  callChecks,
+  answer,
+  finalOut,
+  finalNext,
+  Gives,
+}
+use Rattle.behaviour.specs.Afterwards.{WellFormed, Afterwards}
+use Rattle.behaviour.specs.Promises.{SaysOfCall, LowestFirst, PlacesSmall, RefusalUnaltered}
+use Rattle.behaviour.proofs.Afterwards.{answer-done, afterwards}
+
+-- two lists of checks, one after the other
+first-both : (ks js : List Check) (done : Answer) → firstOf (ks ++ js) done ≡ firstOf ks (firstOf js done)
+first-both [] js done = refl
+first-both (k ∷ ks) js done = go (k .found) (first-both ks js done)
+  where
+    go : (o : Option ℕ) → firstOf (ks ++ js) done ≡ firstOf ks (firstOf js done)
+        → orRefused (k .number) o (firstOf (ks ++ js) done) ≡ orRefused (k .number) o (firstOf ks (firstOf js done))
+    go none e = e
+    go (some p) e = refl
+
+-- what comes after a refusal does not matter
+first-then : (ks : List Check) (p : ℕ) (rest : ℕ → Answer) → firstOf ks (rest p) ≡ onDone (firstOf ks (Done p)) rest
+first-then [] p rest = refl
+first-then (k ∷ ks) p rest = go (k .found) (first-then ks p rest)
+  where
+    go : (o : Option ℕ) → firstOf ks (rest p) ≡ onDone (firstOf ks (Done p)) rest
+        → orRefused (k .number) o (firstOf ks (rest p)) ≡ onDone (orRefused (k .number) o (firstOf ks (Done p))) rest
+    go none e = e
+    go (some q) e = refl
+
+-- the answer of a call is that of the first of all its checks
+pub answer-first : (s stim out next : List ℕ) → answer s stim out next ≡ firstOf (callChecks s stim out next) (Done (cycleCount s stim))
+unfolding answer bySlices
+answer-first s stim out next =
+    let rest : ℕ → Answer = λ t. firstOf (runChecks s t stim out next) (Done (cycleCount s stim)) in
+    ap (λ (a : Answer). onDone a rest) (verdict-first s)
+    ∙ sym (first-then (sheetChecks s) (outputType s) rest)
+    ∙ sym (first-both (sheetChecks s) (runChecks s (outputType s) stim out next) (Done (cycleCount s stim)))
+
+not-true : (b : Bool) → not b ≡ true → b ≡ false
+not-true true e = sym e
+not-true false e = refl
+
+-- where none applies the call is well formed
+same-length-by : (a b p : ℕ) → when (not (eqb a b)) p ≡ none → a ≡ b
+same-length-by a b p e = eqb-true a b (not-false (eqb a b) (when-none (not (eqb a b)) p e))
+
+none-split : (ks js : List Check) → NoneApplies (ks ++ js) → NoneApplies ks × NoneApplies js
+none-split [] js h = (tt, h)
+none-split (k ∷ ks) js h = let r = none-split ks js (h .1) in ((h .0, r .0), r .1)
+
+well-formed-where : (s stim out next : List ℕ) → NoneApplies (callChecks s stim out next) → WellFormed s stim out next (outputType s)
+well-formed-where s stim out next h =
+    let p = none-split (sheetChecks s) (runChecks s (outputType s) stim out next) h in
+    record {
+      accepted = first-accepted s (p .0);
+      whole = when-none (wrongStimulus s stim) 0 (p .1 .0);
+      fitting = p .1 .1 .0;
+      room = same-length-by (length out) (outputNeeded s (outputType s) stim) (outputNeeded s (outputType s) stim) (p .1 .1 .1 .0);
+      long = same-length-by (length next) (length s) (length s) (p .1 .1 .1 .1 .0);
+    }
+
+says-of-call : (s stim out next : List ℕ) (a : Answer) → SaysOf (callChecks s stim out next) (cycleCount s stim) a
+    → SaysOfCall s stim out next a
+says-of-call s stim out next (Done n) h = (outputType s, well-formed-where s stim out next (h .0), h .1)
+says-of-call s stim out next (Refused c p) h = h
+
+call-says : (s stim out next : List ℕ) (a : Answer) → SaysOfCall s stim out next a → answer s stim out next ≡ a
+call-says s stim out next (Done n) h = answer-done s stim out next (h .0) (h .1) ∙ ap Done (sym (h .2))
+call-says s stim out next (Refused c p) h =
+    answer-first s stim out next ∙ says-first (callChecks s stim out next) (cycleCount s stim) (Refused c p) h
+
+pub lowest-first : LowestFirst
+lowest-first s stim out next a = (
+  λ e. says-of-call s stim out next a
+      (subst (λ (b : Answer). SaysOf (callChecks s stim out next) (cycleCount s stim) b) (sym (answer-first s stim out next) ∙ e)
+      (first-says (callChecks s stim out next) (cycleCount s stim))),
+  call-says s stim out next a,
+)
+
+-- the place of each answer is small
+place-or : (c : ℕ) (o : Option ℕ) (rest : Answer) → ((p : ℕ) → o ≡ some p → p < 2 ^ 32) → (o ≡ none → place rest < 2 ^ 32)
+    → place (orRefused c o rest) < 2 ^ 32
+place-or c (some p) rest found nothing = found p refl
+place-or c none rest found nothing = nothing refl
+
+when-some : (b : Bool) (p q : ℕ) → when b p ≡ some q → p ≡ q
+when-some true p q e = cc
+when-some false p q e = let z : _≡_ {A = ℕ} 0 1 = cc in absurd (omega arith)
+
+slices-small : (s : List ℕ) (t : ℕ) (stim out next : List ℕ) → verdict s ≡ Accepted t → place (bySlices s t stim out next) < 2 ^ 32
+unfolding bySlices
+slices-small s t stim out next v =
+    let needed = outputNeeded s t stim in
+    let done = Done (cycleCount s stim) in
+    let last = firstOf (check 11 (when (not (eqb (length next) (length s))) (length s)) ∷ []) done in
+    let byOut = firstOf (lengthChecks s t stim out next) done in
+    let byByte = orRefused 9 (lowest (wrongByte s stim) (length stim)) byOut in
+    place-or 8 (when (wrongStimulus s stim) 0) byByte (λ p e. let z = when-some (wrongStimulus s stim) 0 p e in omega arith)
+    (λ e. let whole = stimulus-whole s stim (when-none (wrongStimulus s stim) 0 e) in
+    let few = cycles-few s t stim v (when-none (wrongStimulus s stim) 0 e) in
+    place-or 9 (lowest (wrongByte s stim) (length stim)) byOut
+    (λ i f. let l = lowest-some-passes (wrongByte s stim) (length stim) i f .0 in let w = whole .1 in omega arith)
+    (λ f. place-or 10 (when (not (eqb (length out) needed)) needed) last
+    (λ p h. let z = when-some (not (eqb (length out) needed)) needed p h in omega arith)
+    (λ h. place-or 11 (when (not (eqb (length next) (length s))) (length s)) done
+    (λ p k. let z = when-some (not (eqb (length next) (length s))) (length s) p k in
+    let l = accepted-length s t v in omega arith)
+    (λ k. omega arith))))
+  where
+    cycles-few : (s : List ℕ) (t : ℕ) (stim : List ℕ) → verdict s ≡ Accepted t → wrongStimulus s stim ≡ false
+        → (cycleCount s stim ≤ 65535) × (outputNeeded s t stim ≤ 4194240)
+    cycles-few s t stim v whole =
+        let h = stimulus-whole s stim whole in
+        let some = some-leaves (inputType s) in
+        let m : cycleCount s stim * 1 ≤ cycleCount s stim * inputLeaves s = mul-le-mul-left (cycleCount s stim) (omega arith) in
+        let few = accepted-few s t v in
+        let n : cycleCount s stim * leaves (typeAt s t) ≤ cycleCount s stim * 64 = mul-le-mul-left (cycleCount s stim) few in
+        let e = h .2 in
+        let f = h .1 in
+        (omega arith, omega arith)
+
+pub places-small : PlacesSmall
+unfolding answer
+places-small s stim out next = go (verdict s) refl
+  where
+    small : (r : ℕ) → place (verdictAnswer (verdict s)) ≡ r → r < 2 ^ 32
+    small r e = let h = verdict-place s in omega arith
+
+    go : (w : Verdict) → verdict s ≡ w → place (onDone (verdictAnswer w) (λ t. bySlices s t stim out next)) < 2 ^ 32
+    go (Accepted t) e = slices-small s t stim out next e
+    go Verdicts.WrongLength e = omega arith
+    go Verdicts.WrongHeader e = omega arith
+    go (Verdicts.WrongRecord r) e = small r (ap (λ w. place (verdictAnswer w)) e)
+    go (Verdicts.WrongNaming r) e = small r (ap (λ w. place (verdictAnswer w)) e)
+    go (Verdicts.WrongType r) e = small r (ap (λ w. place (verdictAnswer w)) e)
+    go (Verdicts.TooDeep r) e = small r (ap (λ w. place (verdictAnswer w)) e)
+    go (Verdicts.IllTyped r) e = small r (ap (λ w. place (verdictAnswer w)) e)
+
+kept-bytes : (a : Answer) (new old : List ℕ) → code a ≢ 0 → whenDone a new old ≡ old
+kept-bytes (Done n) new old f = absurd (f refl)
+kept-bytes (Refused c p) new old f = refl
+
+pub refusal-unaltered : RefusalUnaltered
+unfolding finalOut finalNext
+refusal-unaltered s stim out next f = (
+  kept-bytes (answer s stim out next) (endToEnd (outputsBy undefinedLeaves s (cycles s stim))) out f,
+  kept-bytes (answer s stim out next) (sheetAfter undefinedLeaves s (cycles s stim)) next f,
+)
+
+-- what a call gives where it refuses
+pub gives-refusal : (s stim out next : List ℕ) (c p : ℕ) → answer s stim out next ≡ Refused c p → Gives s stim out next (inOne c p) out next
+unfolding finalOut finalNext
+gives-refusal s stim out next c p e = record { result-is = rw e refl; out-is = rw e refl; next-is = rw e refl }
+
+-- and where it does not
+pub gives-done : (s stim out next : List ℕ) (t : ℕ) → WellFormed s stim out next t
+    → Gives s stim out next (cycleCount s stim) (endToEnd (outputsBy undefinedLeaves s (cycles s stim)))
+    (sheetAfter undefinedLeaves s (cycles s stim))
+unfolding finalOut finalNext
+gives-done s stim out next t h =
+    let e = answer-done s stim out next t h in record { result-is = rw e (omega arith); out-is = rw e; next-is = rw e }
+
+-- so that what a call gives is what demand 3 speaks of
+pub gives-afterwards : (s stim out next : List ℕ) (t result : ℕ) (out′ next′ : List ℕ) → Gives s stim out next result out′ next′
+    → WellFormed s stim out next t → Afterwards s stim t result out′ next′
+gives-afterwards s stim out next t result out′ next′ g h =
+    rw (g .result-is, g .out-is, g .next-is) (afterwards s stim out next t h)
+
+-- the answers that refuse, in their order
+pub refused-by-verdict : (s stim out next : List ℕ) (c p : ℕ) → verdictAnswer (verdict s) ≡ Refused c p → answer s stim out next ≡ Refused c p
+unfolding answer
+refused-by-verdict s stim out next c p e = rw e refl
+
+module _ (s stim out next : List ℕ) (t : ℕ) (v : verdict s ≡ Accepted t) where
+  -- by the stimulus
+  pub stimulus-refused : (c p : ℕ) → firstOf (stimulusChecks s stim) (Done (cycleCount s stim)) ≡ Refused c p
+      → answer s stim out next ≡ Refused c p
+  unfolding answer bySlices
+  stimulus-refused c p e =
+      rw v
+      (first-both (stimulusChecks s stim) (lengthChecks s t stim out next) (Done (cycleCount s stim))
+      ∙ first-then (stimulusChecks s stim) (cycleCount s stim) (λ n. firstOf (lengthChecks s t stim out next) (Done n))
+      ∙ ap (λ (a : Answer). onDone a (λ n. firstOf (lengthChecks s t stim out next) (Done n))) e)
+
+  -- and by the slices' lengths
+  module _ (e : firstOf (stimulusChecks s stim) (Done (cycleCount s stim)) ≡ Done (cycleCount s stim)) where
+    by-lengths : answer s stim out next ≡ firstOf (lengthChecks s t stim out next) (Done (cycleCount s stim))
+    unfolding answer bySlices
+    by-lengths =
+        rw v
+        (first-both (stimulusChecks s stim) (lengthChecks s t stim out next) (Done (cycleCount s stim))
+        ∙ first-then (stimulusChecks s stim) (cycleCount s stim) (λ n. firstOf (lengthChecks s t stim out next) (Done n))
+        ∙ ap (λ (a : Answer). onDone a (λ n. firstOf (lengthChecks s t stim out next) (Done n))) e)
+
+    pub output-refused : length out ≢ outputNeeded s t stim → answer s stim out next ≡ Refused 10 (outputNeeded s t stim)
+    output-refused f = by-lengths ∙ rw (ne-eqb (length out) (outputNeeded s t stim) f) refl
+
+    pub next-refused : length out ≡ outputNeeded s t stim → length next ≢ length s → answer s stim out next ≡ Refused 11 (length s)
+    next-refused room f =
+        by-lengths ∙ rw (eq-eqb (length out) (outputNeeded s t stim) room, ne-eqb (length next) (length s) f) refl

@@ -1,0 +1,29 @@
+-- One term of each promise of the front page, `specs/Promises.antt`; the theorems stand in the files beside this one and in
+-- `stimulus`. A promise without a term is refused here.
+-- Assumes nothing.
+use Rattle.behaviour.proofs.Sheets.{write-only-delays, write-read, write-accepted}
+use Rattle.behaviour.proofs.Sheets as Sheets
+use Rattle.behaviour.specs.Promises.{RunPromises}
+use Rattle.stimulus.proofs.Stimulus.{cycles-joined, cycles-counted}
+use Rattle.behaviour.proofs.Run.{run-outputs, run-sheet}
+use Rattle.behaviour.proofs.Reduces.{run-reduces}
+use Rattle.behaviour.proofs.Afterwards.{afterwards}
+use Rattle.behaviour.proofs.Answers.{lowest-first, places-small, refusal-unaltered}
+
+pub kept : RunPromises
+kept = record {
+  lowest-first = lowest-first;
+  places-small = places-small;
+  refusal-unaltered = refusal-unaltered;
+  write-reads = λ s t v e h. record {
+    only-delays = write-only-delays s e (h .frame);
+    reads = write-read s t v e h;
+    again = write-accepted s t v e h;
+  };
+  write-own = Sheets.write-own;
+  cycles-whole = λ s stim e. (cycles-joined s stim e, cycles-counted s stim);
+  run-means = λ undecided law s t v inputs given.
+      (run-outputs undecided law s t v inputs given, run-sheet undecided law s t v inputs given);
+  run-reduces = run-reduces;
+  holds-afterwards = afterwards;
+}

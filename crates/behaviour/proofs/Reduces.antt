@@ -1,0 +1,69 @@
+-- The run of an accepted sheet is the run of 000's rules on the expression that it decodes to: the term of a sheet erases to that
+-- expression, the run on bytes is the run of the meaning on the term, and that is adequate to the rules.
+-- Assumes nothing.
+use Prim.Native.Nat.{ℕ}
+use mathlib.Core.List.{List, [], map}
+use mathlib.Core.Option.{some}
+use mathlib.Core.Path.{_≡_, sym, ap, _∙_}
+use Rattle.picoella.specs.Types.{Ty}
+use Rattle.picoella.specs.Expressions.{Expr}
+use Rattle.records.specs.TypeRecords.{Declared}
+use Rattle.records.specs.Decoding.{decode}
+use Rattle.records.proofs.Decoding.{decodes}
+use Rattle.verdict.specs.Verdict.{verdict}
+use Rattle.verdict.specs.declared.Verdict.the-variants.{Accepted}
+use Rattle.meaning.specs.Elaboration.{erase}
+use Rattle.meaning.specs.Values.{no-values, AllOf, all-none, all-more}
+use Rattle.meaning.specs.Constants.{ConstantTree, AllConstantsOf, of-none, of-all-none, of-all-more, flatten}
+use Rattle.meaning.specs.Undecided.{undefinedLeaves, bottomOfThen}
+use Rattle.meaning.specs.Run.{after}
+use Rattle.meaning.proofs.FlattenOneToOne.{flatten-typed}
+use Rattle.meaning.proofs.NextTyped.{after-typed, after-frame}
+use Rattle.meaning.proofs.UndefinedLeavesLawful.{undefined-lawful, undefined-agreeing}
+use Rattle.meaning.proofs.Adequacy.{run-adequate}
+use Rattle.behaviour.specs.Terms.{circuitTerm}
+use Rattle.behaviour.specs.Sheets.{write, Writable}
+use Rattle.behaviour.proofs.Terms.{erase-circuit, circuit-typed}
+use Rattle.behaviour.proofs.Sheets.{accepted-written, write-read, write-accepted}
+use Rattle.stimulus.specs.Stimulus.{inputType}
+use Rattle.behaviour.specs.Run.{sheetAfter}
+use Rattle.behaviour.specs.Promises.{RunReduces}
+use Rattle.behaviour.proofs.Run.{run-outputs, run-sheet}
+
+flatten-all-typed : {τ : Ty} {cs : List ConstantTree} → AllConstantsOf τ cs → AllOf τ (map flatten cs)
+flatten-all-typed of-all-none = all-none
+flatten-all-typed (of-all-more h r) = all-more (flatten-typed h) (flatten-all-typed r)
+
+-- an accepted sheet decodes to the erasure of its term
+decodes-to : (s : List ℕ) (t : ℕ) → verdict s ≡ Accepted t → decode s ≡ some (erase (circuitTerm s))
+decodes-to s t v = decodes (accepted-written s t v) ∙ ap some (sym (erase-circuit s))
+
+some-same : (e f : Expr) → some e ≡ some f → e ≡ f
+some-same e f p = cc
+
+module _ (s : List ℕ) (t : ℕ) (v : verdict s ≡ Accepted t) (is : List (List ℕ)) (given : AllOf (inputType s) is) where
+  after-writable : Writable s t (after undefinedLeaves [] (circuitTerm s) is)
+  after-writable = record {
+    frame = after-frame undefinedLeaves [] (circuitTerm s) is;
+    typed = after-typed undefinedLeaves undefined-lawful (Declared s) (circuit-typed s t v) no-values given;
+  }
+
+  -- and the sheet after a run to the erasure of the term after it
+  decodes-after : decode (sheetAfter undefinedLeaves s is) ≡ some (erase (after undefinedLeaves [] (circuitTerm s) is))
+  decodes-after =
+      let e = after undefinedLeaves [] (circuitTerm s) is in
+      ap decode (run-sheet undefinedLeaves undefined-lawful s t v is given)
+      ∙ decodes-to (write s e) t (write-accepted s t v e after-writable ∙ v)
+      ∙ ap (λ u. some (erase u)) (write-read s t v e after-writable)
+
+pub run-reduces : RunReduces
+run-reduces s t v e f d inputs outs given =
+    let all = flatten-all-typed given in
+    let same : e ≡ erase (circuitTerm s) = some-same e (erase (circuitTerm s)) (sym d ∙ decodes-to s t v) in
+    let gives = run-outputs undefinedLeaves undefined-lawful s t v (map flatten inputs) all in
+    let leads = decodes-after s t v (map flatten inputs) all in
+    let adequate = run-adequate undefinedLeaves bottomOfThen undefined-lawful undefined-agreeing (Declared s)
+    {cs = outs} {f = f} (circuit-typed s t v) of-none given in (
+      λ r. let (j, q, z) = adequate .0 (rw same at r) in (j, q ∙ sym gives, leads ∙ ap some (sym z)),
+      λ (j, q, z). rw same (adequate .1 (j, q ∙ gives, some-same f _ (sym z ∙ leads))),
+    )

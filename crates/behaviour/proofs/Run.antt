@@ -1,0 +1,143 @@
+-- The run of an accepted sheet on bytes is the run of the meaning on its term: the same outputs, and the sheet after it is the sheet
+-- with the values of the term after it. Each cycle's sheet reads as the term after the cycle before and is accepted again. By
+-- induction on the inputs.
+-- Assumes nothing.
+use Prim.Native.Nat.{ℕ, zero, suc, _<_}
+use mathlib.Core.List.{List, [], _∷_}
+use mathlib.Core.Path.{_≡_, refl, sym, ap, _∙_}
+use native.Mathlib.Omega.{arith}
+use lib.ListN.{length, getD}
+use Rattle.picoella.specs.Types.{OfType}
+use Rattle.records.specs.Words.{wordA}
+use Rattle.records.specs.TypeRecords.{typeAt}
+use Rattle.records.specs.Trees.{circuit}
+use Rattle.records.proofs.Rewritten.{same-circuit}
+use Rattle.verdict.specs.Verdict.{verdict}
+use Rattle.verdict.specs.declared.Verdict.the-variants.{Accepted}
+use Rattle.meaning.specs.Values.{AllOf, all-none, all-more}
+use Rattle.meaning.specs.Undecided.{Lawful}
+use Rattle.meaning.specs.Evaluation.{next}
+use Rattle.meaning.specs.Run.{outputs, after}
+use Rattle.meaning.proofs.NextTyped.{after-frame}
+use Rattle.behaviour.specs.Terms.{circuitTerm}
+use Rattle.behaviour.specs.Sheets.{write, Bytes, OnlyDelays}
+use Rattle.behaviour.specs.Cycle.{outputBy, afterBy}
+use Rattle.behaviour.proofs.Sheets.{write-own, only-leaves, accepted-written}
+use Rattle.behaviour.proofs.Stores.{write-again}
+use Rattle.behaviour.proofs.Cycle.{
+  output-typed,
+  after-only-delays,
+  after-term,
+  after-accepted,
+  after-types,
+  after-input,
+  after-bytes,
+}
+use Rattle.stimulus.specs.Stimulus.{inputType}
+use Rattle.behaviour.specs.Run.{outputsBy, sheetBefore, sheetAfter}
+
+module _ (undecided : List ℕ → List ℕ → List ℕ) where
+  -- the sheet before the cycle after the last is the sheet after the last
+  pub sheet-last : (s : List ℕ) (is : List (List ℕ)) → sheetBefore undecided s is (length is) ≡ sheetAfter undecided s is
+  sheet-last s [] = refl
+  sheet-last s (i ∷ is) = sheet-last (afterBy undecided s i) is
+
+  pub sheet-first : (s : List ℕ) (is : List (List ℕ)) → sheetBefore undecided s is 0 ≡ s
+  sheet-first s [] = refl
+  sheet-first s (i ∷ is) = refl
+
+  pub sheet-next : (s : List ℕ) (is : List (List ℕ)) (k : ℕ) → k < length is
+      → sheetBefore undecided s is (suc k) ≡ afterBy undecided (sheetBefore undecided s is k) (getD is k [])
+  sheet-next s [] k h = absurd (omega arith)
+  sheet-next s (i ∷ is) zero h = sheet-first (afterBy undecided s i) is
+  sheet-next s (i ∷ is) (suc k) h = sheet-next (afterBy undecided s i) is k (omega arith)
+
+  pub output-at : (s : List ℕ) (is : List (List ℕ)) (k : ℕ) → k < length is
+      → getD (outputsBy undecided s is) k [] ≡ outputBy undecided (sheetBefore undecided s is k) (getD is k [])
+  output-at s [] k h = absurd (omega arith)
+  output-at s (i ∷ is) zero h = refl
+  output-at s (i ∷ is) (suc k) h = output-at (afterBy undecided s i) is k (omega arith)
+
+  pub outputs-counted : (s : List ℕ) (is : List (List ℕ)) → length (outputsBy undecided s is) ≡ length is
+  outputs-counted s [] = refl
+  outputs-counted s (i ∷ is) = ap suc (outputs-counted (afterBy undecided s i) is)
+
+  module _ (law : Lawful undecided) where
+    -- inputs of the sheet's type are of that of the sheet after a cycle
+    given-again : (s : List ℕ) (t : ℕ) (v : verdict s ≡ Accepted t) (i : List ℕ) (is : List (List ℕ))
+        → OfType (inputType s) i → AllOf (inputType s) is → AllOf (inputType (afterBy undecided s i)) is
+    given-again s t v i is h r =
+        rw (after-input undecided law s t v i h, after-types undecided law s t v i h (wordA s 0)) r
+
+    -- the run of the meaning
+    pub run-outputs : (s : List ℕ) (t : ℕ) → verdict s ≡ Accepted t → (is : List (List ℕ)) → AllOf (inputType s) is
+        → outputsBy undecided s is ≡ outputs undecided [] (circuitTerm s) is
+    unfolding outputs outputBy
+    run-outputs s t v [] r = refl
+    run-outputs s t v (i ∷ is) (all-more h r) =
+        ap (_∷_ (outputBy undecided s i))
+        (run-outputs (afterBy undecided s i) t (after-accepted undecided law s t v i h ∙ v) is (given-again s t v i is h r)
+        ∙ ap (λ e. outputs undecided [] e is) (after-term undecided law s t v i h))
+
+    pub run-sheet : (s : List ℕ) (t : ℕ) → verdict s ≡ Accepted t → (is : List (List ℕ)) → AllOf (inputType s) is
+        → sheetAfter undecided s is ≡ write s (after undecided [] (circuitTerm s) is)
+    unfolding after afterBy
+    run-sheet s t v [] r = sym (write-own s t v)
+    run-sheet s t v (i ∷ is) (all-more h r) =
+        let e = next undecided (i ∷ []) (circuitTerm s) in
+        run-sheet (afterBy undecided s i) t (after-accepted undecided law s t v i h ∙ v) is (given-again s t v i is h r)
+        ∙ ap (λ u. write (afterBy undecided s i) (after undecided [] u is)) (after-term undecided law s t v i h)
+        ∙ write-again s (after undecided [] e is) e (after-frame undecided [] e is)
+
+    pub outputs-typed : (s : List ℕ) (t : ℕ) → verdict s ≡ Accepted t → (is : List (List ℕ)) → AllOf (inputType s) is
+        → AllOf (typeAt s t) (outputsBy undecided s is)
+    outputs-typed s t v [] r = all-none
+    outputs-typed s t v (i ∷ is) (all-more h r) =
+        all-more (output-typed undecided law s t v i h)
+        (rw (after-types undecided law s t v i h t) at
+        (outputs-typed (afterBy undecided s i) t (after-accepted undecided law s t v i h ∙ v) is (given-again s t v i is h r)))
+
+    -- each cycle's sheet is accepted with the same type
+    pub sheet-accepted : (s : List ℕ) (t : ℕ) → verdict s ≡ Accepted t → (is : List (List ℕ)) → AllOf (inputType s) is
+        → (k : ℕ) → verdict (sheetBefore undecided s is k) ≡ verdict s
+    sheet-accepted s t v [] r k = refl
+    sheet-accepted s t v (i ∷ is) r zero = refl
+    sheet-accepted s t v (i ∷ is) (all-more h r) (suc k) =
+        sheet-accepted (afterBy undecided s i) t (after-accepted undecided law s t v i h ∙ v) is (given-again s t v i is h r) k
+        ∙ after-accepted undecided law s t v i h
+
+    -- what differs in delays alone from a sheet that differs so from another differs so from that
+    only-delays-chain : (s t u : List ℕ) (τ : ℕ) → verdict s ≡ Accepted τ → OnlyDelays s t → OnlyDelays t u → OnlyDelays s u
+    only-delays-chain s t u τ v a b = record {
+      length = b .length ∙ a .length;
+      bytes = λ i other. b .bytes i (λ l m. other l (rw same at m)) ∙ a .bytes i other;
+    }
+      where
+        same : circuit t ≡ circuit s
+        same = same-circuit s t (only-leaves (accepted-written s τ v) a)
+
+    pub sheet-only-delays : (s : List ℕ) (t : ℕ) → verdict s ≡ Accepted t → (is : List (List ℕ)) → AllOf (inputType s) is
+        → (k : ℕ) → OnlyDelays s (sheetBefore undecided s is k)
+    sheet-only-delays s t v [] r k = record { length = refl; bytes = λ i other. refl }
+    sheet-only-delays s t v (i ∷ is) r zero = record { length = refl; bytes = λ i other. refl }
+    sheet-only-delays s t v (i ∷ is) (all-more h r) (suc k) =
+        only-delays-chain s (afterBy undecided s i) (sheetBefore undecided (afterBy undecided s i) is k) t v
+        (after-only-delays undecided law s t v i h)
+        (sheet-only-delays (afterBy undecided s i) t (after-accepted undecided law s t v i h ∙ v) is (given-again s t v i is h r) k)
+
+    -- each input is of the input type of the sheet that its cycle begins from
+    pub input-at : (s : List ℕ) (t : ℕ) → verdict s ≡ Accepted t → (is : List (List ℕ)) → AllOf (inputType s) is
+        → (k : ℕ) → k < length is → OfType (inputType (sheetBefore undecided s is k)) (getD is k [])
+    input-at s t v [] r k b = absurd (omega arith)
+    input-at s t v (i ∷ is) (all-more h r) zero b = h
+    input-at s t v (i ∷ is) (all-more h r) (suc k) b =
+        input-at (afterBy undecided s i) t (after-accepted undecided law s t v i h ∙ v) is (given-again s t v i is h r) k (omega arith)
+
+    -- a sheet of bytes stays one
+    pub sheet-bytes : (s : List ℕ) (t : ℕ) → verdict s ≡ Accepted t → (is : List (List ℕ)) → AllOf (inputType s) is
+        → Bytes s → (k : ℕ) → Bytes (sheetBefore undecided s is k)
+    sheet-bytes s t v [] r b k = b
+    sheet-bytes s t v (i ∷ is) r b zero = b
+    sheet-bytes s t v (i ∷ is) (all-more h r) b (suc k) =
+        sheet-bytes (afterBy undecided s i) t (after-accepted undecided law s t v i h ∙ v) is (given-again s t v i is h r)
+        (after-bytes undecided law s t v i h b) k

@@ -1,0 +1,44 @@
+-- The promises speak of some call: document 01's sheet T on 1 2 1, with slices of the right lengths, is well formed, by computation;
+-- so demand 3 holds of it, and its record 2 is a feedback.
+-- Assumes nothing.
+use Prim.Native.Nat.{ℕ}
+use mathlib.Core.List.{List, [], _∷_}
+use mathlib.Core.Path.{refl}
+use native.Mathlib.Omega.{arith}
+use lib.ListN.{replicate}
+use Rattle.records.specs.Words.{word, count}
+use Rattle.records.specs.Kinds.{rowOf, kindOf, askOf}
+use Rattle.records.specs.Says.{wellSaid}
+use Rattle.records.specs.Namings.{namings}
+use Rattle.records.specs.TypeRecords.{typeWithin, typeAt, pairOf}
+use Rattle.records.specs.Trees.{chainWithin, chain, alternativesWithin, alternatives, treeWithin, treeAt, circuit}
+use Rattle.structure.specs.Depth.{ancestryWithin, ancestry, depth, nesting}
+use Rattle.structure.specs.Rules.{wrongLength, wrongHeader, wrongRecord, wrongNaming, wrongType, tooDeep}
+use Rattle.verdict.specs.Verdict.{byTypes, byRecords, verdict}
+use Rattle.stimulus.specs.Stimulus.{cycleCount, wrongStimulus, wrongByte}
+use Rattle.answers.specs.Answers.{packed}
+use Rattle.behaviour.specs.Run.{answer, finalOut, finalNext}
+use Rattle.behaviour.specs.Afterwards.{WellFormed, Afterwards, FeedbackAt}
+use Rattle.behaviour.specs.Bench.{toggle}
+use Rattle.behaviour.proofs.Afterwards.{afterwards}
+
+abbrev pub ones : List ℕ
+ones = 1 ∷ 2 ∷ 1 ∷ []
+
+abbrev pub room : List ℕ
+room = replicate 3 0
+
+abbrev pub lent : List ℕ
+lent = replicate 204 0
+
+pub toggle-formed : WellFormed toggle ones room lent 1
+unfolding verdict byRecords byTypes wrongLength wrongHeader wrongRecord wrongNaming wrongType tooDeep depth nesting ancestry ancestryWithin circuit treeAt treeWithin alternatives alternativesWithin chain chainWithin pairOf typeAt typeWithin namings wellSaid askOf kindOf rowOf word count wrongStimulus wrongByte
+toggle-formed = record { accepted = refl; whole = refl; fitting = refl; room = refl; long = refl }
+
+toggle-afterwards
+    : Afterwards toggle ones 1 (packed (answer toggle ones room lent)) (finalOut toggle ones room lent) (finalNext toggle ones room lent)
+toggle-afterwards = afterwards toggle ones room lent 1 toggle-formed
+
+toggle-feedback : FeedbackAt toggle (toggle-afterwards .sheets) (cycleCount toggle ones) 2
+unfolding word count
+toggle-feedback = toggle-afterwards .feedbacks 2 (omega arith) refl

@@ -1,0 +1,105 @@
+-- Demand 3 (document 01, "The words of demand 3"): what holds after a run of an accepted sheet on a well-formed stimulus with slices
+-- of the right lengths, one claim about the whole list of cycles. It speaks of the number returned and of the final bytes of the
+-- output slice and the next slice, whatever they are; that the call returned 0 is concluded, not supposed.
+use Prim.Native.Nat.{ℕ, suc, _+_, _*_, _^_, _≤_, _<_}
+use mathlib.Core.Path.{_≡_}
+use mathlib.Core.Logic.{_≢_}
+use mathlib.Core.Bool.{false}
+use mathlib.Core.List.{List, _∷_, map}
+use mathlib.Core.Option.{none}
+use lib.ListN.{length, take, drop}
+use Rattle.picoella.specs.Types.{Ty, leaves, OfType}
+use Rattle.records.specs.Words.{count, kindWord, wordA}
+use Rattle.records.specs.TypeRecords.{typeAt}
+use Rattle.records.specs.Trees.{Tree, feedbackOf, treeAt}
+use Rattle.answers.specs.Lowest.{lowest}
+use Rattle.verdict.specs.Verdict.{verdict}
+use Rattle.verdict.specs.Scopes.{Scope}
+use Rattle.verdict.specs.declared.Verdict.the-variants.{Accepted}
+use Rattle.meaning.specs.Values.{undefined, _⊑_, ValuesOf}
+use Rattle.meaning.specs.Elaboration.{Term}
+use Rattle.meaning.specs.Undecided.{undefinedLeaves}
+use Rattle.meaning.specs.Evaluation.{iter, eval, application, settled}
+use Rattle.behaviour.specs.Terms.{term}
+use Rattle.behaviour.specs.Sheets.{Bytes, OnlyDelays}
+use Rattle.behaviour.specs.Cycle.{output, sheetAfterCycle}
+use Rattle.stimulus.specs.Stimulus.{inputLeaves, cycleCount, wrongStimulus, wrongByte}
+use Rattle.behaviour.specs.Run.{outputNeeded}
+
+-- "A sheet is accepted where none of 1 to 7 applies. A stimulus is well formed for it where neither 8 nor 9 applies; slices have
+-- the right lengths where neither 10 nor 11 does."
+pub record WellFormed (sheet stimulus out next : List ℕ) (t : ℕ) : Type 0 where
+  pub accepted : verdict sheet ≡ Accepted t
+  pub whole : wrongStimulus sheet stimulus ≡ false
+  pub fitting : lowest (wrongByte sheet stimulus) (length stimulus) ≡ none
+  pub room : length out ≡ outputNeeded sheet t stimulus
+  pub long : length next ≡ length sheet
+
+-- the input of cycle k, and the part of the output slice that is cycle k's
+abbrev pub inputOf : (sheet stimulus : List ℕ) → ℕ → List ℕ
+inputOf s stim k = take (inputLeaves s) (drop (k * inputLeaves s) stim)
+
+abbrev pub outputIn : (sheet : List ℕ) (t : ℕ) (out : List ℕ) → ℕ → List ℕ
+outputIn s t out k = take (leaves (typeAt s t)) (drop (k * leaves (typeAt s t)) out)
+
+-- "One application of a feedback's defining part takes a value of the feedback's type, evaluates the part with the feedback's name
+-- holding it, and gives back the part's value; the names around it and the delays stay as they are."
+abbrev pub apply : List (List ℕ) → Term → List ℕ → List ℕ
+apply ρ part v = application undefinedLeaves ρ part v
+
+-- so many applications from undefined: "the first takes undefined in every leaf, each later one what the one before gave back"
+abbrev pub applied : List (List ℕ) → Ty → Term → ℕ → List ℕ
+applied ρ σ part n = iter (apply ρ part) n (undefined σ)
+
+-- a feedback of type σ with this defining part and body, where the names around it hold the values ρ
+pub record FeedbackSettles (ρ : List (List ℕ)) (σ : Ty) (whole part body : Term) : Type 0 where
+  -- the value that evaluation gives the body's name
+  pub value : List ℕ
+  pub given : value ≡ settled undefinedLeaves ρ σ part
+  pub evaluates : eval undefinedLeaves ρ whole ≡ eval undefinedLeaves (value ∷ ρ) body
+  pub of-type : OfType σ value
+  -- is returned unchanged by the defining part,
+  pub unchanged : apply ρ part value ≡ value
+  -- lies at or below every other value of the type so returned,
+  pub least : (w : List ℕ) → OfType σ w → apply ρ part w ≡ w → value ⊑ w
+  -- and is reached from undefined in at most as many applications as the type has leaves, and in no fewer than are counted
+  pub count : ℕ
+  pub at-most : count ≤ leaves σ
+  pub reached : applied ρ σ part count ≡ value
+  pub none-fewer : (j : ℕ) → j < count → applied ρ σ part j ≢ value
+
+-- record q of kind 38, in each of the sheets: there are its scope, defining part and body
+pub record FeedbackAt (sheet : List ℕ) (sheets : ℕ → List ℕ) (n q : ℕ) : Type 0 where
+  pub scope : List ℕ
+  pub defining : Tree
+  pub body : Tree
+  pub in-scope : (k : ℕ) → k ≤ n → Scope (sheets k) q scope
+  pub reads : (k : ℕ) → k ≤ n → treeAt (sheets k) q ≡ feedbackOf q (wordA sheet q) defining body
+  -- "The names around it may hold any values of their types."
+  pub settles : (k : ℕ) → k ≤ n → (ρ : List (List ℕ)) → ValuesOf (map (typeAt sheet) scope) ρ
+      → FeedbackSettles ρ (typeAt sheet (wordA sheet q)) (term (sheets k) scope (treeAt (sheets k) q))
+      (term (sheets k) (wordA sheet q ∷ scope) defining) (term (sheets k) (wordA sheet q ∷ scope) body)
+
+-- after the run: t is the output type's record, `result` the number returned, `out` and `next` the final bytes
+pub record Afterwards (sheet stimulus : List ℕ) (t result : ℕ) (out next : List ℕ) : Type 0 where
+  -- code 0, with the number of cycles in the list
+  pub all-done : result ≡ 0 * 2 ^ 32 + cycleCount sheet stimulus
+  -- the sheets s₀ … sₙ
+  pub sheets : ℕ → List ℕ
+  pub first : sheets 0 ≡ sheet
+  pub each-after : (k : ℕ) → k < cycleCount sheet stimulus → sheets (suc k) ≡ sheetAfterCycle (sheets k) (inputOf sheet stimulus k)
+  pub only-delays : (k : ℕ) → k < cycleCount sheet stimulus → OnlyDelays (sheets k) (sheets (suc k))
+  pub bytes : Bytes sheet → (k : ℕ) → k ≤ cycleCount sheet stimulus → Bytes (sheets k)
+  pub last : next ≡ sheets (cycleCount sheet stimulus)
+  -- which "equals the first in every byte but those of the values that delays hold"
+  pub equals-first : OnlyDelays sheet next
+  -- each cycle's leaves in the output slice are the root's value for the sheet it begins from and its input
+  pub outputs : (k : ℕ) → k < cycleCount sheet stimulus
+      → outputIn sheet t out k ≡ output (sheets k) (inputOf sheet stimulus k)
+  pub out-length : length out ≡ cycleCount sheet stimulus * leaves (typeAt sheet t)
+  -- accepted again with the same type, and outputs of that type, cycle by cycle
+  pub again : verdict (sheets (cycleCount sheet stimulus)) ≡ verdict sheet
+  pub typed : (k : ℕ) → k < cycleCount sheet stimulus → OfType (typeAt sheet t) (outputIn sheet t out k)
+  -- every record of kind 38
+  pub feedbacks : (q : ℕ) → q < count sheet → kindWord sheet q ≡ 38
+      → FeedbackAt sheet sheets (cycleCount sheet stimulus) q

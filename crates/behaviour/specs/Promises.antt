@@ -1,0 +1,106 @@
+-- What is promised of the run: each promise a named type, and at the end the list of them. One term of each stands in
+-- `proofs/Kept.antt`; the list wants them all.
+use Prim.Native.Nat.{ℕ, _<_, _^_}
+use mathlib.Core.Path.{_≡_}
+use mathlib.Core.Logic.{_↔_, _≢_}
+use mathlib.Core.Bool.{false}
+use mathlib.Core.List.{List, [], map}
+use mathlib.Core.Option.{some}
+use lib.ListN.{length}
+use Rattle.picoella.specs.Expressions.{Expr}
+use Rattle.records.specs.TypeRecords.{typeAt}
+use Rattle.records.specs.Decoding.{decode}
+use Rattle.answers.specs.Answers.{code, place, packed}
+use Rattle.answers.specs.Checks.{Refuses}
+use Rattle.answers.specs.declared.Answer.{Answer}
+use Rattle.answers.specs.declared.Answer.the-variants.{Done, Refused}
+use Rattle.verdict.specs.Verdict.{verdict}
+use Rattle.verdict.specs.declared.Verdict.the-variants.{Accepted}
+use Rattle.meaning.specs.Elaboration.{Term}
+use Rattle.meaning.specs.Values.{AllOf}
+use Rattle.meaning.specs.Constants.{ConstantTree, AllConstantsOf, flatten}
+use Rattle.meaning.specs.Undecided.{undefinedLeaves, bottomOfThen, Lawful}
+use Rattle.meaning.specs.Rules.{ReducesSeq}
+use Rattle.meaning.specs.Run as Meaning
+use Rattle.behaviour.specs.Terms.{circuitTerm}
+use Rattle.behaviour.specs.Sheets.{write, Writable, OnlyDelays}
+use Rattle.stimulus.specs.Stimulus.{inputType, endToEnd, cycles, cycleCount, wrongStimulus}
+use Rattle.behaviour.specs.Run.{outputsBy, sheetAfter, callChecks, answer, finalOut, finalNext}
+use Rattle.behaviour.specs.Afterwards.{WellFormed, Afterwards}
+
+-- What each answer says of the call: done, with all cycles, exactly where the call is well formed; or refused by a check of the list,
+-- at its place, where no check before it applies. `FirstThatApplies`, `LowestFound` and `LowestNone` of answers say what that means of
+-- each check.
+abbrev pub SaysOfCall : (sheet stimulus out next : List ℕ) → Answer → Type 0
+SaysOfCall s stim out next (Done n) = (t : ℕ) × WellFormed s stim out next t × (n ≡ cycleCount s stim)
+SaysOfCall s stim out next (Refused c p) = Refuses (callChecks s stim out next) c p
+
+abbrev pub LowestFirst : Type 0
+LowestFirst =
+    (s stim out next : List ℕ) (a : Answer) → answer s stim out next ≡ a ↔ SaysOfCall s stim out next a
+
+-- The place of every answer is below 2^32, so that code and place are read back from the number returned.
+abbrev pub PlacesSmall : Type 0
+PlacesSmall = (s stim out next : List ℕ) → place (answer s stim out next) < 2 ^ 32
+
+-- A refusal leaves every lent slice unaltered.
+abbrev pub RefusalUnaltered : Type 0
+RefusalUnaltered =
+    (s stim out next : List ℕ) → code (answer s stim out next) ≢ 0
+    → (finalOut s stim out next ≡ out) × (finalNext s stim out next ≡ next)
+
+-- Any term of the circuit's frame and type, written to an accepted sheet, changes the delay leaves alone, is what the sheet then
+-- reads as, and leaves the sheet accepted with the same type. What a sheet holds, written to it, changes nothing.
+pub record WritesBack (s : List ℕ) (e : Term) : Type 0 where
+  pub only-delays : OnlyDelays s (write s e)
+  pub reads : circuitTerm (write s e) ≡ e
+  pub again : verdict (write s e) ≡ verdict s
+
+abbrev pub WriteReads : Type 0
+WriteReads = (s : List ℕ) (t : ℕ) → verdict s ≡ Accepted t → (e : Term) → Writable s t e → WritesBack s e
+
+abbrev pub WriteOwn : Type 0
+WriteOwn = (s : List ℕ) (t : ℕ) → verdict s ≡ Accepted t → write s (circuitTerm s) ≡ s
+
+-- The list of cycles is the stimulus, in as many pieces as its length divided by the input leaves.
+abbrev pub CyclesWhole : Type 0
+CyclesWhole =
+    (s stim : List ℕ) → wrongStimulus s stim ≡ false
+    → (endToEnd (cycles s stim) ≡ stim) × (length (cycles s stim) ≡ cycleCount s stim)
+
+-- The run on bytes is the run of the meaning, under every lawful rule for an undecided IF and over every list of inputs.
+abbrev pub RunMeans : Type 0
+RunMeans =
+    (undecided : List ℕ → List ℕ → List ℕ) → Lawful undecided
+    → (s : List ℕ) (t : ℕ) → verdict s ≡ Accepted t → (inputs : List (List ℕ)) → AllOf (inputType s) inputs
+    → (outputsBy undecided s inputs ≡ Meaning.outputs undecided [] (circuitTerm s) inputs)
+    × (sheetAfter undecided s inputs ≡ write s (Meaning.after undecided [] (circuitTerm s) inputs))
+
+-- So it is the run of 000: its rules, on the expression that the sheet decodes to, give exactly the constants with the outputs'
+-- leaves, and lead to the expression that the sheet after the last cycle decodes to.
+abbrev pub RunReduces : Type 0
+RunReduces =
+    (s : List ℕ) (t : ℕ) → verdict s ≡ Accepted t → (e f : Expr) → decode s ≡ some e
+    → (inputs outputs : List ConstantTree) → AllConstantsOf (inputType s) inputs
+    → ReducesSeq bottomOfThen [] e inputs outputs f
+    ↔ (AllConstantsOf (typeAt s t) outputs
+    × (map flatten outputs ≡ outputsBy undefinedLeaves s (map flatten inputs))
+    × (decode (sheetAfter undefinedLeaves s (map flatten inputs)) ≡ some f))
+
+-- Demand 3, of what the definition of the run gives.
+abbrev pub HoldsAfterwards : Type 0
+HoldsAfterwards =
+    (s stim out next : List ℕ) (t : ℕ) → WellFormed s stim out next t
+    → Afterwards s stim t (packed (answer s stim out next)) (finalOut s stim out next) (finalNext s stim out next)
+
+-- all of them
+pub record RunPromises : Type 0 where
+  pub lowest-first : LowestFirst
+  pub places-small : PlacesSmall
+  pub refusal-unaltered : RefusalUnaltered
+  pub write-reads : WriteReads
+  pub write-own : WriteOwn
+  pub cycles-whole : CyclesWhole
+  pub run-means : RunMeans
+  pub run-reduces : RunReduces
+  pub holds-afterwards : HoldsAfterwards

@@ -1,0 +1,80 @@
+-- The run (document 01, "The run"): over a list of inputs from a sheet, and for every call. "The first cycle begins from the sheet
+-- handed in, each later one from the sheet after the cycle before." On the empty list a run gives no outputs and leaves the
+-- sheet as it is. The answer is the lowest number that applies, with its place; "a refusal leaves every lent slice unaltered".
+-- What an undecided IF gives is a parameter of the run over a list; the call takes document 01's rule.
+use Prim.Native.Nat.{ℕ, zero, suc, _*_}
+use mathlib.Core.Path.{_≡_}
+use mathlib.Core.Bool.{not}
+use mathlib.Core.List.{List, [], _∷_, _++_}
+use lib.ListN.{length}
+use lib.Dec.{eqb}
+use Rattle.picoella.specs.Types.{leaves}
+use Rattle.records.specs.TypeRecords.{typeAt}
+use Rattle.answers.specs.Answers.{packed, whenDone, onDone}
+use Rattle.answers.specs.Checks.{Check, check, when, firstOf}
+use Rattle.answers.specs.declared.Answer.{Answer}
+use Rattle.answers.specs.declared.Answer.the-variants.{Done}
+use Rattle.verdict.specs.Verdict.{verdictAnswer, sheetChecks, outputType, verdict}
+use Rattle.meaning.specs.Undecided.{undefinedLeaves}
+use Rattle.behaviour.specs.Cycle.{outputBy, afterBy}
+use Rattle.stimulus.specs.Stimulus.{cycleCount, endToEnd, cycles, stimulusChecks}
+
+module _ (undecided : List ℕ → List ℕ → List ℕ) where
+  -- the outputs in order
+  abbrev pub outputsBy : (sheet : List ℕ) (inputs : List (List ℕ)) → List (List ℕ)
+  outputsBy s [] = []
+  outputsBy s (i ∷ is) = outputBy undecided s i ∷ outputsBy (afterBy undecided s i) is
+
+  -- the sheet that cycle k begins from; after the last cycle, the sheet after it
+  abbrev pub sheetBefore : (sheet : List ℕ) (inputs : List (List ℕ)) → ℕ → List ℕ
+  sheetBefore s [] k = s
+  sheetBefore s (i ∷ is) zero = s
+  sheetBefore s (i ∷ is) (suc k) = sheetBefore (afterBy undecided s i) is k
+
+  -- the sheet after the last cycle
+  abbrev pub sheetAfter : (sheet : List ℕ) (inputs : List (List ℕ)) → List ℕ
+  sheetAfter s [] = s
+  sheetAfter s (i ∷ is) = sheetAfter (afterBy undecided s i) is
+
+-- "cycles × output leaves", where the output type is t
+abbrev pub outputNeeded : (sheet : List ℕ) (t : ℕ) (stimulus : List ℕ) → ℕ
+outputNeeded s t stim = cycleCount s stim * leaves (typeAt s t)
+
+-- the checks of the lent slices' lengths: 10 and 11
+abbrev pub lengthChecks : (sheet : List ℕ) (t : ℕ) (stimulus out next : List ℕ) → List Check
+lengthChecks s t stim out next =
+    check 10 (when (not (eqb (length out) (outputNeeded s t stim))) (outputNeeded s t stim))
+    ∷ check 11 (when (not (eqb (length next) (length s))) (length s))
+    ∷ []
+
+-- the checks of an accepted sheet's run, in their order: 8 and 9, and then those
+abbrev pub runChecks : (sheet : List ℕ) (t : ℕ) (stimulus out next : List ℕ) → List Check
+runChecks s t stim out next = stimulusChecks s stim ++ lengthChecks s t stim out next
+
+-- codes 8 to 11, for an accepted sheet with output type t
+unfoldable pub bySlices : (sheet : List ℕ) (t : ℕ) (stimulus out next : List ℕ) → Answer
+bySlices s t stim out next = firstOf (runChecks s t stim out next) (Done (cycleCount s stim))
+
+-- codes 1 to 7 by the verdict, and then the others
+unfoldable pub answer : (sheet stimulus out next : List ℕ) → Answer
+answer s stim out next = onDone (verdictAnswer (verdict s)) (λ t. bySlices s t stim out next)
+
+-- all checks of a call, in their order
+abbrev pub callChecks : (sheet stimulus out next : List ℕ) → List Check
+callChecks s stim out next = sheetChecks s ++ runChecks s (outputType s) stim out next
+
+-- the outputs laid end to end
+unfoldable pub finalOut : (sheet stimulus out next : List ℕ) → List ℕ
+finalOut s stim out next =
+    let new = endToEnd (outputsBy undefinedLeaves s (cycles s stim)) in whenDone (answer s stim out next) new out
+
+-- the sheet after the last cycle
+unfoldable pub finalNext : (sheet stimulus out next : List ℕ) → List ℕ
+finalNext s stim out next =
+    let new = sheetAfter undefinedLeaves s (cycles s stim) in whenDone (answer s stim out next) new next
+
+-- what a call gives, for every content and length of the four slices: the number returned and the final bytes
+pub record Gives (sheet stimulus out next : List ℕ) (result : ℕ) (out′ next′ : List ℕ) : Type 0 where
+  pub result-is : result ≡ packed (answer sheet stimulus out next)
+  pub out-is : out′ ≡ finalOut sheet stimulus out next
+  pub next-is : next′ ≡ finalNext sheet stimulus out next

@@ -1,9 +1,0 @@
--- Laws that belong to no one function.
-pub mod DepthCounts
-pub mod Depths
-pub mod LeafCounts
-pub mod Lowest
-pub mod Namers
-pub mod PairRecords
-pub mod Passes
-pub mod WrongRecords

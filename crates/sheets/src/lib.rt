@@ -1,0 +1,23 @@
+// Every call for hosts in C: libsheets.a.
+ghost use mathlib.Core.Path.{_≡_};
+ghost use Rattle.answers.specs.Answers.{packed};
+ghost use Rattle.verdict.specs.Verdict.{verdict, verdictAnswer};
+ghost use Rattle.simulator.specs.Running.{Ran};
+use simulator::run;
+use verdict::check;
+
+// The check: the verdict's code times 2^32, plus its place.
+#[no_mangle]
+pub extern "C" fn sheet_check(sheet: &[u8]) -> u64
+    ensures { λ r. ⌜ r ≡ packed (verdictAnswer (verdict (now (sheet .entry)))) ⌝ }
+{
+    check(sheet)
+}
+
+// The run: the answer's code times 2^32, plus its place.
+#[no_mangle]
+pub extern "C" fn sheet_run(sheet: &[u8], stim: &[u8], out: &mut [u8], next: &mut [u8]) -> u64
+    ensures { λ r. ⌜ Ran (now (sheet .entry)) (now (stim .entry)) (now (out .entry)) (now (next .entry)) r (now (out .exit)) (now (next .exit)) ⌝ }
+{
+    run(sheet, stim, out, next)
+}

@@ -1,0 +1,5 @@
+-- Laws of the stimulus, and of its checks.
+pub mod Pieces
+pub mod Stimulus
+pub mod Tests
+pub mod Holding

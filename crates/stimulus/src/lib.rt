@@ -1,0 +1,88 @@
+// The stimulus: its length held to whole cycles (code 8), and its bytes to their leaves' counts (code 9).
+ghost use mathlib.Core.Path.{_≡_};
+ghost use Prim.Native.Nat.{_<_};
+ghost use lib.ListN.{length};
+ghost use Rattle.picoella.specs.Types.{bounds, leaves};
+ghost use Rattle.records.specs.TypeRecords.{typeAt, TypeRecord};
+ghost use Rattle.answers.specs.Lowest.{lowest};
+ghost use Rattle.answers.specs.Searches.{found};
+ghost use Rattle.accepted.specs.Accepting.{Accepting};
+ghost use Rattle.stimulus.specs.Tests.{notWhole, above};
+ghost use Rattle.stimulus.specs.Holding.{Held};
+use accepted::fill_bounds;
+use answers::Answer;
+use answers::Found;
+use answers::WRONG_BYTE;
+use answers::WRONG_STIMULUS;
+use records::WORD_A;
+use records::Widths;
+use records::word;
+
+// The most bytes of a stimulus.
+pub const STIMULUS_BYTES: usize = 65535;
+
+// Room for the counts of a type's leaves.
+fn no_counts() -> [u8; 64]
+    ensures { λ r. ⌜ length r ≡ 64 ⌝ }
+{
+    [0; 64]
+}
+
+// Whether a stimulus of so many bytes is empty, too long or not whole cycles of w bytes.
+fn not_whole(all: usize, w: usize) -> bool
+    requires { ⌜ 0 < w ⌝ }
+    ensures { λ r. ⌜ r ≡ notWhole all w ⌝ }
+{
+    if all == 0 {
+        return true;
+    }
+    if STIMULUS_BYTES < all {
+        return true;
+    }
+    all % w != 0
+}
+
+// The first byte above its leaf's count.
+fn find_above(bounds: &[u8], stim: &[u8]) -> Found
+    requires { ⌜ 0 < length (now bounds) ⌝ }
+    ensures { λ r. ⌜ found r ≡ lowest (above (now (bounds .entry)) (now (stim .entry))) (length (now (stim .entry))) ⌝ }
+{
+    let w = bounds.len();
+    let all = stim.len();
+    let mut i = 0;
+    while i < all {
+        if bounds[i % w] < stim[i] {
+            return Found::At(i);
+        }
+        i += 1;
+    }
+    Found::Nothing
+}
+
+// The first byte of a stimulus above its leaf's count, where a cycle takes w bytes of type t.
+fn first_above(sheet: &[u8], n: usize, widths: &Widths, t: usize, w: usize, stim: &[u8]) -> Found
+    requires { ⌜ Accepting (now sheet) n (now widths) × TypeRecord (now sheet) t × (w ≡ leaves (typeAt (now sheet) t)) ⌝ }
+    ensures { λ r. ⌜ found r ≡ lowest (above (bounds (typeAt (now (sheet .entry)) t)) (now (stim .entry))) (length (now (stim .entry))) ⌝ }
+{
+    let mut counts = no_counts();
+    fill_bounds(sheet, n, widths, t, &mut counts[0..w]);
+    find_above(&counts[0..w], stim)
+}
+
+// Codes 8 and 9 for an accepted sheet, and else the number of cycles.
+pub fn check_stimulus(sheet: &[u8], n: usize, widths: &Widths, stim: &[u8]) -> Answer
+    requires { ⌜ Accepting (now sheet) n (now widths) ⌝ }
+    ensures { λ r. ⌜ Held (now (sheet .entry)) (now (stim .entry)) r ⌝ }
+{
+    let t = word(sheet, n, 0, WORD_A);
+    let w = widths[t] as usize;
+    let all = stim.len();
+    if not_whole(all, w) {
+        return Answer::Refused(WRONG_STIMULUS, 0);
+    }
+    let wrong = first_above(sheet, n, widths, t, w, stim);
+    if let Found::At(i) = wrong {
+        return Answer::Refused(WRONG_BYTE, i as u64);
+    }
+    Answer::Done((all / w) as u64)
+}

@@ -1,0 +1,8 @@
+-- Laws that belong to no one function.
+pub mod DepthCounts
+pub mod Depths
+pub mod LeafCounts
+pub mod Namers
+pub mod PairRecords
+pub mod Passes
+pub mod WrongRecords

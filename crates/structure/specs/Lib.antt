@@ -1,0 +1,7 @@
+-- The rules on records: what codes 1 to 6 of document 01 say, and when none of them applies.
+pub mod Depth
+pub mod Rules
+pub mod Passes
+pub mod NamerTable
+pub mod LeafTable
+pub mod DepthTable

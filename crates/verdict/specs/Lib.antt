@@ -1,0 +1,6 @@
+-- The check of document 01: the verdict on a byte string, what it promises, and the table of an accepted sheet.
+pub mod Stages
+pub mod Verdict
+pub mod Promises
+pub mod Scopes
+pub mod Widths

@@ -1,0 +1,92 @@
+-- What the verdict promises, as named types; their terms are in `proofs/`.
+use Prim.Native.Nat.{ℕ, _<_}
+use mathlib.Core.Logic.{_↔_}
+use mathlib.Core.Path.{_≡_}
+use mathlib.Core.Bool.{Bool, true, false}
+use mathlib.Core.List.{List, [], _∷_, _++_, List·Memᴰ}
+use mathlib.Core.Option.{none, some}
+use Rattle.picoella.specs.Expressions.{Expr}
+use Rattle.picoella.specs.Typing.{Typed}
+use Rattle.records.specs.Words.{count, wordA}
+use Rattle.records.specs.TypeRecords.{typeAt, TypeRecord, Declared}
+use Rattle.records.specs.Decoding.{decode}
+use Rattle.records.specs.Trees.{circuit}
+use Rattle.answers.specs.Lowest.{lowest}
+use Rattle.answers.specs.Promises.{LowestBreaking}
+use Rattle.answers.specs.declared.Answer.the-variants.{Done}
+use Rattle.answers.specs.Checks.{firstOf}
+use Rattle.structure.specs.Rules.{wrongLength, wrongHeader, wrongRecord, wrongNaming, wrongType, tooDeep}
+use Rattle.typing.specs.Judgements.{Judgement, holds, judgements, typeRecordOf}
+use Rattle.structure.specs.Passes.{Passes}
+use Rattle.verdict.specs.Verdict.{inputs, outputType, sheetChecks, verdictAnswer, verdict}
+use Rattle.verdict.specs.declared.Verdict.{Verdict}
+use Rattle.verdict.specs.declared.Verdict.the-variants.{
+  Accepted,
+  WrongLength,
+  WrongHeader,
+  WrongRecord,
+  WrongNaming,
+  WrongType,
+  TooDeep,
+  IllTyped,
+}
+
+-- each judgement of the list holds
+abbrev pub AllHold : List ℕ → List Judgement → Type 0
+AllHold s js = (j : Judgement) → List·Memᴰ j js → holds s (j .rule) ≡ true
+
+-- r is the record of the first judgement of the list that fails: it fails, and all before it hold
+pub record FailsFirst (s : List ℕ) (js : List Judgement) (r : ℕ) : Type 0 where
+  pub before : List Judgement
+  pub failing : Judgement
+  pub after : List Judgement
+  pub split : js ≡ before ++ (failing ∷ after)
+  pub hold : AllHold s before
+  pub fails : holds s (failing .rule) ≡ false
+  pub place : failing .at ≡ r
+
+-- what each verdict says of the sheet: its code applies at its place, at no place before, and no lower code applies
+abbrev pub Says : List ℕ → Verdict → Type 0
+Says s (Accepted t) =
+    Passes s × AllHold s (judgements s (inputs s) (circuit s)) × (t ≡ outputType s)
+Says s WrongLength = wrongLength s ≡ true
+Says s WrongHeader = (wrongLength s ≡ false) × (wrongHeader s ≡ true)
+Says s (WrongRecord r) = (wrongLength s ≡ false) × (wrongHeader s ≡ false) × LowestBreaking (wrongRecord s) (count s) r
+Says s (WrongNaming r) =
+    (wrongLength s ≡ false)
+    × (wrongHeader s ≡ false)
+    × (lowest (wrongRecord s) (count s) ≡ none)
+    × LowestBreaking (wrongNaming s) (count s) r
+Says s (WrongType r) =
+    (wrongLength s ≡ false)
+    × (wrongHeader s ≡ false)
+    × (lowest (wrongRecord s) (count s) ≡ none)
+    × (lowest (wrongNaming s) (count s) ≡ none)
+    × LowestBreaking (wrongType s) (count s) r
+Says s (TooDeep r) =
+    (wrongLength s ≡ false)
+    × (wrongHeader s ≡ false)
+    × (lowest (wrongRecord s) (count s) ≡ none)
+    × (lowest (wrongNaming s) (count s) ≡ none)
+    × (lowest (wrongType s) (count s) ≡ none)
+    × LowestBreaking (tooDeep s) (count s) r
+Says s (IllTyped r) = Passes s × FailsFirst s (judgements s (inputs s) (circuit s)) r
+
+-- the verdict says so of the sheet
+abbrev pub Places : Type 0
+Places = (s : List ℕ) → Says s (verdict s)
+
+-- The verdict is the answer of the first check of a sheet that applies.
+abbrev pub VerdictFirst : Type 0
+VerdictFirst = (s : List ℕ) → verdictAnswer (verdict s) ≡ firstOf (sheetChecks s) (Done (outputType s))
+
+-- The sheet decodes to an expression that has the type of record t by the rules of picoELLA, over the types that the sheet
+-- declares, where the input has the type in the header's word a.
+abbrev pub WellTyped : List ℕ → ℕ → Type 0
+WellTyped s t =
+    TypeRecord s t
+    × ((e : Expr) × (decode s ≡ some e) × Typed (Declared s) (typeAt s (wordA s 0) ∷ []) e (typeAt s t))
+
+-- A sheet is accepted with output type t exactly where it passes codes 1 to 6 and is well typed with t.
+abbrev pub Exact : Type 0
+Exact = (s : List ℕ) (t : ℕ) → verdict s ≡ Accepted t ↔ (Passes s × WellTyped s t)

@@ -1,0 +1,104 @@
+-- The verdict on a byte string (document 01, the table under "The run", codes 0 to 7): the lowest code that applies, with its
+-- place; and the numbers that stand for a verdict.
+use Prim.Native.Nat.{ℕ}
+use mathlib.Core.Path.{_≡_}
+use lib.ListN.{length}
+use mathlib.Core.Bool.{Bool, true, false}
+use mathlib.Core.List.{List, [], _∷_}
+use mathlib.Core.Option.{Option, none, some}
+use Rattle.records.specs.Words.{count, wordA}
+use Rattle.records.specs.Trees.{circuit}
+use Rattle.structure.specs.LeafTable.{Counts}
+use Rattle.answers.specs.declared.Answer.{Answer}
+use Rattle.answers.specs.declared.Answer.the-variants.{Done, Refused}
+use Rattle.answers.specs.Checks.{Check, check, when}
+use Rattle.answers.specs.Lowest.{lowest}
+use Rattle.structure.specs.Rules.{wrongLength, wrongHeader, wrongRecord, wrongNaming, wrongType, tooDeep}
+use Rattle.typing.specs.Judgements.{judgements, typeRecordOf, firstFailing}
+use Rattle.typing.specs.Judging.{noted}
+use Rattle.verdict.specs.declared.Verdict.{Verdict}
+use Rattle.verdict.specs.declared.Verdict.the-variants.{
+  Accepted,
+  WrongLength,
+  WrongHeader,
+  WrongRecord,
+  WrongNaming,
+  WrongType,
+  TooDeep,
+  IllTyped,
+}
+
+-- document 01's number and place for each case
+abbrev pub verdictAnswer : Verdict → Answer
+verdictAnswer (Accepted t) = Done t
+verdictAnswer WrongLength = Refused 1 0
+verdictAnswer WrongHeader = Refused 2 0
+verdictAnswer (WrongRecord r) = Refused 3 r
+verdictAnswer (WrongNaming r) = Refused 4 r
+verdictAnswer (WrongType r) = Refused 5 r
+verdictAnswer (TooDeep r) = Refused 6 r
+verdictAnswer (IllTyped r) = Refused 7 r
+
+-- a test or a search that refuses, or else what comes after it
+abbrev pub unless : Bool → Verdict → Verdict → Verdict
+unless true v w = v
+unless false v w = w
+
+abbrev pub refusing : Option ℕ → (ℕ → Verdict) → Verdict → Verdict
+refusing (some r) f v = f r
+refusing none f v = v
+
+-- the context of the whole circuit: the input alone, of the type in the header's word a
+abbrev pub inputs : List ℕ → List ℕ
+inputs s = wordA s 0 ∷ []
+
+-- the output type's record
+abbrev pub outputType : List ℕ → ℕ
+outputType s = typeRecordOf s (inputs s) (circuit s)
+
+-- the checks of a sheet, in the order of their codes
+abbrev pub sheetChecks : List ℕ → List Check
+sheetChecks s =
+    check 1 (when (wrongLength s) 0)
+    ∷ check 2 (when (wrongHeader s) 0)
+    ∷ check 3 (lowest (wrongRecord s) (count s))
+    ∷ check 4 (lowest (wrongNaming s) (count s))
+    ∷ check 5 (lowest (wrongType s) (count s))
+    ∷ check 6 (lowest (tooDeep s) (count s))
+    ∷ check 7 (firstFailing s (judgements s (inputs s) (circuit s)))
+    ∷ []
+
+-- by the type rules
+unfoldable pub byTypes : List ℕ → Verdict
+byTypes s =
+    refusing (firstFailing s (judgements s (inputs s) (circuit s))) IllTyped
+    (Accepted (outputType s))
+
+-- by each rule on records in its turn, the lowest record first, and then by what comes after it
+abbrev pub byDepths : List ℕ → Verdict
+byDepths s = refusing (lowest (tooDeep s) (count s)) TooDeep (byTypes s)
+
+abbrev pub byTypeRecords : List ℕ → Verdict
+byTypeRecords s = refusing (lowest (wrongType s) (count s)) WrongType (byDepths s)
+
+abbrev pub byNamings : List ℕ → Verdict
+byNamings s = refusing (lowest (wrongNaming s) (count s)) WrongNaming (byTypeRecords s)
+
+unfoldable pub byRecords : List ℕ → Verdict
+byRecords s = refusing (lowest (wrongRecord s) (count s)) WrongRecord (byNamings s)
+
+unfoldable pub verdict : List ℕ → Verdict
+verdict s = unless (wrongLength s) WrongLength (unless (wrongHeader s) WrongHeader (byRecords s))
+
+-- what a stage of the check gives: the verdict v, and for an accepted sheet the table `before` with the leaf count of each
+-- expression noted
+pub record RulesChecked (s : List ℕ) (v answer : Verdict) (before after : List ℕ) : Type 0 where
+  pub answered : answer ≡ v
+  pub long : length after ≡ 4096
+  pub notes : (t : ℕ) → answer ≡ Accepted t → after ≡ noted s (inputs s) (circuit s) before
+
+-- the same where the table is first filled with the leaf counts of types
+pub record Tabled (s : List ℕ) (n : ℕ) (v answer : Verdict) (after : List ℕ) : Type 0 where
+  pub answered : answer ≡ v
+  pub notes : (t : ℕ) → answer ≡ Accepted t
+      → (table : List ℕ) × Counts s n table × (after ≡ noted s (inputs s) (circuit s) table)
