@@ -14,6 +14,7 @@ pub mod accepted;
 pub mod evaluator;
 pub mod listing;
 pub mod matching;
+pub mod order;
 pub mod run_mistakes;
 pub mod simulator;
 pub mod stepper;
@@ -37,6 +38,8 @@ pub mod survey;
 
 #[cfg(test)]
 mod generate_tests;
+#[cfg(test)]
+mod order_tests;
 #[cfg(test)]
 mod simulator_tests;
 #[cfg(test)]
