@@ -18,7 +18,7 @@ use Rattle.verdict.specs.Verdict.{verdict}
 use Rattle.verdict.specs.declared.Verdict.{Verdict}
 use Rattle.verdict.specs.declared.Verdict.the-variants.{Accepted}
 use Rattle.verdict.specs.declared.Verdict.the-variants as Verdicts
-use Rattle.meaning.specs.Undecided.{undefinedLeaves}
+use Rattle.meaning.specs.Undecided.{undecidedRule}
 use Rattle.behaviour.specs.Stimulus.{cycleCount, endToEnd, cycles, wrongStimulus, wrongByte}
 use Rattle.behaviour.specs.Run.{
   outputsBy,
@@ -125,8 +125,8 @@ kept-bytes (WrongNext n) new old f = refl
 pub refusal-unaltered : RefusalUnaltered
 unfolding finalOut finalNext
 refusal-unaltered s stim out next f = (
-  kept-bytes (answer s stim out next) (endToEnd (outputsBy undefinedLeaves s (cycles s stim))) out f,
-  kept-bytes (answer s stim out next) (sheetAfter undefinedLeaves s (cycles s stim)) next f,
+  kept-bytes (answer s stim out next) (endToEnd (outputsBy undecidedRule s (cycles s stim))) out f,
+  kept-bytes (answer s stim out next) (sheetAfter undecidedRule s (cycles s stim)) next f,
 )
 
 -- what a call gives where it refuses
@@ -138,8 +138,8 @@ gives-refusal s stim out next a e f =
 
 -- and where it does not
 pub gives-done : (s stim out next : List ℕ) (t : ℕ) → WellFormed s stim out next t
-    → Gives s stim out next (cycleCount s stim) (endToEnd (outputsBy undefinedLeaves s (cycles s stim)))
-    (sheetAfter undefinedLeaves s (cycles s stim))
+    → Gives s stim out next (cycleCount s stim) (endToEnd (outputsBy undecidedRule s (cycles s stim)))
+    (sheetAfter undecidedRule s (cycles s stim))
 unfolding finalOut finalNext
 gives-done s stim out next t h =
     let e = answer-done s stim out next t h in record { result-is = rw e (omega arith); out-is = rw e; next-is = rw e }

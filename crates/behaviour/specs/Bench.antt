@@ -11,7 +11,7 @@ use Rattle.records.specs.Trees.{alternatives, treeAt}
 use Rattle.records.specs.Decoding.{patternOf}
 use Rattle.verdict.specs.Verdict.{inputs}
 use Rattle.meaning.specs.Matching.{Decision, Yes, Undecided, matches}
-use Rattle.meaning.specs.Undecided.{undefinedLeaves}
+use Rattle.meaning.specs.Undecided.{undecidedRule}
 use Rattle.meaning.specs.Evaluation.{applications}
 use Rattle.behaviour.specs.Terms.{term}
 use Rattle.behaviour.specs.Stimulus.{cycleCount}
@@ -46,7 +46,7 @@ CaseHolds (goes s i chain n) =
     let q = wordB s 0 in
     let σ = typeAt s (wordA s q) in
     let part = term s (wordA s q ∷ inputs s) (treeAt s (wordB s q)) in
-    (valuesBefore (applied (i ∷ []) σ part) (length chain) ≡ chain) × (applications undefinedLeaves (i ∷ []) σ part ≡ n)
+    (valuesBefore (applied (i ∷ []) σ part) (length chain) ≡ chain) × (applications undecidedRule (i ∷ []) σ part ≡ n)
 
 abbrev pub AllCasesHold : List Case → Type 0
 AllCasesHold [] = Unit {0}

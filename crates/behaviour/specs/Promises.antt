@@ -18,7 +18,7 @@ use Rattle.verdict.specs.declared.Verdict.the-variants as Verdicts
 use Rattle.meaning.specs.Elaboration.{Term}
 use Rattle.meaning.specs.Values.{_⊑_, AllOf}
 use Rattle.meaning.specs.Constants.{ConstantTree, AllConstantsOf, flatten}
-use Rattle.meaning.specs.Undecided.{undefinedLeaves, bottomOfThen, Lawful}
+use Rattle.meaning.specs.Undecided.{undecidedRule, undecidedConstant, Lawful}
 use Rattle.meaning.specs.Ordered.{RuleBelow, AllBoth}
 use Rattle.meaning.specs.Rules.{ReducesSeq}
 use Rattle.meaning.specs.Run as Meaning
@@ -127,10 +127,10 @@ abbrev pub RunReduces : Type 0
 RunReduces =
     (s : List ℕ) (t : ℕ) → verdict s ≡ Accepted t → (e f : Expr) → decode s ≡ some e
     → (inputs outputs : List ConstantTree) → AllConstantsOf (inputType s) inputs
-    → ReducesSeq bottomOfThen [] e inputs outputs f
+    → ReducesSeq undecidedConstant [] e inputs outputs f
     ↔ (AllConstantsOf (typeAt s t) outputs
-    × (map flatten outputs ≡ outputsBy undefinedLeaves s (map flatten inputs))
-    × (decode (sheetAfter undefinedLeaves s (map flatten inputs)) ≡ some f))
+    × (map flatten outputs ≡ outputsBy undecidedRule s (map flatten inputs))
+    × (decode (sheetAfter undecidedRule s (map flatten inputs)) ≡ some f))
 
 -- Demand 3, of what the definition of the run gives.
 abbrev pub HoldsAfterwards : Type 0

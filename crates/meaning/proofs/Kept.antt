@@ -36,6 +36,7 @@ use Rattle.meaning.proofs.MatchAgrees.{match-agrees}
 use Rattle.meaning.proofs.RulesDeterministic.{reduces-one, reduces-seq-one}
 use Rattle.meaning.proofs.Adequacy.{cycle-adequate, cycle-exists, run-adequate, run-exists}
 use Rattle.meaning.proofs.UndefinedLeavesLawful.{undefined-lawful, undefined-agreeing}
+use Rattle.meaning.proofs.UndecidedRule.{rule-lawful, rule-agreeing}
 
 module _
     (undecided : List ℕ → List ℕ → List ℕ)
@@ -113,4 +114,6 @@ kept =
       );
       undefined-lawful = undefined-lawful;
       undefined-agreeing = undefined-agreeing;
+      rule-lawful = rule-lawful;
+      rule-agreeing = rule-agreeing;
     }

@@ -14,5 +14,6 @@ pub mod Adequacy
 pub mod ElaborationUnique
 pub mod AnnotationIgnored
 pub mod UndefinedLeavesLawful
+pub mod UndecidedRule
 pub mod Kept
 pub mod Bench

@@ -23,7 +23,7 @@ use Rattle.meaning.specs.Constants.{
   answer3,
   match,
 }
-use Rattle.meaning.specs.Undecided.{undefinedLeaves, bottomOfThen, Lawful, Agreeing}
+use Rattle.meaning.specs.Undecided.{undefinedLeaves, bottomOfThen, undecidedRule, undecidedConstant, Lawful, Agreeing}
 use Rattle.meaning.specs.Ordered.{RuleBelow, Ordered, AllBoth}
 use Rattle.meaning.specs.Evaluation.{iter, eval, application, iterate, settled, applications, next}
 use Rattle.meaning.specs.Run.{outputs, after}
@@ -221,6 +221,13 @@ UndefinedLawful = Lawful undefinedLeaves
 abbrev pub UndefinedAgreeing : Type 0
 UndefinedAgreeing = Agreeing undefinedLeaves bottomOfThen
 
+-- So is the rule in force.
+abbrev pub RuleLawful : Type 0
+RuleLawful = Lawful undecidedRule
+
+abbrev pub RuleAgreeing : Type 0
+RuleAgreeing = Agreeing undecidedRule undecidedConstant
+
 -- all of them
 pub record MeaningPromises : Type 1 where
   pub every-rule : (undecided : List ℕ → List ℕ → List ℕ)
@@ -235,3 +242,5 @@ pub record MeaningPromises : Type 1 where
       → Lawful rule → RuleBelow rule other → (Declared : Ty → Type 0) → RunOrdered rule other Declared
   pub undefined-lawful : UndefinedLawful
   pub undefined-agreeing : UndefinedAgreeing
+  pub rule-lawful : RuleLawful
+  pub rule-agreeing : RuleAgreeing

@@ -1,7 +1,8 @@
--- What an undecided IF gives: a rule on the values of its two branches, a parameter of everything else. Document 01 ("One
--- cycle") and 000 (§4.2.3: `reduce`) give undefined in every leaf, the one instance here; 000's alternative (§4.3.3:
--- `reduceGlb`), the leaves on which both branches agree, would be another. `Lawful` is what is asked of a rule: it is monotone,
--- and gives nothing that either branch does not give. It then keeps types: a value is of a type when it is below itself.
+-- What an undecided IF gives: a rule on the values of its two branches, a parameter of everything else. `undecidedRule` names the
+-- rule in force; every evaluation of a sheet goes by it, and nothing above this crate says which it is. It is that of document 01
+-- ("One cycle") and 000 (§4.2.3: `reduce`), undefined in every leaf; 000's alternative (§4.3.3: `reduceGlb`), the leaves on
+-- which both branches agree, would be another. `Lawful` is what is asked of a rule: it is monotone, and gives nothing that
+-- either branch does not give. It then keeps types: a value is of a type when it is below itself.
 -- A rule on leaves has a counterpart on 000's constants, and the two agree through `flatten`.
 use Prim.Native.Nat.{ℕ}
 use mathlib.Core.Path.{_≡_}
@@ -17,6 +18,13 @@ undefinedLeaves v w = replicate (length v) 0
 
 abbrev pub bottomOfThen : (thenConstant elseConstant : ConstantTree) → ConstantTree
 bottomOfThen c d = bottomOfConst c
+
+-- the rule in force, on leaves and on 000's constants
+unfoldable pub undecidedRule : (thenValue elseValue : List ℕ) → List ℕ
+undecidedRule v w = undefinedLeaves v w
+
+unfoldable pub undecidedConstant : (thenConstant elseConstant : ConstantTree) → ConstantTree
+undecidedConstant c d = bottomOfThen c d
 
 -- what is asked of a rule
 pub record Lawful (undecided : List ℕ → List ℕ → List ℕ) : Type 0 where

@@ -14,7 +14,7 @@ use Rattle.structure.specs.Lowest.{lowest}
 use Rattle.verdict.specs.Verdict.{verdict}
 use Rattle.verdict.specs.Widths.{Widths}
 use Rattle.verdict.specs.declared.Verdict.the-variants.{Accepted}
-use Rattle.meaning.specs.Undecided.{undefinedLeaves}
+use Rattle.meaning.specs.Undecided.{undecidedRule}
 use Rattle.behaviour.specs.Sheets.{Bytes}
 use Rattle.behaviour.specs.Cycle.{output, sheetAfterCycle}
 use Rattle.behaviour.specs.Stimulus.{inputLeaves, cycleCount, endToEnd, cycles, wrongStimulus, wrongByte}
@@ -68,8 +68,8 @@ pub record RunningCycles (s : List ℕ) (n : ℕ) (widths stim : List ℕ) (wi w
   pub start : current ≡ s
 
 pub record RanCycles (s stim current′ out′ : List ℕ) : Type 0 where
-  pub outputs : out′ ≡ endToEnd (outputsBy undefinedLeaves s (cycles s stim))
-  pub next : current′ ≡ sheetAfter undefinedLeaves s (cycles s stim)
+  pub outputs : out′ ≡ endToEnd (outputsBy undecidedRule s (cycles s stim))
+  pub next : current′ ≡ sheetAfter undecidedRule s (cycles s stim)
 
 -- the call: what it gives, and demand 3; the sheet handed in is one of bytes, and so, by demand 3, is each after it
 pub record Ran (sheet stimulus out next : List ℕ) (result : ℕ) (out′ next′ : List ℕ) : Type 0 where

@@ -13,7 +13,7 @@ use lib.Seq.{take-length, take-all, take-take, take-suc, take-suc-set, drop-leng
 use Rattle.records.proofs.Tests.{never-both}
 use Rattle.meaning.specs.Matching.{Yes, No, constructorDecision}
 use Rattle.meaning.specs.Evaluation.{choose}
-use Rattle.meaning.specs.Undecided.{undefinedLeaves}
+use Rattle.meaning.specs.Undecided.{undecidedRule}
 use Rattle.values.specs.Answers.{decisionOf, Agrees}
 use Rattle.values.specs.declared.Match.{Match}
 use Rattle.values.specs.declared.Match.the-variants as Matches
@@ -136,9 +136,10 @@ all-cleared out₀ i out h c =
 
 -- the value of an IF by the answer of its match
 pub otherwise-chosen : (a : Match) (otherwise out out′ : List ℕ) → a ≡ Matches.No → length otherwise ≡ length out
-    → out′ ≡ otherwise ++ drop (length otherwise) out → out′ ≡ choose undefinedLeaves (decisionOf a) out otherwise
+    → out′ ≡ otherwise ++ drop (length otherwise) out → out′ ≡ choose undecidedRule (decisionOf a) out otherwise
 otherwise-chosen a otherwise out out′ e l g = g ∙ rw (e, l, drop-length out) (append-nil otherwise)
 
 pub undefined-chosen : (a : Match) (otherwise out out′ : List ℕ) → a ≡ Matches.Undecided → out′ ≡ replicate (length out) 0
-    → out′ ≡ choose undefinedLeaves (decisionOf a) out otherwise
+    → out′ ≡ choose undecidedRule (decisionOf a) out otherwise
+unfolding undecidedRule
 undefined-chosen a otherwise out out′ e g = g ∙ rw e refl

@@ -13,7 +13,7 @@ ghost use Rattle.values.specs.Answers.{decisionOf, Agrees};
 ghost use Rattle.values.specs.Matchings.{Matching, MatchedAll, MatchedOne, Chosen};
 ghost use Rattle.values.specs.Slots.{slot, entered};
 ghost use Rattle.meaning.specs.Evaluation.{choose};
-ghost use Rattle.meaning.specs.Undecided.{undefinedLeaves};
+ghost use Rattle.meaning.specs.Undecided.{undecidedRule};
 use records::word;
 
 // Reads the leaves from `first`.
@@ -214,7 +214,7 @@ fn match_one(sheet: &[u8], n: usize, widths: &[u8; 4096], p: usize, value: &[u8]
 // The value of an IF by the answer of its match, where the then value is in `out`.
 fn by_answer(answer: Match, otherwise: &[u8], out: &mut [u8])
     requires { ⌜ length (now otherwise) ≡ length (now out) ⌝ }
-    ensures { λ _. ⌜ now (out .exit) ≡ choose undefinedLeaves (decisionOf answer) (now (out .entry)) (now (otherwise .entry)) ⌝ }
+    ensures { λ _. ⌜ now (out .exit) ≡ choose undecidedRule (decisionOf answer) (now (out .entry)) (now (otherwise .entry)) ⌝ }
 {
     match answer {
         Match::Yes => return,
