@@ -3,7 +3,6 @@ ghost use mathlib.Core.Path.{_≡_};
 ghost use mathlib.Core.Bool.{cond};
 ghost use Prim.Native.Nat.{ℕ, _+_, min, _≤_, _<_};
 ghost use Rattle.records.specs.Sized.{Sized};
-ghost use Rattle.records.specs.Namings.{Naming};
 ghost use Rattle.structure.specs.Depth.{ofDefiningPart};
 ghost use Rattle.structure.specs.DepthTable.{Capped, Placed, Placing};
 ghost use Rattle.answers.specs.Lowest.{lowest};
@@ -25,6 +24,7 @@ use records::word;
 
 // The entries of the tables for what lies deeper, or in more feedbacks, than it may.
 const TOO_DEEP: u8 = MOST_DEPTH + 1;
+
 const TOO_NESTED: u8 = MOST_NESTING + 1;
 
 // A table of depths or nestings with nothing in it.

@@ -4,7 +4,6 @@
 ghost use mathlib.Core.Path.{_≡_};
 ghost use Prim.Native.Nat.{ℕ, _+_, _<_};
 ghost use mathlib.Core.List.{List};
-ghost use lib.ListN.{getD};
 ghost use Rattle.records.specs.Sized.{Sized};
 ghost use Rattle.records.specs.TypeRecords.{isPairOf, pairBelow};
 ghost use Rattle.structure.specs.PairIndex.{Linked, Indexed, EndsAt, another, lowerPair};
@@ -17,6 +16,7 @@ use records::word;
 
 // A slot for each first part, then two below each record; 0 where a slot is empty.
 const SLOTS: usize = 3 * RECORDS;
+
 pub type PairIndex = [u16; SLOTS];
 
 // The index of no pair type.
