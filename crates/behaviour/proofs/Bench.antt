@@ -37,7 +37,7 @@ bench = (
               (refl, refl, refl),
               (
                 (refl, refl, refl),
-                ((refl, refl), ((refl, refl, refl), ((refl, refl, refl), ((refl, refl, refl), (refl, ((refl, refl, refl), tt)))))),
+                ((refl, refl), ((refl, refl, refl), ((refl, refl, refl), ((refl, refl, refl), (refl, ((refl, refl, refl), ((refl, refl), ((refl, refl, refl), tt)))))))),
               ),
             ),
           ),

@@ -10,6 +10,7 @@ use Rattle.behaviour.proofs.Reduces.{run-reduces}
 use Rattle.behaviour.proofs.Afterwards.{afterwards}
 use Rattle.behaviour.proofs.SheetRunOrdered.{sheet-run-ordered, late-scanner}
 use Rattle.behaviour.proofs.LateToggle.{late-input, late-delay}
+use Rattle.behaviour.proofs.EarlierBelow.{earlier-below, earlier-strictly-below}
 use Rattle.behaviour.proofs.Answers.{lowest-first, refusal-unaltered}
 
 pub kept : RunPromises
@@ -31,4 +32,6 @@ kept = record {
   late-scanner = late-scanner;
   late-input = late-input;
   late-delay = late-delay;
+  earlier-below = earlier-below;
+  earlier-strictly-below = earlier-strictly-below;
 }

@@ -30,7 +30,7 @@ use Rattle.behaviour.specs.SheetOrder.{FormedCall, holding}
 use Rattle.behaviour.specs.Bench.{toggle}
 use Rattle.behaviour.specs.Promises.{LateInput, LateDelay}
 use Rattle.behaviour.proofs.Cells.{put-byte}
-use Rattle.behaviour.proofs.OnlyDelays.{only-delays-same}
+use Rattle.behaviour.proofs.SheetOrder.{sheet-refl}
 use Rattle.behaviour.proofs.Afterwards.{out-is, next-is}
 
 toggle-accepted : verdict toggle ≡ Accepted 1
@@ -56,7 +56,7 @@ formed-call s stim out next t f = record {
 pub late-input : LateInput
 unfolding circuit treeAt treeWithin alternatives alternativesWithin chain chainWithin pairOf typeAt typeWithin kindOf word count eval next undecidedRule circuitTerm write outputBy afterBy cycles wrongStimulus wrongByte
 late-input = record {
-  sheets = record { only-delays = only-delays-same toggle; delays-below = λ l m. inr refl };
+  sheets = sheet-refl toggle;
   stimuli = below-leaf (inl refl) (below-leaf (inr refl) below-none);
   first = formed-call toggle (0 ∷ 1 ∷ []) (replicate 2 0) (replicate 204 0) 1
       (record { accepted = toggle-accepted; whole = refl; fitting = refl; room = refl; long = refl });
