@@ -29,24 +29,43 @@ use crate::WORDS;
 // The number of what a word asks. From NEXT on it asks for a record that it names, or zero, and from PART on for one that it
 // names; the sort of that record is what is left of the number.
 pub const ZERO: usize = 0;
+
 pub const ANY_TYPE: usize = 1;
+
 pub const LOWER_TYPE: usize = 2;
+
 pub const LOWER_FLAT: usize = 3;
+
 pub const CONSTRUCTOR: usize = 4;
+
 pub const COUNT: usize = 5;
+
 pub const BYTE: usize = 6;
+
 pub const FREE: usize = 7;
+
 pub const TOTAL: usize = 8;
+
 const NEVER: usize = 9;
+
 pub const NAMES: usize = NEXT;
+
 pub const NEXT: usize = 16;
+
 pub const PART: usize = 32;
+
 const NEXT_TYPE: usize = NEXT + SORT_TYPE;
+
 const NEXT_PATTERN: usize = NEXT + SORT_PATTERN;
+
 const NEXT_LEAF: usize = NEXT + SORT_LEAF;
+
 const TYPE: usize = PART + SORT_TYPE;
+
 const EXPRESSION: usize = PART + SORT_EXPRESSION;
+
 const PATTERN: usize = PART + SORT_PATTERN;
+
 const LEAF: usize = PART + SORT_LEAF;
 
 // What the words kind, next, a, b, c and d of a kind ask.

@@ -5,6 +5,16 @@ ghost use Rattle.records.specs.Words.{kindWord};
 ghost use Rattle.records.specs.Sized.{Sized};
 ghost use Rattle.records.specs.Kinds.{Sort, Ask, lowerType, lowerFlat, constructorOf, sortNumber, askNumber, askNumbers, rowOf};
 ghost use Rattle.records.specs.Says.{higher, meets, meetsAt, wellSaid, boundedBy};
+use crate::KIND_FLAT_TYPE;
+use crate::MOST_CONSTRUCTORS;
+use crate::SORT_TYPE;
+use crate::WORD_A;
+use crate::WORD_B;
+use crate::WORD_C;
+use crate::WORD_D;
+use crate::WORD_KIND;
+use crate::WORD_NEXT;
+use crate::WORDS;
 use crate::kinds::ANY_TYPE;
 use crate::kinds::BYTE;
 use crate::kinds::CONSTRUCTOR;
@@ -19,16 +29,6 @@ use crate::kinds::ZERO;
 use crate::kinds::asks;
 use crate::kinds::sort_number;
 use crate::words::word;
-use crate::KIND_FLAT_TYPE;
-use crate::MOST_CONSTRUCTORS;
-use crate::SORT_TYPE;
-use crate::WORDS;
-use crate::WORD_A;
-use crate::WORD_B;
-use crate::WORD_C;
-use crate::WORD_D;
-use crate::WORD_KIND;
-use crate::WORD_NEXT;
 
 // Whether w is a record above rec, of the sort that has this number.
 fn higher(sheet: &[u8], n: usize, rec: usize, sort: usize, w: usize) -> bool

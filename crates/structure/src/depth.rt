@@ -9,8 +9,8 @@ ghost use Rattle.structure.specs.DepthTable.{Capped, Placed, Placing};
 ghost use Rattle.answers.specs.Lowest.{lowest};
 ghost use Rattle.answers.specs.Searches.{found};
 ghost use Rattle.structure.specs.Rules.{tooDeep};
-use answers::Found;
 use crate::naming::NAMER_STEP;
+use answers::Found;
 use records::Depths;
 use records::KIND_FEEDBACK;
 use records::MOST_DEPTH;
@@ -25,6 +25,7 @@ use records::word;
 
 // The entries of the tables for what lies deeper, or in more feedbacks, than it may.
 const TOO_DEEP: u8 = MOST_DEPTH + 1;
+
 const TOO_NESTED: u8 = MOST_NESTING + 1;
 
 // A table of depths or nestings with nothing in it.

@@ -16,13 +16,13 @@ use records::NAMED_SEVERAL;
 use records::NAMES;
 use records::Namers;
 use records::RECORDS;
-use records::WORDS;
 use records::WORD_A;
 use records::WORD_B;
 use records::WORD_C;
 use records::WORD_D;
 use records::WORD_KIND;
 use records::WORD_NEXT;
+use records::WORDS;
 use records::asks;
 use records::word;
 

@@ -17,6 +17,7 @@ use records::word;
 
 // A slot for each first part, then two below each record; 0 where a slot is empty.
 const SLOTS: usize = 3 * RECORDS;
+
 pub type PairIndex = [u16; SLOTS];
 
 // The index of no pair type.

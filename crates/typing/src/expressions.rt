@@ -47,13 +47,7 @@ fn with_name(scope: &Scope, names: usize, t: usize) -> Scope
 }
 
 // Judges a constant.
-fn of_constant(
-    sheet: &[u8],
-    n: usize,
-    table: &Widths,
-    rec: usize,
-    widths: &mut Widths,
-) -> Outcome
+fn of_constant(sheet: &[u8], n: usize, table: &Widths, rec: usize, widths: &mut Widths) -> Outcome
     requires { ⌜ Closing (now sheet) n (now table) rec (now widths) × (kindAt (now sheet) rec ≡ expression constant) ⌝ }
     ensures { λ r. ⌜ ((Γ : List ℕ) → Judged (now (sheet .entry)) Γ (treeAt (now (sheet .entry)) rec) r (now (widths .entry)) (now (widths .exit))) ⌝ }
 {

@@ -39,10 +39,20 @@ fn fits_one(sheet: &[u8], n: usize, p: usize, t: usize) -> bool
     if word(sheet, n, t, WORD_KIND) != KIND_PAIR_TYPE {
         return false;
     }
-    if !fits_all(sheet, n, word(sheet, n, p, WORD_A), word(sheet, n, t, WORD_A)) {
+    if !fits_all(
+        sheet,
+        n,
+        word(sheet, n, p, WORD_A),
+        word(sheet, n, t, WORD_A),
+    ) {
         return false;
     }
-    fits_all(sheet, n, word(sheet, n, p, WORD_B), word(sheet, n, t, WORD_B))
+    fits_all(
+        sheet,
+        n,
+        word(sheet, n, p, WORD_B),
+        word(sheet, n, t, WORD_B),
+    )
 }
 
 // Whether each alternative from p has type t, as a judgement at rec.

@@ -40,12 +40,12 @@ element-write-index : tie.Need-element-write-index
 element-write-index c = search needs
 
 returns-2 : tie.Need-returns-2
-returns-2 c = 
+returns-2 c =
     pair-noted (c .before .before .before .before .before .before .before .before .before .pre .2) (c .before .before .before .before .before .before .before .word .ensures .0)
     (c .before .before .before .before .before .before .if1 .left) (c .before .before .before .before .word2 .ensures .0) (c .before .before .before .word3 .ensures .0) (c .before .before .slot-of .ensures .0) (search needs) (c .if2 .taken)
 
 returns-3 : tie.Need-returns-3
-returns-3 c = 
+returns-3 c =
     lower-noted (c .before .before .before .before .before .before .before .before .before .pre .2) (c .before .before .before .before .before .before .before .word .ensures .0)
     (c .before .before .before .before .before .before .if1 .left) (c .before .before .before .before .word2 .ensures .0) (c .before .before .before .word3 .ensures .0) (c .before .before .slot-of .ensures .0) (c .if2 .left)
 

@@ -30,7 +30,7 @@ loop-again : tie.Need-loop-again Inv-loop μ-loop
 loop-again c = (search needs, c .note-pair .ensures .1)
 
 returns : tie.Need-returns Inv-loop μ-loop
-returns c = 
+returns c =
     let e : c .before .loop .rec ≡ c .before .before .before .args .n = omega arith in
     subst (λ (m : ℕ). Indexed (now (c .before .before .before .args .sheet)) m (c .before .loop .index)) e (c .before .loop .inv .1)
 

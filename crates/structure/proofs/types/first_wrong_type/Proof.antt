@@ -13,7 +13,7 @@ use Rattle.structure.proofs.types.first_wrong_type.Statement.{statement
 use Rattle.structure.proofs.types.first_wrong_type.Tie as tie
 
 abbrev Inv-loop : tie.InvT-loop
-Inv-loop sheet n table index₀ rec₀ index rec = 
+Inv-loop sheet n table index₀ rec₀ index rec =
     (rec ≤ n) × ((q : ℕ) → q < rec → wrongType sheet q ≡ false) × Indexed sheet rec index
 
 abbrev μ-loop : tie.MeasureT-loop
@@ -29,7 +29,7 @@ wrong-type-requires : tie.Need-wrong-type-requires Inv-loop μ-loop
 wrong-type-requires c κs = (search needs, search needs, c .before .before .before .before .before .pre .1, c .before .before .loop .inv .2)
 
 returns : tie.Need-returns Inv-loop μ-loop
-returns c = 
+returns c =
     sym (lowest-is (wrongType (now (c .before .before .before .before .before .before .before .args .sheet))) (c .before .before .before .before .before .before .before .args .n) (c .before .before .before .before .loop .rec) (search needs) (sym (c .before .wrong-type .ensures .0) ∙ c .if1 .taken) (c .before .before .before .before .loop .inv .1))
 
 add-rec : tie.Need-add-rec Inv-loop μ-loop
@@ -39,11 +39,11 @@ loop-less : tie.Need-loop-less Inv-loop μ-loop
 loop-less c = search needs
 
 loop-again : tie.Need-loop-again Inv-loop μ-loop
-loop-again c = 
+loop-again c =
     (search needs, below-more _ _ (c .before .before .before .before .loop .inv .1) (sym (c .before .wrong-type .ensures .0) ∙ c .if1 .left), c .before .wrong-type .ensures .1)
 
 returns-2 : tie.Need-returns-2 Inv-loop μ-loop
-returns-2 c = 
+returns-2 c =
     sym (lowest-none (wrongType (now (c .before .before .before .before .args .sheet))) (c .before .before .before .before .args .n) (λ q h. c .before .loop .inv .1 q (omega arith)))
 
 pub first-wrong-type-spec : {M : Type 1} → statement M

@@ -21,7 +21,7 @@ returns-2 : tie.Need-returns-2
 returns-2 c = (many-leaves (c .before .before .before .before .before .before .before .pre .2) (c .before .before .before .before .before .before .before .args .rec) (search needs) (c .before .before .before .word .ensures .0) (c .before .before .if1 .left) (c .if2 .taken), c .before .before .before .before .note-pair .ensures .1)
 
 returns-3 : tie.Need-returns-3
-returns-3 c = 
+returns-3 c =
     (few-leaves-fit (c .before .before .before .before .before .before .before .pre .2) (c .before .before .before .before .before .before .before .args .rec) (search needs) (c .before .before .before .word .ensures .0) (c .before .before .if1 .left) (c .if2 .left) (c .before .before .before .before .note-pair .ensures .0), c .before .before .before .before .note-pair .ensures .1)
 
 pub wrong-type-spec : {M : Type 1} → statement M
