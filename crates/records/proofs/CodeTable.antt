@@ -1,6 +1,6 @@
 -- What the code's table says is what the definition's rows say: the asks of each kind, row by row, and its sort, by one test that
 -- antt computes for the numbers below 65. From 65 on a kind is unknown. Assumes nothing.
-use mathlib.Core.Path.{_≡_, refl, sym, _∙_, ap, subst}
+use mathlib.Core.Path.{_≡_, refl, sym, subst}
 use mathlib.Core.Bool.{Bool, true, false, cond, _&&_, Bool·beq}
 use mathlib.Core.List.{List, [], _∷_}
 use Prim.Native.Nat.{ℕ, zero, suc, _≤_, _<_}
@@ -25,7 +25,6 @@ use Rattle.records.specs.Kinds.{
   row,
   kindRows,
   numberIn,
-  kindIn,
   asksIn,
   askNumbers,
   lookUp,

@@ -1,18 +1,18 @@
 -- The tables of depths and nestings as records are added to them: a record lies one deeper than the one record that names it, which
 -- is lower and so in the tables, and in one more defining part just where it is one. Assumes nothing.
 use mathlib.Core.Path.{_≡_, refl, sym, _∙_, ap}
-use mathlib.Core.Bool.{Bool, true, false, not, cond, _&&_, _||_, or-true, or-false, and-false}
-use mathlib.Core.List.{List, [], _∷_, List·Memᴰ, List·Memᴰ·head}
+use mathlib.Core.Bool.{Bool, true, false, cond, and-false}
+use mathlib.Core.List.{List, [], _∷_, List·Memᴰ·head}
 use Prim.Native.Nat.{ℕ, zero, suc, min, _+_, _*_, _-_, _/_, _%_, _≤_, _<_}
 use native.Mathlib.Omega.{arith}
 use native.Mathlib.Decide.{ℕ-discrete, decLe}
-use borrow.Author.Tests.{eq-eqb, ne-eqb, lt-ltb, le-ltb}
+use borrow.Author.Tests.{ne-eqb, lt-ltb, le-ltb}
 use lib.Dec.{eqb, ltb}
-use lib.ListN.{length, getD, set, replicate, length-set, length-replicate, getD-replicate}
+use lib.ListN.{getD, set, replicate, length-set, length-replicate}
 use lib.Seq.{getD-set-same, getD-set-other}
 use Rattle.records.specs.Words.{count, word}
-use Rattle.records.specs.Kinds.{kindOf, sortOf, sortNumber, expressions, sameSort}
-use Rattle.records.specs.Says.{kindAt, sortAt}
+use Rattle.records.specs.Kinds.{kindOf, sortNumber}
+use Rattle.records.specs.Says.{sortAt}
 use Rattle.records.specs.Namings.{Naming, namings, exactlyOnce}
 use Rattle.records.specs.Trees.{follow}
 use Rattle.records.proofs.CodeTable.{only-kind}

@@ -1,15 +1,15 @@
 -- The index of pair types as records are added to it. A search ends at one slot. A record put into the empty slot at which the
 -- search for its parts ended is found there, and a search for other parts that comes to it goes on to its own slots, which are
 -- empty, so it still finds nothing. Assumes nothing.
-use mathlib.Core.Path.{_≡_, refl, sym, _∙_, ap}
-use mathlib.Core.Bool.{Bool, true, false, not, cond, _&&_, false≢true}
+use mathlib.Core.Path.{_≡_, refl, sym, _∙_}
+use mathlib.Core.Bool.{Bool, true, false, cond, false≢true}
 use mathlib.Core.List.{List}
 use Prim.Native.Nat.{ℕ, zero, suc, _+_, _*_, _/_, _%_, _≤_, _<_}
 use native.Mathlib.Numerals.{add-one}
 use native.Mathlib.Omega.{arith}
 use native.Mathlib.Decide.{ℕ-discrete, decLt}
 use borrow.Author.Tests.{ne-eqb}
-use lib.ListN.{length, getD, set, replicate, length-set, length-replicate}
+use lib.ListN.{getD, set, replicate, length-set, length-replicate}
 use lib.Seq.{getD-set-same, getD-set-other, set-getD}
 use Rattle.records.specs.Words.{word, wordA, wordB}
 use Rattle.records.specs.TypeRecords.{isPairOf, pairBelow}
@@ -51,12 +51,21 @@ slot-low {m} {index} links slot = go (decLt 0 (getD index slot 0))
 
 module _ (s index : List ℕ) (a b : ℕ) where
   -- a slot that holds another pair type is not empty
-  pub another-some : (slot : ℕ) → another s index a b slot ≡ true → 0 < getD index slot 0
+  another-some : (slot : ℕ) → another s index a b slot ≡ true → 0 < getD index slot 0
   another-some slot e = go (getD index slot 0) refl
     where
       go : (q : ℕ) → getD index slot 0 ≡ q → 0 < q
       go zero z = absurd (false≢true (rw z at e))
       go (suc q) z = omega arith
+
+  -- a search that goes on comes to a later slot
+  pub goes-on : {m slot : ℕ} {r : Bool} → Linked m index → m ≤ 4096 → (bits : ℕ) → r ≡ another s index a b slot → r ≡ true
+      → (slot < onwards index slot bits) × (onwards index slot bits < 12288) × (another s index a b slot ≡ true)
+  goes-on {slot = slot} links few bits e t =
+      let on = sym e ∙ t in
+      let low = links .lower slot (another-some slot on) in
+      let later = links .later slot (another-some slot on) in
+      (omega arith, omega arith, on)
 
   same-end : (k l slot bits e f : ℕ) → Ends s index a b k slot bits e → Ends s index a b l slot bits f → e ≡ f
   same-end zero zero slot bits e f p q = sym (p .1) ∙ q .1

@@ -3,7 +3,6 @@ ghost use mathlib.Core.Path.{_≡_};
 ghost use mathlib.Core.Bool.{cond};
 ghost use Prim.Native.Nat.{ℕ, _+_, min, _≤_, _<_};
 ghost use Rattle.records.specs.Sized.{Sized};
-ghost use Rattle.records.specs.Namings.{Naming};
 ghost use Rattle.structure.specs.Depth.{ofDefiningPart};
 ghost use Rattle.structure.specs.DepthTable.{Capped, Placed, Placing};
 ghost use Rattle.answers.specs.Lowest.{lowest};

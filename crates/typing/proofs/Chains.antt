@@ -1,13 +1,13 @@
 -- The leaves of a type taken off a chain: for a pair type those of its first part and then those of its second, for a flat type one
 -- leaf, no greater than the type's count. Assumes nothing.
-use mathlib.Core.Path.{_≡_, refl, sym, _∙_, ap}
-use mathlib.Core.Bool.{Bool, true, false, _&&_}
+use mathlib.Core.Path.{_≡_, refl, sym, _∙_}
+use mathlib.Core.Bool.{true, false}
 use mathlib.Core.List.{List, [], _∷_, _++_, append-assoc, append-nil}
 use Prim.Native.Nat.{ℕ, zero, suc, _≤_, _<_}
 use native.Mathlib.Omega.{arith}
 use borrow.Author.Tests.{lt-leb, le-leb, ne-eqb}
 use lib.Dec.{eqb}
-use Rattle.picoella.specs.Types.{TyTuple, bounds}
+use Rattle.picoella.specs.Types.{bounds}
 use Rattle.records.specs.Words.{count, word, wordA, wordB, nextWord}
 use Rattle.records.specs.Kinds.{typeOf, flat, pair, types, TypeKind, leafs}
 use Rattle.records.specs.Says.{kindAt, sortAt}
@@ -45,7 +45,7 @@ leaf-counted z h = let c = z .counted in omega arith
 pub leaf-there : {s : List ℕ} {n leaf : ℕ} → Sized s n → LeafOrEnd s leaf → (leaf ≡ 0 → ⊥) → leaf < n
 leaf-there z l g = let c = z .counted in let h = l .leaf (omega arith) .0 in omega arith
 
-module _ (s : List ℕ) (w : Written s) (t : ℕ) (r : TypeRecord s t) (leaf k : ℕ) (ek : k ≡ word s t 0) where
+module _ {s : List ℕ} (w : Written s) {t : ℕ} (r : TypeRecord s t) (leaf : ℕ) {k : ℕ} (ek : k ≡ word s t 0) where
   -- of a pair type
   module _ (e : k ≡ 17) where
     is-pair-type : kindAt s t ≡ typeOf pair
@@ -56,24 +56,24 @@ module _ (s : List ℕ) (w : Written s) (t : ℕ) (r : TypeRecord s t) (leaf k :
         rw (pair-type w t (r .there) is-pair-type)
         (append-assoc (bounds (typeAt s (wordA s t))) (bounds (typeAt s (wordB s t))) ns)
 
-    pub first-lower : (x : ℕ) → x ≡ word s t 2 → TypeRecord s x × (x < t)
-    first-lower x ex =
+    pub first-lower : {x : ℕ} → x ≡ word s t 2 → TypeRecord s x × (x < t)
+    first-lower ex =
         rw ex (first-part w t (r .there) is-pair-type, pair-parts w t (r .there) is-pair-type .0)
 
-    pub second-lower : (y : ℕ) → y ≡ word s t 3 → TypeRecord s y × (y < t)
-    second-lower y ey =
+    pub second-lower : {y : ℕ} → y ≡ word s t 3 → TypeRecord s y × (y < t)
+    second-lower ey =
         rw ey (second-part w t (r .there) is-pair-type, pair-parts w t (r .there) is-pair-type .2)
 
-    pub first-misfit : (x : ℕ) → x ≡ word s t 2 → (answer : Remaining) → TakenOff s x leaf answer → answer ≡ Misfit
+    pub first-misfit : {x : ℕ} {answer : Remaining} → x ≡ word s t 2 → TakenOff s x leaf answer → answer ≡ Misfit
         → TakenOff s t leaf answer
-    first-misfit x ex answer o m = record {
+    first-misfit ex o m = record {
       goes-on = o .goes-on;
       same = λ ns. rw (both ns, ← ex) (o .same (bounds (typeAt s (wordB s t)) ++ ns) ∙ rw m);
     }
 
-    pub both-taken : (x y rest : ℕ) → x ≡ word s t 2 → y ≡ word s t 3 → (first second : Remaining) → TakenOff s x leaf first
+    pub both-taken : {x y rest : ℕ} {first second : Remaining} → x ≡ word s t 2 → y ≡ word s t 3 → TakenOff s x leaf first
         → first ≡ From rest → TakenOff s y rest second → TakenOff s t leaf second
-    both-taken x y rest ex ey first second o m p = record {
+    both-taken {y = y} ex ey o m p = record {
       goes-on = p .goes-on;
       same = λ ns. rw (both ns, ← ex, ← ey) (o .same (bounds (typeAt s y) ++ ns) ∙ rw m (p .same ns));
     }
@@ -92,7 +92,7 @@ module _ (s : List ℕ) (w : Written s) (t : ℕ) (r : TypeRecord s t) (leaf k :
     pub none-left : leaf ≡ 0 → TakenOff s t leaf Misfit
     none-left z = record { goes-on = λ q e. absurd (misfit-from q e); same = λ ns. rw (one-bound, z) }
 
-    module _ (there : LeafOrEnd s leaf) (g : leaf ≡ 0 → ⊥) (c v : ℕ) (ec : c ≡ word s t 2) (ev : v ≡ word s leaf 2) where
+    module _ (there : LeafOrEnd s leaf) (g : leaf ≡ 0 → ⊥) {c v : ℕ} (ec : c ≡ word s t 2) (ev : v ≡ word s leaf 2) where
       past : 0 < leaf
       past = omega arith
 
@@ -105,8 +105,8 @@ module _ (s : List ℕ) (w : Written s) (t : ℕ) (r : TypeRecord s t) (leaf k :
         same = λ ns. rw (one-bound, values, ← ec, ← ev, lt-leb v c h);
       }
 
-      pub one-taken : v ≤ c → (x : ℕ) → x ≡ word s leaf 1 → TakenOff s t leaf (From x)
-      one-taken h x ex = record {
+      pub one-taken : v ≤ c → {x : ℕ} → x ≡ word s leaf 1 → TakenOff s t leaf (From x)
+      one-taken h {x} ex = record {
         goes-on = λ q e. record { leaf = λ p. next q e p };
         same = λ ns. rw (one-bound, values, ← ec, ← ev, le-leb v c h, ← ex);
       }
@@ -119,22 +119,22 @@ module _ (s : List ℕ) (w : Written s) (t : ℕ) (r : TypeRecord s t) (leaf k :
               rw d (m .1, m .2)
 
 -- the whole chain
-pub starts : (s : List ℕ) → Written s → (first : ℕ) → first < count s → sortAt s first ≡ leafs → LeafOrEnd s first
-starts s w first h e = record { leaf = λ p. (h, e) }
+pub starts : {s : List ℕ} (first : ℕ) → first < count s → sortAt s first ≡ leafs → LeafOrEnd s first
+starts first h e = record { leaf = λ p. (h, e) }
 
-module _ (s : List ℕ) (w : Written s) (t first : ℕ) (h : first < count s) (e : sortAt s first ≡ leafs) where
+module _ {s : List ℕ} (w : Written s) (t first : ℕ) (h : first < count s) (e : sortAt s first ≡ leafs) where
   past-first : 0 < first
   past-first = past-header w first (rw e)
 
-  module _ (answer : Remaining) (o : TakenOff s t first answer) where
+  module _ {answer : Remaining} (o : TakenOff s t first answer) where
     whole : within (bounds (typeAt s t)) (leafValues s (chain s first)) ≡ remainsWithin s [] answer
     whole = rw (← follows s first past-first) (rw (append-nil (bounds (typeAt s t))) at (o .same []))
 
     pub misfit-whole : answer ≡ Misfit → false ≡ within (bounds (typeAt s t)) (leafValues s (chain s first))
     misfit-whole m = sym (whole ∙ rw m)
 
-    pub fits-whole : (rest : ℕ) → answer ≡ From rest → eqb rest 0 ≡ within (bounds (typeAt s t)) (leafValues s (chain s first))
-    fits-whole rest m = sym (whole ∙ rw m (go rest (o .goes-on rest m)))
+    pub fits-whole : {rest : ℕ} → answer ≡ From rest → eqb rest 0 ≡ within (bounds (typeAt s t)) (leafValues s (chain s first))
+    fits-whole {rest} m = sym (whole ∙ rw m (go rest (o .goes-on rest m)))
       where
         go : (q : ℕ) → LeafOrEnd s q → within [] (valuesFrom s q) ≡ eqb q 0
         go zero l = refl

@@ -1,8 +1,7 @@
 // Judging an expression: its parts in the order of its words, then the whole.
 ghost use mathlib.Core.Path.{_≡_};
-ghost use mathlib.Core.List.{List, [], _∷_};
-ghost use Prim.Native.Nat.{ℕ, _+_, _<_};
-ghost use lib.ListN.{length};
+ghost use mathlib.Core.List.{List};
+ghost use Prim.Native.Nat.{ℕ};
 ghost use Rattle.records.specs.Kinds.{expression, constant, name, tuple, letIn, feedback, ifMatches, delay};
 ghost use Rattle.records.specs.Says.{kindAt};
 ghost use Rattle.records.specs.Trees.{treeAt};
@@ -15,6 +14,7 @@ use crate::closing::part_type;
 use crate::closing::same_type;
 use crate::leaves::leaves_type;
 use crate::patterns::pattern_type;
+use crate::scopes::with_name;
 use records::KIND_CONSTANT;
 use records::KIND_FEEDBACK;
 use records::KIND_FIRST;
@@ -23,7 +23,6 @@ use records::KIND_LET;
 use records::KIND_NAME;
 use records::KIND_PAIR;
 use records::KIND_SECOND;
-use records::MOST_NAMES;
 use records::Scope;
 use records::WORD_A;
 use records::WORD_B;
@@ -35,16 +34,6 @@ use records::word;
 use structure::PairIndex;
 use structure::no_pairs;
 use structure::note_pairs;
-
-// The names in scope with one more, of type t.
-fn with_name(scope: &Scope, names: usize, t: usize) -> Scope
-    requires { ⌜ (names < 64) × (t < 65536) × (length (now scope) ≡ 64) ⌝ }
-    ensures { λ r. ⌜ (length r ≡ 64) × (scopeOf (names + 1) r ≡ t ∷ scopeOf names (now (scope .entry))) ⌝ }
-{
-    let mut inner = *scope;
-    inner[names] = t as u16;
-    inner
-}
 
 // Judges a constant.
 fn of_constant(sheet: &[u8], n: usize, table: &Widths, rec: usize, widths: &mut Widths) -> Outcome
@@ -303,14 +292,4 @@ pub fn judge(
     let mut index = no_pairs();
     note_pairs(sheet, n, &mut index);
     judge_expression(sheet, n, table, &index, scope, names, rec, widths)
-}
-
-// The names in scope of the whole circuit: the input alone, of the type in the header's word a.
-pub fn input_scope(t: usize) -> Scope
-    requires { ⌜ t < 65536 ⌝ }
-    ensures { λ r. ⌜ (length r ≡ 64) × (scopeOf 1 r ≡ t ∷ []) ⌝ }
-{
-    let mut scope = [0u16; MOST_NAMES];
-    scope[0] = t as u16;
-    scope
 }

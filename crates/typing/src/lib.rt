@@ -3,10 +3,11 @@ mod closing;
 mod expressions;
 mod leaves;
 mod patterns;
+mod scopes;
 
-pub use expressions::input_scope;
 pub use expressions::judge;
 pub use leaves::bound_at;
+pub use scopes::input_scope;
 
 // What judging an expression gives: its type record, or the record at which a type rule is broken.
 pub enum Outcome {

@@ -1,7 +1,5 @@
 -- Each arm is a range of numbers, and the sort is that of the range. Assumes nothing.
-use borrow.Author.Needs.{needs}
 use native.Mathlib.Omega.{arith}
-use mathlib.Core.Path.{_∙_, sym}
 use borrow.Author.Tests.{ne-eqb, lt-ltb, le-ltb}
 use Rattle.records.proofs.CodeTable.{sort-by-range}
 use Rattle.records.proofs.kinds.sort_number.Statement.{statement}

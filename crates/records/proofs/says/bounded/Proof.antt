@@ -1,7 +1,7 @@
 -- One return for each ask, by the tests that lead there. Assumes nothing.
 use Rattle.records.proofs.says.bounded.Statement.{statement}
 use Rattle.records.proofs.says.bounded.Tie as tie
-use borrow.Author.Tests.{eq-eqb, ne-eqb, lt-ltb}
+use borrow.Author.Tests.{ne-eqb, lt-ltb}
 use native.Mathlib.Omega.{arith}
 
 -- One return for each ask, by the tests that lead there. Assumes nothing.

@@ -2,9 +2,6 @@
 use borrow.Author.Needs.{needs}
 use Rattle.records.proofs.says.constructor_of.Statement.{statement}
 use Rattle.records.proofs.says.constructor_of.Tie as tie
-use borrow.Author.Tests.{le-ltb, lt-ltb, le-leb, lt-leb, eq-eqb, ne-eqb}
-use native.Mathlib.Omega.{arith}
-use mathlib.Core.Path.{_≡_, refl, _∙_, sym, ap, subst}
 use Rattle.records.proofs.Reading.{constructor-past, constructor-of-count}
 
 -- Past the records a word reads as 0, so a type that is no record has no constructor. Assumes nothing.

@@ -1,9 +1,7 @@
 use Rattle.records.proofs.says.higher.Statement.{statement}
 use Rattle.records.proofs.says.higher.Tie as tie
 use borrow.Author.Needs.{needs}
-use borrow.Author.Tests.{le-ltb, lt-ltb, le-leb, lt-leb, eq-eqb, ne-eqb}
-use native.Mathlib.Omega.{arith}
-use mathlib.Core.Path.{_≡_, refl, _∙_, sym, ap, subst}
+use borrow.Author.Tests.{le-ltb}
 use Rattle.records.proofs.Reading.{higher-past, higher-sort}
 
 -- Each test that fails makes one part of the conjunction false; the last is the sort's. Assumes nothing.

@@ -2,9 +2,7 @@
 use borrow.Author.Needs.{needs}
 use Rattle.records.proofs.says.lower_flat.Statement.{statement}
 use Rattle.records.proofs.says.lower_flat.Tie as tie
-use borrow.Author.Tests.{le-ltb, lt-ltb, le-leb, lt-leb, eq-eqb, ne-eqb}
-use native.Mathlib.Omega.{arith}
-use mathlib.Core.Path.{_≡_, refl, _∙_, sym, ap, subst}
+use borrow.Author.Tests.{le-ltb}
 use Rattle.records.proofs.Reading.{lower-flat-kind}
 
 -- A kind is that of a flat type exactly where its number is 16. Assumes nothing.

@@ -2,9 +2,7 @@
 use Rattle.records.proofs.says.lower_type.Statement.{statement}
 use Rattle.records.proofs.says.lower_type.Tie as tie
 use borrow.Author.Needs.{needs}
-use borrow.Author.Tests.{le-ltb, lt-ltb, le-leb, lt-leb, eq-eqb, ne-eqb}
-use native.Mathlib.Omega.{arith}
-use mathlib.Core.Path.{_≡_, refl, _∙_, sym, ap, subst}
+use borrow.Author.Tests.{le-ltb}
 use Rattle.records.proofs.Reading.{lower-type-sort}
 
 -- The sort is that of the record. Assumes nothing.

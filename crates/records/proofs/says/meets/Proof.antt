@@ -2,7 +2,6 @@
 use borrow.Author.Needs.{needs}
 use Rattle.records.proofs.says.meets.Statement.{statement}
 use Rattle.records.proofs.says.meets.Tie as tie
-use mathlib.Core.Path.{refl, sym, _∙_}
 use native.Mathlib.Omega.{arith}
 use borrow.Author.Tests.{ne-eqb}
 use Rattle.records.proofs.AskNumbers.{meets-part, meets-next}

@@ -2,7 +2,7 @@
 use borrow.Author.Needs.{needs}
 use Rattle.records.proofs.says.plain.Statement.{statement}
 use Rattle.records.proofs.says.plain.Tie as tie
-use mathlib.Core.Path.{refl, sym, _∙_}
+use mathlib.Core.Path.{refl, _∙_}
 use native.Mathlib.Omega.{arith}
 use Rattle.records.specs.Kinds.{types}
 use Rattle.records.proofs.AskNumbers.{meets-below, meets-bounded}

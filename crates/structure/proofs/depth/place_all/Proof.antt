@@ -6,7 +6,7 @@ use native.Mathlib.Omega.{arith}
 use Prim.Native.Nat.{ℕ, _-_, _≤_, _<_}
 use mathlib.Core.Path.{_≡_, subst}
 use denote.Ref.{now}
-use Rattle.structure.specs.DepthTable.{Placed, Placing}
+use Rattle.structure.specs.DepthTable.{Placed}
 
 abbrev Inv-loop : tie.InvT-loop
 Inv-loop sheet n namers depths₀ nestings₀ rec₀ depths nestings rec =

@@ -3,7 +3,6 @@ use Rattle.records.specs.Kinds.{sortNumber, sortOf, kindOf}
 use borrow.Author.Needs.{needs}
 use Rattle.structure.proofs.depth.too_deep.Statement.{statement}
 use Rattle.structure.proofs.depth.too_deep.Tie as tie
-use denote.Ref.{now}
 use mathlib.Core.Path.{_∙_, ap}
 use Prim.Native.Nat.{ℕ}
 use Rattle.structure.proofs.DepthCounts.{no-expression, deep, by-nesting}

@@ -3,7 +3,7 @@ use Rattle.structure.proofs.naming.first_wrong_naming.Statement.{statem
 use Rattle.structure.proofs.naming.first_wrong_naming.Tie as tie
 use borrow.Author.Needs.{needs}
 use native.Mathlib.Omega.{arith}
-use Prim.Native.Nat.{ℕ, _-_, _≤_, _<_}
+use Prim.Native.Nat.{ℕ, _-_, _<_}
 use mathlib.Core.Path.{_≡_, sym}
 use mathlib.Core.Bool.{false}
 use mathlib.Core.List.{List}

@@ -3,7 +3,7 @@ use denote.Ref.{now}
 use Rattle.structure.proofs.naming.note_all.Statement.{statement}
 use Rattle.structure.proofs.naming.note_all.Tie as tie
 use borrow.Author.Needs.{needs}
-use Prim.Native.Nat.{ℕ, _+_, _-_, _≤_}
+use Prim.Native.Nat.{_+_, _-_, _≤_}
 use Rattle.records.specs.Namings.{namingsBelow, namingsIn}
 use Rattle.structure.specs.NamerTable.{Holds}
 use Rattle.structure.proofs.Namers.{adds-to, one-record-more, all-records}

@@ -1,7 +1,6 @@
 -- By the record's kind, and by what the slot holds at which the search for its parts ends. Assumes nothing.
 use borrow.Author.Needs.{needs}
 use native.Mathlib.Omega.{arith}
-use denote.Ref.{now}
 use Rattle.structure.proofs.PairSearch.{linked-more, slot-low, no-pair-noted, lower-noted, pair-noted}
 use Rattle.structure.proofs.pairs.note_pair.Statement.{statement}
 use Rattle.structure.proofs.pairs.note_pair.Tie as tie

@@ -6,7 +6,7 @@ use Prim.Native.Nat.{ℕ, suc, _-_, _<_}
 use mathlib.Core.Path.{refl, sym, _∙_}
 use denote.Ref.{now}
 use Rattle.structure.specs.PairIndex.{Ends, EndsAt}
-use Rattle.structure.proofs.PairSearch.{slot-low, another-some}
+use Rattle.structure.proofs.PairSearch.{slot-low, goes-on}
 use Rattle.structure.proofs.pairs.slot_of.Statement.{statement}
 use Rattle.structure.proofs.pairs.slot_of.Tie as tie
 
@@ -52,21 +52,14 @@ add-slot-2 c =
 loop-less : tie.Need-loop-less Inv-loop μ-loop
 loop-less c =
     let a = c .before .before .before .before .before .args in
-    let slot = c .before .before .before .loop .slot in
-    let some = another-some (now (a .sheet)) (now (a .index)) (a .a) (a .b) slot (sym (c .before .before .holds-another .ensures) ∙ c .before .if1 .taken) in
-    let later = c .before .before .before .before .before .pre .1 .later slot some in
-    let here = c .before .before .before .loop .inv .0 in
+    let p = goes-on (now (a .sheet)) (now (a .index)) (a .a) (a .b) (c .before .before .before .before .before .pre .1) (c .before .before .before .before .before .pre .0 .few) (c .before .before .before .loop .rest) (c .before .before .holds-another .ensures) (c .before .if1 .taken) in
     omega arith
 
 loop-again : tie.Need-loop-again Inv-loop μ-loop
 loop-again c =
     let a = c .before .before .before .before .before .args in
-    let slot = c .before .before .before .loop .slot in
-    let another = sym (c .before .before .holds-another .ensures) ∙ c .before .if1 .taken in
-    let some = another-some (now (a .sheet)) (now (a .index)) (a .a) (a .b) slot another in
-    let low = c .before .before .before .before .before .pre .1 .lower slot some in
-    let few = c .before .before .before .before .before .pre .0 .few in
-    (omega arith, λ k end p. c .before .before .before .loop .inv .1 (suc k) end (another, p))
+    let p = goes-on (now (a .sheet)) (now (a .index)) (a .a) (a .b) (c .before .before .before .before .before .pre .1) (c .before .before .before .before .before .pre .0 .few) (c .before .before .before .loop .rest) (c .before .before .holds-another .ensures) (c .before .if1 .taken) in
+    (p .1, λ k end q. c .before .before .before .loop .inv .1 (suc k) end (p .2, q))
 
 returns : tie.Need-returns Inv-loop μ-loop
 returns c = (

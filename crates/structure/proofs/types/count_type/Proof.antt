@@ -3,7 +3,6 @@ use borrow.Author.Needs.{needs}
 use Rattle.structure.proofs.types.count_type.Statement.{statement}
 use Rattle.structure.proofs.types.count_type.Tie as tie
 use native.Mathlib.Omega.{arith}
-use denote.Ref.{now}
 use Rattle.structure.proofs.LeafCounts.{counts-other, counts-flat, counts-pair, first-counted, second-counted}
 
 word-requires : tie.Need-word-requires

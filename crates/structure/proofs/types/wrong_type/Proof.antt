@@ -1,6 +1,5 @@
 -- By the leaf count in the table and the search for a lower pair. Assumes nothing.
 use borrow.Author.Needs.{needs}
-use denote.Ref.{now}
 use Rattle.structure.proofs.LeafCounts.{no-pair-fits, many-leaves, few-leaves-fit}
 use Rattle.structure.proofs.types.wrong_type.Statement.{statement}
 use Rattle.structure.proofs.types.wrong_type.Tie as tie

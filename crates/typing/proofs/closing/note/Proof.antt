@@ -22,7 +22,7 @@ element-write-widths c = search needs
 returns : tie.Need-returns
 returns c = (
   refl,
-  ap (λ (v : ℕ). set (now (c .before .args .widths)) (c .before .args .rec) v) (leaves-counted _ _ _ (c .before .pre .0 .ground) _ (c .before .pre .1)),
+  ap (λ (v : ℕ). set (now (c .before .args .widths)) (c .before .args .rec) v) (leaves-counted (c .before .pre .0 .ground) _ (c .before .pre .1)),
 )
 
 pub note-spec : {M : Type 1} → statement M

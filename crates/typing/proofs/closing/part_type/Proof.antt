@@ -8,7 +8,7 @@ word-requires : tie.Need-word-requires
 word-requires c κs = search needs
 
 returns : tie.Need-returns
-returns c = no-pair-part _ _ _ _ _ (c .before .before .before .pre .0) (c .before .before .before .args .t) (c .before .before .before .args .k) _ (c .before .word .ensures .0) (c .if1 .taken)
+returns c = no-pair-part (c .before .before .before .pre .0) (c .before .before .before .args .t) (c .before .before .before .args .k) _ (c .before .word .ensures .0) (c .if1 .taken)
 
 word-requires-2 : tie.Need-word-requires-2
 word-requires-2 c κs = search needs
@@ -16,13 +16,13 @@ word-requires-2 c κs = search needs
 note-requires : tie.Need-note-requires
 note-requires c κs = (
   c .before .before .before .before .before .pre .0,
-  part-is-type _ _ _ _ _ (c .before .before .before .before .before .pre .0) _ _ _ _ (c .before .before .before .before .before .pre .1) (c .before .before .before .word .ensures .0) (c .before .before .if1 .left) (c .before .word2 .ensures .0)
+  part-is-type (c .before .before .before .before .before .pre .0) _ _ _ _ (c .before .before .before .before .before .pre .1) (c .before .before .before .word .ensures .0) (c .before .before .if1 .left) (c .before .word2 .ensures .0)
       (c .before .before .before .before .before .pre .2) (c .before .before .before .before .before .pre .3),
 )
 
 returns-2 : tie.Need-returns-2
 returns-2 c =
-    part-closed _ _ _ _ _ (c .before .before .before .before .before .before .pre .0) _ _ _ _ _ _ (c .before .before .before .before .word .ensures .0) (c .before .before .before .if1 .left) (c .before .before .word2 .ensures .0) (c .note .ensures .0)
+    part-closed (c .before .before .before .before .before .before .pre .0) _ _ _ _ _ _ (c .before .before .before .before .word .ensures .0) (c .before .before .before .if1 .left) (c .before .before .word2 .ensures .0) (c .note .ensures .0)
     (c .note .ensures .1)
 
 pub part-type-spec : {M : Type 1} → statement M

@@ -12,7 +12,7 @@ word-requires : tie.Need-word-requires
 word-requires c κs = search needs
 
 returns : tie.Need-returns
-returns c = name-closing _ _ _ (ready-written _ _ _ _ _ _ _ (c .before .before .before .pre .0)) (ready-there _ _ _ _ _ _ _ (c .before .before .before .pre .0)) _ (c .before .before .before .pre .1) _ (c .before .word .ensures .0) _ _ (name-outside _ _ _ _ _ (ready-closing _ _ _ _ _ _ _ (c .before .before .before .pre .0) (now (c .before .before .before .args .widths)) (c .before .before .before .pre .0 .long)) (now (c .before .before .before .args .scope)) (c .before .before .before .args .names) (c .before .word .result) (search needs))
+returns c = name-closing _ _ _ (ready-written (c .before .before .before .pre .0)) (ready-there (c .before .before .before .pre .0)) _ (c .before .before .before .pre .1) _ (c .before .word .ensures .0) _ _ (name-outside (ready-closing (c .before .before .before .pre .0) (now (c .before .before .before .args .widths)) (c .before .before .before .pre .0 .long)) (now (c .before .before .before .args .scope)) (c .before .before .before .args .names) (c .before .word .result) (search needs))
 
 sub-t : tie.Need-sub-t
 sub-t c = search needs
@@ -22,29 +22,29 @@ sub-t-2 c = search needs
 
 mul-t : tie.Need-mul-t
 mul-t c =
-    let d = few-names _ _ _ _ _ _ _ (c .before .before .before .pre .0) in
+    let d = few-names (c .before .before .before .pre .0) in
     omega arith
 
 element-copy-out-t : tie.Need-element-copy-out-t
 element-copy-out-t c =
-    let d = few-names _ _ _ _ _ _ _ (c .before .before .before .pre .0) in
+    let d = few-names (c .before .before .before .pre .0) in
     omega arith
 
 cast-t : tie.Need-cast-t
 cast-t c =
-    let t = name-typed _ _ _ _ _ (ready-closing _ _ _ _ _ _ _ (c .before .before .before .before .pre .0) (now (c .before .before .before .before .args .widths)) (c .before .before .before .before .pre .0 .long)) (now (c .before .before .before .before .args .scope)) (c .before .before .before .before .args .names) (c .before .before .word .result) _ (search needs) refl (c .before .before .before .before .pre .0 .context) in
-    type-small _ _ _ _ _ _ _ (c .before .before .before .before .pre .0) _ t
+    let t = name-typed (ready-closing (c .before .before .before .before .pre .0) (now (c .before .before .before .before .args .widths)) (c .before .before .before .before .pre .0 .long)) (now (c .before .before .before .before .args .scope)) (c .before .before .before .before .args .names) (c .before .before .word .result) _ (search needs) refl (c .before .before .before .before .pre .0 .context) in
+    type-small (c .before .before .before .before .pre .0) _ t
 
 note-requires : tie.Need-note-requires
 note-requires c κs = (
-  (ready-closing _ _ _ _ _ _ _ (c .before .before .before .before .before .pre .0) (now (c .before .before .before .before .before .args .widths)) (c .before .before .before .before .before .pre .0 .long)),
-  name-typed _ _ _ _ _ (ready-closing _ _ _ _ _ _ _ (c .before .before .before .before .before .pre .0) (now (c .before .before .before .before .before .args .widths)) (c .before .before .before .before .before .pre .0 .long)) (now (c .before .before .before .before .before .args .scope)) (c .before .before .before .before .before .args .names) (c .before .before .before .word .result) _ (search needs) refl (c .before .before .before .before .before .pre .0 .context),
+  (ready-closing (c .before .before .before .before .before .pre .0) (now (c .before .before .before .before .before .args .widths)) (c .before .before .before .before .before .pre .0 .long)),
+  name-typed (ready-closing (c .before .before .before .before .before .pre .0) (now (c .before .before .before .before .before .args .widths)) (c .before .before .before .before .before .pre .0 .long)) (now (c .before .before .before .before .before .args .scope)) (c .before .before .before .before .before .args .names) (c .before .before .before .word .result) _ (search needs) refl (c .before .before .before .before .before .pre .0 .context),
 )
 
 returns-2 : tie.Need-returns-2
 returns-2 c =
-    name-closing _ _ _ (ready-written _ _ _ _ _ _ _ (c .before .before .before .before .before .before .pre .0)) (ready-there _ _ _ _ _ _ _ (c .before .before .before .before .before .before .pre .0)) _ (c .before .before .before .before .before .before .pre .1) _ (c .before .before .before .before .word .ensures .0) _ _
-    (name-inside _ _ _ _ _ (ready-closing _ _ _ _ _ _ _ (c .before .before .before .before .before .before .pre .0) (now (c .before .before .before .before .before .before .args .widths)) (c .before .before .before .before .before .before .pre .0 .long)) (now (c .before .before .before .before .before .before .args .scope)) (c .before .before .before .before .before .before .args .names) (c .before .before .before .before .word .result) _ _ _ (search needs) refl (c .note .ensures .0) (c .note .ensures .1))
+    name-closing _ _ _ (ready-written (c .before .before .before .before .before .before .pre .0)) (ready-there (c .before .before .before .before .before .before .pre .0)) _ (c .before .before .before .before .before .before .pre .1) _ (c .before .before .before .before .word .ensures .0) _ _
+    (name-inside (ready-closing (c .before .before .before .before .before .before .pre .0) (now (c .before .before .before .before .before .before .args .widths)) (c .before .before .before .before .before .before .pre .0 .long)) (now (c .before .before .before .before .before .before .args .scope)) (c .before .before .before .before .before .before .args .names) (c .before .before .before .before .word .result) _ _ _ (search needs) refl (c .note .ensures .0) (c .note .ensures .1))
 
 pub of-name-spec : {M : Type 1} → statement M
 of-name-spec =

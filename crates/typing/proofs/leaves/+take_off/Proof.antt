@@ -10,7 +10,6 @@ use Rattle.typing.proofs.leaves.+take_off.{statement}
 use Rattle.typing.proofs.leaves.+take_off.Tie.{close}
 use borrow.Author.Needs.{needs}
 use native.Mathlib.Omega.{arith}
-use denote.Ref.{now}
 use Rattle.structure.proofs.Passes.{written}
 use Rattle.typing.proofs.Chains.{type-there, leaf-there, first-lower, second-lower, first-misfit, both-taken, none-left, too-great, one-taken}
 
@@ -35,7 +34,7 @@ take-off-word-requires-2 t c κs = (c .before .before .before .pre .1 .0, type-t
 
 take-off-take-off-requires : (t : ℕ) → take-off-lts.Need-take-off-requires (claims t) (take-off-at t) take-off.Post
 take-off-take-off-requires t c κs =
-    let p = first-lower (now (c .before .before .before .before .args .sheet)) (written (c .before .before .before .before .pre .1 .1)) (c .before .before .before .before .args .t) (c .before .before .before .before .pre .1 .2) (c .before .before .before .before .args .leaf) (c .before .before .word .result) (c .before .before .word .ensures .0) (c .before .if1 .taken) _ (c .word2 .ensures .0) in
+    let p = first-lower (written (c .before .before .before .before .pre .1 .1)) (c .before .before .before .before .pre .1 .2) (c .before .before .before .before .args .leaf) (c .before .before .word .ensures .0) (c .before .if1 .taken) (c .word2 .ensures .0) in
     (omega (arith, c .before .before .before .before .pre .0, p .1), (c .before .before .before .before .pre .1 .0, c .before .before .before .before .pre .1 .1, p .0, c .before .before .before .before .pre .1 .3))
 
 take-off-enum-known-first : (t : ℕ) → take-off-lts.Need-enum-known-first (claims t) (take-off-at t) take-off.Post
@@ -46,22 +45,22 @@ take-off-enum-told t c = search needs
 
 take-off-returns : (t : ℕ) → take-off-lts.Need-returns (claims t) (take-off-at t) take-off.Post
 take-off-returns t c =
-    first-misfit (now (c .before .before .before .before .before .before .before .args .sheet)) (written (c .before .before .before .before .before .before .before .pre .1 .1)) (c .before .before .before .before .before .before .before .args .t) (c .before .before .before .before .before .before .before .pre .1 .2) (c .before .before .before .before .before .before .before .args .leaf) (c .before .before .before .before .before .word .result) (c .before .before .before .before .before .word .ensures .0) (c .before .before .before .before .if1 .taken) _ (c .before .before .before .word2 .ensures .0) _ (c .before .before .take-off .ensures) (c .enum-told .given .1)
+    first-misfit (written (c .before .before .before .before .before .before .before .pre .1 .1)) (c .before .before .before .before .before .before .before .pre .1 .2) (c .before .before .before .before .before .before .before .args .leaf) (c .before .before .before .before .before .word .ensures .0) (c .before .before .before .before .if1 .taken) (c .before .before .before .word2 .ensures .0) (c .before .before .take-off .ensures) (c .enum-told .given .1)
 
 take-off-word-requires-3 : (t : ℕ) → take-off-lts.Need-word-requires-3 (claims t) (take-off-at t) take-off.Post
 take-off-word-requires-3 t c κs = (c .before .before .before .before .before .before .before .before .pre .1 .0, type-there (c .before .before .before .before .before .before .before .before .pre .1 .0) (c .before .before .before .before .before .before .before .before .pre .1 .2), search needs)
 
 take-off-take-off-requires-2 : (t : ℕ) → take-off-lts.Need-take-off-requires-2 (claims t) (take-off-at t) take-off.Post
 take-off-take-off-requires-2 t c κs =
-    let p = second-lower (now (c .before .before .before .before .before .before .before .before .before .args .sheet)) (written (c .before .before .before .before .before .before .before .before .before .pre .1 .1)) (c .before .before .before .before .before .before .before .before .before .args .t) (c .before .before .before .before .before .before .before .before .before .pre .1 .2) (c .before .before .before .before .before .before .before .before .before .args .leaf) (c .before .before .before .before .before .before .before .word .result) (c .before .before .before .before .before .before .before .word .ensures .0) (c .before .before .before .before .before .before .if1 .taken) _ (c .word3 .ensures .0) in
+    let p = second-lower (written (c .before .before .before .before .before .before .before .before .before .pre .1 .1)) (c .before .before .before .before .before .before .before .before .before .pre .1 .2) (c .before .before .before .before .before .before .before .before .before .args .leaf) (c .before .before .before .before .before .before .before .word .ensures .0) (c .before .before .before .before .before .before .if1 .taken) (c .word3 .ensures .0) in
     (omega (arith, c .before .before .before .before .before .before .before .before .before .pre .0, p .1), (c .before .before .before .before .before .before .before .before .before .pre .1 .0, c .before .before .before .before .before .before .before .before .before .pre .1 .1, p .0, c .before .before .before .before .take-off .ensures .goes-on _ (c .before .before .first .given .1)))
 
 take-off-returns-2 : (t : ℕ) → take-off-lts.Need-returns-2 (claims t) (take-off-at t) take-off.Post
 take-off-returns-2 t c =
-    both-taken (now (c .before .before .before .before .before .before .before .before .before .before .args .sheet)) (written (c .before .before .before .before .before .before .before .before .before .before .pre .1 .1)) (c .before .before .before .before .before .before .before .before .before .before .args .t) (c .before .before .before .before .before .before .before .before .before .before .pre .1 .2) (c .before .before .before .before .before .before .before .before .before .before .args .leaf) (c .before .before .before .before .before .before .before .before .word .result) (c .before .before .before .before .before .before .before .before .word .ensures .0) (c .before .before .before .before .before .before .before .if1 .taken) _ _ _ (c .before .before .before .before .before .before .word2 .ensures .0) (c .before .word3 .ensures .0) _ _ (c .before .before .before .before .before .take-off .ensures) (c .before .before .before .first .given .1) (c .take-off2 .ensures)
+    both-taken (written (c .before .before .before .before .before .before .before .before .before .before .pre .1 .1)) (c .before .before .before .before .before .before .before .before .before .before .pre .1 .2) (c .before .before .before .before .before .before .before .before .before .before .args .leaf) (c .before .before .before .before .before .before .before .before .word .ensures .0) (c .before .before .before .before .before .before .before .if1 .taken) (c .before .before .before .before .before .before .word2 .ensures .0) (c .before .word3 .ensures .0) (c .before .before .before .before .before .take-off .ensures) (c .before .before .before .first .given .1) (c .take-off2 .ensures)
 
 take-off-returns-3 : (t : ℕ) → take-off-lts.Need-returns-3 (claims t) (take-off-at t) take-off.Post
-take-off-returns-3 t c = none-left (now (c .before .before .before .before .args .sheet)) (written (c .before .before .before .before .pre .1 .1)) (c .before .before .before .before .args .t) (c .before .before .before .before .pre .1 .2) (c .before .before .before .before .args .leaf) (c .before .before .word .result) (c .before .before .word .ensures .0) (c .before .if1 .left) (c .if2 .taken)
+take-off-returns-3 t c = none-left (written (c .before .before .before .before .pre .1 .1)) (c .before .before .before .before .pre .1 .2) (c .before .before .before .before .args .leaf) (c .before .before .word .ensures .0) (c .before .if1 .left) (c .if2 .taken)
 
 take-off-word-requires-4 : (t : ℕ) → take-off-lts.Need-word-requires-4 (claims t) (take-off-at t) take-off.Post
 take-off-word-requires-4 t c κs = (c .before .before .before .before .pre .1 .0, type-there (c .before .before .before .before .pre .1 .0) (c .before .before .before .before .pre .1 .2), search needs)
@@ -71,14 +70,14 @@ take-off-word-requires-5 t c κs = (c .before .before .before .before .before .p
 
 take-off-returns-4 : (t : ℕ) → take-off-lts.Need-returns-4 (claims t) (take-off-at t) take-off.Post
 take-off-returns-4 t c =
-    too-great (now (c .before .before .before .before .before .before .before .args .sheet)) (written (c .before .before .before .before .before .before .before .pre .1 .1)) (c .before .before .before .before .before .before .before .args .t) (c .before .before .before .before .before .before .before .pre .1 .2) (c .before .before .before .before .before .before .before .args .leaf) (c .before .before .before .before .before .word .result) (c .before .before .before .before .before .word .ensures .0) (c .before .before .before .before .if1 .left) (c .before .before .before .before .before .before .before .pre .1 .3) (c .before .before .before .if2 .left) _ _ (c .before .before .word4 .ensures .0) (c .before .word5 .ensures .0) (c .if3 .taken)
+    too-great (written (c .before .before .before .before .before .before .before .pre .1 .1)) (c .before .before .before .before .before .before .before .pre .1 .2) (c .before .before .before .before .before .before .before .args .leaf) (c .before .before .before .before .before .word .ensures .0) (c .before .before .before .before .if1 .left) (c .before .before .before .before .before .before .before .pre .1 .3) (c .before .before .before .if2 .left) (c .before .before .word4 .ensures .0) (c .before .word5 .ensures .0) (c .if3 .taken)
 
 take-off-word-requires-6 : (t : ℕ) → take-off-lts.Need-word-requires-6 (claims t) (take-off-at t) take-off.Post
 take-off-word-requires-6 t c κs = (c .before .before .before .before .before .before .before .pre .1 .0, leaf-there (c .before .before .before .before .before .before .before .pre .1 .0) (c .before .before .before .before .before .before .before .pre .1 .3) (c .before .before .before .if2 .left), search needs)
 
 take-off-returns-5 : (t : ℕ) → take-off-lts.Need-returns-5 (claims t) (take-off-at t) take-off.Post
 take-off-returns-5 t c =
-    one-taken (now (c .before .before .before .before .before .before .before .before .args .sheet)) (written (c .before .before .before .before .before .before .before .before .pre .1 .1)) (c .before .before .before .before .before .before .before .before .args .t) (c .before .before .before .before .before .before .before .before .pre .1 .2) (c .before .before .before .before .before .before .before .before .args .leaf) (c .before .before .before .before .before .before .word .result) (c .before .before .before .before .before .before .word .ensures .0) (c .before .before .before .before .before .if1 .left) (c .before .before .before .before .before .before .before .before .pre .1 .3) (c .before .before .before .before .if2 .left) _ _ (c .before .before .before .word4 .ensures .0) (c .before .before .word5 .ensures .0) (c .before .if3 .left) _ (c .word6 .ensures .0)
+    one-taken (written (c .before .before .before .before .before .before .before .before .pre .1 .1)) (c .before .before .before .before .before .before .before .before .pre .1 .2) (c .before .before .before .before .before .before .before .before .args .leaf) (c .before .before .before .before .before .before .word .ensures .0) (c .before .before .before .before .before .if1 .left) (c .before .before .before .before .before .before .before .before .pre .1 .3) (c .before .before .before .before .if2 .left) (c .before .before .before .word4 .ensures .0) (c .before .before .word5 .ensures .0) (c .before .if3 .left) (c .word6 .ensures .0)
 
 pub +take-off-spec : {M : Type 1} → statement M
 +take-off-spec = close μ-take-off λ t. take-off-lts.spec (claims t)

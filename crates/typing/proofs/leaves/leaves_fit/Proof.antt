@@ -1,6 +1,5 @@
 -- The chain fits where taking the type's leaves off leaves none. Assumes nothing.
 use borrow.Author.Needs.{needs}
-use denote.Ref.{now}
 use Rattle.structure.proofs.Passes.{written}
 use Rattle.typing.proofs.Chains.{starts, leaf-counted, misfit-whole, fits-whole}
 use Rattle.typing.proofs.leaves.leaves_fit.Statement.{statement}
@@ -9,7 +8,7 @@ use Rattle.typing.proofs.leaves.leaves_fit.Tie as tie
 take-off-requires : tie.Need-take-off-requires
 take-off-requires c κs =
     let p = c .before .pre in
-    (p .0, p .1, p .2, starts _ (written (p .1)) _ (leaf-counted (p .0) (p .3)) (p .4))
+    (p .0, p .1, p .2, starts _ (leaf-counted (p .0) (p .3)) (p .4))
 
 enum-known-taken : tie.Need-enum-known-taken
 enum-known-taken c = search needs
@@ -20,12 +19,12 @@ enum-told c = search needs
 returns : tie.Need-returns
 returns c =
     let p = c .before .before .before .before .pre in
-    misfit-whole _ (written (p .1)) _ _ (leaf-counted (p .0) (p .3)) (p .4) _ (c .before .before .take-off .ensures) (c .enum-told .given .1)
+    misfit-whole (written (p .1)) _ _ (leaf-counted (p .0) (p .3)) (p .4) (c .before .before .take-off .ensures) (c .enum-told .given .1)
 
 returns-2 : tie.Need-returns-2
 returns-2 c =
     let p = c .before .before .before .before .before .pre in
-    fits-whole _ (written (p .1)) _ _ (leaf-counted (p .0) (p .3)) (p .4) _ (c .before .before .before .take-off .ensures) _ (c .before .taken .given .1)
+    fits-whole (written (p .1)) _ _ (leaf-counted (p .0) (p .3)) (p .4) (c .before .before .before .take-off .ensures) (c .before .taken .given .1)
 
 pub leaves-fit-spec : {M : Type 1} → statement M
 leaves-fit-spec =

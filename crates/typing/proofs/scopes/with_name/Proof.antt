@@ -1,8 +1,8 @@
 -- The names below stay, and the new one stands above them. Assumes nothing.
 use denote.Ref.{now}
 use borrow.Author.Needs.{needs}
-use Rattle.typing.proofs.expressions.with_name.Statement.{statement}
-use Rattle.typing.proofs.expressions.with_name.Tie as tie
+use Rattle.typing.proofs.scopes.with_name.Statement.{statement}
+use Rattle.typing.proofs.scopes.with_name.Tie as tie
 use mathlib.Core.Path.{_∙_}
 use lib.ListN.{length-set}
 use Rattle.typing.proofs.Closings.{one-name-more}
