@@ -1,0 +1,2 @@
+-- The theorems, a file each; `Kept` holds a term of every promise of the front page.
+pub mod Derived
