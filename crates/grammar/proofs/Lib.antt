@@ -1,2 +1,4 @@
 -- The theorems, a file each; `Kept` holds a term of every promise of the front page.
 pub mod Derived
+pub mod Awaiting
+pub mod Sound
