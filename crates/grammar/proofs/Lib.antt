@@ -2,3 +2,5 @@
 pub mod Derived
 pub mod Awaiting
 pub mod Sound
+pub mod Numbered
+pub mod ReadToEnd
