@@ -4,3 +4,4 @@ pub mod Awaiting
 pub mod Sound
 pub mod Numbered
 pub mod ReadToEnd
+pub mod Endings

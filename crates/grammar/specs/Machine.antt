@@ -78,16 +78,27 @@ enter (some (on l a)) K = perform a K (leadWord l)
 abbrev pub begin : ℕ → State → List State → Config
 begin b q K = enter (find (alike b) (rows q)) K
 
--- a letter of a keyword
-abbrev pub spell : ℕ → State → List State → List ℕ → Config
-spell b q K [] = dead
-spell b q K (c ∷ left) = cond (eqb b c) (live q K (spelt left)) dead
+-- a byte where no word is begun
+abbrev pub fresh : Kind → ℕ → State → List State → Config
+fresh isLower b q K = begin b q K
+fresh isUpper b q K = begin b q K
+fresh (isSymbol s) b q K = begin b q K
+fresh isBlank b q K = live q K noWord
+fresh isOther b q K = dead
 
--- a letter
-abbrev pub onLetter : ℕ → Bool → State → List State → Word → Config
-onLetter b lower q K noWord = begin b q K
-onLetter b lower q K (naming n) = cond lower (cond (ltb n 16) (live q K (naming (n + 1))) dead) dead
-onLetter b lower q K (spelt left) = spell b q K left
+-- a byte after a word that can end there, or go on with a small letter
+abbrev pub further : Kind → Config → ℕ → State → List State → Config
+further isLower c b q K = c
+further isUpper c b q K = dead
+further (isSymbol s) c b q K = begin b q K
+further isBlank c b q K = live q K noWord
+further isOther c b q K = dead
+
+abbrev pub onByte : ℕ → State → List State → Word → Config
+onByte b q K noWord = fresh (kindOf b) b q K
+onByte b q K (naming n) = further (kindOf b) (cond (ltb n 16) (live q K (naming (n + 1))) dead) b q K
+onByte b q K (spelt []) = further (kindOf b) dead b q K
+onByte b q K (spelt (c ∷ left)) = cond (eqb b c) (live q K (spelt left)) dead
 
 -- whether a word can end here
 abbrev pub whole : Word → Bool
@@ -95,16 +106,6 @@ whole noWord = true
 whole (naming n) = true
 whole (spelt []) = true
 whole (spelt (c ∷ left)) = false
-
-abbrev pub onKind : Kind → ℕ → State → List State → Word → Config
-onKind isLower b q K w = onLetter b true q K w
-onKind isUpper b q K w = onLetter b false q K w
-onKind isBlank b q K w = cond (whole w) (live q K noWord) dead
-onKind (isSymbol s) b q K w = cond (whole w) (begin b q K) dead
-onKind isOther b q K w = dead
-
-abbrev pub onByte : ℕ → State → List State → Word → Config
-onByte b q K w = onKind (kindOf b) b q K w
 
 abbrev pub bytes : Config → List ℕ → Config
 bytes c [] = c
