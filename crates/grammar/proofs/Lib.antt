@@ -5,3 +5,5 @@ pub mod Sound
 pub mod Numbered
 pub mod ReadToEnd
 pub mod Endings
+pub mod ByteKinds
+pub mod Words

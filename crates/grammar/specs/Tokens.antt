@@ -37,11 +37,10 @@ pub data Kind : Type 0 where
 abbrev pub between : ℕ → ℕ → ℕ → Bool
 between first last b = cond (leb first b) (leb b last) false
 
-abbrev pub kindOf : ℕ → Kind
-kindOf b =
-    cond (between 97 122 b) isLower
-    (cond (between 65 90 b) isUpper
-    (cond (eqb b 32) isBlank
+-- a byte that is no letter
+abbrev pub unlettered : ℕ → Kind
+unlettered b =
+    cond (eqb b 32) isBlank
     (cond (eqb b 10) isBlank
     (cond (eqb b 40) (isSymbol opens)
     (cond (eqb b 41) (isSymbol closes)
@@ -53,7 +52,10 @@ kindOf b =
     (cond (eqb b 93) (isSymbol indexCloses)
     (cond (eqb b 49) (isSymbol one)
     (cond (eqb b 50) (isSymbol two)
-    isOther)))))))))))))
+    isOther)))))))))))
+
+abbrev pub kindOf : ℕ → Kind
+kindOf b = cond (between 97 122 b) isLower (cond (between 65 90 b) isUpper (unlettered b))
 
 abbrev pub isLetter : Kind → Bool
 isLetter isLower = true
@@ -79,8 +81,8 @@ pub data Run : List ℕ → List ℕ → List ℕ → Type 0 where
   run-more : {b : ℕ} {bs word rest : List ℕ} → isLetter (kindOf b) ≡ true → Run bs word rest → Run (b ∷ bs) (b ∷ word) rest
 
 pub data AllLower : List ℕ → Type 0 where
-  no-letters : AllLower []
-  one-more : {b : ℕ} {bs : List ℕ} → kindOf b ≡ isLower → AllLower bs → AllLower (b ∷ bs)
+  all-none : AllLower []
+  all-more : {b : ℕ} {bs : List ℕ} → kindOf b ≡ isLower → AllLower bs → AllLower (b ∷ bs)
 
 -- the token that a run of letters is: a keyword by its spelling, or a name
 pub data Spells : List ℕ → ℕ → Token → Type 0 where
