@@ -7,3 +7,5 @@ pub mod ReadToEnd
 pub mod Endings
 pub mod ByteKinds
 pub mod Words
+pub mod RowFound
+pub mod BytesOfTokens
