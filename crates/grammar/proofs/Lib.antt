@@ -9,3 +9,4 @@ pub mod ByteKinds
 pub mod Words
 pub mod RowFound
 pub mod BytesOfTokens
+pub mod TokensOfBytes
