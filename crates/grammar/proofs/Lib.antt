@@ -10,3 +10,4 @@ pub mod Words
 pub mod RowFound
 pub mod BytesOfTokens
 pub mod TokensOfBytes
+pub mod OneLexing
