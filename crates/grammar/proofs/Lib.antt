@@ -11,3 +11,5 @@ pub mod RowFound
 pub mod BytesOfTokens
 pub mod TokensOfBytes
 pub mod OneLexing
+pub mod OnePattern
+pub mod OneReading
