@@ -13,3 +13,5 @@ pub mod TokensOfBytes
 pub mod OneLexing
 pub mod OnePattern
 pub mod OneReading
+pub mod Prefixes
+pub mod Exact
