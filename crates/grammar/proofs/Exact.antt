@@ -4,15 +4,14 @@
 use Prim.Native.Nat.{ℕ, zero, suc, _+_, _≤_, _<_}
 use native.Mathlib.Omega.{arith}
 use mathlib.Core.Path.{_≡_, refl, sym, ap, subst, _∙_}
-use mathlib.Core.Bool.{Bool, true, false, cond}
+use mathlib.Core.Bool.{Bool, true, false, cond, not}
 use mathlib.Core.List.{List, [], _∷_, _++_}
 use mathlib.Core.Option.{Option, none, some}
 use lib.ListN.{length, take, length-take}
 use lib.Seq.{take-take, take-all}
 use lib.Dec.{T, ltb, ltb→lt, nltb→le}
-use borrow.Author.Tests.{ltb-true}
 use Rattle.grammar.specs.Tokens.{Token, Tokens}
-use Rattle.grammar.specs.Legal.{Legal, Viable, limit, Leaves, at-byte, at-limit, at-end, Keeps}
+use Rattle.grammar.specs.Legal.{Legal, Viable, limit, Leaves, at-byte, at-limit, at-end, Keeps, Told}
 use Rattle.grammar.specs.Rows.{State, start}
 use Rattle.grammar.specs.Machine.{Config, dead, live, Word, noWord, onByte, bytes, tokens, ends, begins}
 use Rattle.grammar.specs.Walk.{Outcome, stopped, reached, onward, walk, concluded, firstIllegal}
@@ -98,7 +97,46 @@ reaches (b ∷ bs) i q K w d h = go (onByte b q K w) refl h (λ r L v k. reaches
     go dead e k again = absurd (let z : _≡_ {A = ℕ} 0 1 = cc in omega arith)
     go (live r L v) e k again = let s = again r L v k in (ap (λ c. bytes c bs) e ∙ s .0, s .1)
 
--- what an answer says
-abbrev pub Told : List ℕ → Option ℕ → Type 0
-Told text none = Keeps text
-Told text (some i) = Leaves text i
+module _ (text : List ℕ) where
+  stopped-told : (j : ℕ) → walk (take limit text) 0 begins ≡ stopped j → Leaves text j
+  stopped-told j h =
+      let s = stops (take limit text) 0 j start [] noWord h in
+      let few : s .count < length (take limit text) = s .within in
+      let both = length-take limit text in
+      let below : s .count < limit = omega (arith, few, both) in
+      let e : s .count ≡ j = omega (arith, s .place) in
+      subst (Leaves text) e
+      (at-byte (omega (arith, few, both)) below
+      (alive-viable (take (s .count) text)
+        (subst (λ l. Alive (bytes begins l)) (take-take (s .count) limit text (omega (arith, below))) (s .until)))
+      (dead-not-viable (take (suc (s .count)) text)
+        (ap (bytes begins) (sym (take-take (suc (s .count)) limit text below)) ∙ s .there)))
+
+  module _ (d : Config) (read : bytes begins (take limit text) ≡ d) (alive : Alive d) where
+    taken-viable : Viable (take limit text)
+    taken-viable = alive-viable (take limit text) (subst Alive (sym read) alive)
+
+    ended-told : length text ≤ limit → (x : Bool) → ends d ≡ x → Told text (cond x none (some (length text)))
+    ended-told l x e =
+        let all : take limit text ≡ text = take-all limit text l in
+        let whole : bytes begins text ≡ d = ap (bytes begins) (sym all) ∙ read in
+        told x e (ap ends whole) (subst Viable all taken-viable)
+      where
+        told : (y : Bool) → ends d ≡ y → ends (bytes begins text) ≡ ends d → Viable text → Told text (cond y none (some (length text)))
+        told true f g v = record { legal = read-legal text (g ∙ f); short = l }
+        told false f g v = at-end l v (λ k. let z : false ≡ true = sym (g ∙ f) ∙ legal-read text k in absurd (let y : _≡_ {A = ℕ} 0 1 = cc in omega arith))
+
+    reached-told : (x : Bool) → (T x → limit < length text) → (T (not x) → length text ≤ limit)
+        → Told text (cond x (some limit) (cond (ends d) none (some (length text))))
+    reached-told true l m = at-limit (l tt) taken-viable
+    reached-told false l m = ended-told (m tt) (ends d) refl
+
+  pub exact : Told text (firstIllegal text)
+  unfolding firstIllegal
+  exact = go (walk (take limit text) 0 begins) refl
+    where
+      go : (o : Outcome) → walk (take limit text) 0 begins ≡ o → Told text (concluded (length text) o)
+      go (stopped j) h = stopped-told j h
+      go (reached d) h =
+          let r = reaches (take limit text) 0 start [] noWord d h in
+          reached-told d (r .0) (r .1) (ltb limit (length text)) (ltb→lt limit (length text)) (nltb→le limit (length text))
