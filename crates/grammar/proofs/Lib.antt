@@ -15,3 +15,4 @@ pub mod OnePattern
 pub mod OneReading
 pub mod Prefixes
 pub mod Exact
+pub mod Kept

@@ -4,6 +4,7 @@ pub mod Tokens
 pub mod Source
 pub mod Grammar
 pub mod Legal
+pub mod Promises
 pub mod Rows
 pub mod Machine
 pub mod Walk
