@@ -1,11 +1,11 @@
 -- Tokens' leads and states are told apart by their numbers.
 -- Assumes nothing.
-use Prim.Native.Nat.{ℕ}
+use Prim.Native.Nat.{ℕ, _<_}
 use mathlib.Core.Path.{_≡_, refl, sym, ap, _∙_}
 use mathlib.Core.Bool.{Bool, true, false, cond}
 use mathlib.Core.List.{List, [], _∷_}
 use lib.ListN.{getD}
-use lib.Dec.{T, eqb, eqb→eq}
+use lib.Dec.{eqb, lit<}
 use Rattle.grammar.specs.Tokens.{Keyword, TYPE, IN, INPUT, LET, INIT, REC, IF, MATCHES, THEN, ELSE, DELAY}
 use Rattle.grammar.specs.Tokens.{Symbol, opens, closes, comma, equals, bar, query, indexOpens, indexCloses, one, two}
 use Rattle.grammar.specs.Rows.{Lead, aSymbol, aKeyword, aName, State, stateNumber, states}
@@ -114,3 +114,52 @@ state-found indexTwo = refl
 
 pub same-state : (q r : State) → stateNumber q ≡ stateNumber r → q ≡ r
 same-state q r e = sym (state-found q) ∙ ap (λ n. getD states n start) e ∙ state-found r
+
+pub state-below : (q : State) → stateNumber q < 47
+state-below start = lit< tt
+state-below declared = lit< tt
+state-below typeName = lit< tt
+state-below typeEquals = lit< tt
+state-below typeBody = lit< tt
+state-below constructorEnd = lit< tt
+state-below constructorNext = lit< tt
+state-below pairFirstType = lit< tt
+state-below pairComma = lit< tt
+state-below pairSecondType = lit< tt
+state-below pairClose = lit< tt
+state-below pairIn = lit< tt
+state-below inputType = lit< tt
+state-below expression = lit< tt
+state-below undefinedType = lit< tt
+state-below bracket = lit< tt
+state-below done = lit< tt
+state-below inPairFirst = lit< tt
+state-below inPairSecond = lit< tt
+state-below letName = lit< tt
+state-below letEquals = lit< tt
+state-below inLetBound = lit< tt
+state-below inLetBody = lit< tt
+state-below initQuery = lit< tt
+state-below initType = lit< tt
+state-below recWord = lit< tt
+state-below recName = lit< tt
+state-below recEquals = lit< tt
+state-below inRecBound = lit< tt
+state-below inRecBody = lit< tt
+state-below inTested = lit< tt
+state-below pattern = lit< tt
+state-below inMatched = lit< tt
+state-below inPatternFirst = lit< tt
+state-below inPatternSecond = lit< tt
+state-below inThen = lit< tt
+state-below inElse = lit< tt
+state-below delayBracket = lit< tt
+state-below constant = lit< tt
+state-below inDelayConstant = lit< tt
+state-below inConstantFirst = lit< tt
+state-below inConstantSecond = lit< tt
+state-below inDelayed = lit< tt
+state-below delayClose = lit< tt
+state-below index = lit< tt
+state-below indexOne = lit< tt
+state-below indexTwo = lit< tt
