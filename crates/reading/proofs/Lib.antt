@@ -2,3 +2,4 @@
 pub mod Numbers
 pub mod Classes
 pub mod WordLaws
+pub mod Steps

@@ -11,6 +11,7 @@ use Rattle.grammar.specs.Tokens.{Symbol, opens, closes, comma, equals, bar, que
 use Rattle.grammar.specs.Tokens.{Kind, isBlank, isLower, isUpper, isOther, isSymbol, kindOf}
 use Rattle.grammar.specs.Rows.{State, start, stateNumber, states, Lead, aSymbol, aKeyword, aName, Action, go, call, return, Row, on, rows}
 use Rattle.grammar.specs.Machine.{Word, noWord, naming, spelt, Config, dead, live, back, enter, find}
+use Rattle.grammar.specs.Legal.{limit}
 use Rattle.reading.specs.declared.Illegal.{Illegal}
 use Rattle.reading.specs.declared.Illegal.the-variants.{At, Nowhere}
 
@@ -43,15 +44,15 @@ keywordLetters =
     ∷ 69 ∷ 76 ∷ 65 ∷ 89 ∷ 0 ∷ []
 
 -- by a word's number the letter that it awaits: 0 is no word and 1 to 16 are names, by their letters so far
-abbrev pub letters : List ℕ
-letters = replicate 17 0 ++ keywordLetters
+abbrev pub letterTable : List ℕ
+letterTable = replicate 17 0 ++ keywordLetters
 
 abbrev pub untilZero : List ℕ → List ℕ
 untilZero [] = []
 untilZero (c ∷ more) = cond (eqb c 0) [] (c ∷ untilZero more)
 
 abbrev pub wordOf : ℕ → Word
-wordOf n = cond (eqb n 0) noWord (cond (ltb n 17) (naming n) (spelt (untilZero (drop n letters))))
+wordOf n = cond (eqb n 0) noWord (cond (ltb n 17) (naming n) (spelt (untilZero (drop n letterTable))))
 
 abbrev pub keywordWord : Keyword → ℕ
 keywordWord TYPE = 17
@@ -180,6 +181,27 @@ pub record Stepped (c : Config) (depth : ℕ) (ok : Bool) (state word depth′ :
   pub higher : depth′ ≤ depth + 1
   pub long : length stack ≡ 65536
   pub waiting : (k : ℕ) → k < depth′ → getD stack k 0 < 47
+
+-- a letter inside a word changes the word alone
+pub record Worded (c : State → List State → Config) (state depth : ℕ) (ok : Bool) (state′ word depth′ : ℕ) : Type 0 where
+  pub same : (q : State) (K : List State) → c q K ≡ cond ok (live q K (wordOf word)) dead
+  pub same-state : state′ ≡ state
+  pub same-depth : depth′ ≡ depth
+  pub few-words : word < 60
+
+abbrev pub spelledOut : (b letter word : ℕ) → State → List State → Config
+spelledOut b letter word q K = cond (eqb b letter) (live q K (wordOf (word + 1))) dead
+
+-- the tables that the code is lent
+pub record Tables (classes rows letters : List ℕ) : Type 0 where
+  pub classes-right : classes ≡ classTable
+  pub rows-right : rows ≡ rowTable
+  pub letters-right : letters ≡ letterTable
+
+-- the end of a text of so many bytes, read up to the limit
+abbrev pub conclusion : (all state letter : ℕ) → Option ℕ
+conclusion all state letter =
+    cond (ltb limit all) (some limit) (cond (cond (eqb letter 0) (eqb state 16) false) none (some all))
 
 -- a row's number holds a state, a state that waits and a word
 pub record RowFits (n : ℕ) : Type 0 where

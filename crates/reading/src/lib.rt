@@ -1,6 +1,13 @@
 // Reads a text byte by byte: a state, a stack of the states that wait, one byte for each, and what is left of the word that is being read.
 // There is no recursion: a text of 65,535 open brackets is read like any other.
 // States, classes of bytes and words are numbers; `grammar` has the machine that they stand for.
+ghost use mathlib.Core.Path.{_≡_};
+ghost use Prim.Native.Nat.{ℕ, _+_, _≤_, _<_};
+ghost use lib.ListN.{length};
+ghost use Rattle.grammar.specs.Legal.{Told};
+ghost use Rattle.grammar.specs.Machine.{back, onByte};
+ghost use Rattle.reading.specs.Coded.{illegal, stateOf, stackOf, wordOf, classTable, rowTable, letterTable, decoded, followed, lettered};
+ghost use Rattle.reading.specs.Coded.{spelledOut, conclusion, Ready, Stepped, Worded, RowFits, Tables};
 
 // Where a text leaves the grammar.
 pub enum Illegal {
@@ -17,7 +24,9 @@ pub struct Moved {
 }
 
 // Ten symbols, 10 any other byte, 11 a blank, 12 a small letter, then the capitals that a keyword begins with, and 20 the others.
-pub fn class_table() -> [u8; 256] {
+pub fn class_table() -> [u8; 256]
+    ensures { λ r. ⌜ r ≡ classTable ⌝ }
+{
     [
         10, 10, 10, 10, 10, 10, 10, 10, 10, 10, 11, 10, 10, 10, 10, 10, 10, 10, 10, 10, 10, 10, 10, 10, 10, 10, 10, 10, 10, 10, 10, 10,
         11, 10, 10, 10, 10, 10, 10, 10, 0, 1, 10, 10, 2, 10, 10, 10, 10, 8, 9, 10, 10, 10, 10, 10, 10, 10, 10, 10, 10, 3, 10, 5,
@@ -32,7 +41,9 @@ pub fn class_table() -> [u8; 256] {
 
 // A line a state, an entry a class: the next state and one, 48 to go back, 0 for no step; 64 times the state that waits and one; 4,096 times
 // the word.
-pub fn row_table() -> [u32; 987] {
+pub fn row_table() -> [u32; 987]
+    ensures { λ r. ⌜ r ≡ rowTable ⌝ }
+{
     [
         0, 0, 0, 0, 0, 0, 0, 0, 0, 0, 0, 0, 0, 69635, 0, 0, 0, 0, 0, 0, 0,
         0, 0, 0, 0, 0, 0, 0, 0, 0, 0, 0, 0, 0, 69635, 94221, 0, 0, 0, 0, 0, 0,
@@ -86,7 +97,9 @@ pub fn row_table() -> [u32; 987] {
 
 // The letter that a word awaits, or 0: 0 is no word, 1 to 16 are names by their letters so far, and from 17 on stand the keywords' letters
 // after the first.
-pub fn letter_table() -> [u8; 60] {
+pub fn letter_table() -> [u8; 60]
+    ensures { λ r. ⌜ r ≡ letterTable ⌝ }
+{
     [
         0, 0, 0, 0, 0, 0, 0, 0, 0, 0, 0, 0, 0, 0, 0, 0, 0,
         89, 80, 69, 0,
@@ -103,16 +116,23 @@ pub fn letter_table() -> [u8; 60] {
     ]
 }
 
-pub fn no_stack() -> [u8; 65536] {
+pub fn no_stack() -> [u8; 65536]
+    ensures { λ r. ⌜ length r ≡ 65536 ⌝ }
+{
     [0; 65536]
 }
 
-fn wide(b: u8) -> usize {
+fn wide(b: u8) -> usize
+    ensures { λ r. ⌜ r ≡ b ⌝ }
+{
     b as usize
 }
 
 // Back to the state that waits.
-fn back(word: u8, depth: usize, stack: &mut [u8; 65536]) -> Moved {
+fn resume(word: u8, depth: usize, stack: &[u8; 65536]) -> Moved
+    requires { ⌜ Ready 0 word depth (now stack) ⌝ }
+    ensures { λ r. ⌜ Stepped (back (stackOf depth (now (stack .entry))) (wordOf word)) depth (r .ok) (r .state) (r .word) (r .depth) (now (stack .entry)) ⌝ }
+{
     if depth == 0 {
         return Moved { ok: true, state: 16, word, depth };
     }
@@ -120,7 +140,10 @@ fn back(word: u8, depth: usize, stack: &mut [u8; 65536]) -> Moved {
 }
 
 // A byte that begins a token, by its row.
-fn enter(row: u32, state: u8, depth: usize, stack: &mut [u8; 65536]) -> Moved {
+fn take_row(row: u32, state: u8, depth: usize, stack: &mut [u8; 65536]) -> Moved
+    requires { ⌜ Ready state 0 depth (now stack) × RowFits row ⌝ }
+    ensures { λ r. ⌜ Stepped (decoded row (stackOf depth (now (stack .entry)))) depth (r .ok) (r .state) (r .word) (r .depth) (now (stack .exit)) ⌝ }
+{
     let next = (row % 64) as u8;
     let waits = (row / 64 % 64) as u8;
     let word = (row / 4096 % 64) as u8;
@@ -128,7 +151,7 @@ fn enter(row: u32, state: u8, depth: usize, stack: &mut [u8; 65536]) -> Moved {
         return Moved { ok: false, state, word: 0, depth };
     }
     if next == 48 {
-        return back(word, depth, stack);
+        return resume(word, depth, stack);
     }
     if waits == 0 {
         return Moved { ok: true, state: next - 1, word, depth };
@@ -138,7 +161,10 @@ fn enter(row: u32, state: u8, depth: usize, stack: &mut [u8; 65536]) -> Moved {
 }
 
 // A letter after a name's letters or a whole keyword.
-fn go_on(class: u8, state: u8, word: u8, depth: usize) -> Moved {
+fn go_on(class: u8, state: u8, word: u8, depth: usize) -> Moved
+    requires { ⌜ word < 60 ⌝ }
+    ensures { λ r. ⌜ Worded (λ q K. lettered class q K word) state depth (r .ok) (r .state) (r .word) (r .depth) ⌝ }
+{
     if class == 12 {
         if word < 16 {
             return Moved { ok: true, state, word: word + 1, depth };
@@ -148,7 +174,10 @@ fn go_on(class: u8, state: u8, word: u8, depth: usize) -> Moved {
 }
 
 // A letter where a keyword awaits one.
-fn spell(b: u8, letter: u8, state: u8, word: u8, depth: usize) -> Moved {
+fn spell(b: u8, letter: u8, state: u8, word: u8, depth: usize) -> Moved
+    requires { ⌜ word + 1 < 60 ⌝ }
+    ensures { λ r. ⌜ Worded (spelledOut b letter word) state depth (r .ok) (r .state) (r .word) (r .depth) ⌝ }
+{
     if b == letter {
         return Moved { ok: true, state, word: word + 1, depth };
     }
@@ -156,7 +185,10 @@ fn spell(b: u8, letter: u8, state: u8, word: u8, depth: usize) -> Moved {
 }
 
 // A byte where a word can end.
-fn follow(class: u8, state: u8, word: u8, depth: usize, stack: &mut [u8; 65536], rows: &[u32; 987]) -> Moved {
+fn follow(class: u8, state: u8, word: u8, depth: usize, stack: &mut [u8; 65536], rows: &[u32; 987]) -> Moved
+    requires { ⌜ Ready state word depth (now stack) × (class < 21) × (now rows ≡ rowTable) ⌝ }
+    ensures { λ r. ⌜ Stepped (followed class (stateOf state) (stackOf depth (now (stack .entry))) word) depth (r .ok) (r .state) (r .word) (r .depth) (now (stack .exit)) ⌝ }
+{
     if class == 11 {
         return Moved { ok: true, state, word: 0, depth };
     }
@@ -166,7 +198,7 @@ fn follow(class: u8, state: u8, word: u8, depth: usize, stack: &mut [u8; 65536],
         }
     }
     let row = rows[wide(state) * 21 + wide(class)];
-    enter(row, state, depth, stack)
+    take_row(row, state, depth, stack)
 }
 
 // One byte of the text.
@@ -179,7 +211,10 @@ pub fn step(
     classes: &[u8; 256],
     rows: &[u32; 987],
     letters: &[u8; 60],
-) -> Moved {
+) -> Moved
+    requires { ⌜ Ready state word depth (now stack) × Tables (now classes) (now rows) (now letters) ⌝ }
+    ensures { λ r. ⌜ Stepped (onByte b (stateOf state) (stackOf depth (now (stack .entry))) (wordOf word)) depth (r .ok) (r .state) (r .word) (r .depth) (now (stack .exit)) ⌝ }
+{
     let letter = letters[wide(word)];
     if letter != 0 {
         return spell(b, letter, state, word, depth);
@@ -188,7 +223,9 @@ pub fn step(
 }
 
 // How many bytes of a text are read.
-fn reach(all: usize) -> usize {
+fn reach(all: usize) -> usize
+    ensures { λ r. ⌜ (r ≤ all) × (r ≤ 65535) × (r < all → r ≡ 65535) ⌝ }
+{
     if 65535 < all {
         return 65535;
     }
@@ -196,7 +233,9 @@ fn reach(all: usize) -> usize {
 }
 
 // The end of the bytes that are read.
-fn conclude(all: usize, state: u8, letter: u8) -> Illegal {
+fn conclude(all: usize, state: u8, letter: u8) -> Illegal
+    ensures { λ r. ⌜ illegal r ≡ conclusion all state letter ⌝ }
+{
     if 65535 < all {
         return Illegal::At(65535);
     }
@@ -210,7 +249,9 @@ fn conclude(all: usize, state: u8, letter: u8) -> Illegal {
 }
 
 // The first byte after which no continuation is legal, 65,535 at the latest, or the length of a text that ends early.
-pub fn first_illegal(text: &[u8]) -> Illegal {
+pub fn first_illegal(text: &[u8]) -> Illegal
+    ensures { λ r. ⌜ Told (now (text .entry)) (illegal r) ⌝ }
+{
     let all = text.len();
     let stop = reach(all);
     let classes = class_table();

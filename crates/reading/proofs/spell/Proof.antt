@@ -1,0 +1,20 @@
+use borrow.Author.Needs.{needs}
+use Rattle.reading.proofs.spell.Statement.{statement}
+use Rattle.reading.proofs.spell.Tie as tie
+use Rattle.reading.proofs.spell.Reads as reads
+use Rattle.reading.proofs.spell.Lts as lts
+
+-- src/lib.rt:182:47
+add-t7 : tie.Need-add-t7
+add-t7 c = search needs
+
+-- src/lib.rt:182:9
+returns : tie.Need-returns
+returns c = ?
+
+-- src/lib.rt:177:1
+returns-2 : tie.Need-returns-2
+returns-2 c = ?
+
+pub spell-spec : {M : Type 1} → statement M
+spell-spec = tie.close (tie.spec add-t7 returns returns-2)

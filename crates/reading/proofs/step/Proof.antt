@@ -1,0 +1,53 @@
+use borrow.Author.Needs.{needs}
+use Rattle.reading.proofs.step.Statement.{statement}
+use Rattle.reading.proofs.step.Tie as tie
+use Rattle.reading.proofs.step.Reads as reads
+use Rattle.reading.proofs.step.Lts as lts
+use Rattle.reading.proofs.follow.Reads as follow-reads
+use Rattle.reading.proofs.spell.Reads as spell-reads
+use Rattle.reading.proofs.wide.Reads as wide-reads
+
+-- src/lib.rt:218:26
+wide-requires : tie.Need-wide-requires
+wide-requires c κs = search needs
+
+-- src/lib.rt:218:18
+element-copy-out-letter : tie.Need-element-copy-out-letter
+element-copy-out-letter c = search needs
+
+-- src/lib.rt:220:9
+spell-requires : tie.Need-spell-requires
+spell-requires c κs = ?
+
+-- src/lib.rt:220:9
+returns : tie.Need-returns
+returns c = ?
+
+-- src/lib.rt:222:20
+wide-requires-2 : tie.Need-wide-requires-2
+wide-requires-2 c κs = search needs
+
+-- src/lib.rt:222:12
+element-copy-out-follow : tie.Need-element-copy-out-follow
+element-copy-out-follow c = search needs
+
+-- src/lib.rt:222:5
+follow-requires : tie.Need-follow-requires
+follow-requires c κs = ?
+
+-- src/lib.rt:205:1
+returns-2 : tie.Need-returns-2
+returns-2 c = ?
+
+pub step-spec : {M : Type 1} → statement M
+step-spec =
+    tie.close
+    (tie.spec
+    wide-requires
+    element-copy-out-letter
+    spell-requires
+    returns
+    wide-requires-2
+    element-copy-out-follow
+    follow-requires
+    returns-2)
