@@ -104,3 +104,83 @@ module _ (row state depth : ℕ) (stack : List ℕ) (r : Ready state 0 depth sta
           subst (λ x. x < 47)
           (sym (ap (λ j. getD (set stack depth (row / 64 % 64 - 1)) j 0) (sym e) ∙ getD-set-same stack depth (row / 64 % 64 - 1) 0 (omega (arith, r .room, r .long))))
           (omega (arith, f .waits, o))
+
+-- a letter inside a word
+module _ (class word state depth : ℕ) where
+  pub goes-on : class ≡ 12 → word < 16 → Worded (λ q K. lettered class q K word) state depth true state (word + 1) depth
+  goes-on e l =
+      record { same = λ q K. rw (eq-eqb class 12 e, lt-ltb word 16 l); same-state = refl; same-depth = refl; few-words = omega arith }
+
+  pub too-long : class ≡ 12 → 16 ≤ word → word < 60 → Worded (λ q K. lettered class q K word) state depth false state word depth
+  too-long e l f = record { same = λ q K. rw (eq-eqb class 12 e, le-ltb word 16 l); same-state = refl; same-depth = refl; few-words = f }
+
+  pub no-capital : (class ≡ 12 → ⊥) → word < 60 → Worded (λ q K. lettered class q K word) state depth false state word depth
+  no-capital n f = record { same = λ q K. rw (ne-eqb class 12 n); same-state = refl; same-depth = refl; few-words = f }
+
+module _ (b letter word state depth : ℕ) (few : word + 1 < 60) where
+  pub right-letter : b ≡ letter → Worded (spelledOut b letter word) state depth true state (word + 1) depth
+  right-letter e = record { same = λ q K. rw (eq-eqb b letter e); same-state = refl; same-depth = refl; few-words = few }
+
+  pub wrong-letter : (b ≡ letter → ⊥) → Worded (spelledOut b letter word) state depth false state word depth
+  wrong-letter n = record { same = λ q K. rw (ne-eqb b letter n); same-state = refl; same-depth = refl; few-words = omega arith }
+
+-- the configuration after it
+in-word : (ok : Bool) (state word depth : ℕ) (stack : List ℕ)
+    → cond ok (live (stateOf state) (stackOf depth stack) (wordOf word)) dead ≡ configOf ok state word depth stack
+in-word true state word depth stack = refl
+in-word false state word depth stack = refl
+
+pub worded : {state word depth : ℕ} {stack : List ℕ} (c : Config) (f : State → List State → Config) (ok : Bool) (state′ word′ depth′ : ℕ)
+    → Ready state word depth stack → c ≡ f (stateOf state) (stackOf depth stack) → Worded f state depth ok state′ word′ depth′
+    → Stepped c depth ok state′ word′ depth′ stack
+worded {state} {depth} {stack} c f ok state′ word′ depth′ r e w = record {
+  stepped =
+      e
+      ∙ w .same (stateOf state) (stackOf depth stack)
+      ∙ ap₂ (λ s d. cond ok (live (stateOf s) (stackOf d stack) (wordOf word′)) dead) (sym (w .same-state)) (sym (w .same-depth))
+      ∙ in-word ok state′ word′ depth′ stack;
+  few-states = subst (λ s. s < 47) (sym (w .same-state)) (r .few-states);
+  few-words = w .few-words;
+  higher = omega (arith, w .same-depth);
+  long = r .long;
+  waiting = λ k l. r .waiting k (omega (arith, w .same-depth));
+}
+
+-- a byte by its class
+module _ (class state word depth : ℕ) (stack : List ℕ) (r : Ready state word depth stack) where
+  pub blank-follows : class ≡ 11 → Stepped (followed class (stateOf state) (stackOf depth stack) word) depth true state 0 depth stack
+  blank-follows e =
+      unstacked (followed class (stateOf state) (stackOf depth stack) word) true state 0 r (rw (eq-eqb class 11 e)) (r .few-states) (omega arith)
+
+  pub letter-follows : (class ≡ 11 → ⊥) → (word ≡ 0 → ⊥) → 12 ≤ class
+      → followed class (stateOf state) (stackOf depth stack) word ≡ lettered class (stateOf state) (stackOf depth stack) word
+  letter-follows n m l = rw (ne-eqb class 11 n, ne-eqb word 0 m, le-leb 12 class l)
+
+  pub begins-fresh : (class ≡ 11 → ⊥) → word ≡ 0
+      → followed class (stateOf state) (stackOf depth stack) word ≡ entered class (stateOf state) (stackOf depth stack)
+  begins-fresh n e = rw (ne-eqb class 11 n, eq-eqb word 0 e)
+
+  pub begins-after : (class ≡ 11 → ⊥) → (word ≡ 0 → ⊥) → class < 12
+      → followed class (stateOf state) (stackOf depth stack) word ≡ entered class (stateOf state) (stackOf depth stack)
+  begins-after n m l = rw (ne-eqb class 11 n, ne-eqb word 0 m, lt-leb 12 class l)
+
+-- a row read from the table
+module _ (class state : ℕ) (rows′ : List ℕ) (s : state < 47) (l : class < 21) (t : rows′ ≡ rowTable) where
+  row-read : getD rows′ (state * 21 + class) 0 ≡ rowNumber (find (getD leadBytes class 0) (rows (stateOf state)))
+  row-read = ap (λ x. getD x (state * 21 + class) 0) t ∙ row-at state class s l
+
+  pub read-fits : RowFits (getD rows′ (state * 21 + class) 0)
+  read-fits = subst RowFits (sym row-read) (row-fits (find (getD leadBytes class 0) (rows (stateOf state))))
+
+  pub read-decoded : (K : List State) → entered class (stateOf state) K ≡ decoded (getD rows′ (state * 21 + class) 0) K
+  read-decoded K = sym (ap (λ n. decoded n K) row-read ∙ row-decoded (find (getD leadBytes class 0) (rows (stateOf state))) K)
+
+-- a byte of the text
+module _ (b state word depth : ℕ) (stack : List ℕ) (r : Ready state word depth stack) where
+  pub spelled-byte : (c : ℕ) → getD letterTable word 0 ≡ c → (c ≡ 0 → ⊥)
+      → onByte b (stateOf state) (stackOf depth stack) (wordOf word) ≡ spelledOut b c word (stateOf state) (stackOf depth stack)
+  spelled-byte c e n = spelled word (r .few-words) b c (stateOf state) (stackOf depth stack) e n
+
+  pub followed-byte : getD letterTable word 0 ≡ 0
+      → onByte b (stateOf state) (stackOf depth stack) (wordOf word) ≡ followed (classOf b) (stateOf state) (stackOf depth stack) word
+  followed-byte e = follows-byte word (r .few-words) b (stateOf state) (stackOf depth stack) e
