@@ -5,8 +5,10 @@ use native.Mathlib.Omega.{arith}
 use native.Mathlib.Numerals.{add-one}
 use native.Mathlib.Decide.{decLt}
 use mathlib.Core.Path.{_≡_, refl, sym, ap, ap₂, subst, _∙_}
+use mathlib.Core.Logic.{_⊎_, inl, inr}
 use mathlib.Core.Bool.{Bool, true, false, cond}
 use mathlib.Core.List.{List, [], _∷_}
+use mathlib.Core.Option.{Option, none, some}
 use lib.ListN.{length, getD, set, length-set}
 use lib.Seq.{getD-set-same, getD-set-other}
 use lib.Dec.{eqb, ltb, leb}
@@ -14,7 +16,7 @@ use borrow.Author.Tests.{eq-eqb, ne-eqb, lt-ltb, le-ltb, le-leb, lt-leb}
 use Rattle.grammar.specs.Rows.{State, rows}
 use Rattle.grammar.specs.Machine.{Config, dead, live, noWord, back, enter, find, onByte}
 use Rattle.reading.specs.Coded.{stateOf, stackOf, wordOf, decoded, follows, configOf, Ready, Stepped, Worded, RowFits, Tables}
-use Rattle.reading.specs.Coded.{rowTable, rowNumber, leadBytes, entered, lettered, followed, letterTable, classTable, classOf, spelledOut}
+use Rattle.reading.specs.Coded.{rowTable, rowNumber, leadBytes, entered, lettered, followed, letterTable, classTable, classOf, spelledOut, conclusion}
 use Rattle.reading.proofs.Numbers.{row-at, row-decoded, row-fits}
 use Rattle.reading.proofs.Classes.{class-at, class-below}
 use Rattle.reading.proofs.WordLaws.{not-last, spelled, follows-byte}
@@ -146,6 +148,10 @@ worded {state} {depth} {stack} c f ok state′ word′ depth′ r e w = record {
   waiting = λ k l. r .waiting k (omega (arith, w .same-depth));
 }
 
+-- ready to begin a word
+pub ready-afresh : {state word depth : ℕ} {stack : List ℕ} → Ready state word depth stack → Ready state 0 depth stack
+ready-afresh r = record { few-states = r .few-states; few-words = omega arith; room = r .room; long = r .long; waiting = r .waiting }
+
 -- a byte by its class
 module _ (class state word depth : ℕ) (stack : List ℕ) (r : Ready state word depth stack) where
   pub blank-follows : class ≡ 11 → Stepped (followed class (stateOf state) (stackOf depth stack) word) depth true state 0 depth stack
@@ -156,24 +162,36 @@ module _ (class state word depth : ℕ) (stack : List ℕ) (r : Ready state word
       → followed class (stateOf state) (stackOf depth stack) word ≡ lettered class (stateOf state) (stackOf depth stack) word
   letter-follows n m l = rw (ne-eqb class 11 n, ne-eqb word 0 m, le-leb 12 class l)
 
-  pub begins-fresh : (class ≡ 11 → ⊥) → word ≡ 0
+  begins-fresh : (class ≡ 11 → ⊥) → word ≡ 0
       → followed class (stateOf state) (stackOf depth stack) word ≡ entered class (stateOf state) (stackOf depth stack)
   begins-fresh n e = rw (ne-eqb class 11 n, eq-eqb word 0 e)
 
-  pub begins-after : (class ≡ 11 → ⊥) → (word ≡ 0 → ⊥) → class < 12
+  begins-after : (class ≡ 11 → ⊥) → (word ≡ 0 → ⊥) → class < 12
       → followed class (stateOf state) (stackOf depth stack) word ≡ entered class (stateOf state) (stackOf depth stack)
   begins-after n m l = rw (ne-eqb class 11 n, ne-eqb word 0 m, lt-leb 12 class l)
+
+  pub begins-token : (class ≡ 11 → ⊥) → (((word ≡ 0 → ⊥) × (class < 12)) ⊎ (word ≡ 0))
+      → followed class (stateOf state) (stackOf depth stack) word ≡ entered class (stateOf state) (stackOf depth stack)
+  begins-token n (inl h) = begins-after n (h .0) (h .1)
+  begins-token n (inr h) = begins-fresh n h
 
 -- a row read from the table
 module _ (class state : ℕ) (rows′ : List ℕ) (s : state < 47) (l : class < 21) (t : rows′ ≡ rowTable) where
   row-read : getD rows′ (state * 21 + class) 0 ≡ rowNumber (find (getD leadBytes class 0) (rows (stateOf state)))
   row-read = ap (λ x. getD x (state * 21 + class) 0) t ∙ row-at state class s l
 
-  pub read-fits : RowFits (getD rows′ (state * 21 + class) 0)
-  read-fits = subst RowFits (sym row-read) (row-fits (find (getD leadBytes class 0) (rows (stateOf state))))
+  -- at an index of numbers that are the state and the class
+  index-read : (s′ c′ : ℕ) → s′ ≡ state → c′ ≡ class
+      → getD rows′ (s′ * 21 + c′) 0 ≡ rowNumber (find (getD leadBytes class 0) (rows (stateOf state)))
+  index-read s′ c′ e f = ap₂ (λ x y. getD rows′ (x * 21 + y) 0) e f ∙ row-read
 
-  pub read-decoded : (K : List State) → entered class (stateOf state) K ≡ decoded (getD rows′ (state * 21 + class) 0) K
-  read-decoded K = sym (ap (λ n. decoded n K) row-read ∙ row-decoded (find (getD leadBytes class 0) (rows (stateOf state))) K)
+  pub read-fits : (s′ c′ : ℕ) → s′ ≡ state → c′ ≡ class → RowFits (getD rows′ (s′ * 21 + c′) 0)
+  read-fits s′ c′ e f = subst RowFits (sym (index-read s′ c′ e f)) (row-fits (find (getD leadBytes class 0) (rows (stateOf state))))
+
+  pub read-decoded : (s′ c′ : ℕ) → s′ ≡ state → c′ ≡ class → (K : List State)
+      → entered class (stateOf state) K ≡ decoded (getD rows′ (s′ * 21 + c′) 0) K
+  read-decoded s′ c′ e f K =
+      sym (ap (λ n. decoded n K) (index-read s′ c′ e f) ∙ row-decoded (find (getD leadBytes class 0) (rows (stateOf state))) K)
 
 -- a byte of the text
 module _ (b state word depth : ℕ) (stack : List ℕ) (r : Ready state word depth stack) where
@@ -184,3 +202,32 @@ module _ (b state word depth : ℕ) (stack : List ℕ) (r : Ready state word dep
   pub followed-byte : getD letterTable word 0 ≡ 0
       → onByte b (stateOf state) (stackOf depth stack) (wordOf word) ≡ followed (classOf b) (stateOf state) (stackOf depth stack) word
   followed-byte e = follows-byte word (r .few-words) b (stateOf state) (stackOf depth stack) e
+
+  -- the letter and the class that the tables give
+  pub letter-read : (table : List ℕ) (i : ℕ) → table ≡ letterTable → i ≡ word → getD letterTable word 0 ≡ getD table i 0
+  letter-read table i t e = sym (ap₂ (λ x j. getD x j 0) t e)
+
+  pub class-read : (classes : List ℕ) (i : ℕ) → classes ≡ classTable → i ≡ b → b < 256 → getD classes i 0 ≡ classOf b
+  class-read classes i t e l = ap₂ (λ x j. getD x j 0) t e ∙ class-at b l
+
+  pub read-below : (classes : List ℕ) (i : ℕ) → classes ≡ classTable → i ≡ b → b < 256 → getD classes i 0 < 21
+  read-below classes i t e l = subst (λ x. x < 21) (sym (class-read classes i t e l)) (class-below b)
+
+  pub read-followed : (classes : List ℕ) (i : ℕ) → classes ≡ classTable → i ≡ b → b < 256 → getD letterTable word 0 ≡ 0
+      → onByte b (stateOf state) (stackOf depth stack) (wordOf word) ≡ followed (getD classes i 0) (stateOf state) (stackOf depth stack) word
+  read-followed classes i t e l z =
+      followed-byte z ∙ ap (λ x. followed x (stateOf state) (stackOf depth stack) word) (sym (class-read classes i t e l))
+
+-- the end of the text
+module _ (all state letter : ℕ) where
+  pub past-limit : 65535 < all → some 65535 ≡ conclusion all state letter
+  past-limit h = sym (rw (lt-ltb 65535 all h))
+
+  pub word-unfinished : all ≤ 65535 → (letter ≡ 0 → ⊥) → some all ≡ conclusion all state letter
+  word-unfinished h n = sym (rw (le-ltb 65535 all h, ne-eqb letter 0 n))
+
+  pub text-whole : all ≤ 65535 → letter ≡ 0 → state ≡ 16 → none ≡ conclusion all state letter
+  text-whole h e f = sym (rw (le-ltb 65535 all h, eq-eqb letter 0 e, eq-eqb state 16 f))
+
+  pub text-unfinished : all ≤ 65535 → letter ≡ 0 → (state ≡ 16 → ⊥) → some all ≡ conclusion all state letter
+  text-unfinished h e n = sym (rw (le-ltb 65535 all h, eq-eqb letter 0 e, ne-eqb state 16 n))

@@ -1,3 +1,6 @@
+use mathlib.Core.Logic.{⊎-elim, inl, inr}
+use mathlib.Core.Path.{_∙_}
+use Rattle.reading.proofs.Steps.{blank-follows, worded, letter-follows, ready-afresh, read-fits, restepped, begins-token, read-decoded}
 use borrow.Author.Needs.{needs}
 use Rattle.reading.proofs.follow.Statement.{statement}
 use Rattle.reading.proofs.follow.Tie as tie
@@ -9,7 +12,7 @@ use Rattle.reading.proofs.wide.Reads as wide-reads
 
 -- src/lib.rt:193:9
 returns : tie.Need-returns
-returns c = ?
+returns c = blank-follows _ _ _ _ _ (c .before .pre .0) (c .if1 .taken)
 
 -- src/lib.rt:197:13
 go-on-requires : tie.Need-go-on-requires
@@ -17,7 +20,7 @@ go-on-requires c κs = search needs
 
 -- src/lib.rt:197:13
 returns-2 : tie.Need-returns-2
-returns-2 c = ?
+returns-2 c = worded _ _ _ _ _ _ (c .before .before .before .before .pre .0) (letter-follows _ _ _ _ _ (c .before .before .before .before .pre .0) (c .before .before .before .if1 .left) (c .before .before .if2 .taken) (c .before .if3 .taken)) (c .go-on .ensures)
 
 -- src/lib.rt:200:20
 wide-requires : tie.Need-wide-requires
@@ -45,11 +48,11 @@ element-copy-out-row c = search needs
 
 -- src/lib.rt:201:5
 take-row-requires : tie.Need-take-row-requires
-take-row-requires c κs = ?
+take-row-requires c κs = (ready-afresh (c .before .before .before .before .before .before .pre .0), read-fits _ _ _ (c .before .before .before .before .before .before .pre .0 .few-states) (c .before .before .before .before .before .before .pre .1) (c .before .before .before .before .before .before .pre .2) _ _ (c .before .before .before .wide .ensures) (c .before .before .wide2 .ensures))
 
 -- src/lib.rt:188:1
 returns-3 : tie.Need-returns-3
-returns-3 c = ?
+returns-3 c = restepped _ (begins-token _ _ _ _ _ (c .before .before .before .before .before .before .before .pre .0) (c .before .before .before .before .before .before .if1 .left) (⊎-elim (λ w. inl (w .0 .taken, w .1 .left)) (λ w. inr (w .left)) (c .before .before .before .before .before .if2 .came)) ∙ read-decoded _ _ _ (c .before .before .before .before .before .before .before .pre .0 .few-states) (c .before .before .before .before .before .before .before .pre .1) (c .before .before .before .before .before .before .before .pre .2) _ _ (c .before .before .before .before .wide .ensures) (c .before .before .before .wide2 .ensures) _) (c .take-row .ensures)
 
 pub follow-spec : {M : Type 1} → statement M
 follow-spec =
