@@ -3,3 +3,4 @@ pub mod Numbers
 pub mod Classes
 pub mod WordLaws
 pub mod Steps
+pub mod Loop

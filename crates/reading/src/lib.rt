@@ -2,7 +2,7 @@
 // There is no recursion: a text of 65,535 open brackets is read like any other.
 // States, classes of bytes and words are numbers; `grammar` has the machine that they stand for.
 ghost use mathlib.Core.Path.{_≡_};
-ghost use Prim.Native.Nat.{ℕ, _+_, _≤_, _<_};
+ghost use Prim.Native.Nat.{_+_, _<_, min};
 ghost use lib.ListN.{length};
 ghost use Rattle.grammar.specs.Legal.{Told};
 ghost use Rattle.grammar.specs.Machine.{back, onByte};
@@ -224,7 +224,7 @@ pub fn step(
 
 // How many bytes of a text are read.
 fn reach(all: usize) -> usize
-    ensures { λ r. ⌜ (r ≤ all) × (r ≤ 65535) × (r < all → r ≡ 65535) ⌝ }
+    ensures { λ r. ⌜ r ≡ min 65535 all ⌝ }
 {
     if 65535 < all {
         return 65535;
