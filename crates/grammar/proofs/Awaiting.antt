@@ -59,11 +59,11 @@ pub data Awaits (ts : List Token) : List State → List Token → Type 0 where
       → ReadsExpression a e (keyword IN u ∷ b) → Awaits ts (inLetBody ∷ K) b
   await-rec-bound : {K : List State} {p q s t u v x y : ℕ} {m n : List ℕ} {a : List Token}
       → Awaits ts K
-        (symbol opens p ∷ keyword LET q ∷ keyword INIT s ∷ symbol query t ∷ name m u ∷ keyword REC v ∷ name n x ∷ symbol equals y ∷ a)
+      (symbol opens p ∷ keyword LET q ∷ keyword INIT s ∷ symbol query t ∷ name m u ∷ keyword REC v ∷ name n x ∷ symbol equals y ∷ a)
       → Awaits ts (inRecBound ∷ K) a
   await-rec-body : {K : List State} {p q s t u v x y z : ℕ} {m n : List ℕ} {a b : List Token} {e : Expression}
       → Awaits ts K
-        (symbol opens p ∷ keyword LET q ∷ keyword INIT s ∷ symbol query t ∷ name m u ∷ keyword REC v ∷ name n x ∷ symbol equals y ∷ a)
+      (symbol opens p ∷ keyword LET q ∷ keyword INIT s ∷ symbol query t ∷ name m u ∷ keyword REC v ∷ name n x ∷ symbol equals y ∷ a)
       → ReadsExpression a e (keyword IN z ∷ b) → Awaits ts (inRecBody ∷ K) b
   await-tested : {K : List State} {p q : ℕ} {a : List Token}
       → Awaits ts K (symbol opens p ∷ keyword IF q ∷ a) → Awaits ts (inTested ∷ K) a

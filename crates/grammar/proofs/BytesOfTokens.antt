@@ -28,8 +28,8 @@ bytes-of-tokens q K (a-word {bs} {rest} {t} {ts} r s u) h =
     let z = begun r s in
     ap (λ l. ends (bytes (live q K noWord) l)) (z .split)
     ∙ ap (λ c. ends (bytes c (z .following)))
-      (letter-begins (kindOf (z .first)) (z .first) q K (z .letter)
-      ∙ begins-token (z .first) (leadOf t) (x .action) q K (z .leads) (x .row)
-      ∙ y .reaches (leadWord (leadOf t)))
+    (letter-begins (kindOf (z .first)) (z .first) q K (z .letter)
+    ∙ begins-token (z .first) (leadOf t) (x .action) q K (z .leads) (x .row)
+    ∙ y .reaches (leadWord (leadOf t)))
     ∙ through (y .state) (y .stack) (z .continued)
     ∙ bytes-of-tokens (y .state) (y .stack) u (ap (λ c. ends (tokens c ts)) (sym (y .reaches noWord)) ∙ x .ending)

@@ -108,9 +108,9 @@ module _ (text : List ℕ) where
       subst (Leaves text) e
       (at-byte (omega (arith, few, both)) below
       (alive-viable (take (s .count) text)
-        (subst (λ l. Alive (bytes begins l)) (take-take (s .count) limit text (omega (arith, below))) (s .until)))
+      (subst (λ l. Alive (bytes begins l)) (take-take (s .count) limit text (omega (arith, below))) (s .until)))
       (dead-not-viable (take (suc (s .count)) text)
-        (ap (bytes begins) (sym (take-take (suc (s .count)) limit text below)) ∙ s .there)))
+      (ap (bytes begins) (sym (take-take (suc (s .count)) limit text below)) ∙ s .there)))
 
   module _ (d : Config) (read : bytes begins (take limit text) ≡ d) (alive : Alive d) where
     taken-viable : Viable (take limit text)

@@ -36,7 +36,7 @@ data Suffixed : List Token → Expression → List Token → Type 0 where
   s-let-rec : {p q s t u v x y z o : ℕ} {m n : List ℕ} {a b c r : List Token} {e f g : Expression}
       → Suffixed a e (keyword IN z ∷ b) → Suffixed b f (symbol closes o ∷ c) → Indices (LetRec (named m u) (named n x) e f) c g r
       → Suffixed
-        (symbol opens p ∷ keyword LET q ∷ keyword INIT s ∷ symbol query t ∷ name m u ∷ keyword REC v ∷ name n x ∷ symbol equals y ∷ a) g r
+      (symbol opens p ∷ keyword LET q ∷ keyword INIT s ∷ symbol query t ∷ name m u ∷ keyword REC v ∷ name n x ∷ symbol equals y ∷ a) g r
   s-if : {p q s t u v : ℕ} {a b c d k r : List Token} {e f g h : Expression} {m : Pattern}
       → Suffixed a e (keyword MATCHES s ∷ b) → ReadsPattern b m (keyword THEN t ∷ c)
       → Suffixed c f (keyword ELSE u ∷ d) → Suffixed d g (symbol closes v ∷ k) → Indices (If e m f g) k h r

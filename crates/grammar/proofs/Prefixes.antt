@@ -18,11 +18,10 @@ legal-viable bs h = ([], subst Legal (sym (append-nil bs)) h)
 
 -- what begins a text that can be continued can be continued
 pub viable-take : (m : ℕ) (bs : List ℕ) → Viable bs → Viable (take m bs)
-viable-take m bs v =
-    (
-      drop m bs ++ v .0,
-      subst Legal (ap (λ l. l ++ v .0) (sym (take-append-drop m bs)) ∙ append-assoc (take m bs) (drop m bs) (v .0)) (v .1),
-    )
+viable-take m bs v = (
+  drop m bs ++ v .0,
+  subst Legal (ap (λ l. l ++ v .0) (sym (take-append-drop m bs)) ∙ append-assoc (take m bs) (drop m bs) (v .0)) (v .1),
+)
 
 pub viable-earlier : (m n : ℕ) (bs : List ℕ) → m ≤ n → Viable (take n bs) → Viable (take m bs)
 viable-earlier m n bs l v = subst Viable (take-take m n bs l) (viable-take m (take n bs) v)

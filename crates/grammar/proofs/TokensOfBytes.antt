@@ -98,18 +98,16 @@ module _
     lead-read (aSymbol s) e c t = (symbol s i, refl, symbol-read s (found-kind b (aSymbol s) e) c t)
     lead-read {v} (aKeyword k) e c t =
         let f : kindOf b ≡ isUpper = found-kind b (aKeyword k) e in
-        let first : b ≡ firstLetter (spelling k) = sym (alike-upper b f) ∙ e in
-        (
+        let first : b ≡ firstLetter (spelling k) = sym (alike-upper b f) ∙ e in (
           keyword k i,
           refl,
           a-word (keyword-run (ap isLetter f) (keyword-letters k) c)
-          (spells-keyword (whole-spelling b v k first (keyword-left c)))
-          (onward (length v) t),
+              (spells-keyword (whole-spelling b v k first (keyword-left c)))
+              (onward (length v) t),
         )
     lead-read {v} aName e c t =
         let f : kindOf b ≡ isLower = found-kind b aName e in
-        let few = name-left c (omega arith) in
-        (
+        let few = name-left c (omega arith) in (
           name (b ∷ v) i,
           refl,
           a-word (name-run (ap isLetter f) c) (spells-name (all-more {b = b} f (few .0)) (omega (arith, few .1))) (onward (length v) t),
@@ -119,7 +117,7 @@ module _
     token-read x =
         let y = performed (x .action) K in
         let z = again (suc i) (y .state) (y .stack) (leadWord (x .lead))
-          (ap (λ c. ends (bytes c bs)) (sym (y .reaches (leadWord (x .lead)))) ∙ x .ending) in
+        (ap (λ c. ends (bytes c bs)) (sym (y .reaches (leadWord (x .lead)))) ∙ x .ending) in
         let u = lead-read (x .lead) (x .leads) (z .continued) (z .lexed) in
         record {
           letters = [];

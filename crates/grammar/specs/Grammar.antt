@@ -30,8 +30,8 @@ pub data ReadsDeclaration : List Token → Declaration → List Token → Type 0
       → ReadsDeclaration (keyword TYPE p ∷ name v q ∷ symbol equals s ∷ name w t ∷ a) (Constructors (named v q) (named w t) cs) r
   reads-pair-of : {p q s t u v x y z : ℕ} {m n o : List ℕ} {r : List Token}
       → ReadsDeclaration
-        (keyword TYPE p ∷ name m q ∷ symbol equals s ∷ symbol opens t ∷ name n u ∷ symbol comma v ∷ name o x ∷ symbol closes y ∷ keyword IN z ∷ r)
-        (PairOf (named m q) (named n u) (named o x)) r
+      (keyword TYPE p ∷ name m q ∷ symbol equals s ∷ symbol opens t ∷ name n u ∷ symbol comma v ∷ name o x ∷ symbol closes y ∷ keyword IN z ∷ r)
+      (PairOf (named m q) (named n u) (named o x)) r
 
 pub data ReadsConstant : List Token → Constant → List Token → Type 0 where
   reads-constructor : {p : ℕ} {w : List ℕ} {r : List Token} → ReadsConstant (name w p ∷ r) (Constructor (named w p)) r
@@ -68,8 +68,8 @@ pub data ReadsExpression : List Token → Expression → List Token → Type 0 w
   reads-let-rec : {p q s t u v x y z o : ℕ} {m n : List ℕ} {a b r : List Token} {e f : Expression}
       → ReadsExpression a e (keyword IN z ∷ b) → ReadsExpression b f (symbol closes o ∷ r)
       → ReadsExpression
-        (symbol opens p ∷ keyword LET q ∷ keyword INIT s ∷ symbol query t ∷ name m u ∷ keyword REC v ∷ name n x ∷ symbol equals y ∷ a)
-        (LetRec (named m u) (named n x) e f) r
+      (symbol opens p ∷ keyword LET q ∷ keyword INIT s ∷ symbol query t ∷ name m u ∷ keyword REC v ∷ name n x ∷ symbol equals y ∷ a)
+      (LetRec (named m u) (named n x) e f) r
   reads-if : {p q s t u v : ℕ} {a b c d r : List Token} {e f g : Expression} {m : Pattern}
       → ReadsExpression a e (keyword MATCHES s ∷ b) → ReadsPattern b m (keyword THEN t ∷ c)
       → ReadsExpression c f (keyword ELSE u ∷ d) → ReadsExpression d g (symbol closes v ∷ r)

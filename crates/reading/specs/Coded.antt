@@ -72,7 +72,7 @@ wordNumber (aSymbol s) = 0
 wordNumber (aKeyword k) = keywordWord k
 wordNumber aName = 1
 
--- a row in one number: the next state and one, or 48 to go back; 64 times the state that waits and one; 4,096 times the word
+-- a row in three numbers: the next state and one, 48 to go back, or 0 for no row; the state that waits and one, or 0; the word
 abbrev pub nextNumber : Action → ℕ
 nextNumber (go q) = stateNumber q + 1
 nextNumber (call r q) = stateNumber q + 1
@@ -83,11 +83,19 @@ waitsNumber (go q) = 0
 waitsNumber (call r q) = stateNumber r + 1
 waitsNumber return = 0
 
-abbrev pub rowNumber : Option Row → ℕ
-rowNumber none = 0
-rowNumber (some (on l a)) = wordNumber l * 4096 + waitsNumber a * 64 + nextNumber a
+abbrev pub rowNext : Option Row → ℕ
+rowNext none = 0
+rowNext (some (on l a)) = nextNumber a
 
--- what a row's number says to do
+abbrev pub rowWaits : Option Row → ℕ
+rowWaits none = 0
+rowWaits (some (on l a)) = waitsNumber a
+
+abbrev pub rowWord : Option Row → ℕ
+rowWord none = 0
+rowWord (some (on l a)) = wordNumber l
+
+-- what a row's numbers say to do
 abbrev pub follows : (next waits word : ℕ) → List State → Config
 follows next waits word K =
     cond (eqb next 0) dead
@@ -95,10 +103,7 @@ follows next waits word K =
     (cond (eqb waits 0) (live (stateOf (next - 1)) K (wordOf word))
     (live (stateOf (next - 1)) (stateOf (waits - 1) ∷ K) (wordOf word))))
 
-abbrev pub decoded : ℕ → List State → Config
-decoded n K = follows (n % 64) (n / 64 % 64) (n / 4096 % 64) K
-
--- the capitals that keywords begin with, from 13 on; 20 for the others
+-- the capitals that keywords begin with
 abbrev pub capitals : List ℕ
 capitals = 84 ∷ 73 ∷ 76 ∷ 82 ∷ 77 ∷ 69 ∷ 68 ∷ []
 
@@ -118,48 +123,48 @@ symbolClass indexCloses = 7
 symbolClass one = 8
 symbolClass two = 9
 
+-- the class of a byte: 0 to 9 the symbols, 10 a small letter, 11 to 17 the capitals that keywords begin with, 18 the other ones, 19 a blank,
+-- 20 any other byte
 abbrev pub kindClass : Kind → ℕ → ℕ
 kindClass (isSymbol s) b = symbolClass s
-kindClass isOther b = 10
-kindClass isBlank b = 11
-kindClass isLower b = 12
-kindClass isUpper b = 13 + position b capitals
+kindClass isLower b = 10
+kindClass isUpper b = 11 + position b capitals
+kindClass isBlank b = 19
+kindClass isOther b = 20
 
 abbrev pub classOf : ℕ → ℕ
 classOf b = kindClass (kindOf b) b
 
--- for each class a byte of it that a token begins with, or 0
+-- for each class that a token can begin with a byte of it
 abbrev pub leadBytes : List ℕ
-leadBytes = 40 ∷ 41 ∷ 44 ∷ 61 ∷ 124 ∷ 63 ∷ 91 ∷ 93 ∷ 49 ∷ 50 ∷ 0 ∷ 0 ∷ 97 ∷ 84 ∷ 73 ∷ 76 ∷ 82 ∷ 77 ∷ 69 ∷ 68 ∷ 0 ∷ []
+leadBytes = 40 ∷ 41 ∷ 44 ∷ 61 ∷ 124 ∷ 63 ∷ 91 ∷ 93 ∷ 49 ∷ 50 ∷ 97 ∷ 84 ∷ 73 ∷ 76 ∷ 82 ∷ 77 ∷ 69 ∷ 68 ∷ []
 
-abbrev pub stateRow : State → List ℕ
-stateRow q = map (λ b. rowNumber (find b (rows q))) leadBytes
+-- a row of a table for each state
+abbrev pub tableOf : (Option Row → ℕ) → List (List ℕ)
+tableOf f = map (λ q. map (λ b. f (find b (rows q))) leadBytes) states
 
-abbrev pub joined : List (List ℕ) → List ℕ
-joined [] = []
-joined (l ∷ more) = l ++ joined more
+unfoldable pub nextTable : List (List ℕ)
+nextTable = tableOf rowNext
 
-unfoldable pub rowTable : List ℕ
-rowTable = joined (map stateRow states)
+unfoldable pub waitsTable : List (List ℕ)
+waitsTable = tableOf rowWaits
 
-abbrev pub counted : ℕ → ℕ → List ℕ
-counted i zero = []
-counted i (suc n) = i ∷ counted (suc i) n
-
-unfoldable pub classTable : List ℕ
-classTable = map classOf (counted 0 256)
+unfoldable pub wordTable : List (List ℕ)
+wordTable = tableOf rowWord
 
 -- a byte of a class, where the word can end
 abbrev pub entered : ℕ → State → List State → Config
 entered c q K = enter (find (getD leadBytes c 0) (rows q)) K
 
 abbrev pub lettered : ℕ → State → List State → ℕ → Config
-lettered c q K w = cond (eqb c 12) (cond (ltb w 16) (live q K (wordOf (w + 1))) dead) dead
+lettered c q K w = cond (eqb c 10) (cond (ltb w 16) (live q K (wordOf (w + 1))) dead) dead
+
+abbrev pub begun : ℕ → State → List State → Config
+begun c q K = cond (leb 18 c) dead (entered c q K)
 
 abbrev pub followed : ℕ → State → List State → ℕ → Config
 followed c q K w =
-    cond (eqb c 11) (live q K noWord)
-    (cond (eqb w 0) (entered c q K) (cond (leb 12 c) (lettered c q K w) (entered c q K)))
+    cond (eqb c 19) (live q K noWord) (cond (eqb w 0) (begun c q K) (cond (leb 10 c) (lettered c q K w) (begun c q K)))
 
 abbrev pub configOf : (ok : Bool) (state word depth : ℕ) → List ℕ → Config
 configOf true s w d K = live (stateOf s) (stackOf d K) (wordOf w)
@@ -192,19 +197,13 @@ pub record Worded (c : State → List State → Config) (state depth : ℕ) (ok 
 abbrev pub spelledOut : (b letter word : ℕ) → State → List State → Config
 spelledOut b letter word q K = cond (eqb b letter) (live q K (wordOf (word + 1))) dead
 
--- the tables that the code is lent
-pub record Tables (classes rows letters : List ℕ) : Type 0 where
-  pub classes-right : classes ≡ classTable
-  pub rows-right : rows ≡ rowTable
-  pub letters-right : letters ≡ letterTable
-
 -- the end of a text of so many bytes, read up to the limit
 abbrev pub conclusion : (all state letter : ℕ) → Option ℕ
 conclusion all state letter =
     cond (ltb limit all) (some limit) (cond (cond (eqb letter 0) (eqb state 16) false) none (some all))
 
--- a row's number holds a state, a state that waits and a word
-pub record RowFits (n : ℕ) : Type 0 where
-  pub next : n % 64 ≤ 48
-  pub waits : n / 64 % 64 ≤ 47
-  pub word : n / 4096 % 64 < 60
+-- the tables that the code is lent
+pub record Tables (nexts waits words : List (List ℕ)) : Type 0 where
+  pub nexts-right : nexts ≡ nextTable
+  pub waits-right : waits ≡ waitsTable
+  pub words-right : words ≡ wordTable

@@ -1,13 +1,16 @@
 // Reads a text byte by byte: a state, a stack of the states that wait, one byte for each, and what is left of the word that is being read.
 // There is no recursion: a text of 65,535 open brackets is read like any other.
 // States, classes of bytes and words are numbers; `grammar` has the machine that they stand for.
+mod classes;
+mod tables;
+
 ghost use mathlib.Core.Path.{_≡_};
-ghost use Prim.Native.Nat.{_+_, _<_, min};
+ghost use Prim.Native.Nat.{_+_, _≤_, _<_, min};
 ghost use lib.ListN.{length};
 ghost use Rattle.grammar.specs.Legal.{Told};
 ghost use Rattle.grammar.specs.Machine.{back, onByte};
-ghost use Rattle.reading.specs.Coded.{illegal, stateOf, stackOf, wordOf, classTable, rowTable, letterTable, decoded, followed, lettered};
-ghost use Rattle.reading.specs.Coded.{spelledOut, conclusion, Ready, Stepped, Worded, RowFits, Tables};
+ghost use Rattle.reading.specs.Coded.{illegal, stateOf, stackOf, wordOf, letterTable, follows, entered, followed, lettered};
+ghost use Rattle.reading.specs.Coded.{spelledOut, conclusion, Ready, Stepped, Worded, Tables};
 
 // Where a text leaves the grammar.
 pub enum Illegal {
@@ -21,99 +24,6 @@ pub struct Moved {
     pub state: u8,
     pub word: u8,
     pub depth: usize,
-}
-
-// Ten symbols, 10 any other byte, 11 a blank, 12 a small letter, then the capitals that a keyword begins with, and 20 the others.
-pub fn class_table() -> [u8; 256]
-    ensures { λ r. ⌜ r ≡ classTable ⌝ }
-{
-    [
-        10, 10, 10, 10, 10, 10, 10, 10, 10, 10, 11, 10, 10, 10, 10, 10, 10, 10, 10, 10, 10, 10, 10, 10, 10, 10, 10, 10, 10, 10, 10, 10,
-        11, 10, 10, 10, 10, 10, 10, 10, 0, 1, 10, 10, 2, 10, 10, 10, 10, 8, 9, 10, 10, 10, 10, 10, 10, 10, 10, 10, 10, 3, 10, 5,
-        10, 20, 20, 20, 19, 18, 20, 20, 20, 14, 20, 20, 15, 17, 20, 20, 20, 20, 16, 20, 13, 20, 20, 20, 20, 20, 20, 6, 10, 7, 10, 10,
-        10, 12, 12, 12, 12, 12, 12, 12, 12, 12, 12, 12, 12, 12, 12, 12, 12, 12, 12, 12, 12, 12, 12, 12, 12, 12, 12, 10, 4, 10, 10, 10,
-        10, 10, 10, 10, 10, 10, 10, 10, 10, 10, 10, 10, 10, 10, 10, 10, 10, 10, 10, 10, 10, 10, 10, 10, 10, 10, 10, 10, 10, 10, 10, 10,
-        10, 10, 10, 10, 10, 10, 10, 10, 10, 10, 10, 10, 10, 10, 10, 10, 10, 10, 10, 10, 10, 10, 10, 10, 10, 10, 10, 10, 10, 10, 10, 10,
-        10, 10, 10, 10, 10, 10, 10, 10, 10, 10, 10, 10, 10, 10, 10, 10, 10, 10, 10, 10, 10, 10, 10, 10, 10, 10, 10, 10, 10, 10, 10, 10,
-        10, 10, 10, 10, 10, 10, 10, 10, 10, 10, 10, 10, 10, 10, 10, 10, 10, 10, 10, 10, 10, 10, 10, 10, 10, 10, 10, 10, 10, 10, 10, 10,
-    ]
-}
-
-// A line a state, an entry a class: the next state and one, 48 to go back, 0 for no step; 64 times the state that waits and one; 4,096 times
-// the word.
-pub fn row_table() -> [u32; 987]
-    ensures { λ r. ⌜ r ≡ rowTable ⌝ }
-{
-    [
-        0, 0, 0, 0, 0, 0, 0, 0, 0, 0, 0, 0, 0, 69635, 0, 0, 0, 0, 0, 0, 0,
-        0, 0, 0, 0, 0, 0, 0, 0, 0, 0, 0, 0, 0, 69635, 94221, 0, 0, 0, 0, 0, 0,
-        0, 0, 0, 0, 0, 0, 0, 0, 0, 0, 0, 0, 4100, 0, 0, 0, 0, 0, 0, 0, 0,
-        0, 0, 0, 5, 0, 0, 0, 0, 0, 0, 0, 0, 0, 0, 0, 0, 0, 0, 0, 0, 0,
-        8, 0, 0, 0, 0, 0, 0, 0, 0, 0, 0, 0, 4102, 0, 0, 0, 0, 0, 0, 0, 0,
-        0, 0, 0, 0, 7, 0, 0, 0, 0, 0, 0, 0, 0, 0, 86018, 0, 0, 0, 0, 0, 0,
-        0, 0, 0, 0, 0, 0, 0, 0, 0, 0, 0, 0, 4102, 0, 0, 0, 0, 0, 0, 0, 0,
-        0, 0, 0, 0, 0, 0, 0, 0, 0, 0, 0, 0, 4105, 0, 0, 0, 0, 0, 0, 0, 0,
-        0, 0, 10, 0, 0, 0, 0, 0, 0, 0, 0, 0, 0, 0, 0, 0, 0, 0, 0, 0, 0,
-        0, 0, 0, 0, 0, 0, 0, 0, 0, 0, 0, 0, 4107, 0, 0, 0, 0, 0, 0, 0, 0,
-        0, 12, 0, 0, 0, 0, 0, 0, 0, 0, 0, 0, 0, 0, 0, 0, 0, 0, 0, 0, 0,
-        0, 0, 0, 0, 0, 0, 0, 0, 0, 0, 0, 0, 0, 0, 86018, 0, 0, 0, 0, 0, 0,
-        0, 0, 0, 0, 0, 0, 0, 0, 0, 0, 0, 0, 4110, 0, 0, 0, 0, 0, 0, 0, 0,
-        16, 0, 0, 0, 0, 15, 0, 0, 0, 0, 0, 0, 4144, 0, 0, 0, 0, 0, 0, 0, 0,
-        0, 0, 0, 0, 0, 0, 0, 0, 0, 0, 0, 0, 4144, 0, 0, 0, 0, 0, 0, 0, 0,
-        1168, 0, 0, 0, 0, 1167, 0, 0, 0, 0, 0, 0, 4114, 0, 157646, 114708, 0, 0, 0, 225318, 0,
-        0, 0, 0, 0, 0, 0, 45, 0, 0, 0, 0, 0, 0, 0, 0, 0, 0, 0, 0, 0, 0,
-        0, 0, 1230, 0, 0, 0, 1197, 0, 0, 0, 0, 0, 0, 0, 0, 0, 0, 0, 0, 0, 0,
-        0, 48, 0, 0, 0, 0, 1261, 0, 0, 0, 0, 0, 0, 0, 0, 0, 0, 0, 0, 0, 0,
-        0, 0, 0, 0, 0, 0, 0, 0, 0, 0, 0, 0, 4117, 0, 127000, 0, 0, 0, 0, 0, 0,
-        0, 0, 0, 1422, 0, 0, 0, 0, 0, 0, 0, 0, 0, 0, 0, 0, 0, 0, 0, 0, 0,
-        0, 0, 0, 0, 0, 0, 1453, 0, 0, 0, 0, 0, 0, 0, 87502, 0, 0, 0, 0, 0, 0,
-        0, 48, 0, 0, 0, 0, 1517, 0, 0, 0, 0, 0, 0, 0, 0, 0, 0, 0, 0, 0, 0,
-        0, 0, 0, 0, 0, 25, 0, 0, 0, 0, 0, 0, 0, 0, 0, 0, 0, 0, 0, 0, 0,
-        0, 0, 0, 0, 0, 0, 0, 0, 0, 0, 0, 0, 4122, 0, 0, 0, 0, 0, 0, 0, 0,
-        0, 0, 0, 0, 0, 0, 0, 0, 0, 0, 0, 0, 0, 0, 0, 0, 143387, 0, 0, 0, 0,
-        0, 0, 0, 0, 0, 0, 0, 0, 0, 0, 0, 0, 4124, 0, 0, 0, 0, 0, 0, 0, 0,
-        0, 0, 0, 1870, 0, 0, 0, 0, 0, 0, 0, 0, 0, 0, 0, 0, 0, 0, 0, 0, 0,
-        0, 0, 0, 0, 0, 0, 1901, 0, 0, 0, 0, 0, 0, 0, 87950, 0, 0, 0, 0, 0, 0,
-        0, 48, 0, 0, 0, 0, 1965, 0, 0, 0, 0, 0, 0, 0, 0, 0, 0, 0, 0, 0, 0,
-        0, 0, 0, 0, 0, 0, 2029, 0, 0, 0, 0, 0, 0, 0, 0, 0, 0, 165984, 0, 0, 0,
-        2208, 0, 0, 0, 0, 0, 0, 0, 0, 0, 0, 0, 4144, 0, 0, 0, 0, 0, 0, 0, 0,
-        0, 0, 0, 0, 2144, 0, 0, 0, 0, 0, 0, 0, 0, 194830, 0, 0, 0, 0, 0, 0, 0,
-        0, 0, 2272, 0, 2208, 0, 0, 0, 0, 0, 0, 0, 0, 0, 0, 0, 0, 0, 0, 0, 0,
-        0, 48, 0, 0, 2272, 0, 0, 0, 0, 0, 0, 0, 0, 0, 0, 0, 0, 0, 0, 0, 0,
-        0, 0, 0, 0, 0, 0, 2349, 0, 0, 0, 0, 0, 0, 0, 0, 0, 0, 0, 211278, 0, 0,
-        0, 48, 0, 0, 0, 0, 2413, 0, 0, 0, 0, 0, 0, 0, 0, 0, 0, 0, 0, 0, 0,
-        2599, 0, 0, 0, 0, 0, 0, 0, 0, 0, 0, 0, 0, 0, 0, 0, 0, 0, 0, 0, 0,
-        2663, 0, 0, 0, 0, 15, 0, 0, 0, 0, 0, 0, 4144, 0, 0, 0, 0, 0, 0, 0, 0,
-        0, 0, 2766, 0, 0, 0, 0, 0, 0, 0, 0, 0, 0, 0, 0, 0, 0, 0, 0, 0, 0,
-        0, 0, 2727, 0, 0, 0, 0, 0, 0, 0, 0, 0, 0, 0, 0, 0, 0, 0, 0, 0, 0,
-        0, 48, 0, 0, 0, 0, 0, 0, 0, 0, 0, 0, 0, 0, 0, 0, 0, 0, 0, 0, 0,
-        0, 44, 0, 0, 0, 0, 2797, 0, 0, 0, 0, 0, 0, 0, 0, 0, 0, 0, 0, 0, 0,
-        0, 48, 0, 0, 0, 0, 0, 0, 0, 0, 0, 0, 0, 0, 0, 0, 0, 0, 0, 0, 0,
-        0, 0, 0, 0, 0, 0, 0, 0, 46, 47, 0, 0, 0, 0, 0, 0, 0, 0, 0, 0, 0,
-        0, 0, 0, 0, 0, 0, 0, 48, 0, 0, 0, 0, 0, 0, 0, 0, 0, 0, 0, 0, 0,
-        0, 0, 0, 0, 0, 0, 0, 48, 0, 0, 0, 0, 0, 0, 0, 0, 0, 0, 0, 0, 0,
-    ]
-}
-
-// The letter that a word awaits, or 0: 0 is no word, 1 to 16 are names by their letters so far, and from 17 on stand the keywords' letters
-// after the first.
-pub fn letter_table() -> [u8; 60]
-    ensures { λ r. ⌜ r ≡ letterTable ⌝ }
-{
-    [
-        0, 0, 0, 0, 0, 0, 0, 0, 0, 0, 0, 0, 0, 0, 0, 0, 0,
-        89, 80, 69, 0,
-        78, 0,
-        78, 80, 85, 84, 0,
-        69, 84, 0,
-        78, 73, 84, 0,
-        69, 67, 0,
-        70, 0,
-        65, 84, 67, 72, 69, 83, 0,
-        72, 69, 78, 0,
-        76, 83, 69, 0,
-        69, 76, 65, 89, 0,
-    ]
 }
 
 pub fn no_stack() -> [u8; 65536]
@@ -134,30 +44,59 @@ fn resume(word: u8, depth: usize, stack: &[u8; 65536]) -> Moved
     ensures { λ r. ⌜ Stepped (back (stackOf depth (now (stack .entry))) (wordOf word)) depth (r .ok) (r .state) (r .word) (r .depth) (now (stack .entry)) ⌝ }
 {
     if depth == 0 {
-        return Moved { ok: true, state: 16, word, depth };
+        return Moved {
+            ok: true,
+            state: 16,
+            word,
+            depth,
+        };
     }
-    Moved { ok: true, state: stack[depth - 1], word, depth: depth - 1 }
+    Moved {
+        ok: true,
+        state: stack[depth - 1],
+        word,
+        depth: depth - 1,
+    }
 }
 
-// A byte that begins a token, by its row.
-fn take_row(row: u32, state: u8, depth: usize, stack: &mut [u8; 65536]) -> Moved
-    requires { ⌜ Ready state 0 depth (now stack) × RowFits row ⌝ }
-    ensures { λ r. ⌜ Stepped (decoded row (stackOf depth (now (stack .entry)))) depth (r .ok) (r .state) (r .word) (r .depth) (now (stack .exit)) ⌝ }
+// A byte that begins a token: the next state and one, the state that waits and one, and the word that is begun.
+fn take_row(
+    next: u8,
+    waits: u8,
+    word: u8,
+    state: u8,
+    depth: usize,
+    stack: &mut [u8; 65536],
+) -> Moved
+    requires { ⌜ Ready state word depth (now stack) × (next ≤ 48) × (waits ≤ 47) ⌝ }
+    ensures { λ r. ⌜ Stepped (follows next waits word (stackOf depth (now (stack .entry)))) depth (r .ok) (r .state) (r .word) (r .depth) (now (stack .exit)) ⌝ }
 {
-    let next = (row % 64) as u8;
-    let waits = (row / 64 % 64) as u8;
-    let word = (row / 4096 % 64) as u8;
     if next == 0 {
-        return Moved { ok: false, state, word: 0, depth };
+        return Moved {
+            ok: false,
+            state,
+            word,
+            depth,
+        };
     }
     if next == 48 {
         return resume(word, depth, stack);
     }
     if waits == 0 {
-        return Moved { ok: true, state: next - 1, word, depth };
+        return Moved {
+            ok: true,
+            state: next - 1,
+            word,
+            depth,
+        };
     }
     stack[depth] = waits - 1;
-    Moved { ok: true, state: next - 1, word, depth: depth + 1 }
+    Moved {
+        ok: true,
+        state: next - 1,
+        word,
+        depth: depth + 1,
+    }
 }
 
 // A letter after a name's letters or a whole keyword.
@@ -165,12 +104,22 @@ fn go_on(class: u8, state: u8, word: u8, depth: usize) -> Moved
     requires { ⌜ word < 60 ⌝ }
     ensures { λ r. ⌜ Worded (λ q K. lettered class q K word) state depth (r .ok) (r .state) (r .word) (r .depth) ⌝ }
 {
-    if class == 12 {
+    if class == 10 {
         if word < 16 {
-            return Moved { ok: true, state, word: word + 1, depth };
+            return Moved {
+                ok: true,
+                state,
+                word: word + 1,
+                depth,
+            };
         }
     }
-    Moved { ok: false, state, word, depth }
+    Moved {
+        ok: false,
+        state,
+        word,
+        depth,
+    }
 }
 
 // A letter where a keyword awaits one.
@@ -179,26 +128,82 @@ fn spell(b: u8, letter: u8, state: u8, word: u8, depth: usize) -> Moved
     ensures { λ r. ⌜ Worded (spelledOut b letter word) state depth (r .ok) (r .state) (r .word) (r .depth) ⌝ }
 {
     if b == letter {
-        return Moved { ok: true, state, word: word + 1, depth };
+        return Moved {
+            ok: true,
+            state,
+            word: word + 1,
+            depth,
+        };
     }
-    Moved { ok: false, state, word, depth }
+    Moved {
+        ok: false,
+        state,
+        word,
+        depth,
+    }
+}
+
+// A byte of a class that a token can begin with.
+fn begin(
+    class: u8,
+    state: u8,
+    depth: usize,
+    stack: &mut [u8; 65536],
+    nexts: &[[u8; 18]; 47],
+    waits: &[[u8; 18]; 47],
+    words: &[[u8; 18]; 47],
+) -> Moved
+    requires { ⌜ Ready state 0 depth (now stack) × (class < 18) × Tables (now nexts) (now waits) (now words) ⌝ }
+    ensures { λ r. ⌜ Stepped (entered class (stateOf state) (stackOf depth (now (stack .entry)))) depth (r .ok) (r .state) (r .word) (r .depth) (now (stack .exit)) ⌝ }
+{
+    let row = wide(state);
+    let column = wide(class);
+    take_row(
+        nexts[row][column],
+        waits[row][column],
+        words[row][column],
+        state,
+        depth,
+        stack,
+    )
 }
 
 // A byte where a word can end.
-fn follow(class: u8, state: u8, word: u8, depth: usize, stack: &mut [u8; 65536], rows: &[u32; 987]) -> Moved
-    requires { ⌜ Ready state word depth (now stack) × (class < 21) × (now rows ≡ rowTable) ⌝ }
+fn follow(
+    class: u8,
+    state: u8,
+    word: u8,
+    depth: usize,
+    stack: &mut [u8; 65536],
+    nexts: &[[u8; 18]; 47],
+    waits: &[[u8; 18]; 47],
+    words: &[[u8; 18]; 47],
+) -> Moved
+    requires { ⌜ Ready state word depth (now stack) × (class < 21) × Tables (now nexts) (now waits) (now words) ⌝ }
     ensures { λ r. ⌜ Stepped (followed class (stateOf state) (stackOf depth (now (stack .entry))) word) depth (r .ok) (r .state) (r .word) (r .depth) (now (stack .exit)) ⌝ }
 {
-    if class == 11 {
-        return Moved { ok: true, state, word: 0, depth };
+    if class == 19 {
+        return Moved {
+            ok: true,
+            state,
+            word: 0,
+            depth,
+        };
     }
     if word != 0 {
-        if 12 <= class {
+        if 10 <= class {
             return go_on(class, state, word, depth);
         }
     }
-    let row = rows[wide(state) * 21 + wide(class)];
-    take_row(row, state, depth, stack)
+    if 18 <= class {
+        return Moved {
+            ok: false,
+            state,
+            word,
+            depth,
+        };
+    }
+    begin(class, state, depth, stack, nexts, waits, words)
 }
 
 // One byte of the text.
@@ -208,18 +213,28 @@ pub fn step(
     word: u8,
     depth: usize,
     stack: &mut [u8; 65536],
-    classes: &[u8; 256],
-    rows: &[u32; 987],
+    nexts: &[[u8; 18]; 47],
+    waits: &[[u8; 18]; 47],
+    words: &[[u8; 18]; 47],
     letters: &[u8; 60],
 ) -> Moved
-    requires { ⌜ Ready state word depth (now stack) × Tables (now classes) (now rows) (now letters) ⌝ }
+    requires { ⌜ Ready state word depth (now stack) × Tables (now nexts) (now waits) (now words) × (now letters ≡ letterTable) ⌝ }
     ensures { λ r. ⌜ Stepped (onByte b (stateOf state) (stackOf depth (now (stack .entry))) (wordOf word)) depth (r .ok) (r .state) (r .word) (r .depth) (now (stack .exit)) ⌝ }
 {
     let letter = letters[wide(word)];
     if letter != 0 {
         return spell(b, letter, state, word, depth);
     }
-    follow(classes[wide(b)], state, word, depth, stack, rows)
+    follow(
+        classes::class_of(b),
+        state,
+        word,
+        depth,
+        stack,
+        nexts,
+        waits,
+        words,
+    )
 }
 
 // How many bytes of a text are read.
@@ -254,16 +269,27 @@ pub fn first_illegal(text: &[u8]) -> Illegal
 {
     let all = text.len();
     let stop = reach(all);
-    let classes = class_table();
-    let rows = row_table();
-    let letters = letter_table();
+    let nexts = tables::next_table();
+    let waits = tables::waits_table();
+    let words = tables::word_table();
+    let letters = tables::letter_table();
     let mut stack = no_stack();
     let mut state = 0;
     let mut word = 0;
     let mut depth = 0;
     let mut i = 0;
     while i < stop {
-        let moved = step(text[i], state, word, depth, &mut stack, &classes, &rows, &letters);
+        let moved = step(
+            text[i],
+            state,
+            word,
+            depth,
+            &mut stack,
+            &nexts,
+            &waits,
+            &words,
+            &letters,
+        );
         if !moved.ok {
             return Illegal::At(i);
         }

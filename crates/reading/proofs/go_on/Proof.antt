@@ -1,25 +1,24 @@
-use Rattle.reading.proofs.Steps.{goes-on, too-long, no-capital}
 use borrow.Author.Needs.{needs}
 use Rattle.reading.proofs.go_on.Statement.{statement}
 use Rattle.reading.proofs.go_on.Tie as tie
 use Rattle.reading.proofs.go_on.Reads as reads
 use Rattle.reading.proofs.go_on.Lts as lts
 
--- src/lib.rt:170:51
+-- src/lib.rt:112:23
 add-t7 : tie.Need-add-t7
 add-t7 c = search needs
 
--- src/lib.rt:170:13
+-- src/lib.rt:109:13
 returns : tie.Need-returns
-returns c = goes-on _ _ _ _ (c .before .if1 .taken) (c .if2 .taken)
+returns c = ?
 
--- src/lib.rt:164:1
+-- src/lib.rt:103:1
 returns-2 : tie.Need-returns-2
-returns-2 c = too-long _ _ _ _ (c .before .if1 .taken) (search needs) (c .before .before .pre)
+returns-2 c = ?
 
--- src/lib.rt:164:1
+-- src/lib.rt:103:1
 returns-3 : tie.Need-returns-3
-returns-3 c = no-capital _ _ _ _ (c .if1 .left) (c .before .pre)
+returns-3 c = ?
 
 pub go-on-spec : {M : Type 1} → statement M
 go-on-spec = tie.close (tie.spec add-t7 returns returns-2 returns-3)

@@ -1,0 +1,11 @@
+use Rattle.reading.proofs.tables.next_table.Statement.{statement}
+use Rattle.reading.proofs.tables.next_table.Tie as tie
+use Rattle.reading.proofs.tables.next_table.Reads as reads
+use Rattle.reading.proofs.tables.next_table.Lts as lts
+
+-- src/tables.rt:7:1
+returns : tie.Need-returns
+returns c = ?
+
+pub next-table-spec : {M : Type 1} → statement M
+next-table-spec = tie.close (tie.spec returns)

@@ -1,0 +1,11 @@
+use Rattle.reading.proofs.tables.waits_table.Statement.{statement}
+use Rattle.reading.proofs.tables.waits_table.Tie as tie
+use Rattle.reading.proofs.tables.waits_table.Reads as reads
+use Rattle.reading.proofs.tables.waits_table.Lts as lts
+
+-- src/tables.rt:62:1
+returns : tie.Need-returns
+returns c = ?
+
+pub waits-table-spec : {M : Type 1} → statement M
+waits-table-spec = tie.close (tie.spec returns)

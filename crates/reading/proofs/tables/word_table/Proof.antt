@@ -1,0 +1,11 @@
+use Rattle.reading.proofs.tables.word_table.Statement.{statement}
+use Rattle.reading.proofs.tables.word_table.Tie as tie
+use Rattle.reading.proofs.tables.word_table.Reads as reads
+use Rattle.reading.proofs.tables.word_table.Lts as lts
+
+-- src/tables.rt:117:1
+returns : tie.Need-returns
+returns c = ?
+
+pub word-table-spec : {M : Type 1} → statement M
+word-table-spec = tie.close (tie.spec returns)
