@@ -1,3 +1,4 @@
+use Rattle.reading.proofs.Steps.{goes-on, too-long, stays}
 use borrow.Author.Needs.{needs}
 use Rattle.reading.proofs.go_on.Statement.{statement}
 use Rattle.reading.proofs.go_on.Tie as tie
@@ -10,15 +11,15 @@ add-t7 c = search needs
 
 -- src/lib.rt:109:13
 returns : tie.Need-returns
-returns c = ?
+returns c = goes-on _ _ _ _ (c .before .if1 .taken) (c .if2 .taken)
 
 -- src/lib.rt:103:1
 returns-2 : tie.Need-returns-2
-returns-2 c = ?
+returns-2 c = too-long _ _ _ _ (c .before .if1 .taken) (c .if2 .left) (c .before .before .pre)
 
 -- src/lib.rt:103:1
 returns-3 : tie.Need-returns-3
-returns-3 c = ?
+returns-3 c = stays _ _ _ _ (c .if1 .left) (c .before .pre)
 
 pub go-on-spec : {M : Type 1} → statement M
 go-on-spec = tie.close (tie.spec add-t7 returns returns-2 returns-3)

@@ -1,3 +1,4 @@
+use Rattle.reading.proofs.Steps.{right-letter, wrong-letter}
 use borrow.Author.Needs.{needs}
 use Rattle.reading.proofs.spell.Statement.{statement}
 use Rattle.reading.proofs.spell.Tie as tie
@@ -10,11 +11,11 @@ add-t7 c = search needs
 
 -- src/lib.rt:131:9
 returns : tie.Need-returns
-returns c = ?
+returns c = right-letter _ _ _ _ _ (c .before .pre) (c .if1 .taken)
 
 -- src/lib.rt:126:1
 returns-2 : tie.Need-returns-2
-returns-2 c = ?
+returns-2 c = wrong-letter _ _ _ _ _ (c .before .pre) (c .if1 .left)
 
 pub spell-spec : {M : Type 1} → statement M
 spell-spec = tie.close (tie.spec add-t7 returns returns-2)

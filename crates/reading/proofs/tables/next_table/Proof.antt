@@ -1,3 +1,5 @@
+use mathlib.Core.Path.{refl}
+use Rattle.reading.specs.Coded.{nextTable}
 use Rattle.reading.proofs.tables.next_table.Statement.{statement}
 use Rattle.reading.proofs.tables.next_table.Tie as tie
 use Rattle.reading.proofs.tables.next_table.Reads as reads
@@ -5,7 +7,8 @@ use Rattle.reading.proofs.tables.next_table.Lts as lts
 
 -- src/tables.rt:7:1
 returns : tie.Need-returns
-returns c = ?
+unfolding nextTable
+returns c = refl
 
 pub next-table-spec : {M : Type 1} → statement M
 next-table-spec = tie.close (tie.spec returns)

@@ -1,3 +1,5 @@
+use mathlib.Core.Path.{refl}
+use Rattle.reading.specs.Coded.{waitsTable}
 use Rattle.reading.proofs.tables.waits_table.Statement.{statement}
 use Rattle.reading.proofs.tables.waits_table.Tie as tie
 use Rattle.reading.proofs.tables.waits_table.Reads as reads
@@ -5,7 +7,8 @@ use Rattle.reading.proofs.tables.waits_table.Lts as lts
 
 -- src/tables.rt:62:1
 returns : tie.Need-returns
-returns c = ?
+unfolding waitsTable
+returns c = refl
 
 pub waits-table-spec : {M : Type 1} → statement M
 waits-table-spec = tie.close (tie.spec returns)
