@@ -101,13 +101,13 @@ module _ (b : ℕ) (q : State) (K : List State) where
   capital-begun : kindOf b ≡ isUpper → begin b q K ≡ begun (11 + position b capitals) q K
   capital-begun h =
       choose b 84 (λ x. begin b q K ≡ begun (11 + x) q K) 0 (suc (position b (73 ∷ 76 ∷ 82 ∷ 77 ∷ 69 ∷ 68 ∷ []))) (λ e. by-byte (alike-upper b h ∙ e))
-        (λ n84. choose b 73 (λ x. begin b q K ≡ begun (11 + suc (x)) q K) 0 (suc (position b (76 ∷ 82 ∷ 77 ∷ 69 ∷ 68 ∷ []))) (λ e. by-byte (alike-upper b h ∙ e))
-        (λ n73. choose b 76 (λ x. begin b q K ≡ begun (11 + suc (suc (x))) q K) 0 (suc (position b (82 ∷ 77 ∷ 69 ∷ 68 ∷ []))) (λ e. by-byte (alike-upper b h ∙ e))
-        (λ n76. choose b 82 (λ x. begin b q K ≡ begun (11 + suc (suc (suc (x)))) q K) 0 (suc (position b (77 ∷ 69 ∷ 68 ∷ []))) (λ e. by-byte (alike-upper b h ∙ e))
-        (λ n82. choose b 77 (λ x. begin b q K ≡ begun (11 + suc (suc (suc (suc (x))))) q K) 0 (suc (position b (69 ∷ 68 ∷ []))) (λ e. by-byte (alike-upper b h ∙ e))
-        (λ n77. choose b 69 (λ x. begin b q K ≡ begun (11 + suc (suc (suc (suc (suc (x)))))) q K) 0 (suc (position b (68 ∷ []))) (λ e. by-byte (alike-upper b h ∙ e))
-        (λ n69. choose b 68 (λ x. begin b q K ≡ begun (11 + suc (suc (suc (suc (suc (suc (x))))))) q K) 0 (suc (0)) (λ e. by-byte (alike-upper b h ∙ e))
-        (λ n68. ap (λ r. enter r K) (ap (λ n. find n (rows q)) (alike-upper b h) ∙ none-found b (rows q) (λ l e. other-capital b l h e n84 n73 n76 n82 n77 n69 n68)))))))))
+      (λ n84. choose b 73 (λ x. begin b q K ≡ begun (11 + suc (x)) q K) 0 (suc (position b (76 ∷ 82 ∷ 77 ∷ 69 ∷ 68 ∷ []))) (λ e. by-byte (alike-upper b h ∙ e))
+      (λ n73. choose b 76 (λ x. begin b q K ≡ begun (11 + suc (suc (x))) q K) 0 (suc (position b (82 ∷ 77 ∷ 69 ∷ 68 ∷ []))) (λ e. by-byte (alike-upper b h ∙ e))
+      (λ n76. choose b 82 (λ x. begin b q K ≡ begun (11 + suc (suc (suc (x)))) q K) 0 (suc (position b (77 ∷ 69 ∷ 68 ∷ []))) (λ e. by-byte (alike-upper b h ∙ e))
+      (λ n82. choose b 77 (λ x. begin b q K ≡ begun (11 + suc (suc (suc (suc (x))))) q K) 0 (suc (position b (69 ∷ 68 ∷ []))) (λ e. by-byte (alike-upper b h ∙ e))
+      (λ n77. choose b 69 (λ x. begin b q K ≡ begun (11 + suc (suc (suc (suc (suc (x)))))) q K) 0 (suc (position b (68 ∷ []))) (λ e. by-byte (alike-upper b h ∙ e))
+      (λ n69. choose b 68 (λ x. begin b q K ≡ begun (11 + suc (suc (suc (suc (suc (suc (x))))))) q K) 0 (suc (0)) (λ e. by-byte (alike-upper b h ∙ e))
+      (λ n68. ap (λ r. enter r K) (ap (λ n. find n (rows q)) (alike-upper b h) ∙ none-found b (rows q) (λ l e. other-capital b l h e n84 n73 n76 n82 n77 n69 n68)))))))))
 
   pub fresh-class : (k : Kind) → kindOf b ≡ k → fresh k b q K ≡ followed (kindClass k b) q K 0
   fresh-class (isSymbol s) h =
@@ -129,8 +129,7 @@ module _ (b : ℕ) (q : State) (K : List State) where
   further-class w n isLower h = sym (rw (ne-eqb w 0 n))
   further-class w n isUpper h =
       sym
-      (rw
-      (
+      (rw (
         ne-eqb (11 + position b capitals) 19 (λ e. omega (arith, position-below b capitals)),
         ne-eqb w 0 n,
         le-leb 10 (11 + position b capitals) (omega arith),

@@ -211,18 +211,17 @@ module _ (class state s c : ℕ) (nexts waits words : List (List ℕ)) (few : st
 
     pub rows-fit : {depth : ℕ} {stack : List ℕ} → Ready state 0 depth stack
         → Ready state (getD (getD words s []) c 0) depth stack × (getD (getD nexts s []) c 0 ≤ 48) × (getD (getD waits s []) c 0 ≤ 47)
-    rows-fit r =
-        (
-          record {
-            few-states = r .few-states;
-            few-words = subst (λ x. x < 60) (sym word-read) (row-word-below row);
-            room = r .room;
-            long = r .long;
-            waiting = r .waiting;
-          },
-          subst (λ x. x ≤ 48) (sym next-read) (row-next-below row),
-          subst (λ x. x ≤ 47) (sym waits-read) (row-waits-below row),
-        )
+    rows-fit r = (
+      record {
+        few-states = r .few-states;
+        few-words = subst (λ x. x < 60) (sym word-read) (row-word-below row);
+        room = r .room;
+        long = r .long;
+        waiting = r .waiting;
+      },
+      subst (λ x. x ≤ 48) (sym next-read) (row-next-below row),
+      subst (λ x. x ≤ 47) (sym waits-read) (row-waits-below row),
+    )
 
     pub rows-followed : (K : List State)
         → entered class (stateOf state) K ≡ follows (getD (getD nexts s []) c 0) (getD (getD waits s []) c 0) (getD (getD words s []) c 0) K

@@ -1,22 +1,18 @@
+-- The three ends of a text.
+-- Assumes nothing.
 use Rattle.reading.proofs.Steps.{past-limit, word-unfinished, text-whole, text-unfinished}
 use Rattle.reading.proofs.conclude.Statement.{statement}
 use Rattle.reading.proofs.conclude.Tie as tie
-use Rattle.reading.proofs.conclude.Reads as reads
-use Rattle.reading.proofs.conclude.Lts as lts
 
--- src/lib.rt:255:9
 returns : tie.Need-returns
 returns c = past-limit (c .before .args .all) (c .before .args .state) (c .before .args .letter) (c .if1 .taken)
 
--- src/lib.rt:258:9
 returns-2 : tie.Need-returns-2
 returns-2 c = word-unfinished (c .before .before .args .all) (c .before .before .args .state) (c .before .before .args .letter) (c .before .if1 .left) (c .if2 .taken)
 
--- src/lib.rt:261:9
 returns-3 : tie.Need-returns-3
 returns-3 c = text-whole (c .before .before .before .args .all) (c .before .before .before .args .state) (c .before .before .before .args .letter) (c .before .before .if1 .left) (c .before .if2 .left) (c .if3 .taken)
 
--- src/lib.rt:251:1
 returns-4 : tie.Need-returns-4
 returns-4 c = text-unfinished (c .before .before .before .args .all) (c .before .before .before .args .state) (c .before .before .before .args .letter) (c .before .before .if1 .left) (c .before .if2 .left) (c .if3 .left)
 

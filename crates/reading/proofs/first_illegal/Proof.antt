@@ -1,21 +1,12 @@
+-- What is left to read is what the machine has left to read; the depth is at most the number of bytes read, so the stack has room.
+-- Assumes nothing.
 use Prim.Native.Nat.{_-_, _≤_}
-use native.Mathlib.Omega.{arith}
 use borrow.Author.Needs.{needs}
-use Rattle.reading.specs.Coded.{Ready}
+use native.Mathlib.Omega.{arith}
 use Rattle.reading.proofs.Loop.{Left, at-first, ready-first, ready-next, byte-after, byte-refused, all-read, letter-at}
 use Rattle.reading.proofs.first_illegal.Statement.{statement}
 use Rattle.reading.proofs.first_illegal.Tie as tie
-use Rattle.reading.proofs.first_illegal.Reads as reads
-use Rattle.reading.proofs.first_illegal.Lts as lts
-use Rattle.reading.proofs.conclude.Reads as conclude-reads
-use Rattle.reading.proofs.no_stack.Reads as no-stack-reads
-use Rattle.reading.proofs.reach.Reads as reach-reads
-use Rattle.reading.proofs.step.Reads as step-reads
-use Rattle.reading.proofs.tables.letter_table.Reads as letter-table-reads
-use Rattle.reading.proofs.tables.next_table.Reads as next-table-reads
-use Rattle.reading.proofs.tables.waits_table.Reads as waits-table-reads
-use Rattle.reading.proofs.tables.word_table.Reads as word-table-reads
-use Rattle.reading.proofs.wide.Reads as wide-reads
+use Rattle.reading.specs.Coded.{Ready}
 
 abbrev Inv-loop : tie.InvT-loop
 Inv-loop text all stop nexts waits words letters stack₀ state₀ word₀ depth₀ i₀ stack state word depth i =
@@ -25,71 +16,54 @@ abbrev μ-loop : tie.MeasureT-loop
 μ-loop text all stop nexts waits words letters stack₀ state₀ word₀ depth₀ i₀ stack state word depth i =
     stop - i
 
--- src/lib.rt:271:9
 reach-requires : tie.Need-reach-requires Inv-loop μ-loop
 reach-requires c κs = search needs
 
--- src/lib.rt:272:17
 next-table-requires : tie.Need-next-table-requires Inv-loop μ-loop
 next-table-requires c κs = search needs
 
--- src/lib.rt:273:17
 waits-table-requires : tie.Need-waits-table-requires Inv-loop μ-loop
 waits-table-requires c κs = search needs
 
--- src/lib.rt:274:17
 word-table-requires : tie.Need-word-table-requires Inv-loop μ-loop
 word-table-requires c κs = search needs
 
--- src/lib.rt:275:19
 letter-table-requires : tie.Need-letter-table-requires Inv-loop μ-loop
 letter-table-requires c κs = search needs
 
--- src/lib.rt:276:21
 no-stack-requires : tie.Need-no-stack-requires Inv-loop μ-loop
 no-stack-requires c κs = search needs
 
--- src/lib.rt:281:5
 loop-holds : tie.Need-loop-holds Inv-loop μ-loop
 loop-holds c = (at-first (c .before .before .before .before .before .before .before .args .text .now) (c .no-stack .result), search needs, search needs, ready-first _ (c .no-stack .ensures))
 
--- src/lib.rt:283:13
 shared-slice-read-step : tie.Need-shared-slice-read-step Inv-loop μ-loop
 shared-slice-read-step c = search needs
 
--- src/lib.rt:282:13
 step-requires : tie.Need-step-requires Inv-loop μ-loop
 step-requires c κs = (c .before .before .before .before .before .before .before .loop .inv .3, record { nexts-right = c .before .before .before .before .before .before .before .before .before .before .before .before .next-table .ensures; waits-right = c .before .before .before .before .before .before .before .before .before .before .before .waits-table .ensures; words-right = c .before .before .before .before .before .before .before .before .before .before .word-table .ensures }, c .before .before .before .before .before .before .before .before .before .letter-table .ensures)
 
--- src/lib.rt:294:13
 returns : tie.Need-returns Inv-loop μ-loop
 returns c = byte-refused (c .before .before .before .before .before .before .before .before .before .before .before .before .before .before .before .before .before .before .args .text .now) (c .before .before .before .before .before .before .before .before .before .before .loop .i) (c .before .before .before .before .before .before .before .before .before .before .loop .state) (c .before .before .before .before .before .before .before .before .before .before .loop .word) (c .before .before .before .before .before .before .before .before .before .before .loop .depth) (c .before .before .before .before .before .before .before .before .before .before .loop .stack) (c .before .before .before .before .before .before .before .before .before .before .loop .inv .0) (search needs) _ _ _ _ _ (c .before .before .step .ensures) (c .if1 .taken)
 
--- src/lib.rt:299:9
 add-i : tie.Need-add-i Inv-loop μ-loop
 add-i c = search needs
 
--- src/lib.rt:281:5
 loop-less : tie.Need-loop-less Inv-loop μ-loop
 loop-less c = search needs
 
--- src/lib.rt:281:5
 loop-again : tie.Need-loop-again Inv-loop μ-loop
 loop-again c = (byte-after (c .before .before .before .before .before .before .before .before .before .before .before .before .before .before .before .before .before .before .args .text .now) (c .before .before .before .before .before .before .before .before .before .before .loop .i) (c .before .before .before .before .before .before .before .before .before .before .loop .state) (c .before .before .before .before .before .before .before .before .before .before .loop .word) (c .before .before .before .before .before .before .before .before .before .before .loop .depth) (c .before .before .before .before .before .before .before .before .before .before .loop .stack) (c .before .before .before .before .before .before .before .before .before .before .loop .inv .0) (search needs) _ _ _ _ _ (c .before .before .step .ensures) (c .if1 .left), search needs, (let h = c .before .before .step .ensures .higher in omega arith), ready-next (c .before .before .before .before .before .before .before .before .before .before .loop .i) (c .before .before .step .ensures) (c .before .before .before .before .before .before .before .before .before .before .loop .inv .2) (search needs))
 
--- src/lib.rt:301:34
 wide-requires : tie.Need-wide-requires Inv-loop μ-loop
 wide-requires c κs = search needs
 
--- src/lib.rt:301:26
 array-read-conclude : tie.Need-array-read-conclude Inv-loop μ-loop
 array-read-conclude c = (let h = c .before .before .loop .inv .3 .few-words in omega (arith, c .wide .ensures))
 
--- src/lib.rt:301:5
 conclude-requires : tie.Need-conclude-requires Inv-loop μ-loop
 conclude-requires c κs = search needs
 
--- src/lib.rt:267:1
 returns-2 : tie.Need-returns-2 Inv-loop μ-loop
 returns-2 c = all-read (c .before .before .before .before .before .before .before .before .before .before .before .args .text .now) (c .before .before .before .loop .i) (c .before .before .before .loop .state) (c .before .before .before .loop .word) (c .before .before .before .loop .depth) (c .before .before .before .loop .stack) (c .before .before .before .loop .inv .0) (search needs) (c .before .before .before .loop .inv .3) _ (letter-at _ _ _ (c .before .before .before .before .before .letter-table .ensures) (c .before .wide .ensures)) _ (c .conclude .ensures)
 

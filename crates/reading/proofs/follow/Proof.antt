@@ -1,34 +1,26 @@
+-- By the byte's class: a blank, a letter inside a word, or a token's first byte.
+-- Assumes nothing.
+use borrow.Author.Needs.{needs}
 use mathlib.Core.Logic.{⊎-elim, inl, inr}
 use Rattle.reading.proofs.Steps.{blank-follows, worded, letter-follows, refused, ready-afresh, restepped, enters}
-use borrow.Author.Needs.{needs}
 use Rattle.reading.proofs.follow.Statement.{statement}
 use Rattle.reading.proofs.follow.Tie as tie
-use Rattle.reading.proofs.follow.Reads as reads
-use Rattle.reading.proofs.follow.Lts as lts
-use Rattle.reading.proofs.begin.Reads as begin-reads
-use Rattle.reading.proofs.go_on.Reads as go-on-reads
 
--- src/lib.rt:186:9
 returns : tie.Need-returns
 returns c = blank-follows _ _ _ _ _ (c .before .pre .0) (c .if1 .taken)
 
--- src/lib.rt:195:13
 go-on-requires : tie.Need-go-on-requires
 go-on-requires c κs = search needs
 
--- src/lib.rt:195:13
 returns-2 : tie.Need-returns-2
 returns-2 c = worded _ _ _ _ _ _ (c .before .before .before .before .pre .0) (letter-follows _ _ _ _ _ (c .before .before .before .before .pre .0) (c .before .before .before .if1 .left) (c .before .before .if2 .taken) (c .before .if3 .taken)) (c .go-on .ensures)
 
--- src/lib.rt:199:9
 returns-3 : tie.Need-returns-3
 returns-3 c = refused _ _ _ _ _ (c .before .before .before .pre .0) (c .before .before .if1 .left) (⊎-elim (λ w. inl (w .0 .taken, w .1 .left)) (λ w. inr (w .left)) (c .before .if2 .came)) (c .if4 .taken)
 
--- src/lib.rt:206:5
 begin-requires : tie.Need-begin-requires
 begin-requires c κs = (ready-afresh (c .before .before .before .before .pre .0), c .before .if4 .left, c .before .before .before .before .pre .2)
 
--- src/lib.rt:172:1
 returns-4 : tie.Need-returns-4
 returns-4 c = restepped _ (enters _ _ _ _ _ (c .before .before .before .before .before .pre .0) (c .before .before .before .before .if1 .left) (⊎-elim (λ w. inl (w .0 .taken, w .1 .left)) (λ w. inr (w .left)) (c .before .before .before .if2 .came)) (c .before .before .if4 .left)) (c .begin .ensures)
 

@@ -1,19 +1,16 @@
-use Rattle.reading.proofs.Steps.{right-letter, wrong-letter}
+-- A keyword takes the letter that it awaits.
+-- Assumes nothing.
 use borrow.Author.Needs.{needs}
+use Rattle.reading.proofs.Steps.{right-letter, wrong-letter}
 use Rattle.reading.proofs.spell.Statement.{statement}
 use Rattle.reading.proofs.spell.Tie as tie
-use Rattle.reading.proofs.spell.Reads as reads
-use Rattle.reading.proofs.spell.Lts as lts
 
--- src/lib.rt:134:19
 add-t7 : tie.Need-add-t7
 add-t7 c = search needs
 
--- src/lib.rt:131:9
 returns : tie.Need-returns
 returns c = right-letter _ _ _ _ _ (c .before .pre) (c .if1 .taken)
 
--- src/lib.rt:126:1
 returns-2 : tie.Need-returns-2
 returns-2 c = wrong-letter _ _ _ _ _ (c .before .pre) (c .if1 .left)
 

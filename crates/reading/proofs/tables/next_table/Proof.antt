@@ -1,11 +1,10 @@
+-- The table is computed from the rows.
+-- Assumes nothing.
 use mathlib.Core.Path.{refl}
-use Rattle.reading.specs.Coded.{nextTable}
 use Rattle.reading.proofs.tables.next_table.Statement.{statement}
 use Rattle.reading.proofs.tables.next_table.Tie as tie
-use Rattle.reading.proofs.tables.next_table.Reads as reads
-use Rattle.reading.proofs.tables.next_table.Lts as lts
+use Rattle.reading.specs.Coded.{nextTable}
 
--- src/tables.rt:7:1
 returns : tie.Need-returns
 unfolding nextTable
 returns c = refl

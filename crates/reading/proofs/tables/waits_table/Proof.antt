@@ -1,11 +1,10 @@
+-- The table is computed from the rows.
+-- Assumes nothing.
 use mathlib.Core.Path.{refl}
-use Rattle.reading.specs.Coded.{waitsTable}
 use Rattle.reading.proofs.tables.waits_table.Statement.{statement}
 use Rattle.reading.proofs.tables.waits_table.Tie as tie
-use Rattle.reading.proofs.tables.waits_table.Reads as reads
-use Rattle.reading.proofs.tables.waits_table.Lts as lts
+use Rattle.reading.specs.Coded.{waitsTable}
 
--- src/tables.rt:62:1
 returns : tie.Need-returns
 unfolding waitsTable
 returns c = refl

@@ -1,11 +1,10 @@
+-- The table is computed from the rows.
+-- Assumes nothing.
 use mathlib.Core.Path.{refl}
-use Rattle.reading.specs.Coded.{wordTable}
 use Rattle.reading.proofs.tables.word_table.Statement.{statement}
 use Rattle.reading.proofs.tables.word_table.Tie as tie
-use Rattle.reading.proofs.tables.word_table.Reads as reads
-use Rattle.reading.proofs.tables.word_table.Lts as lts
+use Rattle.reading.specs.Coded.{wordTable}
 
--- src/tables.rt:117:1
 returns : tie.Need-returns
 unfolding wordTable
 returns c = refl
