@@ -1,5 +1,5 @@
 -- The laws that the proofs of the functions cite.
-pub mod Numbers
+pub mod RowLaws
 pub mod ClassLaws
 pub mod ByteClasses
 pub mod WordLaws

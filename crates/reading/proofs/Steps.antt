@@ -18,7 +18,7 @@ use Rattle.grammar.specs.Machine.{Config, dead, live, noWord, back, enter, find
 use Rattle.reading.specs.Coded.{stateOf, stackOf, wordOf, follows, configOf, Ready, Stepped, Worded, Tables}
 use Rattle.reading.specs.Coded.{tableOf, nextTable, waitsTable, wordTable, rowNext, rowWaits, rowWord, leadBytes, entered, begun}
 use Rattle.reading.specs.Coded.{lettered, followed, letterTable, classOf, spelledOut, conclusion}
-use Rattle.reading.proofs.Numbers.{entry-at, row-followed, row-next-below, row-waits-below, row-word-below}
+use Rattle.reading.proofs.RowLaws.{entry-at, row-followed, row-next-below, row-waits-below, row-word-below}
 use Rattle.reading.proofs.ClassLaws.{class-below}
 use Rattle.reading.proofs.WordLaws.{not-last, spelled, follows-byte}
 

@@ -16,7 +16,7 @@ use Rattle.grammar.specs.Rows.{State, stateNumber}
 use Rattle.grammar.specs.Machine.{Word, noWord, naming, spelt, Config, dead, live, onByte, further, whole, ends}
 use Rattle.reading.specs.Coded.{stateOf, letterTable, keywordLetters, untilZero, wordOf, classOf, followed}
 use Rattle.reading.proofs.ClassLaws.{fresh-class, further-class}
-use Rattle.reading.proofs.Numbers.{number-of-state}
+use Rattle.reading.proofs.RowLaws.{number-of-state}
 
 -- no letter is awaited before the keywords' numbers
 no-letter : (w : ℕ) → w < 17 → getD letterTable w 0 ≡ 0

@@ -2,6 +2,7 @@
 // There is no recursion: a text of 65,535 open brackets is read like any other.
 // States, classes of bytes and words are numbers; `grammar` has the machine that they stand for.
 mod classes;
+mod numbers;
 mod tables;
 
 ghost use mathlib.Core.Path.{_≡_};
@@ -11,6 +12,14 @@ ghost use Rattle.grammar.specs.Legal.{Told};
 ghost use Rattle.grammar.specs.Machine.{back, onByte};
 ghost use Rattle.reading.specs.Coded.{illegal, stateOf, stackOf, wordOf, letterTable, follows, entered, followed, lettered};
 ghost use Rattle.reading.specs.Coded.{spelledOut, conclusion, Ready, Stepped, Worded, Tables};
+use numbers::BACK;
+use numbers::BLANK;
+use numbers::DONE;
+use numbers::LEADS;
+use numbers::LETTERS;
+use numbers::LIMIT;
+use numbers::SMALL_LETTER;
+use numbers::wide;
 
 // Where a text leaves the grammar.
 pub enum Illegal {
@@ -26,18 +35,6 @@ pub struct Moved {
     pub depth: usize,
 }
 
-pub fn no_stack() -> [u8; 65536]
-    ensures { λ r. ⌜ length r ≡ 65536 ⌝ }
-{
-    [0; 65536]
-}
-
-fn wide(b: u8) -> usize
-    ensures { λ r. ⌜ r ≡ b ⌝ }
-{
-    b as usize
-}
-
 // Back to the state that waits.
 fn resume(word: u8, depth: usize, stack: &[u8; 65536]) -> Moved
     requires { ⌜ Ready 0 word depth (now stack) ⌝ }
@@ -46,7 +43,7 @@ fn resume(word: u8, depth: usize, stack: &[u8; 65536]) -> Moved
     if depth == 0 {
         return Moved {
             ok: true,
-            state: 16,
+            state: DONE,
             word,
             depth,
         };
@@ -79,7 +76,7 @@ fn take_row(
             depth,
         };
     }
-    if next == 48 {
+    if next == BACK {
         return resume(word, depth, stack);
     }
     if waits == 0 {
@@ -104,8 +101,8 @@ fn go_on(class: u8, state: u8, word: u8, depth: usize) -> Moved
     requires { ⌜ word < 60 ⌝ }
     ensures { λ r. ⌜ Worded (λ q K. lettered class q K word) state depth (r .ok) (r .state) (r .word) (r .depth) ⌝ }
 {
-    if class == 10 {
-        if word < 16 {
+    if class == SMALL_LETTER {
+        if word < LETTERS {
             return Moved {
                 ok: true,
                 state,
@@ -182,7 +179,7 @@ fn follow(
     requires { ⌜ Ready state word depth (now stack) × (class < 21) × Tables (now nexts) (now waits) (now words) ⌝ }
     ensures { λ r. ⌜ Stepped (followed class (stateOf state) (stackOf depth (now (stack .entry))) word) depth (r .ok) (r .state) (r .word) (r .depth) (now (stack .exit)) ⌝ }
 {
-    if class == 19 {
+    if class == BLANK {
         return Moved {
             ok: true,
             state,
@@ -191,11 +188,11 @@ fn follow(
         };
     }
     if word != 0 {
-        if 10 <= class {
+        if SMALL_LETTER <= class {
             return go_on(class, state, word, depth);
         }
     }
-    if 18 <= class {
+    if LEADS <= class {
         return Moved {
             ok: false,
             state,
@@ -241,8 +238,8 @@ pub fn step(
 fn reach(all: usize) -> usize
     ensures { λ r. ⌜ r ≡ min 65535 all ⌝ }
 {
-    if 65535 < all {
-        return 65535;
+    if LIMIT < all {
+        return LIMIT;
     }
     all
 }
@@ -251,13 +248,13 @@ fn reach(all: usize) -> usize
 fn conclude(all: usize, state: u8, letter: u8) -> Illegal
     ensures { λ r. ⌜ illegal r ≡ conclusion all state letter ⌝ }
 {
-    if 65535 < all {
-        return Illegal::At(65535);
+    if LIMIT < all {
+        return Illegal::At(LIMIT);
     }
     if letter != 0 {
         return Illegal::At(all);
     }
-    if state == 16 {
+    if state == DONE {
         return Illegal::Nowhere;
     }
     Illegal::At(all)
@@ -273,7 +270,7 @@ pub fn first_illegal(text: &[u8]) -> Illegal
     let waits = tables::waits_table();
     let words = tables::word_table();
     let letters = tables::letter_table();
-    let mut stack = no_stack();
+    let mut stack = tables::no_stack();
     let mut state = 0;
     let mut word = 0;
     let mut depth = 0;

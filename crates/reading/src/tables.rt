@@ -1,6 +1,7 @@
 // The rows of the machine in `grammar`: a line a state, an entry a class of bytes that a token begins with: ( ) , = | ? [ ] 1 2, a small
 // letter, and the capitals T I L R M E D. And the letters of the keywords.
 ghost use mathlib.Core.Path.{_≡_};
+ghost use lib.ListN.{length};
 ghost use Rattle.reading.specs.Coded.{nextTable, waitsTable, wordTable, letterTable};
 
 // The next state and one, 48 to go back to the one that waits, 0 for no step.
@@ -174,4 +175,11 @@ pub fn letter_table() -> [u8; 60]
     ensures { λ r. ⌜ r ≡ letterTable ⌝ }
 {
     *b"\0\0\0\0\0\0\0\0\0\0\0\0\0\0\0\0\0YPE\0N\0NPUT\0ET\0NIT\0EC\0F\0ATCHES\0HEN\0LSE\0ELAY\0"
+}
+
+// An empty stack: no text has more open contexts than bytes.
+pub fn no_stack() -> [u8; 65536]
+    ensures { λ r. ⌜ length r ≡ 65536 ⌝ }
+{
+    [0; 65536]
 }
