@@ -4,7 +4,7 @@
 use Prim.Native.Nat.{ℕ}
 use mathlib.Core.List.{List, [], _∷_}
 use Rattle.grammar.specs.Tokens.{Token, keyword, symbol, name, IN, LET, INIT, REC, IF, MATCHES, THEN, ELSE, DELAY}
-use Rattle.grammar.specs.Tokens.{opens, closes, comma, equals, bar, query, indexOpens}
+use Rattle.grammar.specs.Tokens.{opens, closes, comma, equals, bar, query}
 use Rattle.grammar.specs.Source.{Declaration, Constant, Pattern, Expression, Text, Name}
 use Rattle.grammar.specs.Grammar.{ReadsOthers, ReadsDeclaration, ReadsMore, ReadsText}
 use Rattle.grammar.specs.Grammar.{ReadsConstant, ReadsExpression}

@@ -1,15 +1,14 @@
 -- Where the machine reads the tokens of a text's bytes to the end, it reads the bytes to the end.
 -- Assumes nothing.
 use Prim.Native.Nat.{ℕ}
-use mathlib.Core.Path.{_≡_, refl, sym, ap, subst, _∙_}
+use mathlib.Core.Path.{_≡_, sym, ap, _∙_}
 use mathlib.Core.Bool.{true}
-use mathlib.Core.List.{List, [], _∷_}
-use Rattle.grammar.specs.Tokens.{Token, keyword, symbol, name, Symbol, isSymbol, kindOf, Tokens, no-token, a-blank, a-symbol, a-word}
-use Rattle.grammar.specs.Rows.{State, Lead, aSymbol}
-use Rattle.grammar.specs.Machine.{live, noWord, fresh, perform, tokens, bytes, ends, leadOf, leadWord, onToken, taken, find, leadByte}
-use Rattle.grammar.specs.Rows.{rows}
+use mathlib.Core.List.{List}
+use Rattle.grammar.specs.Tokens.{Token, kindOf, Tokens, no-token, a-blank, a-symbol, a-word}
+use Rattle.grammar.specs.Rows.{State, aSymbol}
+use Rattle.grammar.specs.Machine.{live, noWord, fresh, tokens, bytes, ends, leadOf, leadWord}
 use Rattle.grammar.proofs.ByteKinds.{alike-symbol}
-use Rattle.grammar.proofs.Words.{Begun, begun, through}
+use Rattle.grammar.proofs.Words.{begun, through}
 use Rattle.grammar.proofs.RowFound.{performed, by-token, begins-token, letter-begins}
 
 pub bytes-of-tokens : {i : ℕ} {bs : List ℕ} {ts : List Token} (q : State) (K : List State)

@@ -2,9 +2,9 @@
 -- wait. So what the machine has read can be continued.
 -- Assumes nothing.
 use Prim.Native.Nat.{ℕ}
-use mathlib.Core.Path.{_≡_, refl, sym, ap, _∙_}
+use mathlib.Core.Path.{_≡_, refl, ap, _∙_}
 use mathlib.Core.Bool.{Bool, true, false, cond}
-use mathlib.Core.List.{List, [], _∷_, _++_, append-assoc}
+use mathlib.Core.List.{List, [], _∷_, _++_}
 use mathlib.Core.Logic.{_⊎_, inl, inr}
 use native.Mathlib.Omega.{arith}
 use lib.Dec.{eqb}
@@ -17,7 +17,7 @@ use Rattle.grammar.specs.Rows.{inLetBound, inLetBody, initQuery, initTyp
 use Rattle.grammar.specs.Rows.{inRecBody, inTested, pattern, inMatched, inPatternFirst, inPatternSecond, inThen}
 use Rattle.grammar.specs.Rows.{inElse, delayBracket, constant, inDelayConstant, inConstantFirst, inConstantSecond}
 use Rattle.grammar.specs.Rows.{inDelayed, delayClose, index, indexOne, indexTwo}
-use Rattle.grammar.specs.Machine.{Config, dead, live, Word, noWord, naming, spelt, back, onByte, bytes, ends}
+use Rattle.grammar.specs.Machine.{dead, live, Word, noWord, naming, spelt, back, bytes, ends}
 
 -- the bytes that complete what a state is in
 abbrev closing : State → List ℕ

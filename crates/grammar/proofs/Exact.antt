@@ -1,19 +1,19 @@
 -- The machine reads to its end exactly the legal texts, and reads on exactly where some continuation is legal; so the place that it finds is
 -- the one at which the text leaves the grammar.
 -- Assumes nothing.
-use Prim.Native.Nat.{ℕ, zero, suc, _+_, _≤_, _<_}
+use Prim.Native.Nat.{ℕ, suc, _+_, _≤_, _<_}
 use native.Mathlib.Omega.{arith}
 use mathlib.Core.Path.{_≡_, refl, sym, ap, subst, _∙_}
 use mathlib.Core.Bool.{Bool, true, false, cond, not}
 use mathlib.Core.List.{List, [], _∷_, _++_}
-use mathlib.Core.Option.{Option, none, some}
+use mathlib.Core.Option.{none, some}
 use lib.ListN.{length, take, length-take}
 use lib.Seq.{take-take, take-all}
 use lib.Dec.{T, ltb, ltb→lt, nltb→le}
 use Rattle.grammar.specs.Tokens.{Token, Tokens}
-use Rattle.grammar.specs.Legal.{Legal, Viable, limit, Leaves, at-byte, at-limit, at-end, Keeps, Told}
+use Rattle.grammar.specs.Legal.{Legal, Viable, limit, Leaves, at-byte, at-limit, at-end, Told}
 use Rattle.grammar.specs.Rows.{State, start}
-use Rattle.grammar.specs.Machine.{Config, dead, live, Word, noWord, onByte, bytes, tokens, ends, begins}
+use Rattle.grammar.specs.Machine.{Config, dead, live, Word, noWord, onByte, bytes, ends, begins}
 use Rattle.grammar.specs.Walk.{Outcome, stopped, reached, onward, walk, concluded, firstIllegal}
 use Rattle.grammar.proofs.Derived.{derived}
 use Rattle.grammar.proofs.ReadToEnd.{read-to-end}

@@ -1,15 +1,15 @@
 -- Bytes have one list of tokens.
 -- Assumes nothing.
-use Prim.Native.Nat.{ℕ, suc, _+_, _≤_}
+use Prim.Native.Nat.{ℕ, _+_}
 use native.Mathlib.Omega.{arith}
 use mathlib.Core.Path.{_≡_, refl, sym, ap, ap₂, subst, subst₂, _∙_}
-use mathlib.Core.Bool.{Bool, true, false, cond}
+use mathlib.Core.Bool.{true, false, cond}
 use mathlib.Core.List.{List, [], _∷_}
 use lib.ListN.{length, getD}
 use lib.Dec.{eqb}
-use Rattle.grammar.specs.Tokens.{Token, keyword, symbol, name, Symbol, Keyword, spelling, Tokens, no-token, a-blank, a-symbol, a-word}
+use Rattle.grammar.specs.Tokens.{Token, keyword, symbol, Symbol, Keyword, spelling, Tokens, no-token, a-blank, a-symbol, a-word}
 use Rattle.grammar.specs.Tokens.{TYPE, IN, INPUT, LET, INIT, REC, IF, MATCHES, THEN, ELSE, DELAY}
-use Rattle.grammar.specs.Tokens.{Kind, isBlank, isLower, isUpper, isOther, isSymbol, kindOf, isLetter, NoLetter}
+use Rattle.grammar.specs.Tokens.{isBlank, isLower, isUpper, isSymbol, kindOf, isLetter, NoLetter}
 use Rattle.grammar.specs.Tokens.{Run, run-last, run-more, AllLower, all-none, all-more, Spells, spells-keyword, spells-name}
 
 -- no list begins with two kinds of token

@@ -1,12 +1,12 @@
 -- Tokens have one reading as declarations, as a constant and as a pattern: by induction on two derivations at once.
 -- Assumes nothing.
-use Prim.Native.Nat.{ℕ, _<_}
+use Prim.Native.Nat.{ℕ}
 use native.Mathlib.Omega.{arith}
-use mathlib.Core.Path.{_≡_, refl, sym, ap, ap₂, subst, _∙_}
+use mathlib.Core.Path.{_≡_, refl, sym, ap, ap₂, subst}
 use mathlib.Core.List.{List, [], _∷_}
-use Rattle.grammar.specs.Tokens.{Token, keyword, symbol, name, INPUT}
-use Rattle.grammar.specs.Tokens.{opens, closes, comma, equals, bar, query, indexOpens, indexCloses, one, two}
-use Rattle.grammar.specs.Source.{Name, named, Declaration, Constructors, PairOf, Constant, Both, Pattern, Alone, Parts, Either}
+use Rattle.grammar.specs.Tokens.{Token, keyword, symbol, INPUT}
+use Rattle.grammar.specs.Tokens.{closes}
+use Rattle.grammar.specs.Source.{Name, named, Declaration, Constructors, Constant, Both, Pattern, Alone, Parts, Either}
 use Rattle.grammar.specs.Grammar.{ReadsOthers, no-other, another, ReadsDeclaration, reads-constructors, reads-pair-of}
 use Rattle.grammar.specs.Grammar.{ReadsMore, no-more, one-more, ReadsConstant, reads-constructor, reads-undefined, reads-both}
 use Rattle.grammar.specs.Grammar.{ReadsPattern, reads-alone, reads-parts, reads-alone-or, reads-parts-or}

@@ -3,10 +3,10 @@
 -- Assumes nothing.
 use Prim.Native.Nat.{ℕ, _<_}
 use native.Mathlib.Omega.{arith}
-use mathlib.Core.Path.{_≡_, refl, sym, ap, ap₂, subst, subst₂, _∙_}
-use mathlib.Core.List.{List, [], _∷_}
-use Rattle.grammar.specs.Tokens.{Token, keyword, symbol, name, LET, INIT, REC, IF, MATCHES, THEN, ELSE, DELAY, IN, Keyword}
-use Rattle.grammar.specs.Tokens.{opens, closes, comma, equals, bar, query, indexOpens, indexCloses, one, two}
+use mathlib.Core.Path.{_≡_, refl, sym, ap, ap₂, subst, subst₂}
+use mathlib.Core.List.{List, _∷_}
+use Rattle.grammar.specs.Tokens.{Token, keyword, symbol, name, LET, INIT, REC, IF, MATCHES, THEN, ELSE, DELAY, IN}
+use Rattle.grammar.specs.Tokens.{opens, closes, comma, equals, query, indexOpens, indexCloses, one, two}
 use Rattle.grammar.specs.Source.{named, Declaration, Constant, Pattern, Text, text}
 use Rattle.grammar.specs.Source.{Expression, Named, UndefinedOf, Pair, First, Second, Let, LetRec, If, Delay}
 use Rattle.grammar.specs.Grammar.{ReadsMore, ReadsConstant, ReadsPattern, ReadsText, reads-text}

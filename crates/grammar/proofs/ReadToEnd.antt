@@ -1,19 +1,19 @@
 -- Tokens that the machine reads to its end are those of a text.
 -- Assumes nothing.
 use Prim.Native.Nat.{ℕ}
-use mathlib.Core.Path.{_≡_, refl, sym, ap, subst, _∙_}
+use mathlib.Core.Path.{_≡_, sym, subst}
 use mathlib.Core.Bool.{Bool, true, false, cond}
 use mathlib.Core.List.{List, [], _∷_}
 use mathlib.Core.Option.{Option, none, some}
 use native.Mathlib.Omega.{arith}
 use lib.Dec.{T, eqb, eqb→eq}
 use Rattle.grammar.specs.Tokens.{Token, keyword, symbol, name}
-use Rattle.grammar.specs.Source.{named, Declaration, Expression, Text, text}
+use Rattle.grammar.specs.Source.{named, Text, text}
 use Rattle.grammar.specs.Grammar.{ReadsText, reads-text}
-use Rattle.grammar.specs.Rows.{State, start, done, stateNumber, Lead, aSymbol, aKeyword, aName, Action, Row, on, rows}
-use Rattle.grammar.specs.Machine.{Config, dead, live, Word, noWord, naming, spelt, find, perform, taken, onToken, tokens, ends, whole}
+use Rattle.grammar.specs.Rows.{State, start, done, stateNumber, Lead, Action, Row, on, rows}
+use Rattle.grammar.specs.Machine.{Config, dead, live, Word, noWord, find, perform, taken, onToken, tokens, ends, whole}
 use Rattle.grammar.specs.Machine.{leadOf, leadByte, leadNumber}
-use Rattle.grammar.proofs.Awaiting.{Declares, Indexing, indexing, await-end}
+use Rattle.grammar.proofs.Awaiting.{Indexing, indexing, await-end}
 use Rattle.grammar.proofs.Sound.{Empty, Sound, SoundAt, Moves, Each, moves}
 use Rattle.grammar.proofs.Numbered.{same-lead, same-state}
 

@@ -10,7 +10,7 @@ use lib.Dec.{T, eqb, eqb→eq}
 use borrow.Author.Tests.{eq-eqb}
 use Rattle.grammar.specs.Tokens.{Token, Kind, isBlank, isLower, isUpper, isOther, isSymbol, isLetter}
 use Rattle.grammar.specs.Rows.{State, done, Lead, Action, go, call, return, Row, on, rows}
-use Rattle.grammar.specs.Machine.{Config, dead, live, Word, noWord, find, enter, begin, fresh, perform, taken, tokens, bytes, ends}
+use Rattle.grammar.specs.Machine.{dead, live, Word, noWord, find, enter, begin, fresh, perform, taken, tokens, bytes, ends}
 use Rattle.grammar.specs.Machine.{leadByte, leadNumber, leadWord, alike}
 use Rattle.grammar.proofs.Numbered.{same-lead}
 

@@ -4,7 +4,7 @@
 use Prim.Native.Nat.{ℕ}
 use mathlib.Core.Logic.{_⊎_, inl, inr}
 use mathlib.Core.List.{List, [], _∷_}
-use Rattle.grammar.specs.Tokens.{Token, keyword, symbol, name, TYPE, IN, INPUT, LET, INIT, REC, IF, MATCHES, THEN, ELSE, DELAY}
+use Rattle.grammar.specs.Tokens.{Token, keyword, symbol, name, TYPE, IN, INPUT, LET, INIT, REC, MATCHES, THEN, ELSE, DELAY}
 use Rattle.grammar.specs.Tokens.{opens, closes, comma, equals, bar, query, indexOpens, indexCloses, one, two}
 use Rattle.grammar.specs.Source.{named, Constant, Expression}
 use Rattle.grammar.specs.Grammar.{no-other, another, reads-constructors, reads-pair-of, no-more, one-more}
@@ -20,7 +20,7 @@ use Rattle.grammar.specs.Rows.{inRecBody, inTested, pattern, inMatched, 
 use Rattle.grammar.specs.Rows.{inElse, delayBracket, constant, inDelayConstant, inConstantFirst, inConstantSecond}
 use Rattle.grammar.specs.Rows.{inDelayed, delayClose, index, indexOne, indexTwo}
 use Rattle.grammar.specs.Machine.{Config, dead, live, noWord, back, perform}
-use Rattle.grammar.proofs.Awaiting.{Headed, Declared, Declares, Constructs, Begun, Alternative, alternative-name, alternative-parts}
+use Rattle.grammar.proofs.Awaiting.{Headed, Declared, Declares, Constructs, Alternative, alternative-name, alternative-parts}
 use Rattle.grammar.proofs.Awaiting.{alone, barred, Awaits, await-end, await-pair-first, await-pair-second, await-let-bound}
 use Rattle.grammar.proofs.Awaiting.{await-let-body, await-rec-bound, await-rec-body, await-tested, await-then, await-else}
 use Rattle.grammar.proofs.Awaiting.{await-delayed, AwaitsPattern, await-matched, await-pattern-first, await-pattern-second}

@@ -8,12 +8,12 @@ use mathlib.Core.List.{List, [], _∷_}
 use lib.ListN.{length}
 use lib.Dec.{T, eqb, eqb→eq, ltb, ltb→lt}
 use Rattle.grammar.specs.Tokens.{Token, keyword, symbol, name, Symbol, Keyword, spelling, Tokens, no-token, a-blank, a-symbol, a-word}
-use Rattle.grammar.specs.Tokens.{Kind, isBlank, isLower, isUpper, isOther, isSymbol, kindOf, isLetter, NoLetter}
-use Rattle.grammar.specs.Tokens.{TYPE, IN, INPUT, LET, INIT, REC, IF, MATCHES, THEN, ELSE, DELAY, Run, run-last, run-more, AllLower, all-none, all-more, Spells, spells-keyword, spells-name}
-use Rattle.grammar.specs.Rows.{State, Lead, aSymbol, aKeyword, aName, Action, rows}
-use Rattle.grammar.specs.Machine.{Config, dead, live, Word, noWord, naming, spelt, begin, fresh, further, onByte, bytes, ends, perform}
-use Rattle.grammar.specs.Machine.{tokens, leadByte, leadWord, firstLetter, afterFirst, alike, leadOf, onToken, taken, find}
-use Rattle.grammar.proofs.ByteKinds.{found-kind, alike-upper, leadKind}
+use Rattle.grammar.specs.Tokens.{Kind, isBlank, isLower, isUpper, isOther, isSymbol, kindOf, isLetter}
+use Rattle.grammar.specs.Tokens.{TYPE, IN, INPUT, LET, INIT, REC, IF, MATCHES, THEN, ELSE, DELAY, Run, run-last, run-more, AllLower, all-none, all-more, spells-keyword, spells-name}
+use Rattle.grammar.specs.Rows.{State, Lead, aSymbol, aKeyword, aName, rows}
+use Rattle.grammar.specs.Machine.{dead, live, Word, noWord, naming, spelt, fresh, further, bytes, ends}
+use Rattle.grammar.specs.Machine.{tokens, leadByte, leadWord, firstLetter, afterFirst, alike, leadOf, taken, find}
+use Rattle.grammar.proofs.ByteKinds.{found-kind, alike-upper}
 use Rattle.grammar.proofs.Words.{Continued, no-word, name-end, name-more, keyword-end, keyword-more}
 use Rattle.grammar.proofs.RowFound.{performed, ByByte, by-byte, takes-token, dead-bytes}
 

@@ -1,19 +1,19 @@
 -- A word that the machine has begun goes on to its end: `Continued w bs v rest` says that after w the bytes bs go on with the letters v, which
 -- end the word, and rest. Both directions between bytes and tokens go through it.
 -- Assumes nothing.
-use Prim.Native.Nat.{ℕ, suc, _+_, _≤_, _<_}
+use Prim.Native.Nat.{ℕ, _+_, _≤_, _<_}
 use native.Mathlib.Omega.{arith}
-use mathlib.Core.Path.{_≡_, refl, sym, ap, subst, _∙_}
-use mathlib.Core.Bool.{Bool, true, false, cond}
+use mathlib.Core.Path.{_≡_, refl, ap, subst, _∙_}
+use mathlib.Core.Bool.{true, false, cond}
 use mathlib.Core.List.{List, [], _∷_}
 use lib.ListN.{length}
-use lib.Dec.{T, eqb, ltb}
+use lib.Dec.{ltb}
 use borrow.Author.Tests.{eq-eqb, lt-ltb}
 use Rattle.grammar.specs.Tokens.{Kind, isBlank, isLower, isUpper, isOther, isSymbol, kindOf, isLetter, NoLetter}
 use Rattle.grammar.specs.Tokens.{Run, run-last, run-more, AllLower, all-more, Spells, spells-keyword, spells-name}
-use Rattle.grammar.specs.Tokens.{Token, keyword, name, Keyword, spelling}
+use Rattle.grammar.specs.Tokens.{Token, Keyword, spelling}
 use Rattle.grammar.specs.Rows.{State, Lead, aKeyword, aName}
-use Rattle.grammar.specs.Machine.{Config, dead, live, Word, noWord, naming, spelt, onByte, bytes, ends, fresh, further, begin}
+use Rattle.grammar.specs.Machine.{Config, dead, live, Word, noWord, naming, spelt, bytes, ends, fresh, further}
 use Rattle.grammar.specs.Machine.{leadOf, leadByte, leadWord, firstLetter, afterFirst, alike}
 use Rattle.grammar.proofs.ByteKinds.{alike-lower, alike-upper, lead-kind}
 

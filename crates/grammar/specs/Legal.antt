@@ -1,8 +1,7 @@
 -- Where a text leaves the grammar (request (a), code 13): "text outside the grammar, place: first byte at which no continuation is legal,
 -- 65,535 at the latest, the length if it ends early".
 use Prim.Native.Nat.{ℕ, suc, _≤_, _<_}
-use mathlib.Core.Path.{_≡_}
-use mathlib.Core.List.{List, [], _∷_, _++_}
+use mathlib.Core.List.{List, _++_}
 use mathlib.Core.Option.{Option, none, some}
 use lib.ListN.{length, take}
 use Rattle.grammar.specs.Tokens.{Token, Tokens}

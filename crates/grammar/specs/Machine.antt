@@ -1,7 +1,6 @@
 -- The machine that reads a text byte by byte: a state, a stack of the states that wait, and what is left of the word that is being read.
 -- The state changes with a token's first byte: from there on the word alone says which letters may still come.
-use Prim.Native.Nat.{ℕ, suc, _+_}
-use mathlib.Core.Path.{_≡_}
+use Prim.Native.Nat.{ℕ, _+_}
 use mathlib.Core.Bool.{Bool, true, false, cond}
 use mathlib.Core.List.{List, [], _∷_}
 use mathlib.Core.Option.{Option, none, some}

@@ -1,6 +1,6 @@
 -- What is promised of the grammar: each promise a named type, and at the end the list of them. One term of each stands in
 -- `proofs/Kept.antt`. None of them names the machine: they speak of bytes, tokens, productions and continuations alone.
-use Prim.Native.Nat.{ℕ, suc, _≤_, _<_}
+use Prim.Native.Nat.{ℕ, _≤_, _<_}
 use mathlib.Core.Path.{_≡_}
 use mathlib.Core.Logic.{_⊎_, _↔_}
 use mathlib.Core.List.{List}
@@ -8,7 +8,7 @@ use lib.ListN.{length, take}
 use Rattle.grammar.specs.Tokens.{Token, Tokens}
 use Rattle.grammar.specs.Source.{Text}
 use Rattle.grammar.specs.Grammar.{ReadsText}
-use Rattle.grammar.specs.Legal.{Reading, Legal, Viable, limit, Leaves, Keeps}
+use Rattle.grammar.specs.Legal.{Reading, Viable, limit, Leaves, Keeps}
 
 -- 1. "The grammar admits one reading": bytes have one list of tokens, tokens one abstract text.
 abbrev pub OneLexing : Type 0

@@ -2,10 +2,10 @@
 -- and 10) may stand around tokens; a run of letters is one token". Each token carries the place of its first byte, counted from 0.
 use Prim.Native.Nat.{ℕ, suc, _+_, _≤_}
 use mathlib.Core.Path.{_≡_}
-use mathlib.Core.Bool.{Bool, true, false, cond, _&&_}
+use mathlib.Core.Bool.{Bool, true, false, cond}
 use mathlib.Core.List.{List, [], _∷_}
 use lib.ListN.{length}
-use lib.Dec.{T, eqb, leb}
+use lib.Dec.{eqb, leb}
 
 pub data Keyword : Type 0 where
   TYPE IN INPUT LET INIT REC IF MATCHES THEN ELSE DELAY : Keyword

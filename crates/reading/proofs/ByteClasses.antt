@@ -1,10 +1,9 @@
 -- The class that the code gives a byte is the byte's class.
 -- Assumes nothing.
 use Prim.Native.Nat.{ℕ, _+_, _≤_, _<_}
-use mathlib.Core.Path.{_≡_, refl, sym, ap, subst, _∙_}
+use mathlib.Core.Path.{_≡_, sym, ap, subst, _∙_}
 use mathlib.Core.Logic.{_⊎_, inl, inr}
-use mathlib.Core.Bool.{Bool, true, false, cond}
-use lib.Dec.{eqb, leb}
+use mathlib.Core.Bool.{true, false, cond}
 use borrow.Author.Tests.{ne-eqb, le-leb, lt-leb}
 use Rattle.grammar.specs.Tokens.{isLower, isUpper, between, unlettered}
 use Rattle.reading.specs.Coded.{capitals, position, kindClass, classOf}

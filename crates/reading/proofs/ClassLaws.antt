@@ -1,20 +1,20 @@
 -- A byte's class says what the byte does.
 -- Assumes nothing.
-use Prim.Native.Nat.{ℕ, zero, suc, _+_, _≤_, _<_}
+use Prim.Native.Nat.{ℕ, suc, _+_, _≤_, _<_}
 use native.Mathlib.Omega.{arith}
-use mathlib.Core.Path.{_≡_, refl, sym, ap, subst, _∙_}
+use mathlib.Core.Path.{_≡_, refl, sym, ap, _∙_}
 use mathlib.Core.Bool.{Bool, true, false, cond}
-use mathlib.Core.List.{List, [], _∷_, map}
+use mathlib.Core.List.{List, [], _∷_}
 use mathlib.Core.Option.{Option, none, some}
-use lib.ListN.{getD, length}
-use lib.Dec.{T, eqb, eqb→eq, leb, ltb}
+use lib.ListN.{length}
+use lib.Dec.{T, eqb, eqb→eq, ltb}
 use borrow.Author.Tests.{eq-eqb, ne-eqb, le-leb, lt-leb}
-use Rattle.grammar.specs.Tokens.{Keyword, TYPE, IN, INPUT, LET, INIT, REC, IF, MATCHES, THEN, ELSE, DELAY}
+use Rattle.grammar.specs.Tokens.{TYPE, IN, INPUT, LET, INIT, REC, IF, MATCHES, THEN, ELSE, DELAY}
 use Rattle.grammar.specs.Tokens.{Symbol, opens, closes, comma, equals, bar, query, indexOpens, indexCloses, one, two}
 use Rattle.grammar.specs.Tokens.{Kind, isBlank, isLower, isUpper, isOther, isSymbol, kindOf}
-use Rattle.grammar.specs.Rows.{State, Lead, aSymbol, aKeyword, aName, Action, Row, on, rows}
-use Rattle.grammar.specs.Machine.{Config, dead, live, noWord, begin, enter, find, fresh, further, leadByte, alike}
-use Rattle.grammar.proofs.ByteKinds.{alike-lower, alike-upper, alike-symbol, found-kind, leadKind}
+use Rattle.grammar.specs.Rows.{State, Lead, aSymbol, aKeyword, aName, Row, on, rows}
+use Rattle.grammar.specs.Machine.{dead, live, noWord, begin, enter, find, fresh, further, leadByte, alike}
+use Rattle.grammar.proofs.ByteKinds.{alike-lower, alike-upper, alike-symbol, found-kind}
 use Rattle.grammar.proofs.RowFound.{found-by}
 use Rattle.reading.specs.Coded.{capitals, position, symbolClass, kindClass, classOf, begun, followed, wordOf}
 

@@ -1,18 +1,18 @@
 -- What is left to read at byte i, and what the answer then is.
 -- Assumes nothing.
-use Prim.Native.Nat.{ℕ, zero, suc, _+_, _-_, _≤_, _<_, min}
+use Prim.Native.Nat.{ℕ, suc, _+_, _≤_, _<_, min}
 use native.Mathlib.Omega.{arith}
 use native.Mathlib.Numerals.{add-one}
 use mathlib.Core.Path.{_≡_, refl, sym, ap, ap₂, subst, _∙_}
 use mathlib.Core.Bool.{Bool, true, false, not, cond}
-use mathlib.Core.List.{List, [], _∷_}
+use mathlib.Core.List.{List, []}
 use mathlib.Core.Option.{Option, none, some}
 use lib.ListN.{length, getD, take, drop, length-take, drop-of-length-le}
 use lib.Seq.{drop-cons, getD-take}
 use lib.Dec.{eqb, ltb}
 use Rattle.grammar.specs.Legal.{limit, Told, Leaves}
-use Rattle.grammar.specs.Machine.{Config, dead, live, onByte, begins, ends}
-use Rattle.grammar.specs.Walk.{Outcome, stopped, reached, onward, walk, concluded, firstIllegal}
+use Rattle.grammar.specs.Machine.{Config, live, onByte, begins}
+use Rattle.grammar.specs.Walk.{onward, walk, concluded, firstIllegal}
 use Rattle.grammar.proofs.Exact.{exact}
 use Rattle.reading.specs.Coded.{stateOf, stackOf, wordOf, letterTable, configOf, conclusion, Ready, Stepped}
 use Rattle.reading.proofs.WordLaws.{ends-number}

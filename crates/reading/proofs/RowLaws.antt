@@ -2,17 +2,16 @@
 -- Assumes nothing.
 use Prim.Native.Nat.{ℕ, zero, suc, _+_, _-_, _≤_, _<_}
 use native.Mathlib.Omega.{arith}
-use mathlib.Core.Path.{_≡_, refl, sym, ap, ap₂, subst, _∙_}
-use mathlib.Core.Bool.{Bool, true, false, cond}
-use mathlib.Core.List.{List, [], _∷_, _++_, map}
+use mathlib.Core.Path.{_≡_, refl, sym, ap, ap₂, _∙_}
+use mathlib.Core.List.{List, [], _∷_, map}
 use mathlib.Core.Option.{Option, none, some}
 use lib.ListN.{length, getD, List·getD-map}
-use lib.Dec.{eqb, lit<}
-use borrow.Author.Tests.{eq-eqb, ne-eqb}
+use lib.Dec.{lit<}
+use borrow.Author.Tests.{ne-eqb}
 use Rattle.grammar.specs.Tokens.{Keyword, TYPE, IN, INPUT, LET, INIT, REC, IF, MATCHES, THEN, ELSE, DELAY}
 use Rattle.grammar.specs.Rows.{State, stateNumber, states, Lead, aSymbol, aKeyword, aName, Action, go, call, return, Row, on, rows}
 use Rattle.grammar.specs.Rows.{start}
-use Rattle.grammar.specs.Machine.{Word, Config, dead, live, back, enter, find, leadWord, perform}
+use Rattle.grammar.specs.Machine.{live, back, enter, find, leadWord, perform}
 use Rattle.grammar.proofs.Numbered.{state-found, state-below}
 use Rattle.reading.specs.Coded.{stateOf, wordOf, keywordWord, wordNumber, nextNumber, waitsNumber, rowNext, rowWaits, rowWord, follows}
 use Rattle.reading.specs.Coded.{leadBytes, tableOf}

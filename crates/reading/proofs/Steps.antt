@@ -11,16 +11,15 @@ use mathlib.Core.List.{List, [], _∷_}
 use mathlib.Core.Option.{Option, none, some}
 use lib.ListN.{length, getD, set, length-set}
 use lib.Seq.{getD-set-same, getD-set-other}
-use lib.Dec.{eqb, ltb, leb}
 use borrow.Author.Tests.{eq-eqb, ne-eqb, lt-ltb, le-ltb, le-leb, lt-leb}
 use Rattle.grammar.specs.Rows.{State, Row, rows}
-use Rattle.grammar.specs.Machine.{Config, dead, live, noWord, back, enter, find, onByte}
+use Rattle.grammar.specs.Machine.{Config, dead, live, back, find, onByte}
 use Rattle.reading.specs.Coded.{stateOf, stackOf, wordOf, follows, configOf, Ready, Stepped, Worded, Tables}
 use Rattle.reading.specs.Coded.{tableOf, nextTable, waitsTable, wordTable, rowNext, rowWaits, rowWord, leadBytes, entered, begun}
 use Rattle.reading.specs.Coded.{lettered, followed, letterTable, classOf, spelledOut, conclusion}
 use Rattle.reading.proofs.RowLaws.{entry-at, row-followed, row-next-below, row-waits-below, row-word-below}
 use Rattle.reading.proofs.ClassLaws.{class-below}
-use Rattle.reading.proofs.WordLaws.{not-last, spelled, follows-byte}
+use Rattle.reading.proofs.WordLaws.{spelled, follows-byte}
 
 below-store : (stack : List ℕ) (m v n : ℕ) → n ≤ m → stackOf n (set stack m v) ≡ stackOf n stack
 below-store stack m v zero h = refl

@@ -1,19 +1,19 @@
 -- A word's number says which letters may still come.
 -- Assumes nothing.
-use Prim.Native.Nat.{ℕ, zero, suc, _+_, _≤_, _<_}
+use Prim.Native.Nat.{ℕ, suc, _+_, _≤_, _<_}
 use native.Mathlib.Omega.{arith}
 use native.Mathlib.Numerals.{add-one}
 use native.Mathlib.Decide.{decLt}
 use mathlib.Core.Path.{_≡_, refl, sym, ap, subst, _∙_}
 use mathlib.Core.Bool.{Bool, true, false, cond}
-use mathlib.Core.List.{List, [], _∷_, _++_}
-use lib.ListN.{length, getD, drop, replicate, getD-replicate, List·getD-append}
+use mathlib.Core.List.{List, [], _∷_}
+use lib.ListN.{getD, drop, replicate, getD-replicate, List·getD-append}
 use lib.Seq.{drop-cons}
-use lib.Dec.{T, eqb, ltb}
+use lib.Dec.{eqb, ltb}
 use borrow.Author.Tests.{eq-eqb, ne-eqb, lt-ltb, le-ltb}
 use Rattle.grammar.specs.Tokens.{kindOf}
 use Rattle.grammar.specs.Rows.{State, stateNumber}
-use Rattle.grammar.specs.Machine.{Word, noWord, naming, spelt, Config, dead, live, onByte, further, whole, ends}
+use Rattle.grammar.specs.Machine.{noWord, naming, spelt, dead, live, onByte, further, whole, ends}
 use Rattle.reading.specs.Coded.{stateOf, letterTable, keywordLetters, untilZero, wordOf, classOf, followed}
 use Rattle.reading.proofs.ClassLaws.{fresh-class, further-class}
 use Rattle.reading.proofs.RowLaws.{number-of-state}
