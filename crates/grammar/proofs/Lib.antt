@@ -16,3 +16,4 @@ pub mod OneReading
 pub mod Prefixes
 pub mod Exact
 pub mod Kept
+pub mod Examples
