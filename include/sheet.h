@@ -147,7 +147,7 @@ uint64_t sheet_check(const uint8_t *sheet, size_t length);
  * host/tests.c on the deepest sheets and on sheets of 4,096 records: the stack is filled with a pattern before the call, and after
  * it the lowest byte that changed is looked for. The tests fail where a call uses more than this figure, or never half of it.
  */
-#define SHEET_CHECK_STACK 65536
+#define SHEET_CHECK_STACK 98304
 
 /*
  * The run: what the sheet puts out for a stimulus, and the sheet after it. It begins with the check. Codes 0 to 11.
