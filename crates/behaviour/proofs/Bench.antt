@@ -36,7 +36,7 @@ bench = (
               (refl, refl, refl),
               (
                 (refl, refl, refl),
-                ((refl, refl), ((refl, refl, refl), ((refl, refl, refl), ((refl, refl, refl), (refl, ((refl, refl, refl), tt)))))),
+                ((refl, refl), ((refl, refl, refl), ((refl, refl, refl), ((refl, refl, refl, refl), (refl, ((refl, refl, refl), tt)))))),
               ),
             ),
           ),

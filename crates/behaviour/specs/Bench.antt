@@ -9,7 +9,8 @@ use Rattle.records.specs.Words.{wordA, wordB}
 use Rattle.records.specs.TypeRecords.{typeAt}
 use Rattle.records.specs.Trees.{alternatives, treeAt}
 use Rattle.records.specs.Decoding.{patternOf}
-use Rattle.verdict.specs.Verdict.{inputs}
+use Rattle.verdict.specs.Verdict.{inputs, verdict}
+use Rattle.verdict.specs.declared.Verdict.the-variants.{Accepted}
 use Rattle.meaning.specs.Matching.{Decision, Yes, Undecided, matches}
 use Rattle.meaning.specs.Undecided.{undefinedLeaves}
 use Rattle.meaning.specs.Evaluation.{applications}
@@ -27,6 +28,8 @@ bytes (w ∷ ws) = w % 256 ∷ w / 256 ∷ bytes ws
 pub data Case : Type 0 where
   -- the sheet on the stimulus gives these outputs, and next is this sheet
   runs : (sheet stimulus outputs next : List ℕ) → Case
+  -- the sheet has this output type, and on the stimulus it gives these outputs in so many cycles; next is this sheet
+  runsTyped : (sheet : List ℕ) (type : ℕ) (stimulus outputs : List ℕ) (count : ℕ) (next : List ℕ) → Case
   -- the pattern at this record of the sheet gives this answer on the value
   says : (sheet : List ℕ) (pattern : ℕ) (value : List ℕ) → Decision → Case
   -- the feedback that is the sheet's root goes through these values, and to the last in as many applications
@@ -40,6 +43,11 @@ valuesBefore value (suc n) = valuesBefore value n ++ (value n ∷ [])
 abbrev pub CaseHolds : Case → Type 0
 CaseHolds (runs s stim outs next) =
     (packed (answer s stim (replicate (length outs) 0) (replicate (length s) 0)) ≡ cycleCount s stim)
+    × (finalOut s stim (replicate (length outs) 0) (replicate (length s) 0) ≡ outs)
+    × (finalNext s stim (replicate (length outs) 0) (replicate (length s) 0) ≡ next)
+CaseHolds (runsTyped s t stim outs n next) =
+    (verdict s ≡ Accepted t)
+    × (packed (answer s stim (replicate (length outs) 0) (replicate (length s) 0)) ≡ n)
     × (finalOut s stim (replicate (length outs) 0) (replicate (length s) 0) ≡ outs)
     × (finalNext s stim (replicate (length outs) 0) (replicate (length s) 0) ≡ next)
 CaseHolds (says s p v a) = matches (patternOf s (alternatives s p)) v ≡ a
@@ -203,7 +211,7 @@ benchCases =
     ∷ goes ownFirst (0 ∷ []) ((0 ∷ 0 ∷ []) ∷ (1 ∷ 0 ∷ []) ∷ (1 ∷ 1 ∷ []) ∷ []) 2
     ∷ runs ownFirst (0 ∷ []) (1 ∷ 1 ∷ []) ownFirst
     ∷ runs itself (1 ∷ []) (0 ∷ []) itself
-    ∷ runs toggle (1 ∷ 2 ∷ 1 ∷ []) (2 ∷ 1 ∷ 1 ∷ []) toggle
+    ∷ runsTyped toggle 1 (1 ∷ 2 ∷ 1 ∷ []) (2 ∷ 1 ∷ 1 ∷ []) 3 toggle
     ∷ says equalBits 9 (0 ∷ 0 ∷ []) Undecided
     ∷ runs equalBits (0 ∷ 0 ∷ []) (0 ∷ []) equalBits
     ∷ []

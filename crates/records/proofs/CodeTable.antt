@@ -1,17 +1,37 @@
--- The code's table holds, for each kind's number below 65, the number of its sort and of what each of its words asks: one test
--- that antt computes over the whole table, and the law that turns it into the fact at each entry. From 65 on a kind is
--- unknown. Assumes nothing.
-use mathlib.Core.Path.{_≡_, refl, sym, _∙_, ap, subst}
-use mathlib.Core.Bool.{Bool, true, false, _&&_, Bool·beq}
+-- What the code's table says is what the definition's rows say: the asks of each kind, row by row, and its sort, by one test that
+-- antt computes for the numbers below 65. From 65 on a kind is unknown. Assumes nothing.
+use mathlib.Core.Path.{_≡_, refl, sym, subst}
+use mathlib.Core.Bool.{Bool, true, false, cond, _&&_, Bool·beq}
 use mathlib.Core.List.{List, [], _∷_}
-use Prim.Native.Nat.{ℕ, zero, suc, _+_, _*_, _/_, _%_, _≤_, _<_}
-use native.Mathlib.Nat.{add-zero, zero-add, add-suc, suc-add, le-of-suc-le-suc, not-suc-le-zero}
+use Prim.Native.Nat.{ℕ, zero, suc, _≤_, _<_}
+use native.Mathlib.Nat.{not-suc-le-zero}
 use native.Mathlib.Omega.{arith}
 use native.Mathlib.Decide.{decLt}
-use borrow.Author.Tests.{ne-eqb}
-use lib.Dec.{T, eqb, eqb→eq}
-use lib.ListN.{length, getD}
-use Rattle.records.specs.Kinds.{sortNumber, askNumber, sortOf, kindOf, askOf, rowOf, Row, row, unknown, never, kindIn, asksIn, zeroed, Kind, isFlat, isPair, isHeader}
+use borrow.Author.Tests.{ne-eqb, le-ltb}
+use lib.Dec.{T, eqb, ltb, eqb→eq, ltb→lt}
+use lib.ListN.{getD}
+use Rattle.records.specs.Kinds.{
+  Kind,
+  unknown,
+  sortOf,
+  sortNumber,
+  isFlat,
+  isPair,
+  isHeader,
+  zeroed,
+  never,
+  askNumber,
+  Row,
+  row,
+  kindRows,
+  numberIn,
+  asksIn,
+  askNumbers,
+  lookUp,
+  rowOf,
+  kindOf,
+  askOf,
+}
 
 both-left : (a b : Bool) → T (a && b) → T a
 both-left true b t = tt
@@ -21,91 +41,54 @@ both-right : (a b : Bool) → T (a && b) → T b
 both-right true b t = t
 both-right false b t = absurd t
 
--- the test passes at each entry of the list and its place, counted from i
-abbrev every : (ℕ → ℕ → Bool) → ℕ → List ℕ → Bool
-every f i [] = true
-every f i (x ∷ xs) = f i x && every f (suc i) xs
+-- beside what U says, n is the number of none of the rows: what a `match` on their numbers leaves
+abbrev pub Others : Type 0 → List Row → ℕ → Type 0
+Others U [] n = U
+Others U (x ∷ xs) n = Others (U × (n ≡ numberIn x → ⊥)) xs n
 
-from : (f : ℕ → ℕ → Bool) (xs : List ℕ) (i : ℕ) → T (every f i xs) → (k : ℕ) → k < length xs → T (f (i + k) (getD xs k 0))
-from f [] i t k h = absurd (not-suc-le-zero h)
-from f (x ∷ xs) i t zero h = subst (λ (m : ℕ). T (f m x)) (sym (add-zero i)) (both-left (f i x) (every f (suc i) xs) t)
-from f (x ∷ xs) i t (suc k) h =
-    subst (λ (m : ℕ). T (f m (getD xs k 0))) (suc-add i k ∙ sym (add-suc i k))
-    (from f xs (suc i) (both-right (f i x) (every f (suc i) xs) t) k (le-of-suc-le-suc h))
+not-listed : (U : Type 0) (xs : List Row) (n : ℕ) → Others U xs n
+    → U × (lookUp xs n ≡ row n unknown never never never never never)
+not-listed U [] n u = (u, refl)
+not-listed U (x ∷ xs) n u =
+    let v = not-listed (U × (n ≡ numberIn x → ⊥)) xs n u in
+    (v .0 .0, rw (ne-eqb (numberIn x) n (λ e. v .0 .1 (sym e))) (v .1))
 
-at : (f : ℕ → ℕ → Bool) (xs : List ℕ) → T (every f 0 xs) → (k : ℕ) → k < length xs → T (f k (getD xs k 0))
-at f xs t k h = subst (λ (m : ℕ). T (f m (getD xs k 0))) (zero-add k) (from f xs 0 t k h)
-
-abbrev pub entries : List ℕ
-entries =
-    0 ∷ 9 ∷ 9 ∷ 9 ∷ 9 ∷ 9 ∷ 1 ∷ 34 ∷ 1 ∷ 35 ∷ 8 ∷ 0 ∷ 0 ∷ 9 ∷ 9 ∷ 9 ∷ 9 ∷ 9 ∷ 0 ∷ 9 ∷ 9 ∷ 9 ∷ 9 ∷ 9 ∷ 0 ∷ 9 ∷ 9 ∷ 9 ∷ 9 ∷ 9 ∷ 0 ∷ 9 ∷ 9 ∷ 9 ∷ 9 ∷ 9 ∷ 0 ∷ 9 ∷ 9 ∷ 9 ∷ 9 ∷ 9 ∷ 0 ∷ 9 ∷ 9 ∷ 9 ∷ 9 ∷ 9 ∷ 0 ∷ 9 ∷ 9 ∷ 9 ∷ 9 ∷ 9 ∷ 0 ∷ 9 ∷ 9 ∷ 9 ∷ 9 ∷ 9 ∷ 0 ∷ 9 ∷ 9 ∷ 9 ∷ 9 ∷ 9 ∷ 0 ∷ 9 ∷ 9 ∷ 9 ∷ 9 ∷ 9 ∷ 0 ∷ 9 ∷ 9 ∷ 9 ∷ 9 ∷ 9 ∷ 0 ∷ 9 ∷ 9 ∷ 9 ∷ 9 ∷ 9 ∷ 0 ∷ 9 ∷ 9 ∷ 9 ∷ 9 ∷ 9 ∷ 0 ∷ 9 ∷ 9 ∷ 9 ∷ 9 ∷ 9 ∷ 2 ∷ 18 ∷ 5 ∷ 0 ∷ 0 ∷ 0 ∷ 2 ∷ 18 ∷ 2 ∷ 2 ∷ 0 ∷ 0 ∷ 0 ∷ 9 ∷ 9 ∷ 9 ∷ 9 ∷ 9 ∷ 0 ∷ 9 ∷ 9 ∷ 9 ∷ 9 ∷ 9 ∷ 0 ∷ 9 ∷ 9 ∷ 9 ∷ 9 ∷ 9 ∷ 0 ∷ 9 ∷ 9 ∷ 9 ∷ 9 ∷ 9 ∷ 0 ∷ 9 ∷ 9 ∷ 9 ∷ 9 ∷ 9 ∷ 0 ∷ 9 ∷ 9 ∷ 9 ∷ 9 ∷ 9 ∷ 0 ∷ 9 ∷ 9 ∷ 9 ∷ 9 ∷ 9 ∷ 0 ∷ 9 ∷ 9 ∷ 9 ∷ 9 ∷ 9 ∷ 0 ∷ 9 ∷ 9 ∷ 9 ∷ 9 ∷ 9 ∷ 0 ∷ 9 ∷ 9 ∷ 9 ∷ 9 ∷ 9 ∷ 0 ∷ 9 ∷ 9 ∷ 9 ∷ 9 ∷ 9 ∷ 0 ∷ 9 ∷ 9 ∷ 9 ∷ 9 ∷ 9 ∷ 0 ∷ 9 ∷ 9 ∷ 9 ∷ 9 ∷ 9 ∷ 0 ∷ 9 ∷ 9 ∷ 9 ∷ 9 ∷ 9 ∷ 3 ∷ 0 ∷ 2 ∷ 37 ∷ 0 ∷ 0 ∷ 3 ∷ 0 ∷ 7 ∷ 0 ∷ 0 ∷ 0 ∷ 3 ∷ 0 ∷ 35 ∷ 35 ∷ 0 ∷ 0 ∷ 3 ∷ 0 ∷ 35 ∷ 0 ∷ 0 ∷ 0 ∷ 3 ∷ 0 ∷ 35 ∷ 0 ∷ 0 ∷ 0 ∷ 3 ∷ 0 ∷ 35 ∷ 35 ∷ 0 ∷ 0 ∷ 3 ∷ 0 ∷ 2 ∷ 35 ∷ 35 ∷ 0 ∷ 3 ∷ 0 ∷ 35 ∷ 35 ∷ 35 ∷ 36 ∷ 3 ∷ 0 ∷ 2 ∷ 37 ∷ 35 ∷ 0 ∷ 0 ∷ 9 ∷ 9 ∷ 9 ∷ 9 ∷ 9 ∷ 0 ∷ 9 ∷ 9 ∷ 9 ∷ 9 ∷ 9 ∷ 0 ∷ 9 ∷ 9 ∷ 9 ∷ 9 ∷ 9 ∷ 0 ∷ 9 ∷ 9 ∷ 9 ∷ 9 ∷ 9 ∷ 0 ∷ 9 ∷ 9 ∷ 9 ∷ 9 ∷ 9 ∷ 0 ∷ 9 ∷ 9 ∷ 9 ∷ 9 ∷ 9 ∷ 0 ∷ 9 ∷ 9 ∷ 9 ∷ 9 ∷ 9 ∷ 4 ∷ 20 ∷ 2 ∷ 0 ∷ 0 ∷ 0 ∷ 4 ∷ 20 ∷ 3 ∷ 4 ∷ 0 ∷ 0 ∷ 4 ∷ 20 ∷ 36 ∷ 36 ∷ 0 ∷ 0 ∷ 0 ∷ 9 ∷ 9 ∷ 9 ∷ 9 ∷ 9 ∷ 0 ∷ 9 ∷ 9 ∷ 9 ∷ 9 ∷ 9 ∷ 0 ∷ 9 ∷ 9 ∷ 9 ∷ 9 ∷ 9 ∷ 0 ∷ 9 ∷ 9 ∷ 9 ∷ 9 ∷ 9 ∷ 0 ∷ 9 ∷ 9 ∷ 9 ∷ 9 ∷ 9 ∷ 0 ∷ 9 ∷ 9 ∷ 9 ∷ 9 ∷ 9 ∷ 0 ∷ 9 ∷ 9 ∷ 9 ∷ 9 ∷ 9 ∷ 0 ∷ 9 ∷ 9 ∷ 9 ∷ 9 ∷ 9 ∷ 0 ∷ 9 ∷ 9 ∷ 9 ∷ 9 ∷ 9 ∷ 0 ∷ 9 ∷ 9 ∷ 9 ∷ 9 ∷ 9 ∷ 0 ∷ 9 ∷ 9 ∷ 9 ∷ 9 ∷ 9 ∷ 0 ∷ 9 ∷ 9 ∷ 9 ∷ 9 ∷ 9 ∷ 0 ∷ 9 ∷ 9 ∷ 9 ∷ 9 ∷ 9 ∷ 5 ∷ 21 ∷ 6 ∷ 0 ∷ 0 ∷ 0 ∷ []
-
--- what stands at place i: the sort of kind i / 6 at its first place, then what its words ask
-unfoldable pub entry : ℕ → ℕ → ℕ
-entry kind zero = sortNumber (sortOf (kindOf kind))
-entry kind (suc k) = askNumber (askOf kind (suc k))
-
-right : ℕ → ℕ → Bool
-right i x = eqb x (entry (i / 6) (i % 6))
-
-pub entries-right : (kind k : ℕ) → kind < 65 → k < 6 → getD entries (6 * kind + k) 0 ≡ entry kind k
-unfolding right entry kindOf askOf rowOf
-entries-right kind k h l =
-    let i : ℕ = 6 * kind + k in
-    let q : (6 * kind + k) / 6 ≡ kind = omega arith in
-    let m : (6 * kind + k) % 6 ≡ k = omega arith in
-    subst (λ (x : ℕ). getD entries (6 * kind + k) 0 ≡ entry x k) q
-    (subst (λ (x : ℕ). getD entries (6 * kind + k) 0 ≡ entry ((6 * kind + k) / 6) x) m
-    (eqb→eq _ _ (at right entries tt (6 * kind + k) (omega arith))))
+pub unknown-other : (n : ℕ) → Others Unit kindRows n → rowOf n ≡ row n unknown never never never never never
+unfolding rowOf
+unknown-other n u = not-listed Unit kindRows n u .1
 
 -- no row has a number from 65 on
-pub unknown-above : (n : ℕ) → 65 ≤ n → rowOf n ≡ row n unknown never never never never never
+abbrev small : List Row → Bool
+small [] = true
+small (x ∷ xs) = ltb (numberIn x) 65 && small xs
+
+past-all : (U : Type 0) (xs : List Row) (n : ℕ) → T (small xs) → 65 ≤ n → U → Others U xs n
+past-all U [] n t h u = u
+past-all U (x ∷ xs) n t h u =
+    let l = ltb→lt (numberIn x) 65 (both-left (ltb (numberIn x) 65) (small xs) t) in
+    past-all (U × (n ≡ numberIn x → ⊥)) xs n (both-right (ltb (numberIn x) 65) (small xs) t) h (u, λ e. omega arith)
+
+unknown-above : (n : ℕ) → 65 ≤ n → rowOf n ≡ row n unknown never never never never never
 unfolding rowOf
-unknown-above n h =
-    simp (
-      ne-eqb 1 n (omega arith),
-      ne-eqb 16 n (omega arith),
-      ne-eqb 17 n (omega arith),
-      ne-eqb 32 n (omega arith),
-      ne-eqb 33 n (omega arith),
-      ne-eqb 34 n (omega arith),
-      ne-eqb 35 n (omega arith),
-      ne-eqb 36 n (omega arith),
-      ne-eqb 37 n (omega arith),
-      ne-eqb 38 n (omega arith),
-      ne-eqb 39 n (omega arith),
-      ne-eqb 40 n (omega arith),
-      ne-eqb 48 n (omega arith),
-      ne-eqb 49 n (omega arith),
-      ne-eqb 50 n (omega arith),
-      ne-eqb 64 n (omega arith),
-    )
-
-pub entry-ask : (kind k : ℕ) → 0 < k → entry kind k ≡ askNumber (askOf kind k)
-unfolding entry
-entry-ask kind zero h = absurd (not-suc-le-zero h)
-entry-ask kind (suc k) h = refl
-
-pub sort-below : (kind : ℕ) → kind < 65 → getD entries (6 * kind) 0 ≡ sortNumber (sortOf (kindOf kind))
-unfolding entry
-sort-below kind h = subst (λ (x : ℕ). getD entries x 0 ≡ entry kind 0) (add-zero (6 * kind)) (entries-right kind 0 h (omega arith))
+unknown-above n h = unknown-other n (past-all Unit kindRows n tt h tt)
 
 pub sort-above : (kind : ℕ) → 65 ≤ kind → sortNumber (sortOf (kindOf kind)) ≡ 0
 unfolding kindOf
 sort-above kind h = rw (unknown-above kind h)
 
-unknown-asks : (k : ℕ) → 0 < k → k < 6 → askNumber (getD (asksIn (row 65 unknown never never never never never)) k zeroed) ≡ 9
-unknown-asks zero h l = absurd (not-suc-le-zero h)
-unknown-asks (suc zero) h l = refl
-unknown-asks (suc (suc zero)) h l = refl
-unknown-asks (suc (suc (suc zero))) h l = refl
-unknown-asks (suc (suc (suc (suc zero)))) h l = refl
-unknown-asks (suc (suc (suc (suc (suc zero))))) h l = refl
-unknown-asks (suc (suc (suc (suc (suc (suc k)))))) h l = absurd (omega arith)
+-- what a row asks of its words, in numbers
+ask-entry : (x : Row) (k : ℕ) → getD (askNumbers x) k 0 ≡ askNumber (getD (asksIn x) k zeroed)
+ask-entry (row number kind next a b c d) zero = refl
+ask-entry (row number kind next a b c d) (suc zero) = refl
+ask-entry (row number kind next a b c d) (suc (suc zero)) = refl
+ask-entry (row number kind next a b c d) (suc (suc (suc zero))) = refl
+ask-entry (row number kind next a b c d) (suc (suc (suc (suc zero)))) = refl
+ask-entry (row number kind next a b c d) (suc (suc (suc (suc (suc zero))))) = refl
+ask-entry (row number kind next a b c d) (suc (suc (suc (suc (suc (suc k)))))) = refl
 
-pub ask-above : (kind k : ℕ) → 65 ≤ kind → 0 < k → k < 6 → askNumber (askOf kind k) ≡ 9
+pub ask-at : (kind k : ℕ) → getD (askNumbers (rowOf kind)) k 0 ≡ askNumber (askOf kind k)
 unfolding askOf
-ask-above kind k h p l = rw (unknown-above kind h) (unknown-asks k p l)
+ask-at kind k = ask-entry (rowOf kind) k
 
 -- A test of kinds that passes at one number alone: computed at the numbers below 65.
 abbrev pub below : (ℕ → Bool) → ℕ → Bool
@@ -125,6 +108,35 @@ beq→eq true true t = refl
 beq→eq true false t = absurd t
 beq→eq false true t = absurd t
 beq→eq false false t = refl
+
+-- the sort of a kind by the ranges of the numbers
+abbrev pub sortByRange : ℕ → ℕ
+sortByRange k =
+    cond (eqb k 1) 1
+    (cond (eqb k 64) 5
+    (cond (ltb k 16) 0 (cond (ltb k 18) 2 (cond (ltb k 32) 0 (cond (ltb k 41) 3 (cond (ltb k 48) 0 (cond (ltb k 51) 4 0)))))))
+
+sort-test : ℕ → Bool
+sort-test k = eqb (sortByRange k) (sortNumber (sortOf (kindOf k)))
+
+pub sort-by-range : (k : ℕ) → sortByRange k ≡ sortNumber (sortOf (kindOf k))
+unfolding kindOf sort-test
+sort-by-range k = go (decLt k 65)
+  where
+    go : Dec (k < 65) → sortByRange k ≡ sortNumber (sortOf (kindOf k))
+    go (yes h) = eqb→eq (sortByRange k) (sortNumber (sortOf (kindOf k))) (below-at sort-test 65 tt k h)
+    go (no h) =
+        rw (
+          sort-above k (omega arith),
+          ne-eqb k 1 (omega arith),
+          ne-eqb k 64 (omega arith),
+          le-ltb k 16 (omega arith),
+          le-ltb k 18 (omega arith),
+          le-ltb k 32 (omega arith),
+          le-ltb k 41 (omega arith),
+          le-ltb k 48 (omega arith),
+          le-ltb k 51 (omega arith),
+        )
 
 module _ (f : Kind → Bool) (m : ℕ) (none : f unknown ≡ false) (small : m < 65) where
   abbrev kind-test : ℕ → Bool

@@ -1,37 +1,21 @@
 -- What the readers of a sheet return, as laws over plain lists: one for each way out of a function. Assumes nothing.
-use mathlib.Core.Path.{_≡_, refl, sym, _∙_, ap, subst}
-use mathlib.Core.Bool.{Bool, true, false, _&&_, _||_, and-false, or-true}
-use mathlib.Core.List.{List, [], _∷_}
-use Prim.Native.Nat.{ℕ, zero, suc, _+_, _*_, _-_, _≤_, _<_}
+use mathlib.Core.Path.{_≡_}
+use mathlib.Core.Bool.{false, and-false}
+use mathlib.Core.List.{List}
+use Prim.Native.Nat.{ℕ, _+_, _*_, _-_, _≤_, _<_}
 use native.Mathlib.Omega.{arith}
-use borrow.Author.Tests.{le-ltb, lt-ltb, le-leb, lt-leb, eq-eqb, ne-eqb}
-use lib.Dec.{eqb, ltb, leb}
-use lib.ListN.{length, getD, List·getD-eq-default}
-use Rattle.records.specs.Words.{count, word, wordA}
+use borrow.Author.Tests.{le-ltb, lt-ltb, lt-leb}
+use lib.Dec.{eqb, leb}
+use lib.ListN.{List·getD-eq-default}
+use Rattle.records.specs.Words.{count, word}
 use Rattle.records.specs.Sized.{Sized}
 use Rattle.records.specs.Kinds.{
   Sort,
-  Ask,
-  zeroed,
-  nextOf,
-  part,
-  anyType,
   lowerType,
   lowerFlat,
   constructorOf,
   counted,
-  byte,
-  free,
-  total,
-  never,
-  types,
-  noSort,
-  headers,
-  expressions,
-  patterns,
-  leafs,
   sortNumber,
-  askNumber,
   sortOf,
   kindOf,
 }

@@ -122,6 +122,11 @@ askNumber never = 9
 askNumber (nextOf σ) = 16 + sortNumber σ
 askNumber (part σ) = 32 + sortNumber σ
 
+-- a row's asks in numbers
+abbrev pub askNumbers : Row → List ℕ
+askNumbers (row number kind next a b c d) =
+    askNumber free ∷ askNumber next ∷ askNumber a ∷ askNumber b ∷ askNumber c ∷ askNumber d ∷ []
+
 abbrev pub sameSort : Sort → Sort → Bool
 sameSort σ τ = eqb (sortNumber σ) (sortNumber τ)
 

@@ -1,18 +1,18 @@
 -- The tables of depths and nestings as records are added to them: a record lies one deeper than the one record that names it, which
 -- is lower and so in the tables, and in one more defining part just where it is one. Assumes nothing.
 use mathlib.Core.Path.{_≡_, refl, sym, _∙_, ap}
-use mathlib.Core.Bool.{Bool, true, false, not, cond, _&&_, _||_, or-true, or-false, and-false}
-use mathlib.Core.List.{List, [], _∷_, List·Memᴰ, List·Memᴰ·head}
+use mathlib.Core.Bool.{Bool, true, false, cond, and-false}
+use mathlib.Core.List.{List, [], _∷_, List·Memᴰ·head}
 use Prim.Native.Nat.{ℕ, zero, suc, min, _+_, _*_, _-_, _/_, _%_, _≤_, _<_}
 use native.Mathlib.Omega.{arith}
 use native.Mathlib.Decide.{ℕ-discrete, decLe}
-use borrow.Author.Tests.{eq-eqb, ne-eqb, lt-ltb, le-ltb}
+use borrow.Author.Tests.{ne-eqb, lt-ltb, le-ltb}
 use lib.Dec.{eqb, ltb}
-use lib.ListN.{length, getD, set, replicate, length-set, length-replicate, getD-replicate}
+use lib.ListN.{getD, set, replicate, length-set, length-replicate}
 use lib.Seq.{getD-set-same, getD-set-other}
 use Rattle.records.specs.Words.{count, word}
-use Rattle.records.specs.Kinds.{kindOf, sortOf, sortNumber, expressions, sameSort}
-use Rattle.records.specs.Says.{kindAt, sortAt}
+use Rattle.records.specs.Kinds.{kindOf, sortNumber}
+use Rattle.records.specs.Says.{sortAt}
 use Rattle.records.specs.Namings.{Naming, namings, exactlyOnce}
 use Rattle.records.specs.Trees.{follow}
 use Rattle.records.proofs.CodeTable.{only-kind}
@@ -84,7 +84,7 @@ pub record NamedBy (s : List ℕ) (rec v : ℕ) : Type 0 where
   pub deeper : depth s rec ≡ suc (depth s by)
   pub nested : nesting s rec ≡ cond (ofDefiningPart s (record { by = by; at = at })) (suc (nesting s by)) (nesting s by)
 
-module _ (s : List ℕ) (n rec : ℕ) (namers depths nestings : List ℕ) (p : Placing s n rec namers depths nestings) (h : rec < n) where
+module _ {s : List ℕ} {n rec : ℕ} {namers depths nestings : List ℕ} (p : Placing s n rec namers depths nestings) (h : rec < n) where
   pub named-by : NamedBy s rec (getD namers rec 0)
   named-by = let one = the-one (namings s rec) (p .once rec (p .some) below) in from-one (one .0) (one .1)
     where
@@ -164,7 +164,7 @@ module _ (s : List ℕ) (n rec : ℕ) (namers depths nestings : List ℕ) (p : P
           more x true = omega arith
           more x false = refl
 
-module _ (s : List ℕ) (n : ℕ) (depths nestings : List ℕ) (p : Placed s n depths nestings) (r sort : ℕ) (h : r < n)
+module _ {s : List ℕ} {n : ℕ} {depths nestings : List ℕ} (p : Placed s n depths nestings) (r : ℕ) {sort : ℕ} (h : r < n)
     (es : sort ≡ sortNumber (sortAt s r)) where
   pub no-expression : (sort ≡ 3 → ⊥) → false ≡ tooDeep s r
   unfolding tooDeep

@@ -4,5 +4,6 @@ pub mod Depths
 pub mod LeafCounts
 pub mod Namers
 pub mod PairRecords
+pub mod PairSearch
 pub mod Passes
 pub mod WrongRecords

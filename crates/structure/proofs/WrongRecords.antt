@@ -1,10 +1,10 @@
 -- Codes 2 and 3 by what the code reads: the kind's number is 1 exactly at a header. Assumes nothing.
-use mathlib.Core.Path.{_≡_, refl, sym, _∙_}
+use mathlib.Core.Path.{_≡_}
 use mathlib.Core.Bool.{Bool, true, false, not}
 use mathlib.Core.List.{List}
 use Prim.Native.Nat.{ℕ, _<_}
 use native.Mathlib.Omega.{arith}
-use borrow.Author.Tests.{eq-eqb, ne-eqb, lt-ltb}
+use borrow.Author.Tests.{ne-eqb, lt-ltb}
 use Rattle.records.specs.Words.{word}
 use Rattle.records.specs.Says.{wellSaid}
 use Rattle.records.proofs.CodeTable.{header-number}

@@ -5,3 +5,4 @@ pub mod Passes
 pub mod NamerTable
 pub mod LeafTable
 pub mod DepthTable
+pub mod PairIndex

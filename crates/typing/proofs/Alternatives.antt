@@ -1,8 +1,8 @@
 -- A pattern held against a type: one alternative by its kind, and a chain as the conjunction of its alternatives. Assumes nothing.
 use mathlib.Core.Path.{_≡_, refl, sym, _∙_, ap}
-use mathlib.Core.Bool.{Bool, true, false, _&&_, and-assoc}
+use mathlib.Core.Bool.{Bool, true, false, _&&_}
 use mathlib.Core.List.{List}
-use Prim.Native.Nat.{ℕ, zero, suc, _≤_, _<_}
+use Prim.Native.Nat.{ℕ, zero, suc, _<_}
 use native.Mathlib.Omega.{arith}
 use borrow.Author.Tests.{eq-eqb, ne-eqb}
 use lib.Dec.{eqb}
@@ -25,10 +25,8 @@ use Rattle.records.specs.Kinds.{
   isPair,
   nextOf,
 }
-use Rattle.records.specs.Says.{kindAt, sortAt}
-use Rattle.records.specs.Sized.{Sized}
-use Rattle.records.specs.TypeRecords.{TypeRecord}
-use Rattle.records.specs.Trees.{Alternatives, end, alternatives, follow}
+use Rattle.records.specs.Says.{kindAt}
+use Rattle.records.specs.Trees.{end, alternatives, follow}
 use Rattle.records.specs.Written.{Written}
 use Rattle.records.proofs.Tests.{never-both}
 use Rattle.records.proofs.Table.{kind-of-sort, askOfKind}

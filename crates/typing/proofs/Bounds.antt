@@ -1,9 +1,9 @@
 -- The constructor count of a leaf of a type, found by going down the type's parts: a leaf of a pair is one of its first part's where
 -- its number is below that part's leaves, and else one of its second's. Assumes nothing.
 use mathlib.Core.Path.{_≡_, refl, sym, _∙_, ap}
-use mathlib.Core.Bool.{Bool, true, false}
+use mathlib.Core.Bool.{true, false}
 use mathlib.Core.List.{List, _++_}
-use Prim.Native.Nat.{ℕ, zero, suc, min, _+_, _-_, _≤_, _<_}
+use Prim.Native.Nat.{ℕ, _+_, _-_, _≤_, _<_}
 use native.Mathlib.Omega.{arith}
 use borrow.Author.Tests.{ne-eqb}
 use lib.ListN.{length, getD, List·getD-append}
@@ -11,7 +11,7 @@ use lib.Seq.{getD-append-add}
 use Rattle.picoella.specs.Types.{Ty, Flat, TyTuple, bounds, leaves}
 use Rattle.records.specs.Words.{count, word, wordA, wordB}
 use Rattle.records.specs.Kinds.{typeOf, flat, pair, types, TypeKind}
-use Rattle.records.specs.Says.{kindAt, sortAt}
+use Rattle.records.specs.Says.{kindAt}
 use Rattle.records.specs.TypeRecords.{typeAt, TypeRecord}
 use Rattle.records.specs.Written.{Written, TypesFit}
 use Rattle.records.proofs.Tests.{never-both}
@@ -34,7 +34,7 @@ counts-leaves s n table e p c t r =
     let h = r .there in
     c .below t (omega arith) ∙ rw (r .sort) (omega arith)
 
-module _ (s : List ℕ) (n : ℕ) (table : List ℕ) (g : Ground s n table) where
+module _ {s : List ℕ} {n : ℕ} {table : List ℕ} (g : Ground s n table) where
   pub ground-written : Written s
   ground-written = written (g .passes)
 
@@ -122,7 +122,3 @@ module _ (s : List ℕ) (n : ℕ) (table : List ℕ) (g : Ground s n table) wher
             let b : at < leaves (Flat part (wordA s part)) = rw (flat-type s part e) at (r .below) in
             let z : at ≡ 0 = omega arith in
             ev ∙ sym (r .same ∙ ap (λ (τ : Ty). getD (bounds τ) at 0) (flat-type s part e) ∙ rw z)
-
-  -- the table has the number of bounds of each type record
-  pub bounds-counted : (t : ℕ) → TypeRecord s t → getD table t 0 ≡ length (bounds (typeAt s t))
-  bounds-counted t r = leaves-counted t r ∙ leaves-of-bounds (typeAt s t)

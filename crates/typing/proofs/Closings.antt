@@ -1,28 +1,25 @@
 -- The last judgement of an expression: where its rule fails it is the fault, and where it holds the type's leaf count is noted.
 -- Assumes nothing.
-use mathlib.Core.Path.{_≡_, refl, sym, _∙_, ap}
+use mathlib.Core.Path.{_≡_, refl, _∙_, ap}
 use mathlib.Core.Bool.{Bool, true, false}
-use mathlib.Core.List.{List, [], _∷_}
+use mathlib.Core.List.{List, _∷_}
 use Prim.Native.Nat.{ℕ, zero, suc, _+_, _-_, _≤_, _<_}
 use native.Mathlib.Omega.{arith}
 use native.Mathlib.Numerals.{add-one}
-use borrow.Author.Tests.{lt-ltb, le-ltb, ne-eqb, eq-eqb}
-use lib.Dec.{ltb, eqb}
-use lib.ListN.{length, getD, set, length-set}
+use borrow.Author.Tests.{lt-ltb, ne-eqb, eq-eqb}
+use lib.ListN.{length, set, length-set}
 use lib.Seq.{getD-set-same, getD-set-other}
 use Rattle.picoella.specs.Types.{leaves}
-use Rattle.records.specs.Words.{count, word}
-use Rattle.records.specs.Kinds.{typeOf, pair}
-use Rattle.records.specs.Says.{kindAt}
+use Rattle.records.specs.Words.{word}
 use Rattle.records.specs.TypeRecords.{typeAt, TypeRecord, pairOf, pairBelow}
 use Rattle.records.proofs.CodeTable.{pair-number}
 use Rattle.records.proofs.TypeRecords.{found-pair, first-part, second-part}
 use Rattle.structure.proofs.LeafCounts.{pair-kind}
 use Rattle.typing.specs.Judgements.{Rule, holds, pairDeclared, pairType, sameType}
-use Rattle.typing.specs.Judging.{Ground, Closing, Closed, lastly, scopeOf}
+use Rattle.typing.specs.Judging.{Closing, Closed, lastly, scopeOf}
 use Rattle.typing.specs.declared.Outcome.{Outcome}
 use Rattle.typing.specs.declared.Outcome.the-variants.{Sound, Fault}
-use Rattle.typing.proofs.Bounds.{ground-written, leaves-counted}
+use Rattle.typing.proofs.Bounds.{ground-written}
 
 -- a store above a stack's names leaves them
 below-store : (stack : List ℕ) (m v n : ℕ) → n ≤ m → scopeOf n (set stack m v) ≡ scopeOf n stack
@@ -38,7 +35,7 @@ one-name-more stack n t long h =
 not-typed : (r u : ℕ) → Fault r ≡ Sound u → ⊥
 not-typed r u e = let z : _≡_ {A = ℕ} 0 1 = cc in omega arith
 
-module _ (s : List ℕ) (n : ℕ) (table : List ℕ) (rec : ℕ) (before : List ℕ) (c : Closing s n table rec before) where
+module _ {s : List ℕ} {n : ℕ} {table : List ℕ} {rec : ℕ} {before : List ℕ} (c : Closing s n table rec before) where
   pub fails-closed : (rule : Rule) (t : ℕ) → holds s rule ≡ false → Closed s rule rec t (Fault rec) before before
   fails-closed rule t e = record {
     answered = rw e;
@@ -65,7 +62,7 @@ module _ (s : List ℕ) (n : ℕ) (table : List ℕ) (rec : ℕ) (before : List 
   pub pair-is-type : (t u p : ℕ) → p ≡ pairBelow s t u n → (p ≡ 0 → ⊥) → TypeRecord s p
   pair-is-type t u p e f =
       let q = pair-found t u p e in
-      rw q (found-pair (ground-written s n table (c .ground)) t u (rw (← q) (omega arith)))
+      rw q (found-pair (ground-written (c .ground)) t u (rw (← q) (omega arith)))
 
   pub pair-closed : (t u p : ℕ) (answer : Outcome) (after : List ℕ) → p ≡ pairBelow s t u n → (p ≡ 0 → ⊥) → answer ≡ Sound p
       → after ≡ set before rec (leaves (typeAt s p)) → Closed s (pairDeclared t u) rec (pairOf s t u) answer before after
@@ -81,9 +78,9 @@ module _ (s : List ℕ) (n : ℕ) (table : List ℕ) (rec : ℕ) (before : List 
   part-is-type t zero x y r e f ey l h = absurd (omega arith)
   part-is-type t (suc zero) x y r e f ey l h = absurd (omega arith)
   part-is-type t (suc (suc zero)) x y r e f ey l h =
-      rw ey (first-part (ground-written s n table (c .ground)) t (r .there) (pair-kind s t x e f))
+      rw ey (first-part (ground-written (c .ground)) t (r .there) (pair-kind s t x e f))
   part-is-type t (suc (suc (suc zero))) x y r e f ey l h =
-      rw ey (second-part (ground-written s n table (c .ground)) t (r .there) (pair-kind s t x e f))
+      rw ey (second-part (ground-written (c .ground)) t (r .there) (pair-kind s t x e f))
   part-is-type t (suc (suc (suc (suc k)))) x y r e f ey l h = absurd (omega arith)
 
   pub part-closed : (t k x y : ℕ) (answer : Outcome) (after : List ℕ) → x ≡ word s t 0 → x ≡ 17 → y ≡ word s t k → answer ≡ Sound y

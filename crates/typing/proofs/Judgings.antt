@@ -1,14 +1,14 @@
 -- The laws of `Parts` at a record: the tree of a record of each kind is made of the trees of its parts, so what judging the parts gave
 -- is what judging the record gives. Assumes nothing.
-use mathlib.Core.Path.{_≡_, refl, sym, _∙_, ap, subst}
-use mathlib.Core.List.{List, [], _∷_, _++_}
-use mathlib.Core.Option.{none, some}
-use Prim.Native.Nat.{ℕ, zero, suc, _+_, _-_, _≤_, _<_}
+use mathlib.Core.Path.{_≡_, refl, sym, _∙_, ap}
+use mathlib.Core.List.{List, _∷_}
+use mathlib.Core.Option.{none}
+use Prim.Native.Nat.{ℕ, zero, suc, _-_, _≤_, _<_}
 use native.Mathlib.Omega.{arith}
 use borrow.Author.Tests.{lt-ltb, le-ltb}
 use lib.ListN.{length, getD, set}
 use Rattle.picoella.specs.Types.{leaves}
-use Rattle.records.specs.Words.{count, word, wordA, wordB, wordC, wordD}
+use Rattle.records.specs.Words.{count, word, wordA, wordB, wordC}
 use Rattle.records.specs.Kinds.{
   expression,
   constant,
@@ -26,11 +26,11 @@ use Rattle.records.specs.TypeRecords.{typeAt, TypeRecord, pairOf}
 use Rattle.records.specs.Trees.{treeAt, chain, alternatives, constantOf, tupleOf, letOf, feedbackOf, ifOf, delayOf}
 use Rattle.records.specs.Written.{Written}
 use Rattle.records.proofs.Trees.{tree-of}
-use Rattle.typing.specs.Judgements.{holds, leavesFit, inScope, pairDeclared, pairType, sameType, patternHas, judge, judgements, firstFailing}
+use Rattle.typing.specs.Judgements.{holds, leavesFit, inScope, pairDeclared, pairType, sameType, patternHas, judge, firstFailing}
 use Rattle.typing.specs.Judging.{Judged, Closed, Closing, PartAt, at-first, at-second, lastly, scopeOf, Context}
 use Rattle.typing.specs.declared.Outcome.{Outcome}
 use Rattle.typing.specs.declared.Outcome.the-variants.{Sound, Fault}
-use Rattle.typing.proofs.Outcomes.{Passed, lastly-holds, lastly-fails}
+use Rattle.typing.proofs.Outcomes.{Passed, lastly-fails}
 use Rattle.typing.proofs.Closings.{fails-closed, noted-closed}
 use Rattle.typing.proofs.Parts.{
   first-faults,
@@ -201,17 +201,17 @@ scope-at zero stack k h = absurd (omega arith)
 scope-at (suc n) stack zero h = ap (λ (i : ℕ). getD stack i 0) (omega arith)
 scope-at (suc n) stack (suc k) h = scope-at n stack k (omega arith) ∙ ap (λ (i : ℕ). getD stack i 0) (omega arith)
 
-module _ (s : List ℕ) (n : ℕ) (table : List ℕ) (rec : ℕ) (w0 : List ℕ) (c : Closing s n table rec w0) (stack : List ℕ) (names k : ℕ) where
+module _ {s : List ℕ} {n : ℕ} {table : List ℕ} {rec : ℕ} {w0 : List ℕ} (c : Closing s n table rec w0) (stack : List ℕ) (names k : ℕ) where
   pub name-outside : names ≤ k → Closed s (inScope k (length (scopeOf names stack))) rec (getD (scopeOf names stack) k 0) (Fault rec) w0 w0
   name-outside h =
-      fails-closed s n table rec w0 c (inScope k (length (scopeOf names stack))) (getD (scopeOf names stack) k 0)
+      fails-closed c (inScope k (length (scopeOf names stack))) (getD (scopeOf names stack) k 0)
       (rw (scope-length names stack) (le-ltb k names h))
 
   pub name-inside : (x : ℕ) (ans : Outcome) (w1 : List ℕ) → k < names → x ≡ getD stack (names - 1 - k) 0 → ans ≡ Sound x
       → w1 ≡ set w0 rec (leaves (typeAt s x)) → Closed s (inScope k (length (scopeOf names stack))) rec (getD (scopeOf names stack) k 0) ans w0 w1
   name-inside x ans w1 h ex a n =
       let q : x ≡ getD (scopeOf names stack) k 0 = ex ∙ sym (scope-at names stack k h) in
-      noted-closed s _ table rec w0 c (inScope k (length (scopeOf names stack))) (getD (scopeOf names stack) k 0) ans w1
+      noted-closed c (inScope k (length (scopeOf names stack))) (getD (scopeOf names stack) k 0) ans w1
       (rw (scope-length names stack) (lt-ltb k names h)) (a ∙ ap Sound q) (n ∙ ap (λ (y : ℕ). set w0 rec (leaves (typeAt s y))) q)
 
   pub name-typed : (x : ℕ) → k < names → x ≡ getD stack (names - 1 - k) 0 → Context s (scopeOf names stack) → TypeRecord s x

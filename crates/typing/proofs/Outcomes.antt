@@ -1,38 +1,19 @@
 -- What judging an expression gives from what judging its parts gave, in the order of its judgements: the first part that faults is
 -- the fault; where none does, the last judgement decides. One law for each way out of each kind. Assumes nothing.
-use mathlib.Core.Path.{_≡_, refl, sym, _∙_, ap}
+use mathlib.Core.Path.{_≡_, refl, sym, _∙_}
 use mathlib.Core.Bool.{Bool, true, false, cond}
-use mathlib.Core.List.{List, [], _∷_, _++_}
+use mathlib.Core.List.{List, _++_}
 use mathlib.Core.Option.{Option, none, some}
 use Prim.Native.Nat.{ℕ}
 use native.Mathlib.Omega.{arith}
-use lib.ListN.{length, getD, set, length-set}
-use Rattle.picoella.specs.Types.{leaves}
-use Rattle.records.specs.Words.{wordA, wordB}
-use Rattle.records.specs.TypeRecords.{typeAt, pairOf}
+use lib.ListN.{length, set}
 use Rattle.records.specs.Trees.{
-  Alternatives,
   Tree,
-  constantOf,
-  nameOf,
-  tupleOf,
-  firstOf,
-  secondOf,
-  letOf,
-  feedbackOf,
-  ifOf,
-  delayOf,
 }
 use Rattle.typing.specs.Judgements.{
   Judgement,
   Rule,
   holds,
-  leavesFit,
-  inScope,
-  pairDeclared,
-  pairType,
-  sameType,
-  patternHas,
   typeRecordOf,
   judge,
   judgements,

@@ -1,7 +1,7 @@
 -- What judging an expression of each kind gives from what judging its parts gave: one law for each way out. A part that faults is
 -- the fault; where none does, the last judgement decides. Assumes nothing.
 use mathlib.Core.Path.{_≡_, refl, sym, _∙_, ap, subst}
-use mathlib.Core.List.{List, [], _∷_, _++_}
+use mathlib.Core.List.{List, _∷_, _++_}
 use mathlib.Core.Option.{Option, none, some}
 use Prim.Native.Nat.{ℕ}
 use lib.ListN.{length, getD, set, length-set}
@@ -23,8 +23,6 @@ use Rattle.records.specs.Trees.{
 }
 use Rattle.typing.specs.Judgements.{
   Judgement,
-  Rule,
-  holds,
   leavesFit,
   inScope,
   pairDeclared,
@@ -36,7 +34,7 @@ use Rattle.typing.specs.Judgements.{
   judgements,
   firstFailing,
 }
-use Rattle.typing.specs.Judging.{width, noted, Judged, lastly, Closed}
+use Rattle.typing.specs.Judging.{width, noted, Judged, Closed}
 use Rattle.typing.specs.declared.Outcome.{Outcome}
 use Rattle.typing.specs.declared.Outcome.the-variants.{Sound, Fault}
 use Rattle.typing.proofs.Outcomes.{Passed, faulted, fault-done, typed-done, closing-done, fault-first, then-second}

@@ -1,8 +1,8 @@
 -- An expression that is ready to be judged has parts that are: they are higher expressions, one deeper, so that there is room for
 -- one name more; and what an expression was judged to have is a type record. Assumes nothing.
-use mathlib.Core.Path.{_≡_, refl, sym, _∙_, ap, subst}
+use mathlib.Core.Path.{_≡_, refl, sym, subst}
 use mathlib.Core.Bool.{true, _&&_}
-use mathlib.Core.List.{List, [], _∷_}
+use mathlib.Core.List.{List, _∷_}
 use Prim.Native.Nat.{ℕ, suc, _+_, _≤_, _<_}
 use native.Mathlib.Omega.{arith}
 use lib.Dec.{ltb}
@@ -14,7 +14,7 @@ use Rattle.records.specs.Kinds.{Kind, expressions, patterns, leafs, part, lower
 use Rattle.records.specs.Says.{kindAt, sortAt}
 use Rattle.records.specs.TypeRecords.{TypeRecord}
 use Rattle.records.specs.Trees.{treeAt}
-use Rattle.records.specs.Written.{Written, NamedOnce}
+use Rattle.records.specs.Written.{Written}
 use Rattle.records.proofs.Table.{askOfKind}
 use Rattle.records.proofs.Asked.{part-of-kind, past-header}
 use Rattle.records.proofs.Grown.{grown-tree}
@@ -27,7 +27,7 @@ use Rattle.typing.proofs.Judged.{passed-judged}
 use Rattle.typing.proofs.TypeRecordsOf.{type-of-record}
 use Rattle.typing.proofs.Outcomes.{Passed}
 
-module _ (s : List ℕ) (n : ℕ) (table stack : List ℕ) (names rec : ℕ) (widths : List ℕ) (r : Judging s n table stack names rec widths) where
+module _ {s : List ℕ} {n : ℕ} {table stack : List ℕ} {names rec : ℕ} {widths : List ℕ} (r : Judging s n table stack names rec widths) where
   pub ready-written : Written s
   ready-written = written (r .ground .passes)
 
@@ -116,22 +116,22 @@ module _ (s : List ℕ) (n : ℕ) (table stack : List ℕ) (names rec : ℕ) (wi
       (passed-judged s (scopeOf names stack) (treeAt s rec) (p .none-fails)))
 
 -- a chain of leaves in a word of a record
-pub leaves-there : (s : List ℕ) (n : ℕ) (table : List ℕ) (rec : ℕ) (w : List ℕ) → Closing s n table rec w → (k : Kind) → kindAt s rec ≡ k
+pub leaves-there : {s : List ℕ} {n : ℕ} {table : List ℕ} {rec : ℕ} {w : List ℕ} → Closing s n table rec w → (k : Kind) → kindAt s rec ≡ k
     → (j : ℕ) → (ltb 0 j && ltb j 6) ≡ true → askOfKind k j ≡ part leafs → (x : ℕ) → x ≡ word s rec j → (x < n) × (sortAt s x ≡ leafs)
-leaves-there s n table rec w c k e j t a x ex =
+leaves-there {rec = rec} c k e j t a x ex =
     let counted = c .ground .sized .counted in
     let h = c .there in
     let p = part-of-kind (written (c .ground .passes)) rec k leafs (omega arith) e j t a in
     (omega (arith, p .1, ex), rw ex (p .2))
 
-pub typed-word : (s : List ℕ) (n : ℕ) (table : List ℕ) (rec : ℕ) (w : List ℕ) → Closing s n table rec w → (k : Kind) → kindAt s rec ≡ k
+pub typed-word : {s : List ℕ} {n : ℕ} {table : List ℕ} {rec : ℕ} {w : List ℕ} → Closing s n table rec w → (k : Kind) → kindAt s rec ≡ k
     → (j : ℕ) → (ltb 0 j && ltb j 6) ≡ true → askOfKind k j ≡ lowerType → (x : ℕ) → x ≡ word s rec j → TypeRecord s x
-typed-word s n table rec w c k e j t a x ex =
+typed-word {rec = rec} c k e j t a x ex =
     let counted = c .ground .sized .counted in
     let h = c .there in
     rw ex (type-word (written (c .ground .passes)) rec k (omega arith) e j t a)
 
-module _ (s : List ℕ) (n : ℕ) (table stack : List ℕ) (names rec : ℕ) (widths : List ℕ) (r : Judging s n table stack names rec widths) where
+module _ {s : List ℕ} {n : ℕ} {table stack : List ℕ} {names rec : ℕ} {widths : List ℕ} (r : Judging s n table stack names rec widths) where
   pub few-names : names ≤ 64
   few-names =
       let c = r .ground .sized .counted in
@@ -158,11 +158,11 @@ module _ (s : List ℕ) (n : ℕ) (table stack : List ℕ) (names rec : ℕ) (wi
   pub part-of-pair : (k : ℕ) → PartAt s rec k → (x : ℕ) → x ≡ word s rec 2 → (after : List ℕ) → length after ≡ 4096
       → (rec < x) × Judging s n table stack names x after
   part-of-pair k (at-first e) x ex after l =
-      part-ready s n table stack names rec widths r (expression first) e 2 refl (unfold askOfKind in refl) x ex after l
+      part-ready r (expression first) e 2 refl (unfold askOfKind in refl) x ex after l
   part-of-pair k (at-second e) x ex after l =
-      part-ready s n table stack names rec widths r (expression second) e 2 refl (unfold askOfKind in refl) x ex after l
+      part-ready r (expression second) e 2 refl (unfold askOfKind in refl) x ex after l
 
 -- the word of a pair's record that holds the part's type
-pub part-word : (s : List ℕ) (rec k : ℕ) → PartAt s rec k → (1 < k) × (k < 4)
-part-word s rec k (at-first e) = (omega arith, omega arith)
-part-word s rec k (at-second e) = (omega arith, omega arith)
+pub part-word : {s : List ℕ} {rec k : ℕ} → PartAt s rec k → (1 < k) × (k < 4)
+part-word (at-first e) = (omega arith, omega arith)
+part-word (at-second e) = (omega arith, omega arith)

@@ -1,17 +1,18 @@
 -- What judging an expression gives: its type record, or the record of the first judgement that fails; and what it notes on the
 -- way, the leaf count of the type of each expression, one byte a record.
 use Prim.Native.Nat.{ℕ, zero, suc, _≤_, _<_}
-use mathlib.Core.Path.{_≡_}
+use mathlib.Core.Path.{_≡_, refl}
 use mathlib.Core.Bool.{Bool, true, false, _&&_}
-use mathlib.Core.List.{List, [], _∷_}
+use mathlib.Core.List.{List, [], _∷_, map}
 use mathlib.Core.Option.{Option, none, some}
 use lib.ListN.{length, getD, set}
 use Rattle.picoella.specs.Types.{leaves}
-use Rattle.records.specs.Words.{nextWord}
-use Rattle.records.specs.Kinds.{expressions, patterns, expression, first, second}
+use Rattle.records.specs.Words.{word, count, nextWord, wordA}
+use Rattle.records.specs.SheetOf.{sheetOf}
+use Rattle.records.specs.Kinds.{rowOf, kindOf, expressions, patterns, expression, first, second}
 use Rattle.records.specs.Says.{sortAt, kindAt}
 use Rattle.records.specs.Sized.{Sized}
-use Rattle.records.specs.TypeRecords.{typeAt, TypeRecord}
+use Rattle.records.specs.TypeRecords.{typeWithin, typeAt, pairOf, TypeRecord}
 use Rattle.records.specs.Trees.{
   Tree,
   noExpression,
@@ -24,13 +25,24 @@ use Rattle.records.specs.Trees.{
   feedbackOf,
   ifOf,
   delayOf,
+  chainWithin,
+  chain,
+  alternativesWithin,
   alternatives,
+  treeWithin,
+  treeAt,
+  circuit,
   follow,
   end,
 }
 use Rattle.structure.specs.Depth.{depth}
 use Rattle.structure.specs.Passes.{Passes}
 use Rattle.typing.specs.Judgements.{Rule, holds, typeRecordOf, judgements, firstFailing, patternFits}
+use Rattle.typing.specs.Rows.{TypingRow, judgedTo}
+use Rattle.typing.specs.NameRows.{nameRows}
+use Rattle.typing.specs.TypeRows.{typeRows}
+use Rattle.typing.specs.PatternRows.{patternRows}
+use Rattle.typing.specs.OrderRows.{orderRows}
 use Rattle.typing.specs.declared.Outcome.{Outcome}
 use Rattle.typing.specs.declared.Outcome.the-variants.{Sound, Fault}
 
@@ -41,6 +53,24 @@ conclude (some r) t = Fault r
 -- the answer for a tree, where the names in scope have these types
 unfoldable pub judged : List ℕ → List ℕ → Tree → Outcome
 judged s Γ e = conclude (firstFailing s (judgements s Γ e)) (typeRecordOf s Γ e)
+
+-- the circuit of a sheet, where the input is the only name; in every row of the table for code 7 it has the outcome that document
+-- 01 gives it
+abbrev pub circuitJudged : List ℕ → Outcome
+circuitJudged s = judged s (wordA s 0 ∷ []) (circuit s)
+
+abbrev namedOutcome : TypingRow → Outcome
+namedOutcome (judgedTo name rs o) = o
+
+abbrev foundOutcome : TypingRow → Outcome
+foundOutcome (judgedTo name rs o) = circuitJudged (sheetOf rs)
+
+abbrev RowsHold : List TypingRow → Type 0
+RowsHold rows = map foundOutcome rows ≡ map namedOutcome rows
+
+typing-rows-hold : RowsHold nameRows × RowsHold typeRows × RowsHold patternRows × RowsHold orderRows
+unfolding judged circuit treeAt treeWithin alternatives alternativesWithin chain chainWithin pairOf typeAt typeWithin kindOf rowOf word count
+typing-rows-hold = (refl, refl, refl, refl)
 
 -- the leaf count of the type of an expression
 abbrev pub width : List ℕ → List ℕ → Tree → ℕ

@@ -1,3 +1,9 @@
 -- The type rules of document 01 on expressions: its judgements in their order, and what judging an expression gives.
 pub mod Judgements
+pub mod Rows
+pub mod NameRows
+pub mod TypeRows
+pub mod PatternRows
+pub mod OrderRows
 pub mod Judging
+pub mod LeafChains

@@ -1,11 +1,20 @@
 -- Laws that belong to no one function.
+pub mod EveryScoped
 pub mod Exact
 pub mod FirstFailure
+pub mod FirstIllTyped
+pub mod IllTypedExactly
+pub mod Kept
 pub mod Lending
 pub mod Noted
+pub mod OneScope
+pub mod PatternTested
 pub mod Places
 pub mod PlacesSmall
+pub mod Reached
+pub mod SaysExactly
 pub mod Stages
 pub mod Stores
-pub mod Widths
+pub mod TableFixed
 pub mod VerdictFirst
+pub mod Widths

@@ -1,24 +1,31 @@
--- What the verdict promises, as named types; their terms are in `proofs/`.
+-- What is promised of the check: each promise a named type, and at the end the list of them. One term of each stands in
+-- `proofs/Kept.antt`; the list wants them all.
 use Prim.Native.Nat.{ℕ, _<_}
 use mathlib.Core.Logic.{_↔_}
 use mathlib.Core.Path.{_≡_}
-use mathlib.Core.Bool.{Bool, true, false}
+use mathlib.Core.Bool.{true, false}
 use mathlib.Core.List.{List, [], _∷_, _++_, List·Memᴰ}
 use mathlib.Core.Option.{none, some}
 use Rattle.picoella.specs.Expressions.{Expr}
 use Rattle.picoella.specs.Typing.{Typed}
 use Rattle.records.specs.Words.{count, wordA}
+use Rattle.records.specs.Kinds.{expressions}
+use Rattle.records.specs.Says.{sortAt}
 use Rattle.records.specs.TypeRecords.{typeAt, TypeRecord, Declared}
 use Rattle.records.specs.Decoding.{decode}
 use Rattle.records.specs.Trees.{circuit}
 use Rattle.answers.specs.Lowest.{lowest}
 use Rattle.answers.specs.Promises.{LowestBreaking}
 use Rattle.answers.specs.declared.Answer.the-variants.{Done}
+use Rattle.answers.specs.Answers.{place}
 use Rattle.answers.specs.Checks.{firstOf}
 use Rattle.structure.specs.Rules.{wrongLength, wrongHeader, wrongRecord, wrongNaming, wrongType, tooDeep}
-use Rattle.typing.specs.Judgements.{Judgement, holds, judgements, typeRecordOf}
+use Rattle.typing.specs.Judgements.{Judgement, holds, judgements}
 use Rattle.structure.specs.Passes.{Passes}
 use Rattle.verdict.specs.Verdict.{inputs, outputType, sheetChecks, verdictAnswer, verdict}
+use Rattle.verdict.specs.Scopes.{Scope}
+use Rattle.verdict.specs.FirstIllTyped.{FirstIllTyped}
+use Rattle.verdict.specs.Widths.{Widths}
 use Rattle.verdict.specs.declared.Verdict.{Verdict}
 use Rattle.verdict.specs.declared.Verdict.the-variants.{
   Accepted,
@@ -76,9 +83,18 @@ Says s (IllTyped r) = Passes s × FailsFirst s (judgements s (inputs s) (circuit
 abbrev pub Places : Type 0
 Places = (s : List ℕ) → Says s (verdict s)
 
+-- and it is the only one that does: a verdict is given exactly where what it says holds, so that no search need be believed
+abbrev pub SaysExactly : Type 0
+SaysExactly = (s : List ℕ) (v : Verdict) → verdict s ≡ v ↔ Says s v
+
 -- The verdict is the answer of the first check of a sheet that applies.
 abbrev pub VerdictFirst : Type 0
 VerdictFirst = (s : List ℕ) → verdictAnswer (verdict s) ≡ firstOf (sheetChecks s) (Done (outputType s))
+
+-- The place of a verdict is below 4,096, so below 2^32: code and place are read back from the one number that is returned
+-- (`TakenApart` of `answers`).
+abbrev pub PlacesBelow : Type 0
+PlacesBelow = (s : List ℕ) → place (verdictAnswer (verdict s)) < 4096
 
 -- The sheet decodes to an expression that has the type of record t by the rules of picoELLA, over the types that the sheet
 -- declares, where the input has the type in the header's word a.
@@ -90,3 +106,32 @@ WellTyped s t =
 -- A sheet is accepted with output type t exactly where it passes codes 1 to 6 and is well typed with t.
 abbrev pub Exact : Type 0
 Exact = (s : List ℕ) (t : ℕ) → verdict s ≡ Accepted t ↔ (Passes s × WellTyped s t)
+
+-- Code 7 is reported at r exactly where r is the first expression without a type.
+abbrev pub IllTypedExactly : Type 0
+IllTypedExactly = (s : List ℕ) (r : ℕ) → verdict s ≡ IllTyped r ↔ (Passes s × FirstIllTyped s r)
+
+-- record r is an expression of the circuit, in one scope
+pub record ScopedOnce (s : List ℕ) (r : ℕ) : Type 0 where
+  pub names : List ℕ
+  pub scope : Scope s r names
+  pub only : (Γ : List ℕ) → Scope s r Γ → Γ ≡ names
+
+-- Every expression record has one scope, in each sheet to which none of the codes 1 to 6 applies.
+abbrev pub EveryScoped : Type 0
+EveryScoped = (s : List ℕ) → Passes s → (r : ℕ) → r < count s → sortAt s r ≡ expressions → ScopedOnce s r
+
+-- So what `check_into` leaves in the table of an accepted sheet is fixed at every record.
+abbrev pub TableFixed : Type 0
+TableFixed = (s : List ℕ) → Passes s → (table other : List ℕ) → Widths s table → Widths s other → table ≡ other
+
+-- all of them
+pub record CheckPromises : Type 0 where
+  pub places : Places
+  pub says-exactly : SaysExactly
+  pub verdict-first : VerdictFirst
+  pub places-below : PlacesBelow
+  pub exact : Exact
+  pub ill-typed-exactly : IllTypedExactly
+  pub every-scoped : EveryScoped
+  pub table-fixed : TableFixed

@@ -1,0 +1,76 @@
+-- Two sheets with the expression that each says, found by hand from document 01: its sheet T, and one that has each form that T has
+-- not. That they decode so is shown where decoding is defined, `Decoding`.
+use mathlib.Core.List.{List, [], _∷_}
+use Rattle.picoella.specs.Types.{Ty, Flat, TyTuple}
+use Rattle.picoella.specs.Patterns.{Whole, Constructor, Parts, Bar}
+use Rattle.picoella.specs.Expressions.{Expr, Const, Var, Tuple, Index1, Index2, Let, LetRec, If, Delay}
+use Rattle.records.specs.SheetOf.{Record, words}
+
+pub data DecodingRow : Type 0 where
+  saysExpression : List Record → Expr → DecodingRow
+
+-- a flat type of two constructors as record 1, one of three as record 2, and their pair
+abbrev pub twoFlat : Ty
+twoFlat = Flat 1 2
+
+abbrev pub threeFlat : Ty
+threeFlat = Flat 2 3
+
+abbrev pub bothFlat : Ty
+bothFlat = TyTuple twoFlat threeFlat
+
+abbrev pub decodingRows : List DecodingRow
+decodingRows =
+    saysExpression
+    (words 1 1 1 2 17 0
+    ∷ words 16 0 2 0 0 0
+    ∷ words 38 0 1 3 16 0
+    ∷ words 40 0 1 4 5 0
+    ∷ words 64 0 2 0 0 0
+    ∷ words 39 0 6 8 15 7
+    ∷ words 33 0 1 0 0 0
+    ∷ words 49 0 1 1 0 0
+    ∷ words 39 0 9 11 13 10
+    ∷ words 33 0 0 0 0 0
+    ∷ words 49 0 1 2 0 0
+    ∷ words 32 0 1 12 0 0
+    ∷ words 64 0 1 0 0 0
+    ∷ words 32 0 1 14 0 0
+    ∷ words 64 0 2 0 0 0
+    ∷ words 33 0 0 0 0 0
+    ∷ words 33 0 0 0 0 0
+    ∷ [])
+    (LetRec twoFlat
+    (Delay (4 ∷ []) twoFlat (2 ∷ [])
+    (If (Var 1) (Constructor 1 2 1)
+    (If (Var 0) (Constructor 1 2 2) (Const twoFlat (1 ∷ [])) (Const twoFlat (2 ∷ [])))
+    (Var 0)))
+    (Var 0))
+    ∷ saysExpression
+    (words 1 1 3 4 21 0
+    ∷ words 16 2 2 0 0 0
+    ∷ words 16 3 3 0 0 0
+    ∷ words 17 0 1 2 0 0
+    ∷ words 37 0 5 10 0 0
+    ∷ words 34 0 6 8 0 0
+    ∷ words 35 0 7 0 0 0
+    ∷ words 33 0 0 0 0 0
+    ∷ words 36 0 9 0 0 0
+    ∷ words 33 0 0 0 0 0
+    ∷ words 39 0 11 12 13 16
+    ∷ words 33 0 0 0 0 0
+    ∷ words 33 0 1 0 0 0
+    ∷ words 32 0 3 14 0 0
+    ∷ words 64 15 1 0 0 0
+    ∷ words 64 0 3 0 0 0
+    ∷ words 50 17 18 20 0 0
+    ∷ words 48 0 3 0 0 0
+    ∷ words 49 19 1 1 0 0
+    ∷ words 49 0 1 2 0 0
+    ∷ words 48 0 2 0 0 0
+    ∷ [])
+    (Let (Tuple (Index1 (Var 0)) (Index2 (Var 0)))
+    (If (Var 0) (Bar (Parts (Bar (Constructor 1 2 1) (Constructor 1 2 2)) (Whole threeFlat)) (Whole bothFlat))
+    (Var 1)
+    (Const bothFlat (1 ∷ 3 ∷ []))))
+    ∷ []

@@ -1,0 +1,21 @@
+-- The index has the pair types of the whole sheet. Assumes nothing.
+use borrow.Author.Needs.{needs}
+use denote.Ref.{now}
+use Rattle.typing.proofs.expressions.judge.Statement.{statement}
+use Rattle.typing.proofs.expressions.judge.Tie as tie
+
+no-pairs-requires : tie.Need-no-pairs-requires
+no-pairs-requires c κs = search needs
+
+note-pairs-requires : tie.Need-note-pairs-requires
+note-pairs-requires c κs = (c .before .before .before .pre .ground .sized, c .before .no-pairs .ensures (now (c .before .before .before .args .sheet)))
+
+judge-expression-requires : tie.Need-judge-expression-requires
+judge-expression-requires c κs = (c .before .before .before .before .before .before .pre, c .before .before .note-pairs .ensures)
+
+returns : tie.Need-returns
+returns c = c .judge-expression .ensures
+
+pub judge-spec : {M : Type 1} → statement M
+judge-spec =
+    tie.close (tie.spec no-pairs-requires note-pairs-requires judge-expression-requires returns)

@@ -1,0 +1,28 @@
+// The types of the names in scope.
+ghost use mathlib.Core.Path.{_≡_};
+ghost use mathlib.Core.List.{[], _∷_};
+ghost use Prim.Native.Nat.{_+_, _<_};
+ghost use lib.ListN.{length};
+ghost use Rattle.typing.specs.Judging.{scopeOf};
+use records::MOST_NAMES;
+use records::Scope;
+
+// The names in scope with one more, of type t.
+pub fn with_name(scope: &Scope, names: usize, t: usize) -> Scope
+    requires { ⌜ (names < 64) × (t < 65536) × (length (now scope) ≡ 64) ⌝ }
+    ensures { λ r. ⌜ (length r ≡ 64) × (scopeOf (names + 1) r ≡ t ∷ scopeOf names (now (scope .entry))) ⌝ }
+{
+    let mut inner = *scope;
+    inner[names] = t as u16;
+    inner
+}
+
+// The names in scope of the whole circuit: the input alone, of the type in the header's word a.
+pub fn input_scope(t: usize) -> Scope
+    requires { ⌜ t < 65536 ⌝ }
+    ensures { λ r. ⌜ (length r ≡ 64) × (scopeOf 1 r ≡ t ∷ []) ⌝ }
+{
+    let mut scope = [0u16; MOST_NAMES];
+    scope[0] = t as u16;
+    scope
+}

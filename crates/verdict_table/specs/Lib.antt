@@ -1,0 +1,11 @@
+-- The table of verdicts on bytes.
+pub mod Rows
+pub mod LengthRows
+pub mod HeaderRows
+pub mod WordRows
+pub mod NumberingRows
+pub mod NamingRows
+pub mod TypeRecordRows
+pub mod DepthRows
+pub mod AcceptedRows
+pub mod VerdictTable

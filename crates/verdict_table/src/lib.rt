@@ -1,0 +1,1 @@
+// The table of verdicts. No code: sheets with their verdicts in specs/, and one proof by computation.
