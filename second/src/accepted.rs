@@ -72,6 +72,12 @@ impl Circuit {
         delays
     }
 
+    /// The leaf records of all delays.
+    pub fn delay_leaves(&self) -> Vec<usize> {
+        let delays = self.records.iter().filter(|record| record[KIND] == DELAY);
+        delays.flat_map(|record| leaf_chain(&self.records, record)).collect()
+    }
+
     /// Writes the values that delays hold into the leaves of a sheet.
     pub fn hold(&self, sheet: &mut [u8], held: &[Value]) {
         for (number, record) in self.records.iter().enumerate() {

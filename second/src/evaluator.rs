@@ -100,6 +100,7 @@ impl<'a> Evaluator<'a> {
         match answer {
             Match::Yes => then,
             Match::No => other,
+            Match::Undecided if self.mistake == Some(RunMistake::ElseWhenUndecided) => other,
             Match::Undecided => undefined(then.len()),
         }
     }

@@ -1,4 +1,4 @@
-//! The check and the run in the archive under test.
+//! The functions of the archive under test.
 
 #[link(name = "sheets", kind = "static")]
 extern "C" {
@@ -16,6 +16,15 @@ extern "C" {
         output_length: usize,
         next: *mut u8,
         next_length: usize,
+    ) -> u64;
+
+    /// Reads the text, fills the slice for the sheet; gives code * 2^32 + place.
+    #[cfg(feature = "translate")]
+    fn sheet_translate(
+        text: *const u8,
+        text_length: usize,
+        sheet: *mut u8,
+        sheet_length: usize,
     ) -> u64;
 }
 
@@ -40,4 +49,11 @@ pub fn run(sheet: &[u8], stimulus: &[u8], outputs: &mut [u8], next: &mut [u8]) -
             next.len(),
         )
     }
+}
+
+/// The packed answer of the archive's translation.
+#[cfg(feature = "translate")]
+pub fn translate(text: &[u8], sheet: &mut [u8]) -> u64 {
+    // The slices are valid for their lengths and do not overlap.
+    unsafe { sheet_translate(text.as_ptr(), text.len(), sheet.as_mut_ptr(), sheet.len()) }
 }

@@ -1,16 +1,19 @@
-//! The commands that read a sheet and a stimulus from files, and print their
-//! listing or write the next sheet; and the one that writes named sheets.
+//! The commands that read and write files: named sheets, listings and next
+//! sheets, the sheet of a text.
 
 use std::process::ExitCode;
 
 use second::answers::Answer;
 use second::listing::{listing, refusal};
+use second::records::{MAX_RECORDS, RECORD_BYTES};
+use second::text::translator::translate;
 use second::{samples, shapes};
 
 pub const USAGE: &str = "       second shapes
        second emit NAME FILE
        second listing SHEET STIM [FILE]
-       second next SHEET STIM FILE";
+       second next SHEET STIM FILE
+       second translate TEXT FILE";
 
 /// The command that the words give, if it is one about files.
 pub fn command(words: &[&str]) -> Option<ExitCode> {
@@ -23,6 +26,7 @@ pub fn command(words: &[&str]) -> Option<ExitCode> {
         ["listing", sheet, stimulus] => Some(list(sheet, stimulus, None)),
         ["listing", sheet, stimulus, file] => Some(list(sheet, stimulus, Some(file))),
         ["next", sheet, stimulus, file] => Some(write_next(sheet, stimulus, file)),
+        ["translate", text, file] => Some(write_translated(text, file)),
         _ => None,
     }
 }
@@ -75,6 +79,22 @@ fn write_next(sheet: &str, stimulus: &str, file: &str) -> ExitCode {
         Ok((_, next)) => write(file, &next),
         Err(answer) => {
             print!("{}", refusal(answer));
+            ExitCode::FAILURE
+        }
+    }
+}
+
+/// Writes the sheet of a text, or prints the refusal; 12 if it can't be read.
+fn write_translated(text: &str, file: &str) -> ExitCode {
+    let Ok(text) = std::fs::read(text) else {
+        print!("{}", refusal(Answer { code: 12, place: 1 }));
+        return ExitCode::FAILURE;
+    };
+    let outcome = translate(&text, MAX_RECORDS * RECORD_BYTES, None);
+    match outcome.answer.code {
+        0 => write(file, &outcome.written[..outcome.answer.place as usize]),
+        _ => {
+            print!("{}", refusal(outcome.answer));
             ExitCode::FAILURE
         }
     }

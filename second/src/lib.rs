@@ -14,12 +14,16 @@ pub mod accepted;
 pub mod evaluator;
 pub mod listing;
 pub mod matching;
+pub mod order;
 pub mod run_mistakes;
 pub mod simulator;
 pub mod stepper;
 pub mod stimulus;
 pub mod values;
 pub mod watch;
+
+// Texts.
+pub mod text;
 
 // Sheets.
 pub mod draft;
@@ -35,7 +39,11 @@ pub mod survey;
 #[cfg(test)]
 mod generate_tests;
 #[cfg(test)]
+mod order_tests;
+#[cfg(test)]
 mod simulator_tests;
+#[cfg(test)]
+mod text_tests;
 #[cfg(test)]
 mod typing_tests;
 #[cfg(test)]

@@ -1,26 +1,39 @@
-//! Compares the second implementations of the type check and of the run with
-//! those in the archive, on generated sheets; times both; writes named sheets.
+//! Compares the second implementations of the type check, of the run and of the
+//! translation with those in the archive, on generated sheets and texts; times
+//! them; writes named sheets.
 
 mod checks;
 mod external;
 mod files;
+mod memory;
 mod report;
 mod runs;
+#[cfg(feature = "translate")]
+mod texts;
 mod workers;
 
 use std::process::ExitCode;
 
+/// Does what some words ask for, if they are a command of its kind.
+type Command = fn(&[&str]) -> Option<ExitCode>;
+
+/// The commands, and the lines that tell their use.
+const COMMANDS: &[(Command, &str)] = &[
+    (checks::command, checks::USAGE),
+    (runs::command, runs::USAGE),
+    #[cfg(feature = "translate")]
+    (texts::command, texts::USAGE),
+    (files::command, files::USAGE),
+];
+
 fn main() -> ExitCode {
     let arguments: Vec<String> = std::env::args().skip(1).collect();
     let words: Vec<&str> = arguments.iter().map(String::as_str).collect();
-    checks::command(&words)
-        .or_else(|| runs::command(&words))
-        .or_else(|| files::command(&words))
-        .unwrap_or_else(usage)
+    COMMANDS.iter().find_map(|(command, _)| command(&words)).unwrap_or_else(usage)
 }
 
 fn usage() -> ExitCode {
-    for lines in [checks::USAGE, runs::USAGE, files::USAGE] {
+    for (_, lines) in COMMANDS {
         eprintln!("{lines}");
     }
     ExitCode::from(2)

@@ -28,6 +28,8 @@ pub enum RunMistake {
     PairMatchUndecided,
     /// A chain says no where it is undecided.
     ChainNoWhenUndecided,
+    /// An undecided IF gives the value of its else part.
+    ElseWhenUndecided,
     /// Every output leaf stands one place later, the last one first.
     OutputOneLeafOff,
     /// A refusal fills the output slice with 0.
@@ -45,7 +47,7 @@ pub enum RunMistake {
 }
 
 /// Every mistake and its name.
-pub const MISTAKES: [(&str, RunMistake); 19] = [
+pub const MISTAKES: [(&str, RunMistake); 20] = [
     ("undefined-everywhere", RunMistake::UndefinedEverywhere),
     ("copy-sheet", RunMistake::CopySheet),
     ("cycle-zero-again", RunMistake::CycleZeroAgain),
@@ -58,6 +60,7 @@ pub const MISTAKES: [(&str, RunMistake); 19] = [
     ("chosen-branch-only", RunMistake::ChosenBranchOnly),
     ("pair-match-undecided", RunMistake::PairMatchUndecided),
     ("chain-no-when-undecided", RunMistake::ChainNoWhenUndecided),
+    ("else-when-undecided", RunMistake::ElseWhenUndecided),
     ("output-one-leaf-off", RunMistake::OutputOneLeafOff),
     ("refusal-clears-out", RunMistake::RefusalClearsOut),
     ("refusal-fills-next", RunMistake::RefusalFillsNext),

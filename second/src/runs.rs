@@ -6,7 +6,8 @@ mod cases;
 mod compare;
 mod faults;
 mod jobs;
-mod memory;
+mod late;
+mod ordered;
 mod plan;
 mod program;
 mod tally;
@@ -17,6 +18,7 @@ use second::run_mistakes::{named, MISTAKES};
 
 pub const USAGE: &str = "       second run [--seed N] [--runs N] [--threads N] [--mistake NAME]
        second run-mistakes
+       second late [--seed N] [--pairs N] [--threads N] [--mistake NAME]
        second bench-run [PROGRAM FOLDER]
        second sheetrun PROGRAM FOLDER [--seed N] [--mistake NAME]";
 
@@ -30,6 +32,8 @@ pub fn command(words: &[&str]) -> Option<ExitCode> {
             MISTAKES.iter().for_each(|(name, _)| println!("{name}"));
             Some(ExitCode::SUCCESS)
         }
+        ["late", options @ ..] => plan::Options::read(options, "--pairs", named)
+            .map(|options| ordered::run(&late::LATE, &options)),
         ["bench-run"] => Some(bench::run(None)),
         ["bench-run", program, folder] => Some(bench::run(Some((program, folder)))),
         ["sheetrun", program, folder, options @ ..] => {

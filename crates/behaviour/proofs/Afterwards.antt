@@ -67,17 +67,17 @@ module _ (s stim out next : List ℕ) (t : ℕ) (h : WellFormed s stim out next 
   inputs-typed : AllOf (inputType s) (cycles s stim)
   inputs-typed = cycles-typed s stim (h .whole) (h .fitting)
 
-  abbrev outs : List (List ℕ)
+  abbrev pub outs : List (List ℕ)
   outs = outputsBy undefinedLeaves s (cycles s stim)
 
   outs-typed : AllOf (typeAt s t) outs
   outs-typed = outputs-typed undefinedLeaves undefined-lawful s t (h .accepted) (cycles s stim) inputs-typed
 
-  out-is : finalOut s stim out next ≡ endToEnd outs
+  pub out-is : finalOut s stim out next ≡ endToEnd outs
   unfolding finalOut
   out-is = rw answer-done
 
-  next-is : finalNext s stim out next ≡ sheetAfter undefinedLeaves s (cycles s stim)
+  pub next-is : finalNext s stim out next ≡ sheetAfter undefinedLeaves s (cycles s stim)
   unfolding finalNext
   next-is = rw answer-done
 

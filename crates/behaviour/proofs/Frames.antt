@@ -173,10 +173,10 @@ read-assigned read (l ∷ ls) (v ∷ vs) e h =
     ap₂ _∷_ (h (record { place = l; value = v }) (List·Memᴰ·head refl))
     (read-assigned read ls vs (omega arith) (λ f m. h f (List·Memᴰ·tail m)))
 
-reads-left : (read : ℕ → ℕ) (es fs : List Entry) → Reads read (es ++ fs) → Reads read es
+pub reads-left : (read : ℕ → ℕ) (es fs : List Entry) → Reads read (es ++ fs) → Reads read es
 reads-left read es fs h = λ e m. h e (Memᴰ·append-left fs m)
 
-reads-right : (read : ℕ → ℕ) (es fs : List Entry) → Reads read (es ++ fs) → Reads read fs
+pub reads-right : (read : ℕ → ℕ) (es fs : List Entry) → Reads read (es ++ fs) → Reads read fs
 reads-right read es fs h = λ e m. h e (Memᴰ·append-right es m)
 
 pub fill-own : (read : ℕ → ℕ) (t : Term) → Placed HasPlaces t → Valued t → Reads read (entries t) → fill (map read) t ≡ t

@@ -9,6 +9,8 @@ use Rattle.behaviour.proofs.Run.{run-outputs, run-sheet}
 use Rattle.behaviour.proofs.Reduces.{run-reduces}
 use Rattle.behaviour.proofs.Afterwards.{afterwards}
 use Rattle.behaviour.proofs.Answers.{lowest-first, places-small, refusal-unaltered}
+use Rattle.behaviour.proofs.SheetRunOrdered.{sheet-run-ordered, late-scanner}
+use Rattle.behaviour.proofs.LateToggle.{late-input, late-delay}
 
 pub kept : RunPromises
 kept = record {
@@ -26,4 +28,8 @@ kept = record {
       (run-outputs undecided law s t v inputs given, run-sheet undecided law s t v inputs given);
   run-reduces = run-reduces;
   holds-afterwards = afterwards;
+  sheet-run-ordered = sheet-run-ordered;
+  late-scanner = late-scanner;
+  late-input = late-input;
+  late-delay = late-delay;
 }

@@ -8,6 +8,7 @@ pub mod Places
 pub mod Values
 pub mod TermsAgain
 pub mod Sheets
+pub mod OnlyDelays
 pub mod Stores
 pub mod Bytes
 pub mod Cycle
@@ -16,8 +17,12 @@ pub mod ScopesAgain
 pub mod DelayRecords
 pub mod Evaluated
 pub mod Run
+pub mod AfterRun
+pub mod SheetOrder
 pub mod Feedbacks
 pub mod Afterwards
+pub mod SheetRunOrdered
+pub mod LateToggle
 pub mod Answers
 pub mod Reduces
 pub mod Kept

@@ -13,22 +13,21 @@ use Rattle.records.proofs.Decoding.{decodes}
 use Rattle.verdict.specs.Verdict.{verdict}
 use Rattle.verdict.specs.declared.Verdict.the-variants.{Accepted}
 use Rattle.meaning.specs.Elaboration.{erase}
-use Rattle.meaning.specs.Values.{no-values, AllOf, all-none, all-more}
+use Rattle.meaning.specs.Values.{AllOf, all-none, all-more}
 use Rattle.meaning.specs.Constants.{ConstantTree, AllConstantsOf, of-none, of-all-none, of-all-more, flatten}
 use Rattle.meaning.specs.Undecided.{undefinedLeaves, bottomOfThen}
 use Rattle.meaning.specs.Run.{after}
 use Rattle.meaning.proofs.FlattenOneToOne.{flatten-typed}
-use Rattle.meaning.proofs.NextTyped.{after-typed, after-frame}
 use Rattle.meaning.proofs.UndefinedLeavesLawful.{undefined-lawful, undefined-agreeing}
 use Rattle.meaning.proofs.Adequacy.{run-adequate}
 use Rattle.behaviour.specs.Terms.{circuitTerm}
-use Rattle.behaviour.specs.Sheets.{write, Writable}
 use Rattle.behaviour.proofs.Terms.{erase-circuit, circuit-typed}
-use Rattle.behaviour.proofs.Sheets.{accepted-written, write-read, write-accepted}
+use Rattle.behaviour.proofs.Sheets.{accepted-written}
 use Rattle.stimulus.specs.Stimulus.{inputType}
 use Rattle.behaviour.specs.Run.{sheetAfter}
 use Rattle.behaviour.specs.Promises.{RunReduces}
-use Rattle.behaviour.proofs.Run.{run-outputs, run-sheet}
+use Rattle.behaviour.proofs.Run.{run-outputs}
+use Rattle.behaviour.proofs.AfterRun.{run-read, run-accepted}
 
 flatten-all-typed : {τ : Ty} {cs : List ConstantTree} → AllConstantsOf τ cs → AllOf τ (map flatten cs)
 flatten-all-typed of-all-none = all-none
@@ -41,20 +40,12 @@ decodes-to s t v = decodes (accepted-written s t v) ∙ ap some (sym (erase-circ
 some-same : (e f : Expr) → some e ≡ some f → e ≡ f
 some-same e f p = cc
 
-module _ (s : List ℕ) (t : ℕ) (v : verdict s ≡ Accepted t) (is : List (List ℕ)) (given : AllOf (inputType s) is) where
-  after-writable : Writable s t (after undefinedLeaves [] (circuitTerm s) is)
-  after-writable = record {
-    frame = after-frame undefinedLeaves [] (circuitTerm s) is;
-    typed = after-typed undefinedLeaves undefined-lawful (Declared s) (circuit-typed s t v) no-values given;
-  }
-
-  -- and the sheet after a run to the erasure of the term after it
-  decodes-after : decode (sheetAfter undefinedLeaves s is) ≡ some (erase (after undefinedLeaves [] (circuitTerm s) is))
-  decodes-after =
-      let e = after undefinedLeaves [] (circuitTerm s) is in
-      ap decode (run-sheet undefinedLeaves undefined-lawful s t v is given)
-      ∙ decodes-to (write s e) t (write-accepted s t v e after-writable ∙ v)
-      ∙ ap (λ u. some (erase u)) (write-read s t v e after-writable)
+-- and the sheet after a run to the erasure of the term after it
+decodes-after : (s : List ℕ) (t : ℕ) → verdict s ≡ Accepted t → (is : List (List ℕ)) → AllOf (inputType s) is
+    → decode (sheetAfter undefinedLeaves s is) ≡ some (erase (after undefinedLeaves [] (circuitTerm s) is))
+decodes-after s t v is given =
+    decodes-to (sheetAfter undefinedLeaves s is) t (run-accepted undefinedLeaves undefined-lawful s t v is given ∙ v)
+    ∙ ap (λ u. some (erase u)) (run-read undefinedLeaves undefined-lawful s t v is given)
 
 pub run-reduces : RunReduces
 run-reduces s t v e f d inputs outs given =

@@ -10,8 +10,6 @@ use lib.ListN.{length, getD}
 use Rattle.picoella.specs.Types.{OfType}
 use Rattle.records.specs.Words.{wordA}
 use Rattle.records.specs.TypeRecords.{typeAt}
-use Rattle.records.specs.Trees.{circuit}
-use Rattle.records.proofs.Rewritten.{same-circuit}
 use Rattle.verdict.specs.Verdict.{verdict}
 use Rattle.verdict.specs.declared.Verdict.the-variants.{Accepted}
 use Rattle.meaning.specs.Values.{AllOf, all-none, all-more}
@@ -22,7 +20,8 @@ use Rattle.meaning.proofs.NextTyped.{after-frame}
 use Rattle.behaviour.specs.Terms.{circuitTerm}
 use Rattle.behaviour.specs.Sheets.{write, Bytes, OnlyDelays}
 use Rattle.behaviour.specs.Cycle.{outputBy, afterBy}
-use Rattle.behaviour.proofs.Sheets.{write-own, only-leaves, accepted-written}
+use Rattle.behaviour.proofs.Sheets.{write-own}
+use Rattle.behaviour.proofs.OnlyDelays.{only-delays-same, only-delays-chain}
 use Rattle.behaviour.proofs.Stores.{write-again}
 use Rattle.behaviour.proofs.Cycle.{
   output-typed,
@@ -106,23 +105,13 @@ module _ (undecided : List ℕ → List ℕ → List ℕ) where
         sheet-accepted (afterBy undecided s i) t (after-accepted undecided law s t v i h ∙ v) is (given-again s t v i is h r) k
         ∙ after-accepted undecided law s t v i h
 
-    -- what differs in delays alone from a sheet that differs so from another differs so from that
-    only-delays-chain : (s t u : List ℕ) (τ : ℕ) → verdict s ≡ Accepted τ → OnlyDelays s t → OnlyDelays t u → OnlyDelays s u
-    only-delays-chain s t u τ v a b = record {
-      length = b .length ∙ a .length;
-      bytes = λ i other. b .bytes i (λ l m. other l (rw same at m)) ∙ a .bytes i other;
-    }
-      where
-        same : circuit t ≡ circuit s
-        same = same-circuit s t (only-leaves (accepted-written s τ v) a)
-
     pub sheet-only-delays : (s : List ℕ) (t : ℕ) → verdict s ≡ Accepted t → (is : List (List ℕ)) → AllOf (inputType s) is
         → (k : ℕ) → OnlyDelays s (sheetBefore undecided s is k)
-    sheet-only-delays s t v [] r k = record { length = refl; bytes = λ i other. refl }
-    sheet-only-delays s t v (i ∷ is) r zero = record { length = refl; bytes = λ i other. refl }
+    sheet-only-delays s t v [] r k = only-delays-same s
+    sheet-only-delays s t v (i ∷ is) r zero = only-delays-same s
     sheet-only-delays s t v (i ∷ is) (all-more h r) (suc k) =
-        only-delays-chain s (afterBy undecided s i) (sheetBefore undecided (afterBy undecided s i) is k) t v
-        (after-only-delays undecided law s t v i h)
+        only-delays-chain s (afterBy undecided s i) t v (after-only-delays undecided law s t v i h)
+        (sheetBefore undecided (afterBy undecided s i) is k)
         (sheet-only-delays (afterBy undecided s i) t (after-accepted undecided law s t v i h ∙ v) is (given-again s t v i is h r) k)
 
     -- each input is of the input type of the sheet that its cycle begins from

@@ -155,6 +155,23 @@ module _ (s : List ℕ) (t : ℕ) (v : verdict s ≡ Accepted t) where
   unfolding write
   write-own = put-held s (entries (circuitTerm s)) circuit-reads (values-small (circuitTerm s) circuit-has-places circuit-valued)
 
+  -- where another sheet differs in delays' leaves alone the constants' leaves stay, so its term is that of the sheet with each delay
+  -- holding what now stands at its places
+  constants-stay : {s′ : List ℕ} → OnlyDelays s s′ → (x : ℕ) → List·Memᴰ x (held false true false (circuit s)) → wordA s′ x ≡ wordA s x
+  constants-stay o x m =
+      same-word o x 2 (omega arith)
+      (λ l n e k. constants-apart (circuit s) (circuit-distinct accepted-written (named-once passes) false true true) x m (rw e n))
+
+  pub circuit-filled : {s′ : List ℕ} → OnlyDelays s s′ → circuitTerm s′ ≡ fill (leafValues s′) (circuitTerm s)
+  unfolding circuitTerm
+  circuit-filled {s′} o =
+      let p = passes in
+      let only = only-leaves accepted-written o in
+      let input : inputs s′ ≡ inputs s = ap (λ u. u ∷ []) (header-same accepted-written o 2 (omega arith)) in
+      rw (same-circuit s s′ only, input)
+      (term-again s s′ only accepted-written (inputs s) (circuit s) (grown-circuit accepted-written) (input-context p)
+      (accepted-judged t p v .0) (constants-stay o))
+
   module _ (e : Term) (h : Writable s t e) where
     -- only leaves are rewritten
     pub write-only-leaves : OnlyLeaves s (write s e)
@@ -177,26 +194,12 @@ module _ (s : List ℕ) (t : ℕ) (v : verdict s ≡ Accepted t) where
     unfolding write
     write-stays {r} n = put-elsewhere putWord wordA InSheet sheet-cells (entries e) r s n
 
-    -- as the constants' leaves do
-    constants-stay : (x : ℕ) → List·Memᴰ x (held false true false (circuit s)) → wordA (write s e) x ≡ wordA s x
-    constants-stay x m =
-        write-stays
-        (λ n. constants-apart (circuit s) (circuit-distinct accepted-written (named-once passes) false true true) x m
-        (framed-places s e (h .frame) .back x n))
-
     -- the term written is the term read
     pub write-read : circuitTerm (write s e) ≡ e
-    unfolding circuitTerm
     write-read =
-        let p = passes in
-        let same = same-circuit s (write s e) write-only-leaves in
-        let input : inputs (write s e) ≡ inputs s = ap (λ u. u ∷ [])
-        (header-same accepted-written (write-only-delays s e (h .frame)) 2 (omega arith)) in
-        rw (same, input)
-        (term-again s (write s e) write-only-leaves accepted-written (inputs s) (circuit s) (grown-circuit accepted-written)
-        (input-context p) (accepted-judged t p v .0) constants-stay
+        circuit-filled (write-only-delays s e (h .frame))
         ∙ same-filled (leafValues (write s e)) (circuitTerm s) e (sym (h .frame))
-        ∙ fill-own (wordA (write s e)) e has-places (typed-valued (h .typed)) write-reads)
+        ∙ fill-own (wordA (write s e)) e has-places (typed-valued (h .typed)) write-reads
 
     leaves-small : (r : ℕ) → r < count s → kindAt s r ≡ leaf → wordA (write s e) r ≤ 255
     leaves-small r b k = go (member-or-not r (places e))

@@ -7,5 +7,6 @@ pub mod Evaluated
 pub mod Cycle
 pub mod Run
 pub mod Afterwards
-pub mod Promises
 pub mod Bench
+pub mod SheetOrder
+pub mod Promises

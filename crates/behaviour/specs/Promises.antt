@@ -4,7 +4,7 @@ use Prim.Native.Nat.{ℕ, _<_, _^_}
 use mathlib.Core.Path.{_≡_}
 use mathlib.Core.Logic.{_↔_, _≢_}
 use mathlib.Core.Bool.{false}
-use mathlib.Core.List.{List, [], map}
+use mathlib.Core.List.{List, [], _∷_, map}
 use mathlib.Core.Option.{some}
 use lib.ListN.{length}
 use Rattle.picoella.specs.Expressions.{Expr}
@@ -17,9 +17,10 @@ use Rattle.answers.specs.declared.Answer.the-variants.{Done, Refused}
 use Rattle.verdict.specs.Verdict.{verdict}
 use Rattle.verdict.specs.declared.Verdict.the-variants.{Accepted}
 use Rattle.meaning.specs.Elaboration.{Term}
-use Rattle.meaning.specs.Values.{AllOf}
+use Rattle.meaning.specs.Values.{_⊑_, AllOf}
 use Rattle.meaning.specs.Constants.{ConstantTree, AllConstantsOf, flatten}
 use Rattle.meaning.specs.Undecided.{undefinedLeaves, bottomOfThen, Lawful}
+use Rattle.meaning.specs.Ordered.{RuleBelow, AllBoth}
 use Rattle.meaning.specs.Rules.{ReducesSeq}
 use Rattle.meaning.specs.Run as Meaning
 use Rattle.behaviour.specs.Terms.{circuitTerm}
@@ -27,6 +28,8 @@ use Rattle.behaviour.specs.Sheets.{write, Writable, OnlyDelays}
 use Rattle.stimulus.specs.Stimulus.{inputType, endToEnd, cycles, cycleCount, wrongStimulus}
 use Rattle.behaviour.specs.Run.{outputsBy, sheetAfter, callChecks, answer, finalOut, finalNext}
 use Rattle.behaviour.specs.Afterwards.{WellFormed, Afterwards}
+use Rattle.behaviour.specs.SheetOrder.{SheetBelow, FormedCall, StrictlyBelow, holding}
+use Rattle.behaviour.specs.Bench.{toggle}
 
 -- What each answer says of the call: done, with all cycles, exactly where the call is well formed; or refused by a check of the list,
 -- at its place, where no check before it applies. `FirstThatApplies`, `LowestFound` and `LowestNone` of answers say what that means of
@@ -93,6 +96,35 @@ HoldsAfterwards =
     (s stim out next : List ℕ) (t : ℕ) → WellFormed s stim out next t
     → Afterwards s stim t (packed (answer s stim out next)) (finalOut s stim out next) (finalNext s stim out next)
 
+-- Two accepted sheets that are the same or differ only in delay leaves, each of the first at or below that of the second, run over
+-- two lists of inputs, cycle by cycle the first at or below the second, under two lawful rules for an undecided IF, the first at or
+-- below the second: so are the outputs, cycle by cycle, and the sheets after. Any number of cycles, none included.
+abbrev pub SheetRunOrdered : Type 0
+SheetRunOrdered =
+    (rule other : List ℕ → List ℕ → List ℕ) → Lawful rule → Lawful other → RuleBelow rule other
+    → (s s′ : List ℕ) (t t′ : ℕ) → verdict s ≡ Accepted t → verdict s′ ≡ Accepted t′ → SheetBelow s s′
+    → (inputs inputs′ : List (List ℕ)) → AllBoth (inputType s) inputs inputs′
+    → AllBoth (typeAt s t) (outputsBy rule s inputs) (outputsBy other s′ inputs′)
+    × SheetBelow (sheetAfter rule s inputs) (sheetAfter other s′ inputs′)
+
+-- A late scanner (document 02, (c)): two well-formed calls on sheets in order, whose stimuli are of equal length and the first leaf by
+-- leaf at or below the second. Every output leaf of the first is at or below that of the second, and so is each delay leaf of the
+-- next sheets, which again differ in delay leaves alone. Any number of cycles, none included.
+abbrev pub LateScanner : Type 0
+LateScanner =
+    (s s′ stimulus stimulus′ outputs outputs′ next next′ : List ℕ)
+    → FormedCall s stimulus outputs next → FormedCall s′ stimulus′ outputs′ next′
+    → SheetBelow s s′ → stimulus ⊑ stimulus′
+    → (outputs ⊑ outputs′) × SheetBelow next next′
+
+-- There are such calls that are not equal: the sheet T, whose delay's leaf is record 4, with a first input that is not there yet; and
+-- T with nothing in its delay yet.
+abbrev pub LateInput : Type 0
+LateInput = StrictlyBelow toggle toggle (0 ∷ 1 ∷ []) (1 ∷ 1 ∷ []) (2 ∷ 0 ∷ []) (2 ∷ 1 ∷ []) (holding 0) toggle
+
+abbrev pub LateDelay : Type 0
+LateDelay = StrictlyBelow (holding 0) toggle (1 ∷ []) (1 ∷ []) (0 ∷ []) (2 ∷ []) (holding 0) (holding 1)
+
 -- all of them
 pub record RunPromises : Type 0 where
   pub lowest-first : LowestFirst
@@ -104,3 +136,7 @@ pub record RunPromises : Type 0 where
   pub run-means : RunMeans
   pub run-reduces : RunReduces
   pub holds-afterwards : HoldsAfterwards
+  pub sheet-run-ordered : SheetRunOrdered
+  pub late-scanner : LateScanner
+  pub late-input : LateInput
+  pub late-delay : LateDelay

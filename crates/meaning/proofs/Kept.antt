@@ -13,6 +13,7 @@ use Rattle.meaning.specs.Evaluation.{eval, next}
 use Rattle.meaning.specs.Promises.{IterateEquations, Settles, Promises, MeaningPromises}
 use Rattle.meaning.proofs.Order.{both-below, both-of}
 use Rattle.meaning.proofs.MatchMonotone.{match-monotone}
+use Rattle.meaning.proofs.EvaluationOrdered.{eval-ordered, next-ordered, outputs-ordered, after-ordered}
 use Rattle.meaning.proofs.EvaluationMonotone.{eval-monotone, eval-typed}
 use Rattle.meaning.proofs.FeedbackLeast.{
   application-typed,
@@ -102,6 +103,14 @@ pub kept : MeaningPromises
 kept =
     record {
       every-rule = kept-promises;
+      two-rules-cycle = λ rule other law under Declared Γ t t′ τ ρ π h r. (
+        both-below (eval-ordered rule other law under Declared h r),
+        next-ordered rule other law under Declared h r,
+      );
+      two-rules-run = λ rule other law under Declared Γ t t′ σ τ ρ π inputs inputs′ h r given. (
+        outputs-ordered rule other law under Declared h r given,
+        after-ordered rule other law under Declared h r given,
+      );
       undefined-lawful = undefined-lawful;
       undefined-agreeing = undefined-agreeing;
     }

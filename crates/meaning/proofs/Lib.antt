@@ -4,6 +4,7 @@ pub mod FlattenOneToOne
 pub mod MatchMonotone
 pub mod MatchAgrees
 pub mod RulesDeterministic
+pub mod EvaluationOrdered
 pub mod EvaluationMonotone
 pub mod FixedPoint
 pub mod FeedbackLeast

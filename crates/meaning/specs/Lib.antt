@@ -4,6 +4,7 @@ pub mod Matching
 pub mod Elaboration
 pub mod Constants
 pub mod Undecided
+pub mod Ordered
 pub mod Evaluation
 pub mod Run
 pub mod Rules

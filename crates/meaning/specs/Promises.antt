@@ -24,6 +24,7 @@ use Rattle.meaning.specs.Constants.{
   match,
 }
 use Rattle.meaning.specs.Undecided.{undefinedLeaves, bottomOfThen, Lawful, Agreeing}
+use Rattle.meaning.specs.Ordered.{RuleBelow, Ordered, AllBoth}
 use Rattle.meaning.specs.Evaluation.{iter, eval, application, iterate, settled, applications, next}
 use Rattle.meaning.specs.Run.{outputs, after}
 use Rattle.meaning.specs.Rules.{Reduces, ReducesSeq}
@@ -196,6 +197,23 @@ module _
       pub run-exists : RunExists
       pub run-unique : RunUnique
 
+-- 5. Two terms alike but for the values that their delays hold, each of the first at or below that of the second, under two
+-- rules, the first lawful and at or below the second, in environments in order: so are their values, and the terms after the
+-- cycle are ordered again. So for a run over inputs in order, none included.
+module _ (rule other : List ℕ → List ℕ → List ℕ) (Declared : Ty → Type 0) where
+  abbrev pub CycleOrdered : Type 0
+  CycleOrdered =
+      (Γ : List Ty) (t t′ : Term) (τ : Ty) (ρ π : List (List ℕ))
+      → Ordered Declared Γ t t′ τ → BothValues Γ ρ π
+      → (eval rule ρ t ⊑ eval other π t′) × Ordered Declared Γ (next rule ρ t) (next other π t′) τ
+
+  abbrev pub RunOrdered : Type 0
+  RunOrdered =
+      (Γ : List Ty) (t t′ : Term) (σ τ : Ty) (ρ π inputs inputs′ : List (List ℕ))
+      → Ordered Declared (σ ∷ Γ) t t′ τ → BothValues Γ ρ π → AllBoth σ inputs inputs′
+      → AllBoth τ (outputs rule ρ t inputs) (outputs other π t′ inputs′)
+      × Ordered Declared (σ ∷ Γ) (after rule ρ t inputs) (after other π t′ inputs′) τ
+
 -- Document 01's rule for an undecided IF is lawful, and agrees with that of 000.
 abbrev pub UndefinedLawful : Type 0
 UndefinedLawful = Lawful undefinedLeaves
@@ -211,5 +229,9 @@ pub record MeaningPromises : Type 1 where
       (agree : Agreeing undecided tree)
       (Declared : Ty → Type 0)
       → Promises undecided law tree agree Declared
+  pub two-rules-cycle : (rule other : List ℕ → List ℕ → List ℕ)
+      → Lawful rule → RuleBelow rule other → (Declared : Ty → Type 0) → CycleOrdered rule other Declared
+  pub two-rules-run : (rule other : List ℕ → List ℕ → List ℕ)
+      → Lawful rule → RuleBelow rule other → (Declared : Ty → Type 0) → RunOrdered rule other Declared
   pub undefined-lawful : UndefinedLawful
   pub undefined-agreeing : UndefinedAgreeing

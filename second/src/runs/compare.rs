@@ -11,9 +11,9 @@ use second::run_mistakes::RunMistake;
 use second::simulator::{run_watched, Call, Outcome};
 use second::watch::Watch;
 
-use super::memory::{Area, Placement};
 use super::tally::Tally;
 use crate::external;
+use crate::memory::{Area, Placement};
 use crate::report::{self, hex};
 use crate::workers::{self, Halt};
 
@@ -28,17 +28,26 @@ pub struct Case {
 }
 
 impl Case {
-    fn call(&self) -> Call<'_> {
+    pub fn call(&self) -> Call<'_> {
         let Case { sheet, stimulus, output_length, next_length, .. } = self;
         Call { sheet, stimulus, output_length: *output_length, next_length: *next_length }
     }
 }
 
 /// What one run answers and leaves in the two slices it was lent.
-struct Left {
-    packed: u64,
-    outputs: Vec<u8>,
-    next: Vec<u8>,
+pub struct Left {
+    pub packed: u64,
+    pub outputs: Vec<u8>,
+    pub next: Vec<u8>,
+}
+
+impl Left {
+    /// The answer and both slices, in words.
+    pub fn report(&self, name: &str) -> String {
+        let answer = report::answer(self.packed);
+        let (outputs, next) = (hex(&self.outputs), hex(&self.next));
+        format!("{name}{answer}\n  output slice: {outputs}\n  next slice:   {next}\n")
+    }
 }
 
 /// A call on which the two runs differ.
@@ -63,9 +72,7 @@ impl Difference {
             writeln!(text, "output slice of {output_length}, next slice of {next_length} bytes");
         let _ = writeln!(text, "slices placed: {:?}", self.placement);
         for (name, left) in [("second:  ", &self.second), ("archive: ", &self.archive)] {
-            let _ = writeln!(text, "{name}{}", report::answer(left.packed));
-            let _ = writeln!(text, "  output slice: {}", hex(&left.outputs));
-            let _ = writeln!(text, "  next slice:   {}", hex(&left.next));
+            text.push_str(&left.report(name));
         }
         first_difference(&mut text, "output", &self.second.outputs, &self.archive.outputs);
         first_difference(&mut text, "next", &self.second.next, &self.archive.next);
@@ -103,7 +110,7 @@ impl Memory {
     }
 
     /// The archive's answer, and whether it altered what it may not.
-    fn lend(&mut self, case: &Case, filled: [&[u8]; 2], placement: Placement) -> (Left, bool) {
+    pub fn lend(&mut self, case: &Case, filled: [&[u8]; 2], placement: Placement) -> (Left, bool) {
         self.sheet.put(&case.sheet, placement);
         self.stimulus.put(&case.stimulus, placement);
         self.outputs.put(filled[0], placement);
@@ -143,8 +150,8 @@ impl Comparer<'_> {
             return Err(Halt::Stopped);
         }
         let outcome = run_watched(&case.call(), self.mistake, watch);
-        let outputs = self.filling(case.output_length);
-        let next = self.filling(case.next_length);
+        let outputs = filling(case.output_length, &mut self.fill);
+        let next = filling(case.next_length, &mut self.fill);
         let placement = Placement::of_turn(self.tally.compared);
         let (archive, altered) = self.memory.lend(case, [&outputs, &next], placement);
         let second = Left {
@@ -177,13 +184,14 @@ impl Comparer<'_> {
         self.tally.codes[usize::from(answer.code)] += 1;
         self.tally.placements[placement.index()] += 1;
     }
+}
 
-    fn filling(&mut self, length: usize) -> Vec<u8> {
-        let mut bytes = vec![0; length];
-        for eight in bytes.chunks_mut(8) {
-            let drawn = self.fill.draw().to_le_bytes();
-            eight.copy_from_slice(&drawn[..eight.len()]);
-        }
-        bytes
+/// Bytes for a lent slice to hold beforehand.
+pub fn filling(length: usize, fill: &mut Random) -> Vec<u8> {
+    let mut bytes = vec![0; length];
+    for eight in bytes.chunks_mut(8) {
+        let drawn = fill.draw().to_le_bytes();
+        eight.copy_from_slice(&drawn[..eight.len()]);
     }
+    bytes
 }

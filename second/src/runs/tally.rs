@@ -5,7 +5,7 @@ use std::collections::BTreeMap;
 use second::layout::ORDERS;
 use second::records::KINDS;
 
-use super::memory::PLACEMENTS;
+use crate::memory::PLACEMENTS;
 use crate::workers::Count;
 
 #[derive(Clone, Default)]

@@ -1,0 +1,48 @@
+-- The sheet after a run of an accepted sheet, under every lawful rule for an undecided IF: it reads as the term after the run,
+-- differs from the first in delay leaves alone, and is accepted with the same type.
+-- Assumes nothing.
+use Prim.Native.Nat.{ℕ}
+use mathlib.Core.List.{List, []}
+use mathlib.Core.Path.{_≡_}
+use Rattle.records.specs.TypeRecords.{Declared}
+use Rattle.verdict.specs.Verdict.{verdict}
+use Rattle.verdict.specs.declared.Verdict.the-variants.{Accepted}
+use Rattle.meaning.specs.Values.{no-values, AllOf}
+use Rattle.meaning.specs.Undecided.{Lawful}
+use Rattle.meaning.specs.Run.{after}
+use Rattle.meaning.proofs.NextTyped.{after-typed, after-frame}
+use Rattle.behaviour.specs.Terms.{circuitTerm}
+use Rattle.behaviour.specs.Sheets.{Writable, OnlyDelays}
+use Rattle.stimulus.specs.Stimulus.{inputType}
+use Rattle.behaviour.specs.Run.{sheetAfter}
+use Rattle.behaviour.proofs.Terms.{circuit-typed}
+use Rattle.behaviour.proofs.Sheets.{write-only-delays, write-read, write-accepted}
+use Rattle.behaviour.proofs.Run.{run-sheet}
+
+module _
+    (undecided : List ℕ → List ℕ → List ℕ)
+    (law : Lawful undecided)
+    (s : List ℕ)
+    (t : ℕ)
+    (v : verdict s ≡ Accepted t)
+    (is : List (List ℕ))
+    (given : AllOf (inputType s) is)
+  where
+    run-writable : Writable s t (after undecided [] (circuitTerm s) is)
+    run-writable = record {
+      frame = after-frame undecided [] (circuitTerm s) is;
+      typed = after-typed undecided law (Declared s) (circuit-typed s t v) no-values given;
+    }
+
+    pub run-only-delays : OnlyDelays s (sheetAfter undecided s is)
+    run-only-delays =
+        rw (run-sheet undecided law s t v is given)
+        (write-only-delays s (after undecided [] (circuitTerm s) is) (run-writable .frame))
+
+    pub run-read : circuitTerm (sheetAfter undecided s is) ≡ after undecided [] (circuitTerm s) is
+    run-read =
+        rw (run-sheet undecided law s t v is given) (write-read s t v (after undecided [] (circuitTerm s) is) run-writable)
+
+    pub run-accepted : verdict (sheetAfter undecided s is) ≡ verdict s
+    run-accepted =
+        rw (run-sheet undecided law s t v is given) (write-accepted s t v (after undecided [] (circuitTerm s) is) run-writable)

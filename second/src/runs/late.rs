@@ -1,0 +1,121 @@
+//! Pairs of runs of which one has later inputs: leaves of its stimulus and of
+//! its sheet's delays are 0 where those of the other need not be. Its outputs
+//! and next sheet are to be at or below those of the other.
+
+use second::generate::circuits::circuit;
+use second::generate::network::network;
+use second::generate::small::small;
+use second::layout::{record_count, sheet};
+use second::order::{lower_sheet, lower_stimulus};
+use second::random::Random;
+use second::records::{read, FEEDBACK, KIND, MAX_RECORDS};
+use second::run_mistakes::RunMistake;
+use second::simulator;
+
+use super::cases::{few_cycles, good, Frame};
+use super::compare::{Case, Left};
+use super::ordered::{Comparison, Lender, Pair};
+
+const OUTPUTS: &str = "pairs with strictly lower outputs";
+const DELAYS: &str = "pairs with strictly lower delay leaves";
+const SAME_SHEET: &str = "pairs of one sheet with strictly lower outputs";
+const SAME_STIMULUS: &str = "pairs of one stimulus with strictly lower outputs";
+const FEEDBACKS: &str = "pairs with a feedback and strictly lower outputs";
+const THERE: &str = "pairs with a defined output leaf at a cycle with lower inputs";
+
+pub const LATE: Comparison = Comparison {
+    what: "pairs",
+    least: 20_000,
+    quotas: &[
+        (OUTPUTS, 5_000),
+        (DELAYS, 1_500),
+        (SAME_SHEET, 1_000),
+        (SAME_STIMULUS, 500),
+        (FEEDBACKS, 1_000),
+        (THERE, 1_000),
+    ],
+    make,
+    counts,
+};
+
+/// A call that keeps every rule, on any sheet that is not large.
+pub fn call(source: &str, random: &mut Random) -> Option<Case> {
+    let draft = match random.below(10) {
+        0..=3 => network(random),
+        4..=7 => small(random),
+        _ => circuit(random),
+    };
+    if record_count(&draft) > MAX_RECORDS {
+        return None;
+    }
+    let sheet = sheet(&draft, random);
+    let frame = Frame::of(&sheet)?;
+    Some(good(source, sheet, &frame, few_cycles(random), random))
+}
+
+/// The same call with lower leaves: in the stimulus, in the delays or in both.
+fn later(case: &Case, random: &mut Random) -> Case {
+    let one_in = random.pick(&[1, 2, 3, 8]).unwrap_or(1);
+    let mut case = case.clone();
+    let which = random.below(4);
+    if which != 0 {
+        case.stimulus = lower_stimulus(&case.stimulus, one_in, random);
+    }
+    if which != 1 {
+        case.sheet = lower_sheet(&case.sheet, one_in, random);
+    }
+    case
+}
+
+/// Both runs by the archive, or by the second simulator with a mistake.
+fn make(lender: &mut Lender, mistake: Option<RunMistake>, random: &mut Random) -> Option<Pair> {
+    let second = call("one call", random)?;
+    let cases = [later(&second, random), second];
+    let mut altered = false;
+    let left = [0, 1].map(|k| match mistake {
+        None => {
+            let (left, wrong) = lender.run(&cases[k]);
+            altered |= wrong;
+            left
+        }
+        mistake => {
+            let outcome = simulator::run(&cases[k].call(), mistake);
+            let (outputs, next) = (outcome.outputs, outcome.next);
+            Left {
+                packed: outcome.answer.packed(),
+                outputs: outputs.unwrap_or_default(),
+                next: next.unwrap_or_default(),
+            }
+        }
+    });
+    Some(Pair { cases, left, altered })
+}
+
+fn counts(pair: &Pair) -> Vec<(&'static str, bool)> {
+    let [first, second] = &pair.cases;
+    let feedback = read(&second.sheet).iter().any(|record| record[KIND] == FEEDBACK);
+    let outputs = pair.outputs_lower();
+    vec![
+        (OUTPUTS, outputs),
+        (DELAYS, pair.delays_lower()),
+        (SAME_SHEET, outputs && first.sheet == second.sheet),
+        (SAME_STIMULUS, outputs && first.stimulus == second.stimulus),
+        (FEEDBACKS, outputs && feedback),
+        (THERE, there(pair)),
+    ]
+}
+
+/// Whether the first run has a defined output leaf in a cycle whose inputs are
+/// strictly lower.
+fn there(pair: &Pair) -> bool {
+    let cycles = pair.left[0].packed as u32 as usize;
+    let [first, second] = &pair.cases;
+    let leaves = |bytes: &[u8], cycle: usize| {
+        let each = bytes.len() / cycles;
+        bytes[cycle * each..(cycle + 1) * each].to_vec()
+    };
+    (0..cycles).any(|cycle| {
+        leaves(&first.stimulus, cycle) != leaves(&second.stimulus, cycle)
+            && leaves(&pair.left[0].outputs, cycle).iter().any(|&leaf| leaf != 0)
+    })
+}

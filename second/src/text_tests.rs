@@ -1,0 +1,8 @@
+//! Texts: answers, records and outputs worked out by hand from the document.
+
+mod expected;
+mod generate;
+mod grammar;
+mod layout;
+mod meaning;
+mod names;

@@ -1,0 +1,98 @@
+//! Texts with bad names, and with constant pairs that have no type.
+
+use second::random::Random;
+use second::text::constants;
+use second::text::generate::faults::Category;
+use second::text::generate::free;
+use second::text::generate::sentence::{Role, Sentence};
+use second::text::names;
+use second::text::syntax::Constant;
+use second::text::translator::{syntax, translate};
+
+use super::compare::{Case, Comparer, Difference, Ended};
+use super::legal::{good, share, SHARDS, TRIES};
+use super::tally::{self, PER_CATEGORY};
+use crate::workers::Halt;
+
+/// Each category in turn on each text, until all have enough.
+pub fn of_categories(to: &mut Comparer, categories: &[Category], random: &mut Random) -> Ended {
+    let need = PER_CATEGORY.div_ceil(SHARDS);
+    for _ in 0..need * TRIES {
+        let whole = good(random);
+        let mut complete = true;
+        for category in categories {
+            if to.tally.got_bad_names(category).1 >= need {
+                continue;
+            }
+            complete = false;
+            let mut sentence = whole.clone();
+            let Some(at) = category.put(&mut sentence, random) else { continue };
+            let hit = compare(to, &category.name, &sentence, at, random)?;
+            to.tally.add_bad_name(category, hit);
+        }
+        if complete {
+            break;
+        }
+    }
+    Ok(())
+}
+
+/// Compares; whether the text is refused with 14 at a token.
+fn compare(
+    to: &mut Comparer,
+    source: &str,
+    sentence: &Sentence,
+    at: usize,
+    random: &mut Random,
+) -> Result<bool, Halt<Difference>> {
+    let (text, places) = sentence.spell(random);
+    let slice_length = random.below(3_000);
+    let outcome = to.compare(&Case { source: source.to_string(), text, slice_length })?;
+    Ok((outcome.answer.code, outcome.answer.place as usize) == (14, places[at]))
+}
+
+/// Whether both parts of the constant pair at a place have a type.
+fn parts_typed(text: &[u8], place: usize) -> Option<bool> {
+    let syntax = syntax(text, None).ok()?;
+    let names = names::resolve(&syntax, None).ok()?;
+    let types = constants::types(&syntax, &names, None);
+    let typed = |constant: &Constant| match constant {
+        Constant::Pair(first, second, at) if *at == place => {
+            Some(types[*first].is_some() && types[*second].is_some())
+        }
+        _ => None,
+    };
+    syntax.constants.iter().find_map(typed)
+}
+
+/// Constant pairs without a type, and bad names after them.
+pub fn constant_pairs(to: &mut Comparer, random: &mut Random) -> Ended {
+    let counts = [tally::PAIR, tally::OUTER_PAIR, tally::LATER_NAME];
+    for _ in 0..share(tally::PAIR) * TRIES * TRIES {
+        if counts.iter().all(|name| to.tally.got(name) >= share(name)) {
+            break;
+        }
+        let room = random.range(5, 30);
+        let mut sentence = free::sentence(room, true, random);
+        let (text, places) = sentence.spell(random);
+        let answer = translate(&text, 0, None).answer;
+        if answer.code != 14 {
+            continue;
+        }
+        let place = answer.place as usize;
+        let name = match parts_typed(&text, place) {
+            Some(true) => tally::PAIR,
+            _ => tally::OUTER_PAIR,
+        };
+        to.compare(&Case { source: name.to_string(), text, slice_length: 40 })?;
+        to.tally.add(name, 1);
+        let is_name = |at: &usize| sentence.words[*at].role == Role::Expression;
+        let later: Vec<usize> =
+            (0..places.len()).filter(|&at| places[at] > place).filter(is_name).collect();
+        let Some(at) = random.pick(&later) else { continue };
+        sentence.words[at].letters = "undeclared".to_string();
+        let hit = compare(to, tally::LATER_NAME, &sentence, at, random)?;
+        to.tally.add(tally::LATER_NAME, u64::from(hit));
+    }
+    Ok(())
+}
