@@ -33,8 +33,6 @@ enum answer {
     FIRST_LEAF,
     /* Each leaf of the output is the input's last one. */
     EACH_LEAF,
-    /* The input, undefined in every leaf where its first leaf is. */
-    INPUT_DECIDED,
     /* The input of so many cycles before as there are delays; of two delays the one with the lower number holds the older
      * one, or the newer one. */
     DELAYED_INSIDE,

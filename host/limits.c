@@ -212,20 +212,20 @@ const struct limit_case limit_cases[] = {
     {"pairs 64 deep", deep_in_pairs, 64, PAIR, A, SHEET_ACCEPTED, 64, EACH_LEAF},
 
     /* All names have type 64, and so has the root. The pattern is undecided where the first leaf is 0; both branches of its IF
-     * are one name. The outer IFs say yes, whatever their tested part gives. */
-    {"LET bodies, deepest pattern", deep_with_pattern, 64, LET, B, SHEET_ACCEPTED, 64, INPUT_DECIDED},
-    {"LET defining parts, deepest pattern", deep_with_pattern, 64, LET, A, SHEET_ACCEPTED, 64, INPUT_DECIDED},
+     * are one name, so they agree all the same. The outer IFs say yes, whatever their tested part gives. */
+    {"LET bodies, deepest pattern", deep_with_pattern, 64, LET, B, SHEET_ACCEPTED, 64, INPUT},
+    {"LET defining parts, deepest pattern", deep_with_pattern, 64, LET, A, SHEET_ACCEPTED, 64, INPUT},
     {"IF tested parts, deepest pattern", deep_with_pattern, 64, IF, A, SHEET_ACCEPTED, 64, INPUT},
-    {"IF then parts, deepest pattern", deep_with_pattern, 64, IF, B, SHEET_ACCEPTED, 64, INPUT_DECIDED},
+    {"IF then parts, deepest pattern", deep_with_pattern, 64, IF, B, SHEET_ACCEPTED, 64, INPUT},
     {"IF else parts, deepest pattern", deep_with_pattern, 64, IF, C, SHEET_ACCEPTED, 64, INPUT},
     {"feedback bodies, deepest pattern", deep_with_pattern, 64, FEEDBACK, C, SHEET_ACCEPTED, 64, UNDEFINED},
 
     /* The three feedbacks have what the innermost one's defining part gives: the IF on the input; or, where the outer IFs have
      * the feedback's name for their then part, the least value that is itself. */
-    {"three feedbacks, LET bodies", in_three_feedbacks, 64, LET, B, SHEET_ACCEPTED, 64, INPUT_DECIDED},
-    {"three feedbacks, LET defining parts", in_three_feedbacks, 64, LET, A, SHEET_ACCEPTED, 64, INPUT_DECIDED},
+    {"three feedbacks, LET bodies", in_three_feedbacks, 64, LET, B, SHEET_ACCEPTED, 64, INPUT},
+    {"three feedbacks, LET defining parts", in_three_feedbacks, 64, LET, A, SHEET_ACCEPTED, 64, INPUT},
     {"three feedbacks, IF tested parts", in_three_feedbacks, 64, IF, A, SHEET_ACCEPTED, 64, UNDEFINED},
-    {"three feedbacks, IF then parts", in_three_feedbacks, 64, IF, B, SHEET_ACCEPTED, 64, INPUT_DECIDED},
+    {"three feedbacks, IF then parts", in_three_feedbacks, 64, IF, B, SHEET_ACCEPTED, 64, INPUT},
     {"three feedbacks, IF else parts", in_three_feedbacks, 64, IF, C, SHEET_ACCEPTED, 64, UNDEFINED},
     /* Leaf 0 is the input, and each other one the leaf before it: 64 applications. */
     {"a feedback of 64 applications", slow_feedback, 64, 0, 0, SHEET_ACCEPTED, 7, EACH_LEAF},

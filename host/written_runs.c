@@ -64,6 +64,30 @@ static const struct written_run runs[] = {
       {50, 0, 9, 10}, {49, 0, 1, 2}, {49, 0, 1, 2}, {32, 0, 1, 12}, {64, 0, 1}, {32, 0, 1, 14}, {64, 0, 2}},
      6, 12, 6, {0, 0, 1, 1, 2, 2, 1, 2, 1, 0, 0, 2}, {0, 1, 1, 2, 0, 0}, 0, {{0}}},
 
+    /* Undecided IFs. IF the input is 1 THEN (1,2) ELSE (1,1): on 0 the first leaf is agreed on, the second is not. */
+    {"branches that agree in one leaf",
+     12,
+     {{1, 1, 1, 3, 12}, {16, 2, 2}, {17, 0, 1, 1}, {39, 0, 4, 6, 9, 5}, {33}, {49, 0, 1, 1}, {32, 0, 2, 7}, {64, 8, 1},
+      {64, 0, 2}, {32, 0, 2, 10}, {64, 11, 1}, {64, 0, 1}},
+     3, 3, 6, {0, 1, 2}, {1, 0, 1, 2, 1, 1}, 0, {{0}}},
+    /* One branch is undefined, and so not agreed with. */
+    {"a branch that is undefined",
+     9,
+     {{1, 1, 1, 2, 9}, {16, 0, 2}, {39, 0, 3, 5, 7, 4}, {33}, {49, 0, 1, 1}, {32, 0, 1, 6}, {64}, {32, 0, 1, 8}, {64, 0, 2}},
+     3, 3, 3, {0, 1, 2}, {0, 0, 2}, 0, {{0}}},
+    /* x = IF x is 1 THEN 2 ELSE 2: agreed on from undefined on. */
+    {"branches that agree in a feedback",
+     11,
+     {{1, 1, 1, 2, 11}, {16, 0, 2}, {38, 0, 1, 3, 10}, {39, 0, 4, 6, 8, 5}, {33}, {49, 0, 1, 1}, {32, 0, 1, 7}, {64, 0, 2},
+      {32, 0, 1, 9}, {64, 0, 2}, {33}},
+     2, 2, 2, {0, 1}, {2, 2}, 0, {{0}}},
+    /* A delay, from 1, of IF the input is 1 THEN 2 ELSE 2: it holds what is agreed on. */
+    {"branches that agree under a delay",
+     11,
+     {{1, 1, 1, 2, 11}, {16, 0, 2}, {40, 0, 1, 3, 4}, {64, 0, 1}, {39, 0, 5, 7, 9, 6}, {33}, {49, 0, 1, 1}, {32, 0, 1, 8},
+      {64, 0, 2}, {32, 0, 1, 10}, {64, 0, 2}},
+     2, 2, 2, {0, 0}, {1, 2}, 1, {{3, 2}}},
+
     /* Names and parts. The input is of a bit and a three; the root is (second part, first part). */
     {"parts exchanged",
      10,
@@ -81,12 +105,13 @@ static const struct written_run runs[] = {
      5,
      {{1, 1, 1, 2, 5}, {16, 0, 3}, {40, 0, 1, 3, 4}, {64}, {33}},
      4, 4, 4, {3, 0, 2, 1}, {0, 3, 0, 2}, 1, {{3, 1}}},
-    /* IF the input is 1 THEN a delay of the input, from 2, ELSE another, from 3. Both advance in each cycle, also on 0. */
+    /* IF the input is 1 THEN a delay of the input, from 2, ELSE another, from 3. Both advance in each cycle, also on 0,
+     * where both hold 1. */
     {"delays in both branches",
      11,
      {{1, 1, 1, 2, 11}, {16, 0, 3}, {39, 0, 3, 5, 8, 4}, {33}, {49, 0, 1, 1}, {40, 0, 1, 6, 7}, {64, 0, 2}, {33},
       {40, 0, 1, 9, 10}, {64, 0, 3}, {33}},
-     5, 5, 5, {1, 2, 1, 0, 3}, {2, 1, 2, 0, 0}, 2, {{6, 3}, {9, 3}}},
+     5, 5, 5, {1, 2, 1, 0, 3}, {2, 1, 2, 1, 0}, 2, {{6, 3}, {9, 3}}},
     /* LET REC x = (a delay, from 1, of a delay, from 2, of x's second part; the input) IN x: two rounds a cycle. */
     {"delays in a feedback",
      13,

@@ -7,13 +7,17 @@ use crate::matching::{chain, Match};
 use crate::records::{
     Record, A, B, C, CONSTANT, D, DELAY, FEEDBACK, FIRST, IF, KIND, LET, NAME, PAIR, SECOND,
 };
+use crate::rule::Rule;
 use crate::run_mistakes::RunMistake;
 use crate::values::{all_values, undefined, value_count, Value};
 use crate::watch::Watch;
 
 pub struct Evaluator<'a> {
     circuit: &'a Circuit,
+    rule: Rule,
     mistake: Option<RunMistake>,
+    /// In how many defining parts of feedbacks the evaluation is.
+    nesting: usize,
     /// The values of the names in scope, the innermost last.
     pub names: Vec<Value>,
     /// What each delay holds in this cycle, by record.
@@ -29,13 +33,28 @@ pub struct Evaluator<'a> {
 
 impl<'a> Evaluator<'a> {
     /// Begins from the values that the sheet's delays hold.
-    pub fn new(circuit: &'a Circuit, mistake: Option<RunMistake>, watch: &'a mut Watch) -> Self {
+    pub fn new(
+        circuit: &'a Circuit,
+        rule: Rule,
+        mistake: Option<RunMistake>,
+        watch: &'a mut Watch,
+    ) -> Self {
         let held = circuit.leaves.clone();
         let coming = held.clone();
         let settled = vec![Value::new(); held.len()];
         let settled_before = settled.clone();
-        let names = Vec::new();
-        Evaluator { circuit, mistake, names, held, coming, settled, settled_before, watch }
+        Evaluator {
+            circuit,
+            rule,
+            mistake,
+            nesting: 0,
+            names: Vec::new(),
+            held,
+            coming,
+            settled,
+            settled_before,
+            watch,
+        }
     }
 
     /// The value of an expression. Every delay in it gets its next value.
@@ -100,9 +119,19 @@ impl<'a> Evaluator<'a> {
         match answer {
             Match::Yes => then,
             Match::No => other,
-            Match::Undecided if self.mistake == Some(RunMistake::ElseWhenUndecided) => other,
-            Match::Undecided => undefined(then.len()),
+            Match::Undecided => self.undecided(then, other),
         }
+    }
+
+    /// An undecided IF.
+    fn undecided(&self, then: Value, other: Value) -> Value {
+        let rule = match self.mistake {
+            Some(RunMistake::ElseWhenUndecided) => return other,
+            Some(RunMistake::EarlierRule) => Rule::Earlier,
+            Some(RunMistake::EarlierRuleInFeedbacks) if self.nesting > 0 => Rule::Earlier,
+            _ => self.rule,
+        };
+        rule.undecided(&then, &other)
     }
 
     /// The mistake: the delays of a branch that is not taken keep their values.
@@ -117,7 +146,12 @@ impl<'a> Evaluator<'a> {
         match answer {
             Match::Yes => self.part(record, B),
             Match::No => self.part(record, C),
-            Match::Undecided => undefined(self.circuit.width(usize::from(record[B]))),
+            Match::Undecided => {
+                let coming = self.coming.clone();
+                let (then, other) = (self.part(record, B), self.part(record, C));
+                self.coming = coming;
+                self.undecided(then, other)
+            }
         }
     }
 }
@@ -127,7 +161,10 @@ impl Evaluator<'_> {
     /// One application of a feedback's defining part.
     pub fn apply(&mut self, feedback: usize, value: Value) -> Value {
         let record = self.circuit.records[feedback];
-        self.part_with(value, &record, B)
+        self.nesting += 1;
+        let given = self.part_with(value, &record, B);
+        self.nesting -= 1;
+        given
     }
 
     /// The value of a feedback. The next values of the delays in its defining

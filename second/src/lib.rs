@@ -15,6 +15,7 @@ pub mod evaluator;
 pub mod listing;
 pub mod matching;
 pub mod order;
+pub mod rule;
 pub mod run_mistakes;
 pub mod simulator;
 pub mod stepper;
@@ -40,6 +41,8 @@ pub mod survey;
 mod generate_tests;
 #[cfg(test)]
 mod order_tests;
+#[cfg(test)]
+mod rule_tests;
 #[cfg(test)]
 mod simulator_tests;
 #[cfg(test)]

@@ -30,6 +30,11 @@ pub enum RunMistake {
     ChainNoWhenUndecided,
     /// An undecided IF gives the value of its else part.
     ElseWhenUndecided,
+    /// An undecided IF is undefined in every leaf.
+    EarlierRule,
+    /// An undecided IF in the defining part of a feedback is undefined in
+    /// every leaf.
+    EarlierRuleInFeedbacks,
     /// Every output leaf stands one place later, the last one first.
     OutputOneLeafOff,
     /// A refusal fills the output slice with 0.
@@ -47,7 +52,7 @@ pub enum RunMistake {
 }
 
 /// Every mistake and its name.
-pub const MISTAKES: [(&str, RunMistake); 20] = [
+pub const MISTAKES: [(&str, RunMistake); 22] = [
     ("undefined-everywhere", RunMistake::UndefinedEverywhere),
     ("copy-sheet", RunMistake::CopySheet),
     ("cycle-zero-again", RunMistake::CycleZeroAgain),
@@ -61,6 +66,8 @@ pub const MISTAKES: [(&str, RunMistake); 20] = [
     ("pair-match-undecided", RunMistake::PairMatchUndecided),
     ("chain-no-when-undecided", RunMistake::ChainNoWhenUndecided),
     ("else-when-undecided", RunMistake::ElseWhenUndecided),
+    ("earlier-rule", RunMistake::EarlierRule),
+    ("earlier-rule-in-feedbacks", RunMistake::EarlierRuleInFeedbacks),
     ("output-one-leaf-off", RunMistake::OutputOneLeafOff),
     ("refusal-clears-out", RunMistake::RefusalClearsOut),
     ("refusal-fills-next", RunMistake::RefusalFillsNext),

@@ -5,11 +5,13 @@ mod bench;
 mod cases;
 mod compare;
 mod faults;
+mod good_calls;
 mod jobs;
 mod late;
 mod ordered;
 mod plan;
 mod program;
+mod rules;
 mod tally;
 
 use std::process::ExitCode;
@@ -19,6 +21,7 @@ use second::run_mistakes::{named, MISTAKES};
 pub const USAGE: &str = "       second run [--seed N] [--runs N] [--threads N] [--mistake NAME]
        second run-mistakes
        second late [--seed N] [--pairs N] [--threads N] [--mistake NAME]
+       second rules [--seed N] [--runs N] [--threads N] [--mistake NAME]
        second bench-run [PROGRAM FOLDER]
        second sheetrun PROGRAM FOLDER [--seed N] [--mistake NAME]";
 
@@ -34,6 +37,8 @@ pub fn command(words: &[&str]) -> Option<ExitCode> {
         }
         ["late", options @ ..] => plan::Options::read(options, "--pairs", named)
             .map(|options| ordered::run(&late::LATE, &options)),
+        ["rules", options @ ..] => plan::Options::read(options, "--runs", named)
+            .map(|options| ordered::run(&rules::RULES, &options)),
         ["bench-run"] => Some(bench::run(None)),
         ["bench-run", program, folder] => Some(bench::run(Some((program, folder)))),
         ["sheetrun", program, folder, options @ ..] => {

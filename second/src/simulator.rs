@@ -3,6 +3,7 @@
 
 use crate::accepted::Circuit;
 use crate::answers::Answer;
+use crate::rule::{Rule, IN_FORCE};
 use crate::run_mistakes::RunMistake;
 use crate::stepper::Stepper;
 use crate::stimulus;
@@ -39,8 +40,16 @@ pub fn run(call: &Call, mistake: Option<RunMistake>) -> Outcome {
 
 /// The run of any call, with its feedbacks looked at.
 pub fn run_watched(call: &Call, mistake: Option<RunMistake>, watch: &mut Watch) -> Outcome {
+    run_by(IN_FORCE, call, mistake, watch)
+}
+
+/// The run of any call by one of the rules for undecided IFs.
+pub fn run_by(rule: Rule, call: &Call, mistake: Option<RunMistake>, watch: &mut Watch) -> Outcome {
     match judge(call, mistake) {
-        Ok(ready) => all_cycles(call, &ready, mistake, watch),
+        Ok(ready) => {
+            let mut stepper = Stepper::new(&ready.circuit, rule, mistake, watch);
+            all_cycles(call, &ready, &mut stepper, mistake)
+        }
         Err(answer) => refused(call, answer, mistake),
     }
 }
@@ -99,10 +108,9 @@ fn judge(call: &Call, mistake: Option<RunMistake>) -> Result<Ready, Answer> {
 fn all_cycles(
     call: &Call,
     ready: &Ready,
+    stepper: &mut Stepper,
     mistake: Option<RunMistake>,
-    watch: &mut Watch,
 ) -> Outcome {
-    let mut stepper = Stepper::new(&ready.circuit, mistake, watch);
     let mut outputs = Vec::with_capacity(ready.output_length);
     for input in stimulus::cycles(&ready.circuit, call.stimulus) {
         outputs.extend(stepper.cycle(input));

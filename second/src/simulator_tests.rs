@@ -5,6 +5,7 @@ use crate::evaluator::Evaluator;
 use crate::listing::{listing, refusal};
 use crate::matching::{chain, Match};
 use crate::records::{bytes, read, A, D, FEEDBACK, IF, KIND};
+use crate::rule::IN_FORCE;
 use crate::samples::{self, from_words};
 use crate::simulator::{ready, run, run_watched, Call};
 use crate::values::all_values;
@@ -56,7 +57,7 @@ fn applications(sheet: &[u8], start: &[u8], count: usize) -> Vec<Vec<u8>> {
     let Ok(circuit) = Circuit::read(sheet) else { return Vec::new() };
     let feedback = circuit.records.iter().position(|r| r[KIND] == FEEDBACK).unwrap_or(0);
     let mut watch = Watch::nothing();
-    let mut evaluator = Evaluator::new(&circuit, None, &mut watch);
+    let mut evaluator = Evaluator::new(&circuit, IN_FORCE, None, &mut watch);
     evaluator.names = vec![vec![1]];
     let mut values = vec![start.to_vec()];
     for k in 0..count {
@@ -76,7 +77,7 @@ fn fixed_points(sheet: &[u8]) -> Vec<Vec<u8>> {
     let Ok(circuit) = Circuit::read(sheet) else { return Vec::new() };
     let feedback = circuit.records.iter().position(|r| r[KIND] == FEEDBACK).unwrap_or(0);
     let mut watch = Watch::nothing();
-    let mut evaluator = Evaluator::new(&circuit, None, &mut watch);
+    let mut evaluator = Evaluator::new(&circuit, IN_FORCE, None, &mut watch);
     evaluator.names = vec![vec![1]];
     evaluator.fixed_points(feedback)
 }
@@ -180,7 +181,7 @@ fn delays_in_both_branches_advance() {
         &[33],
     ]));
     let (_, _, outputs, next) = ran(&sheet, &[1, 2, 1, 0, 3]);
-    assert_eq!(outputs, [2, 1, 2, 0, 0]);
+    assert_eq!(outputs, [2, 1, 2, 1, 0]);
     assert_eq!(leaves(&next, &[6, 9]), [3, 3]);
 }
 

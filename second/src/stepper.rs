@@ -2,6 +2,7 @@
 
 use crate::accepted::Circuit;
 use crate::evaluator::Evaluator;
+use crate::rule::Rule;
 use crate::run_mistakes::RunMistake;
 use crate::values::Value;
 use crate::watch::Watch;
@@ -14,8 +15,13 @@ pub struct Stepper<'a> {
 
 impl<'a> Stepper<'a> {
     /// Begins from the values that the sheet's delays hold.
-    pub fn new(circuit: &'a Circuit, mistake: Option<RunMistake>, watch: &'a mut Watch) -> Self {
-        Stepper { circuit, mistake, evaluator: Evaluator::new(circuit, mistake, watch) }
+    pub fn new(
+        circuit: &'a Circuit,
+        rule: Rule,
+        mistake: Option<RunMistake>,
+        watch: &'a mut Watch,
+    ) -> Self {
+        Stepper { circuit, mistake, evaluator: Evaluator::new(circuit, rule, mistake, watch) }
     }
 
     /// The root's value for one input; the delays then hold their next values.

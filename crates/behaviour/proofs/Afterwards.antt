@@ -12,8 +12,8 @@ use Rattle.picoella.specs.Types.{Ty, leaves, OfType}
 use Rattle.records.specs.TypeRecords.{typeAt}
 use Rattle.verdict.specs.Verdict.{verdict}
 use Rattle.meaning.specs.Values.{AllOf, all-none, all-more}
-use Rattle.meaning.specs.Undecided.{undefinedLeaves}
-use Rattle.meaning.proofs.UndefinedLeavesLawful.{undefined-lawful}
+use Rattle.meaning.specs.Undecided.{undecidedRule}
+use Rattle.meaning.proofs.UndecidedRule.{rule-lawful}
 use Rattle.behaviour.specs.Sheets.{OnlyDelays}
 use Rattle.behaviour.specs.Cycle.{output, sheetAfterCycle}
 use Rattle.behaviour.proofs.Cycle.{after-only-delays}
@@ -68,39 +68,39 @@ module _ (s stim out next : List ℕ) (t : ℕ) (h : WellFormed s stim out next 
   inputs-typed = cycles-typed s stim (h .whole) (h .fitting)
 
   abbrev pub outs : List (List ℕ)
-  outs = outputsBy undefinedLeaves s (cycles s stim)
+  outs = outputsBy undecidedRule s (cycles s stim)
 
   outs-typed : AllOf (typeAt s t) outs
-  outs-typed = outputs-typed undefinedLeaves undefined-lawful s t (h .accepted) (cycles s stim) inputs-typed
+  outs-typed = outputs-typed undecidedRule rule-lawful s t (h .accepted) (cycles s stim) inputs-typed
 
   pub out-is : finalOut s stim out next ≡ endToEnd outs
   unfolding finalOut
   out-is = rw answer-done
 
-  pub next-is : finalNext s stim out next ≡ sheetAfter undefinedLeaves s (cycles s stim)
+  pub next-is : finalNext s stim out next ≡ sheetAfter undecidedRule s (cycles s stim)
   unfolding finalNext
   next-is = rw answer-done
 
   abbrev sheet : ℕ → List ℕ
-  sheet k = sheetBefore undefinedLeaves s (cycles s stim) k
+  sheet k = sheetBefore undecidedRule s (cycles s stim) k
 
   in-list : (k : ℕ) → k < cycleCount s stim → k < length (cycles s stim)
   in-list k b = rw (cycles-counted s stim) b
 
   accepted : (k : ℕ) → verdict (sheet k) ≡ verdict s
-  accepted k = sheet-accepted undefinedLeaves undefined-lawful s t (h .accepted) (cycles s stim) inputs-typed k
+  accepted k = sheet-accepted undecidedRule rule-lawful s t (h .accepted) (cycles s stim) inputs-typed k
 
   each-after : (k : ℕ) → k < cycleCount s stim → sheet (suc k) ≡ sheetAfterCycle (sheet k) (inputOf s stim k)
-  each-after k b = rw (← cycle-at s stim k b) (sheet-next undefinedLeaves s (cycles s stim) k (in-list k b))
+  each-after k b = rw (← cycle-at s stim k b) (sheet-next undecidedRule s (cycles s stim) k (in-list k b))
 
   only-delays : (k : ℕ) → k < cycleCount s stim → OnlyDelays (sheet k) (sheet (suc k))
   only-delays k b =
-      rw (sheet-next undefinedLeaves s (cycles s stim) k (in-list k b))
-      (after-only-delays undefinedLeaves undefined-lawful (sheet k) t (accepted k ∙ h .accepted) (getD (cycles s stim) k [])
-      (input-at undefinedLeaves undefined-lawful s t (h .accepted) (cycles s stim) inputs-typed k (in-list k b)))
+      rw (sheet-next undecidedRule s (cycles s stim) k (in-list k b))
+      (after-only-delays undecidedRule rule-lawful (sheet k) t (accepted k ∙ h .accepted) (getD (cycles s stim) k [])
+      (input-at undecidedRule rule-lawful s t (h .accepted) (cycles s stim) inputs-typed k (in-list k b)))
 
   among-outputs : (k : ℕ) → k < cycleCount s stim → k < length outs
-  among-outputs k b = rw (outputs-counted undefinedLeaves s (cycles s stim)) (in-list k b)
+  among-outputs k b = rw (outputs-counted undecidedRule s (cycles s stim)) (in-list k b)
 
   -- the part of the output slice that is cycle k's is its output
   output-part : (k : ℕ) → k < cycleCount s stim
@@ -114,23 +114,23 @@ module _ (s stim out next : List ℕ) (t : ℕ) (h : WellFormed s stim out next 
   afterwards = record {
     all-done = rw answer-done;
     sheets = sheet;
-    first = sheet-first undefinedLeaves s (cycles s stim);
+    first = sheet-first undecidedRule s (cycles s stim);
     each-after = each-after;
     only-delays = only-delays;
     bytes = λ b k c.
-        sheet-bytes undefinedLeaves undefined-lawful s t (h .accepted) (cycles s stim) inputs-typed b k;
-    last = next-is ∙ sym (sheet-last undefinedLeaves s (cycles s stim)) ∙ ap sheet (cycles-counted s stim);
-    equals-first = rw (next-is, ← sheet-last undefinedLeaves s (cycles s stim))
-        (sheet-only-delays undefinedLeaves undefined-lawful s t (h .accepted) (cycles s stim) inputs-typed (length (cycles s stim)));
+        sheet-bytes undecidedRule rule-lawful s t (h .accepted) (cycles s stim) inputs-typed b k;
+    last = next-is ∙ sym (sheet-last undecidedRule s (cycles s stim)) ∙ ap sheet (cycles-counted s stim);
+    equals-first = rw (next-is, ← sheet-last undecidedRule s (cycles s stim))
+        (sheet-only-delays undecidedRule rule-lawful s t (h .accepted) (cycles s stim) inputs-typed (length (cycles s stim)));
     outputs = λ k b. output-part k b
-        ∙ output-at undefinedLeaves s (cycles s stim) k (in-list k b)
+        ∙ output-at undecidedRule s (cycles s stim) k (in-list k b)
         ∙ ap (output (sheet k)) (cycle-at s stim k b);
     out-length = ap length out-is
         ∙ joined-length (leaves (typeAt s t)) outs (typed-wide outs-typed)
-        ∙ ap (λ n. n * leaves (typeAt s t)) (outputs-counted undefinedLeaves s (cycles s stim) ∙ cycles-counted s stim);
+        ∙ ap (λ n. n * leaves (typeAt s t)) (outputs-counted undecidedRule s (cycles s stim) ∙ cycles-counted s stim);
     again = accepted (cycleCount s stim);
     typed = λ k b. rw (output-part k b) (all-at outs-typed k (among-outputs k b));
     feedbacks = λ q b e. feedback-at s t (h .accepted) q b (feedback-kind s q e) sheet (cycleCount s stim)
         (λ k c. accepted k ∙ h .accepted)
-        (λ k c. sheet-only-delays undefinedLeaves undefined-lawful s t (h .accepted) (cycles s stim) inputs-typed k);
+        (λ k c. sheet-only-delays undecidedRule rule-lawful s t (h .accepted) (cycles s stim) inputs-typed k);
   }

@@ -28,7 +28,7 @@ use Rattle.records.specs.TypeRecords.{typeAt}
 use Rattle.records.proofs.Types.{some-leaves}
 use Rattle.accepted.proofs.Laws.{verdict-first, verdict-place, first-accepted}
 use Rattle.accepted.proofs.Small.{accepted-length, accepted-few}
-use Rattle.meaning.specs.Undecided.{undefinedLeaves}
+use Rattle.meaning.specs.Undecided.{undecidedRule}
 use Rattle.stimulus.specs.Stimulus.{inputType, inputLeaves, cycleCount, endToEnd, cycles, wrongStimulus, wrongByte, stimulusChecks}
 use Rattle.stimulus.proofs.Stimulus.{stimulus-whole}
 use Rattle.behaviour.specs.Run.{
@@ -184,8 +184,8 @@ kept-bytes (Refused c p) new old f = refl
 pub refusal-unaltered : RefusalUnaltered
 unfolding finalOut finalNext
 refusal-unaltered s stim out next f = (
-  kept-bytes (answer s stim out next) (endToEnd (outputsBy undefinedLeaves s (cycles s stim))) out f,
-  kept-bytes (answer s stim out next) (sheetAfter undefinedLeaves s (cycles s stim)) next f,
+  kept-bytes (answer s stim out next) (endToEnd (outputsBy undecidedRule s (cycles s stim))) out f,
+  kept-bytes (answer s stim out next) (sheetAfter undecidedRule s (cycles s stim)) next f,
 )
 
 -- what a call gives where it refuses
@@ -195,8 +195,8 @@ gives-refusal s stim out next c p e = record { result-is = rw e refl; out-is = r
 
 -- and where it does not
 pub gives-done : (s stim out next : List ℕ) (t : ℕ) → WellFormed s stim out next t
-    → Gives s stim out next (cycleCount s stim) (endToEnd (outputsBy undefinedLeaves s (cycles s stim)))
-    (sheetAfter undefinedLeaves s (cycles s stim))
+    → Gives s stim out next (cycleCount s stim) (endToEnd (outputsBy undecidedRule s (cycles s stim)))
+    (sheetAfter undecidedRule s (cycles s stim))
 unfolding finalOut finalNext
 gives-done s stim out next t h =
     let e = answer-done s stim out next t h in record { result-is = rw e (omega arith); out-is = rw e; next-is = rw e }

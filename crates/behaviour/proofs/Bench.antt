@@ -10,6 +10,7 @@ use Rattle.records.specs.Trees.{chainWithin, chain, alternativesWithin, alterna
 use Rattle.structure.specs.Depth.{ancestryWithin, ancestry, depth, nesting}
 use Rattle.structure.specs.Rules.{wrongLength, wrongHeader, wrongRecord, wrongNaming, wrongType, tooDeep}
 use Rattle.verdict.specs.Verdict.{byTypes, byRecords, verdict}
+use Rattle.meaning.specs.Undecided.{undecidedRule}
 use Rattle.meaning.specs.Evaluation.{eval, next}
 use Rattle.behaviour.specs.Terms.{circuitTerm}
 use Rattle.behaviour.specs.Sheets.{write}
@@ -19,7 +20,7 @@ use Rattle.behaviour.specs.Run.{bySlices, answer, finalOut, finalNext}
 use Rattle.behaviour.specs.Bench.{AllCasesHold, benchCases}
 
 bench : AllCasesHold benchCases
-unfolding verdict byRecords byTypes wrongLength wrongHeader wrongRecord wrongNaming wrongType tooDeep depth nesting ancestry ancestryWithin circuit treeAt treeWithin alternatives alternativesWithin chain chainWithin pairOf typeAt typeWithin namings wellSaid askOf kindOf rowOf word count eval next circuitTerm write outputBy afterBy cycles wrongStimulus wrongByte bySlices answer finalOut finalNext
+unfolding verdict byRecords byTypes wrongLength wrongHeader wrongRecord wrongNaming wrongType tooDeep depth nesting ancestry ancestryWithin circuit treeAt treeWithin alternatives alternativesWithin chain chainWithin pairOf typeAt typeWithin namings wellSaid askOf kindOf rowOf word count eval next undecidedRule circuitTerm write outputBy afterBy cycles wrongStimulus wrongByte bySlices answer finalOut finalNext
 bench = (
   (refl, refl, refl),
   (
@@ -36,7 +37,7 @@ bench = (
               (refl, refl, refl),
               (
                 (refl, refl, refl),
-                ((refl, refl), ((refl, refl, refl), ((refl, refl, refl), ((refl, refl, refl, refl), (refl, ((refl, refl, refl), tt)))))),
+                ((refl, refl), ((refl, refl, refl), ((refl, refl, refl), ((refl, refl, refl, refl), (refl, ((refl, refl, refl), ((refl, refl), ((refl, refl, refl), tt)))))))),
               ),
             ),
           ),

@@ -24,10 +24,10 @@ use Rattle.accepted.proofs.Laws.{accepted-by-types}
 use Rattle.accepted.proofs.Scopes.{scope-checked}
 use Rattle.meaning.specs.Values.{ValuesOf}
 use Rattle.meaning.specs.Elaboration.{Term, Feedback, Elaborated, e-feedback}
-use Rattle.meaning.specs.Undecided.{undefinedLeaves}
+use Rattle.meaning.specs.Undecided.{undecidedRule}
 use Rattle.meaning.specs.Evaluation.{eval, settled, applications}
 use Rattle.meaning.proofs.Order.{both-below}
-use Rattle.meaning.proofs.UndefinedLeavesLawful.{undefined-lawful}
+use Rattle.meaning.proofs.UndecidedRule.{rule-lawful}
 use Rattle.meaning.proofs.FeedbackLeast.{
   feedback-typed,
   feedback-fixed,
@@ -57,16 +57,16 @@ settles : (D : Ty → Type 0) (Γ : List Ty) (ρ : List (List ℕ)) (σ : Ty) (w
     → Elaborated D (σ ∷ Γ) part σ → ValuesOf Γ ρ → whole ≡ Feedback σ part body → FeedbackSettles ρ σ whole part body
 unfolding eval
 settles D Γ ρ σ whole part body typed env e = record {
-  value = settled undefinedLeaves ρ σ part;
+  value = settled undecidedRule ρ σ part;
   given = refl;
   evaluates = rw e;
-  of-type = feedback-typed undefinedLeaves undefined-lawful D typed env;
-  unchanged = feedback-fixed undefinedLeaves undefined-lawful D typed env;
-  least = λ w h p. both-below (feedback-least undefinedLeaves undefined-lawful D typed env h p);
-  count = applications undefinedLeaves ρ σ part;
-  at-most = applications-most undefinedLeaves undefined-lawful D typed env;
-  reached = applications-reach undefinedLeaves undefined-lawful D typed env;
-  none-fewer = applications-fewest undefinedLeaves undefined-lawful D typed env;
+  of-type = feedback-typed undecidedRule rule-lawful D typed env;
+  unchanged = feedback-fixed undecidedRule rule-lawful D typed env;
+  least = λ w h p. both-below (feedback-least undecidedRule rule-lawful D typed env h p);
+  count = applications undecidedRule ρ σ part;
+  at-most = applications-most undecidedRule rule-lawful D typed env;
+  reached = applications-reach undecidedRule rule-lawful D typed env;
+  none-fewer = applications-fewest undecidedRule rule-lawful D typed env;
 }
 
 module _ (s : List ℕ) (t : ℕ) (v : verdict s ≡ Accepted t) (q : ℕ) (below : q < count s) (kind : kindAt s q ≡ expression feedback) where

@@ -11,6 +11,7 @@ use Rattle.behaviour.proofs.Afterwards.{afterwards}
 use Rattle.behaviour.proofs.Answers.{lowest-first, places-small, refusal-unaltered}
 use Rattle.behaviour.proofs.SheetRunOrdered.{sheet-run-ordered, late-scanner}
 use Rattle.behaviour.proofs.LateToggle.{late-input, late-delay}
+use Rattle.behaviour.proofs.EarlierBelow.{earlier-below, earlier-strictly-below}
 
 pub kept : RunPromises
 kept = record {
@@ -32,4 +33,6 @@ kept = record {
   late-scanner = late-scanner;
   late-input = late-input;
   late-delay = late-delay;
+  earlier-below = earlier-below;
+  earlier-strictly-below = earlier-strictly-below;
 }

@@ -18,7 +18,7 @@ use Rattle.structure.specs.Rules.{wrongLength, wrongHeader, wrongRecord, wrongN
 use Rattle.verdict.specs.Verdict.{byTypes, byRecords, verdict}
 use Rattle.verdict.specs.declared.Verdict.the-variants.{Accepted}
 use Rattle.meaning.specs.Values.{below-none, below-leaf}
-use Rattle.meaning.specs.Undecided.{undefinedLeaves}
+use Rattle.meaning.specs.Undecided.{undecidedRule}
 use Rattle.meaning.specs.Evaluation.{eval, next}
 use Rattle.behaviour.specs.Terms.{circuitTerm}
 use Rattle.behaviour.specs.Sheets.{write}
@@ -31,7 +31,7 @@ use Rattle.behaviour.specs.SheetOrder.{FormedCall, holding}
 use Rattle.behaviour.specs.Bench.{toggle}
 use Rattle.behaviour.specs.Promises.{LateInput, LateDelay}
 use Rattle.behaviour.proofs.Cells.{put-byte}
-use Rattle.behaviour.proofs.OnlyDelays.{only-delays-same}
+use Rattle.behaviour.proofs.SheetOrder.{sheet-refl}
 use Rattle.behaviour.proofs.Afterwards.{out-is, next-is}
 
 toggle-accepted : verdict toggle ≡ Accepted 1
@@ -44,7 +44,7 @@ unset-accepted = refl
 
 -- a well-formed call, by the outputs of its cycles and the sheet after them
 formed-call : (s stim out next : List ℕ) (t : ℕ) → WellFormed s stim out next t
-    → FormedCall s stim (endToEnd (outputsBy undefinedLeaves s (cycles s stim))) (sheetAfter undefinedLeaves s (cycles s stim))
+    → FormedCall s stim (endToEnd (outputsBy undecidedRule s (cycles s stim))) (sheetAfter undecidedRule s (cycles s stim))
 formed-call s stim out next t f = record {
   lentOut = out;
   lentNext = next;
@@ -55,9 +55,9 @@ formed-call s stim out next t f = record {
 }
 
 pub late-input : LateInput
-unfolding circuit treeAt treeWithin alternatives alternativesWithin chain chainWithin pairOf typeAt typeWithin kindOf word count eval next circuitTerm write outputBy afterBy cycles wrongStimulus wrongByte
+unfolding circuit treeAt treeWithin alternatives alternativesWithin chain chainWithin pairOf typeAt typeWithin kindOf word count eval next undecidedRule circuitTerm write outputBy afterBy cycles wrongStimulus wrongByte
 late-input = record {
-  sheets = record { only-delays = only-delays-same toggle; delays-below = λ l m. inr refl };
+  sheets = sheet-refl toggle;
   stimuli = below-leaf (inl refl) (below-leaf (inr refl) below-none);
   first = formed-call toggle (0 ∷ 1 ∷ []) (replicate 2 0) (replicate 204 0) 1
       (record { accepted = toggle-accepted; whole = refl; fitting = refl; room = refl; long = refl });
@@ -73,7 +73,7 @@ late-input = record {
 }
 
 pub late-delay : LateDelay
-unfolding circuit treeAt treeWithin alternatives alternativesWithin chain chainWithin pairOf typeAt typeWithin kindOf word count eval next circuitTerm write outputBy afterBy cycles wrongStimulus wrongByte
+unfolding circuit treeAt treeWithin alternatives alternativesWithin chain chainWithin pairOf typeAt typeWithin kindOf word count eval next undecidedRule circuitTerm write outputBy afterBy cycles wrongStimulus wrongByte
 late-delay = record {
   sheets = record {
     only-delays = record {

@@ -23,6 +23,7 @@ pub mod Feedbacks
 pub mod Afterwards
 pub mod SheetRunOrdered
 pub mod LateToggle
+pub mod EarlierBelow
 pub mod Answers
 pub mod Reduces
 pub mod Kept

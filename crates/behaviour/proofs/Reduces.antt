@@ -15,10 +15,10 @@ use Rattle.verdict.specs.declared.Verdict.the-variants.{Accepted}
 use Rattle.meaning.specs.Elaboration.{erase}
 use Rattle.meaning.specs.Values.{AllOf, all-none, all-more}
 use Rattle.meaning.specs.Constants.{ConstantTree, AllConstantsOf, of-none, of-all-none, of-all-more, flatten}
-use Rattle.meaning.specs.Undecided.{undefinedLeaves, bottomOfThen}
+use Rattle.meaning.specs.Undecided.{undecidedRule, undecidedConstant}
 use Rattle.meaning.specs.Run.{after}
 use Rattle.meaning.proofs.FlattenOneToOne.{flatten-typed}
-use Rattle.meaning.proofs.UndefinedLeavesLawful.{undefined-lawful, undefined-agreeing}
+use Rattle.meaning.proofs.UndecidedRule.{rule-lawful, rule-agreeing}
 use Rattle.meaning.proofs.Adequacy.{run-adequate}
 use Rattle.behaviour.specs.Terms.{circuitTerm}
 use Rattle.behaviour.proofs.Terms.{erase-circuit, circuit-typed}
@@ -42,18 +42,18 @@ some-same e f p = cc
 
 -- and the sheet after a run to the erasure of the term after it
 decodes-after : (s : List ℕ) (t : ℕ) → verdict s ≡ Accepted t → (is : List (List ℕ)) → AllOf (inputType s) is
-    → decode (sheetAfter undefinedLeaves s is) ≡ some (erase (after undefinedLeaves [] (circuitTerm s) is))
+    → decode (sheetAfter undecidedRule s is) ≡ some (erase (after undecidedRule [] (circuitTerm s) is))
 decodes-after s t v is given =
-    decodes-to (sheetAfter undefinedLeaves s is) t (run-accepted undefinedLeaves undefined-lawful s t v is given ∙ v)
-    ∙ ap (λ u. some (erase u)) (run-read undefinedLeaves undefined-lawful s t v is given)
+    decodes-to (sheetAfter undecidedRule s is) t (run-accepted undecidedRule rule-lawful s t v is given ∙ v)
+    ∙ ap (λ u. some (erase u)) (run-read undecidedRule rule-lawful s t v is given)
 
 pub run-reduces : RunReduces
 run-reduces s t v e f d inputs outs given =
     let all = flatten-all-typed given in
     let same : e ≡ erase (circuitTerm s) = some-same e (erase (circuitTerm s)) (sym d ∙ decodes-to s t v) in
-    let gives = run-outputs undefinedLeaves undefined-lawful s t v (map flatten inputs) all in
+    let gives = run-outputs undecidedRule rule-lawful s t v (map flatten inputs) all in
     let leads = decodes-after s t v (map flatten inputs) all in
-    let adequate = run-adequate undefinedLeaves bottomOfThen undefined-lawful undefined-agreeing (Declared s)
+    let adequate = run-adequate undecidedRule undecidedConstant rule-lawful rule-agreeing (Declared s)
     {cs = outs} {f = f} (circuit-typed s t v) of-none given in (
       λ r. let (j, q, z) = adequate .0 (rw same at r) in (j, q ∙ sym gives, leads ∙ ap some (sym z)),
       λ (j, q, z). rw same (adequate .1 (j, q ∙ gives, some-same f _ (sym z ∙ leads))),

@@ -15,7 +15,7 @@ use mathlib.Core.List.{
   Memᴰ·append-left,
   Memᴰ·append-right,
 }
-use mathlib.Core.Logic.{inl}
+use mathlib.Core.Logic.{inl, inr}
 use mathlib.Core.Path.{_≡_, refl}
 use Rattle.picoella.specs.Types.{Ty, Within, within-none, within-leaf}
 use Rattle.records.specs.Words.{wordA}
@@ -59,6 +59,11 @@ use Rattle.behaviour.proofs.Entries.{place-of-member}
 use Rattle.behaviour.proofs.Frames.{fill, Valued, Reads, reads-left, reads-right}
 use Rattle.behaviour.proofs.Terms.{circuit-typed}
 use Rattle.behaviour.proofs.Sheets.{framed-places, entry-at, circuit-valued, circuit-reads, circuit-filled}
+use Rattle.behaviour.proofs.OnlyDelays.{only-delays-same}
+
+-- a sheet is in order with itself
+pub sheet-refl : (s : List ℕ) → SheetBelow s s
+sheet-refl s = record { only-delays = only-delays-same s; delays-below = λ l m. inr refl }
 
 -- each entry's value is at or below what is read at its place
 abbrev Below : (ℕ → ℕ) → List Entry → Type 0

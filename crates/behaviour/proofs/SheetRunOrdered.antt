@@ -14,11 +14,11 @@ use Rattle.records.proofs.Rewritten.{same-type}
 use Rattle.verdict.specs.Verdict.{verdict}
 use Rattle.verdict.specs.declared.Verdict.the-variants.{Accepted}
 use Rattle.meaning.specs.Values.{_⊑_, below-none, below-leaf, both-no-values, AllOf, all-none, all-more}
-use Rattle.meaning.specs.Undecided.{undefinedLeaves, Lawful}
+use Rattle.meaning.specs.Undecided.{undecidedRule, Lawful}
 use Rattle.meaning.specs.Ordered.{RuleBelow, Ordered, AllBoth, both-all-none, both-all-more}
 use Rattle.meaning.proofs.Order.{both-lower, both-upper, both-below, both-of}
 use Rattle.meaning.proofs.EvaluationOrdered.{rule-below-itself, outputs-ordered, after-ordered}
-use Rattle.meaning.proofs.UndefinedLeavesLawful.{undefined-lawful}
+use Rattle.meaning.proofs.UndecidedRule.{rule-lawful}
 use Rattle.behaviour.specs.Terms.{circuitTerm}
 use Rattle.stimulus.specs.Stimulus.{inputType, inputLeaves, cycleCount, pieces, endToEnd, cycles}
 use Rattle.behaviour.specs.Run.{outputsBy, sheetAfter}
@@ -135,7 +135,7 @@ late-scanner s s′ stim stim′ outs outs′ next next′ c c′ b below =
     let f = c .formed in
     let f′ = c′ .formed in
     let same = inputs-same s s′ (c .type) (f .accepted) b in
-    let both = sheet-run-ordered undefinedLeaves undefinedLeaves undefined-lawful undefined-lawful (rule-below-itself undefined-lawful)
+    let both = sheet-run-ordered undecidedRule undecidedRule rule-lawful rule-lawful (rule-below-itself rule-lawful)
     s s′ (c .type) (c′ .type) (f .accepted) (f′ .accepted) b (cycles s stim) (cycles s′ stim′)
     (cycles-ordered s s′ stim stim′ same below (cycles-typed s stim (f .whole) (f .fitting))
     (cycles-typed s′ stim′ (f′ .whole) (f′ .fitting))) in (

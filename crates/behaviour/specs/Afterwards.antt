@@ -18,7 +18,7 @@ use Rattle.verdict.specs.Scopes.{Scope}
 use Rattle.verdict.specs.declared.Verdict.the-variants.{Accepted}
 use Rattle.meaning.specs.Values.{undefined, _⊑_, ValuesOf}
 use Rattle.meaning.specs.Elaboration.{Term}
-use Rattle.meaning.specs.Undecided.{undefinedLeaves}
+use Rattle.meaning.specs.Undecided.{undecidedRule}
 use Rattle.meaning.specs.Evaluation.{iter, eval, application, settled}
 use Rattle.behaviour.specs.Terms.{term}
 use Rattle.behaviour.specs.Sheets.{Bytes, OnlyDelays}
@@ -45,7 +45,7 @@ outputIn s t out k = take (leaves (typeAt s t)) (drop (k * leaves (typeAt s t)) 
 -- "One application of a feedback's defining part takes a value of the feedback's type, evaluates the part with the feedback's name
 -- holding it, and gives back the part's value; the names around it and the delays stay as they are."
 abbrev pub apply : List (List ℕ) → Term → List ℕ → List ℕ
-apply ρ part v = application undefinedLeaves ρ part v
+apply ρ part v = application undecidedRule ρ part v
 
 -- so many applications from undefined: "the first takes undefined in every leaf, each later one what the one before gave back"
 abbrev pub applied : List (List ℕ) → Ty → Term → ℕ → List ℕ
@@ -55,8 +55,8 @@ applied ρ σ part n = iter (apply ρ part) n (undefined σ)
 pub record FeedbackSettles (ρ : List (List ℕ)) (σ : Ty) (whole part body : Term) : Type 0 where
   -- the value that evaluation gives the body's name
   pub value : List ℕ
-  pub given : value ≡ settled undefinedLeaves ρ σ part
-  pub evaluates : eval undefinedLeaves ρ whole ≡ eval undefinedLeaves (value ∷ ρ) body
+  pub given : value ≡ settled undecidedRule ρ σ part
+  pub evaluates : eval undecidedRule ρ whole ≡ eval undecidedRule (value ∷ ρ) body
   pub of-type : OfType σ value
   -- is returned unchanged by the defining part,
   pub unchanged : apply ρ part value ≡ value

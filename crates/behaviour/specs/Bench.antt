@@ -1,6 +1,6 @@
 -- The bench cases of document 01 that are marked P, on bytes: sheets run by the definition of the run, patterns of their records
--- matched, and a feedback's chain from undefined. Bit has constructors 1 hi and 2 lo. A sheet is written by its words, six a
--- record: kind, next, a, b, c, d.
+-- matched, and a feedback's chain from undefined; and a sheet on which the rule for an undecided IF tells, in a feedback too
+-- (document 02, (e)). Bit has constructors 1 hi and 2 lo. A sheet is written by its words, six a record: kind, next, a, b, c, d.
 use Prim.Native.Nat.{ℕ, zero, suc, _%_, _/_}
 use mathlib.Core.Path.{_≡_}
 use mathlib.Core.List.{List, [], _∷_, _++_}
@@ -12,11 +12,12 @@ use Rattle.records.specs.Decoding.{patternOf}
 use Rattle.verdict.specs.Verdict.{inputs, verdict}
 use Rattle.verdict.specs.declared.Verdict.the-variants.{Accepted}
 use Rattle.meaning.specs.Matching.{Decision, Yes, Undecided, matches}
-use Rattle.meaning.specs.Undecided.{undefinedLeaves}
+use Rattle.meaning.specs.Undecided.{undecidedRule}
 use Rattle.meaning.specs.Evaluation.{applications}
 use Rattle.behaviour.specs.Terms.{term}
 use Rattle.stimulus.specs.Stimulus.{cycleCount}
 use Rattle.answers.specs.Answers.{packed}
+use Rattle.behaviour.specs.Sheets.{putWord}
 use Rattle.behaviour.specs.Run.{answer, finalOut, finalNext}
 use Rattle.behaviour.specs.Afterwards.{applied}
 
@@ -55,7 +56,7 @@ CaseHolds (goes s i chain n) =
     let q = wordB s 0 in
     let σ = typeAt s (wordA s q) in
     let part = term s (wordA s q ∷ inputs s) (treeAt s (wordB s q)) in
-    (valuesBefore (applied (i ∷ []) σ part) (length chain) ≡ chain) × (applications undefinedLeaves (i ∷ []) σ part ≡ n)
+    (valuesBefore (applied (i ∷ []) σ part) (length chain) ≡ chain) × (applications undecidedRule (i ∷ []) σ part ≡ n)
 
 abbrev pub AllCasesHold : List Case → Type 0
 AllCasesHold [] = Unit {0}
@@ -198,6 +199,40 @@ toggle =
     ∷ 33 ∷ 0 ∷ 0 ∷ 0 ∷ 0 ∷ 0
     ∷ [])
 
+-- a feedback of a pair of bits whose defining part is an IF on its own first part, pattern 1, then (1,1), else (1,2); its body is an
+-- IF on the input, pattern 1, then a delay of the feedback, else the feedback. On input 0 both IFs are undecided at first, and
+-- their branches agree in some leaves (document 02, (e))
+abbrev pub agreeing : List ℕ
+agreeing =
+    bytes
+    (1 ∷ 1 ∷ 1 ∷ 3 ∷ 22 ∷ 0
+    ∷ 16 ∷ 2 ∷ 2 ∷ 0 ∷ 0 ∷ 0
+    ∷ 17 ∷ 0 ∷ 1 ∷ 1 ∷ 0 ∷ 0
+    ∷ 38 ∷ 0 ∷ 2 ∷ 4 ∷ 14 ∷ 0
+    ∷ 39 ∷ 0 ∷ 5 ∷ 8 ∷ 11 ∷ 7
+    ∷ 35 ∷ 0 ∷ 6 ∷ 0 ∷ 0 ∷ 0
+    ∷ 33 ∷ 0 ∷ 0 ∷ 0 ∷ 0 ∷ 0
+    ∷ 49 ∷ 0 ∷ 1 ∷ 1 ∷ 0 ∷ 0
+    ∷ 32 ∷ 0 ∷ 2 ∷ 9 ∷ 0 ∷ 0
+    ∷ 64 ∷ 10 ∷ 1 ∷ 0 ∷ 0 ∷ 0
+    ∷ 64 ∷ 0 ∷ 1 ∷ 0 ∷ 0 ∷ 0
+    ∷ 32 ∷ 0 ∷ 2 ∷ 12 ∷ 0 ∷ 0
+    ∷ 64 ∷ 13 ∷ 1 ∷ 0 ∷ 0 ∷ 0
+    ∷ 64 ∷ 0 ∷ 2 ∷ 0 ∷ 0 ∷ 0
+    ∷ 39 ∷ 0 ∷ 15 ∷ 17 ∷ 21 ∷ 16
+    ∷ 33 ∷ 0 ∷ 1 ∷ 0 ∷ 0 ∷ 0
+    ∷ 49 ∷ 0 ∷ 1 ∷ 1 ∷ 0 ∷ 0
+    ∷ 40 ∷ 0 ∷ 2 ∷ 18 ∷ 20 ∷ 0
+    ∷ 64 ∷ 19 ∷ 0 ∷ 0 ∷ 0 ∷ 0
+    ∷ 64 ∷ 0 ∷ 0 ∷ 0 ∷ 0 ∷ 0
+    ∷ 33 ∷ 0 ∷ 0 ∷ 0 ∷ 0 ∷ 0
+    ∷ 33 ∷ 0 ∷ 0 ∷ 0 ∷ 0 ∷ 0
+    ∷ [])
+
+-- the same with (1,1) in the delay
+abbrev pub agreed : List ℕ
+agreed = putWord 19 1 (putWord 18 1 agreeing)
+
 abbrev pub benchCases : List Case
 benchCases =
     runs gateAnd (2 ∷ 0 ∷ []) (2 ∷ []) gateAnd
@@ -214,4 +249,6 @@ benchCases =
     ∷ runsTyped toggle 1 (1 ∷ 2 ∷ 1 ∷ []) (2 ∷ 1 ∷ 1 ∷ []) 3 toggle
     ∷ says equalBits 9 (0 ∷ 0 ∷ []) Undecided
     ∷ runs equalBits (0 ∷ 0 ∷ []) (0 ∷ []) equalBits
+    ∷ goes agreeing (0 ∷ []) ((0 ∷ 0 ∷ []) ∷ (1 ∷ 0 ∷ []) ∷ (1 ∷ 1 ∷ []) ∷ []) 2
+    ∷ runs agreeing (0 ∷ 0 ∷ []) (0 ∷ 0 ∷ 1 ∷ 1 ∷ []) agreed
     ∷ []

@@ -1,9 +1,9 @@
 -- One cycle on bytes (document 01, "One cycle", "The words of demand 3"): the value of a sheet's root for an input, and the sheet
 -- after the cycle, "that cycle's sheet with every delay holding its next value". What an undecided IF gives is a parameter;
--- document 01's rule, undefined in every leaf, is the instance.
+-- the rule in force is the instance.
 use Prim.Native.Nat.{ℕ}
 use mathlib.Core.List.{List, [], _∷_}
-use Rattle.meaning.specs.Undecided.{undefinedLeaves}
+use Rattle.meaning.specs.Undecided.{undecidedRule}
 use Rattle.meaning.specs.Evaluation.{eval, next}
 use Rattle.behaviour.specs.Terms.{circuitTerm}
 use Rattle.behaviour.specs.Sheets.{write}
@@ -15,9 +15,9 @@ module _ (undecided : List ℕ → List ℕ → List ℕ) where
   unfoldable pub afterBy : (sheet input : List ℕ) → List ℕ
   afterBy s i = write s (next undecided (i ∷ []) (circuitTerm s))
 
--- document 01's cycle
+-- the cycle by the rule in force
 abbrev pub output : (sheet input : List ℕ) → List ℕ
-output s i = outputBy undefinedLeaves s i
+output s i = outputBy undecidedRule s i
 
 abbrev pub sheetAfterCycle : (sheet input : List ℕ) → List ℕ
-sheetAfterCycle s i = afterBy undefinedLeaves s i
+sheetAfterCycle s i = afterBy undecidedRule s i

@@ -19,7 +19,7 @@ use Rattle.verdict.specs.declared.Verdict.the-variants.{Accepted}
 use Rattle.meaning.specs.Elaboration.{Term}
 use Rattle.meaning.specs.Values.{_⊑_, AllOf}
 use Rattle.meaning.specs.Constants.{ConstantTree, AllConstantsOf, flatten}
-use Rattle.meaning.specs.Undecided.{undefinedLeaves, bottomOfThen, Lawful}
+use Rattle.meaning.specs.Undecided.{undefinedLeaves, undecidedRule, undecidedConstant, Lawful}
 use Rattle.meaning.specs.Ordered.{RuleBelow, AllBoth}
 use Rattle.meaning.specs.Rules.{ReducesSeq}
 use Rattle.meaning.specs.Run as Meaning
@@ -29,7 +29,7 @@ use Rattle.stimulus.specs.Stimulus.{inputType, endToEnd, cycles, cycleCount, wr
 use Rattle.behaviour.specs.Run.{outputsBy, sheetAfter, callChecks, answer, finalOut, finalNext}
 use Rattle.behaviour.specs.Afterwards.{WellFormed, Afterwards}
 use Rattle.behaviour.specs.SheetOrder.{SheetBelow, FormedCall, StrictlyBelow, holding}
-use Rattle.behaviour.specs.Bench.{toggle}
+use Rattle.behaviour.specs.Bench.{toggle, agreeing, agreed}
 
 -- What each answer says of the call: done, with all cycles, exactly where the call is well formed; or refused by a check of the list,
 -- at its place, where no check before it applies. `FirstThatApplies`, `LowestFound` and `LowestNone` of answers say what that means of
@@ -79,16 +79,16 @@ RunMeans =
     → (outputsBy undecided s inputs ≡ Meaning.outputs undecided [] (circuitTerm s) inputs)
     × (sheetAfter undecided s inputs ≡ write s (Meaning.after undecided [] (circuitTerm s) inputs))
 
--- So it is the run of 000: its rules, on the expression that the sheet decodes to, give exactly the constants with the outputs'
--- leaves, and lead to the expression that the sheet after the last cycle decodes to.
+-- So it is the run of 000: its rules, with `glb` of the branches for an undecided IF, on the expression that the sheet decodes to, give
+-- exactly the constants with the outputs' leaves, and lead to the expression that the sheet after the last cycle decodes to.
 abbrev pub RunReduces : Type 0
 RunReduces =
     (s : List ℕ) (t : ℕ) → verdict s ≡ Accepted t → (e f : Expr) → decode s ≡ some e
     → (inputs outputs : List ConstantTree) → AllConstantsOf (inputType s) inputs
-    → ReducesSeq bottomOfThen [] e inputs outputs f
+    → ReducesSeq undecidedConstant [] e inputs outputs f
     ↔ (AllConstantsOf (typeAt s t) outputs
-    × (map flatten outputs ≡ outputsBy undefinedLeaves s (map flatten inputs))
-    × (decode (sheetAfter undefinedLeaves s (map flatten inputs)) ≡ some f))
+    × (map flatten outputs ≡ outputsBy undecidedRule s (map flatten inputs))
+    × (decode (sheetAfter undecidedRule s (map flatten inputs)) ≡ some f))
 
 -- Demand 3, of what the definition of the run gives.
 abbrev pub HoldsAfterwards : Type 0
@@ -125,6 +125,23 @@ LateInput = StrictlyBelow toggle toggle (0 ∷ 1 ∷ []) (1 ∷ 1 ∷ []) (2 ∷
 abbrev pub LateDelay : Type 0
 LateDelay = StrictlyBelow (holding 0) toggle (1 ∷ []) (1 ∷ []) (0 ∷ []) (2 ∷ []) (holding 0) (holding 1)
 
+-- The earlier rule for an undecided IF, undefined in every leaf, stays as a definition (document 02, (e)): on every accepted sheet, over
+-- any number of cycles of well-formed input, each output leaf and each delay leaf under it is at or below what the run gives.
+abbrev pub EarlierBelow : Type 0
+EarlierBelow =
+    (s : List ℕ) (t : ℕ) → verdict s ≡ Accepted t → (inputs : List (List ℕ)) → AllOf (inputType s) inputs
+    → AllBoth (typeAt s t) (outputsBy undefinedLeaves s inputs) (outputsBy undecidedRule s inputs)
+    × SheetBelow (sheetAfter undefinedLeaves s inputs) (sheetAfter undecidedRule s inputs)
+
+-- On one sheet it is strictly below, in the leaves of the second output and of the delay.
+abbrev pub EarlierStrictlyBelow : Type 0
+EarlierStrictlyBelow =
+    (verdict agreeing ≡ Accepted 2)
+    × (outputsBy undefinedLeaves agreeing ((0 ∷ []) ∷ (0 ∷ []) ∷ []) ≡ (0 ∷ 0 ∷ []) ∷ (0 ∷ 0 ∷ []) ∷ [])
+    × (outputsBy undecidedRule agreeing ((0 ∷ []) ∷ (0 ∷ []) ∷ []) ≡ (0 ∷ 0 ∷ []) ∷ (1 ∷ 1 ∷ []) ∷ [])
+    × (sheetAfter undefinedLeaves agreeing ((0 ∷ []) ∷ (0 ∷ []) ∷ []) ≡ agreeing)
+    × (sheetAfter undecidedRule agreeing ((0 ∷ []) ∷ (0 ∷ []) ∷ []) ≡ agreed)
+
 -- all of them
 pub record RunPromises : Type 0 where
   pub lowest-first : LowestFirst
@@ -140,3 +157,5 @@ pub record RunPromises : Type 0 where
   pub late-scanner : LateScanner
   pub late-input : LateInput
   pub late-delay : LateDelay
+  pub earlier-below : EarlierBelow
+  pub earlier-strictly-below : EarlierStrictlyBelow

@@ -1,7 +1,7 @@
 -- The run (document 01, "The run"): over a list of inputs from a sheet, and for every call. "The first cycle begins from the sheet
 -- handed in, each later one from the sheet after the cycle before." On the empty list a run gives no outputs and leaves the
 -- sheet as it is. The answer is the lowest number that applies, with its place; "a refusal leaves every lent slice unaltered".
--- What an undecided IF gives is a parameter of the run over a list; the call takes document 01's rule.
+-- What an undecided IF gives is a parameter of the run over a list; the call takes the rule in force.
 use Prim.Native.Nat.{ℕ, zero, suc, _*_}
 use mathlib.Core.Path.{_≡_}
 use mathlib.Core.Bool.{not}
@@ -15,7 +15,7 @@ use Rattle.answers.specs.Checks.{Check, check, when, firstOf}
 use Rattle.answers.specs.declared.Answer.{Answer}
 use Rattle.answers.specs.declared.Answer.the-variants.{Done}
 use Rattle.verdict.specs.Verdict.{verdictAnswer, sheetChecks, outputType, verdict}
-use Rattle.meaning.specs.Undecided.{undefinedLeaves}
+use Rattle.meaning.specs.Undecided.{undecidedRule}
 use Rattle.behaviour.specs.Cycle.{outputBy, afterBy}
 use Rattle.stimulus.specs.Stimulus.{cycleCount, endToEnd, cycles, stimulusChecks}
 
@@ -66,12 +66,12 @@ callChecks s stim out next = sheetChecks s ++ runChecks s (outputType s) stim ou
 -- the outputs laid end to end
 unfoldable pub finalOut : (sheet stimulus out next : List ℕ) → List ℕ
 finalOut s stim out next =
-    let new = endToEnd (outputsBy undefinedLeaves s (cycles s stim)) in whenDone (answer s stim out next) new out
+    let new = endToEnd (outputsBy undecidedRule s (cycles s stim)) in whenDone (answer s stim out next) new out
 
 -- the sheet after the last cycle
 unfoldable pub finalNext : (sheet stimulus out next : List ℕ) → List ℕ
 finalNext s stim out next =
-    let new = sheetAfter undefinedLeaves s (cycles s stim) in whenDone (answer s stim out next) new next
+    let new = sheetAfter undecidedRule s (cycles s stim) in whenDone (answer s stim out next) new next
 
 -- what a call gives, for every content and length of the four slices: the number returned and the final bytes
 pub record Gives (sheet stimulus out next : List ℕ) (result : ℕ) (out′ next′ : List ℕ) : Type 0 where

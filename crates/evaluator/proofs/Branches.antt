@@ -20,7 +20,7 @@ use Rattle.records.proofs.Trees.{tree-of}
 use Rattle.typing.specs.Judgements.{typeRecordOf}
 use Rattle.verdict.specs.Scopes.{Scope, if-tested, if-then, if-else, of-delay}
 use Rattle.accepted.proofs.Scopes.{judged-by-kind}
-use Rattle.meaning.specs.Undecided.{undefinedLeaves}
+use Rattle.meaning.specs.Undecided.{undecidedRule}
 use Rattle.behaviour.specs.Delays.{assigned, putAll, enter}
 use Rattle.behaviour.specs.Evaluated.{valueAt, storedAt}
 use Rattle.behaviour.proofs.Evaluated.{if-value, if-stored, delay-value, delay-stored}
@@ -50,7 +50,7 @@ module _ (s : List ℕ) (n : ℕ) (W env : List ℕ) (names rec : ℕ) (out Γ :
   ρ = frames s Γ env
 
   abbrev val : ℕ → List ℕ
-  val x = valueAt undefinedLeaves s Γ ρ x
+  val x = valueAt undecidedRule s Γ ρ x
 
   w : Written s
   w = ready-written s n W env names rec out Γ r
@@ -191,12 +191,12 @@ module _ (s : List ℕ) (n : ℕ) (W env : List ℕ) (names rec : ℕ) (out Γ :
 
             pub if-done : (out′ : List ℕ) → Chosen s p tested otherwise o₂ out′ → EvaluatedIn s Γ env names rec held env₃ held₃ out′
             if-done out′ g =
-                let h₂ : held₂ ≡ storedAt undefinedLeaves s Γ ρ y held₁ = rw f₁ at (d₂ .stored) in
-                let h₃ : held₃ ≡ storedAt undefinedLeaves s Γ ρ z held₂ = rw f₂ at (d₃ .stored) in
+                let h₂ : held₂ ≡ storedAt undecidedRule s Γ ρ y held₁ = rw f₁ at (d₂ .stored) in
+                let h₃ : held₃ ≡ storedAt undecidedRule s Γ ρ z held₂ = rw f₂ at (d₃ .stored) in
                 let chosen = rw (tested-is, otherwise-is, d₁ .value, then-value, else-value, ex, ey, ez, ep) at g in
                 record {
-                  value = chosen ∙ sym (if-value undefinedLeaves s w Γ ρ rec b e);
-                  stored = h₃ ∙ rw (h₂, d₁ .stored, ex, ey, ez) (sym (if-stored undefinedLeaves s w Γ ρ rec b e held));
+                  value = chosen ∙ sym (if-value undecidedRule s w Γ ρ rec b e);
+                  stored = h₃ ∙ rw (h₂, d₁ .stored, ex, ey, ez) (sym (if-stored undecidedRule s w Γ ρ rec b e held));
                   wide = d₃ .wide;
                   kept = d₃ .kept ∙ kept₂;
                 }
@@ -231,7 +231,7 @@ module _ (s : List ℕ) (n : ℕ) (W env : List ℕ) (names rec : ℕ) (out Γ :
           sort = rw el (q .2);
           many =
               rw el
-              (sym (length-map (chain s (wordB s rec)) (wordA s)) ∙ ap length (sym (delay-value undefinedLeaves s w Γ ρ rec b e))
+              (sym (length-map (chain s (wordB s rec)) (wordA s)) ∙ ap length (sym (delay-value undecidedRule s w Γ ρ rec b e))
               ∙ ready-value s n W env names rec out Γ r ∙ sym eo);
         }
 
@@ -241,8 +241,8 @@ module _ (s : List ℕ) (n : ℕ) (W env : List ℕ) (names rec : ℕ) (out Γ :
     delay-done held env₁ held₁ o₁ held₂ o₂ p₁ h g =
         let d = p₁ .done Γ delayed-ready in
         record {
-          value = g ∙ rw el (sym (delay-value undefinedLeaves s w Γ ρ rec b e));
-          stored = h ∙ rw (d .value, d .stored, ex, el) (sym (delay-stored undefinedLeaves s w Γ ρ rec b e held));
+          value = g ∙ rw el (sym (delay-value undecidedRule s w Γ ρ rec b e));
+          stored = h ∙ rw (d .value, d .stored, ex, el) (sym (delay-stored undecidedRule s w Γ ρ rec b e held));
           wide = d .wide;
           kept = d .kept;
         }

@@ -19,10 +19,10 @@ use Rattle.verdict.specs.Scopes.{Scope, feedback-defining, feedback-body}
 use Rattle.accepted.proofs.Scopes.{judged-by-kind}
 use Rattle.meaning.specs.Values.{undefined, zeros, ValuesOf, more-values}
 use Rattle.meaning.specs.Elaboration.{Term, Elaborated}
-use Rattle.meaning.specs.Undecided.{undefinedLeaves}
+use Rattle.meaning.specs.Undecided.{undecidedRule}
 use Rattle.meaning.specs.Evaluation.{application, settled}
 use Rattle.meaning.proofs.Order.{value-length, zeros-length, undefined-typed}
-use Rattle.meaning.proofs.UndefinedLeavesLawful.{undefined-lawful}
+use Rattle.meaning.proofs.UndecidedRule.{rule-lawful}
 use Rattle.meaning.proofs.FeedbackLeast.{undefined-rises, feedback-typed}
 use Rattle.behaviour.specs.Terms.{term}
 use Rattle.behaviour.specs.Evaluated.{valueAt, storedAt}
@@ -113,7 +113,7 @@ module _ (s : List ℕ) (n : ℕ) (W env : List ℕ) (names rec : ℕ) (out Γ :
       part-typed : Elaborated (Declared s) (τ ∷ map (typeAt s) Γ) body-part τ
       part-typed = rw same-type at (elaborated s n W env names rec out Γ r d (t ∷ Γ) part-scope)
 
-      applies : valueAt undefinedLeaves s (t ∷ Γ) (undefined τ ∷ π) d ≡ application undefinedLeaves π body-part (undefined τ)
+      applies : valueAt undecidedRule s (t ∷ Γ) (undefined τ ∷ π) d ≡ application undecidedRule π body-part (undefined τ)
       unfolding valueAt
       applies = refl
 
@@ -127,7 +127,7 @@ module _ (s : List ℕ) (n : ℕ) (W env : List ℕ) (names rec : ℕ) (out Γ :
                 (name-values s n W env names rec out Γ r t few-around (undefined τ) (undefined-typed τ) env (r .wide) refl feedback-small env₁ started);
             same = same-type;
             rises = rw (slot₁, framed₁, applies)
-                (undefined-rises undefinedLeaves undefined-lawful (Declared s) {ρ = π} {t = body-part} part-typed (r .values));
+                (undefined-rises undecidedRule rule-lawful (Declared s) {ρ = π} {t = body-part} part-typed (r .values));
           }
 
       -- no more leaves are undefined than there is room for
@@ -146,7 +146,7 @@ module _ (s : List ℕ) (n : ℕ) (W env : List ℕ) (names rec : ℕ) (out Γ :
         f₁ = p .settled t Γ feedback-settling
 
         abbrev u : List ℕ
-        u = settled undefinedLeaves π τ body-part
+        u = settled undecidedRule π τ body-part
 
         leads : leadsTo s t Γ d names env₁ ≡ u
         leads = rw (ρ₁, slot₁) refl
@@ -165,10 +165,10 @@ module _ (s : List ℕ) (n : ℕ) (W env : List ℕ) (names rec : ℕ) (out Γ :
         body-values : ValuesOf (map (typeAt s) (t ∷ Γ)) (frames s (t ∷ Γ) env₂)
         body-values =
             rw framed₂
-            (more-values (feedback-typed undefinedLeaves undefined-lawful (Declared s) {ρ = π} {t = body-part} part-typed (r .values)) (r .values))
+            (more-values (feedback-typed undecidedRule rule-lawful (Declared s) {ρ = π} {t = body-part} part-typed (r .values)) (r .values))
 
-        body-value : valueAt undefinedLeaves s Γ π rec ≡ valueAt undefinedLeaves s (t ∷ Γ) (frames s (t ∷ Γ) env₂) y
-        body-value = rw (framed₂, ed, ey) (feedback-value undefinedLeaves s w Γ π rec b e)
+        body-value : valueAt undecidedRule s Γ π rec ≡ valueAt undecidedRule s (t ∷ Γ) (frames s (t ∷ Γ) env₂) y
+        body-value = rw (framed₂, ed, ey) (feedback-value undecidedRule s w Γ π rec b e)
 
         pub feedback-body-ready : EvaluatingIn s n W env₂ (names + 1) y out (t ∷ Γ)
         feedback-body-ready =
@@ -181,11 +181,11 @@ module _ (s : List ℕ) (n : ℕ) (W env : List ℕ) (names rec : ℕ) (out Γ :
             → EvaluatedIn s Γ env names rec held env₃ held₂ o
         feedback-done env₃ held₂ o q =
             let d₂ = q .done (t ∷ Γ) feedback-body-ready in
-            let h₁ : held₁ ≡ storedAt undefinedLeaves s (t ∷ Γ) (u ∷ π) d held = rw (leads, ρ₁) at (f₁ .stored) in
-            let h₂ : held₂ ≡ storedAt undefinedLeaves s (t ∷ Γ) (u ∷ π) y held₁ = rw framed₂ at (d₂ .stored) in
+            let h₁ : held₁ ≡ storedAt undecidedRule s (t ∷ Γ) (u ∷ π) d held = rw (leads, ρ₁) at (f₁ .stored) in
+            let h₂ : held₂ ≡ storedAt undecidedRule s (t ∷ Γ) (u ∷ π) y held₁ = rw framed₂ at (d₂ .stored) in
             record {
               value = d₂ .value ∙ sym body-value;
-              stored = h₂ ∙ rw (h₁, ed, ey) (sym (feedback-stored undefinedLeaves s w Γ π rec b e held));
+              stored = h₂ ∙ rw (h₁, ed, ey) (sym (feedback-stored undecidedRule s w Γ π rec b e held));
               wide = d₂ .wide;
               kept = front-kept (64 * names) (64 * (names + 1)) env₃ env₂ (omega arith) (d₂ .kept) ∙ kept₂;
             }

@@ -19,7 +19,7 @@ use Rattle.typing.specs.Judgements.{typeRecordOf}
 use Rattle.verdict.specs.Scopes.{Scope, let-defining, let-body}
 use Rattle.accepted.proofs.Scopes.{judged-by-kind}
 use Rattle.meaning.specs.Values.{ValuesOf}
-use Rattle.meaning.specs.Undecided.{undefinedLeaves}
+use Rattle.meaning.specs.Undecided.{undecidedRule}
 use Rattle.behaviour.specs.Evaluated.{valueAt, storedAt}
 use Rattle.behaviour.proofs.Evaluated.{name-value, name-stored, let-value, let-stored}
 use Rattle.values.specs.Slots.{slot, entered, frames}
@@ -82,8 +82,8 @@ module _ (s : List ℕ) (n : ℕ) (W env : List ℕ) (names rec : ℕ) (out Γ :
         let there : slot (names - 1 - k) (length out) env ≡ getD ρ k [] =
         rw (name-leaves, ← r .many) (sym (frame-at s Γ env k (let h = name-in-scope in let m = r .many in omega arith))) in
         record {
-          value = g ∙ there ∙ rw ek (sym (name-value undefinedLeaves s w Γ ρ rec b e));
-          stored = sym (name-stored undefinedLeaves s w Γ ρ rec b e held);
+          value = g ∙ there ∙ rw ek (sym (name-value undecidedRule s w Γ ρ rec b e));
+          stored = sym (name-stored undecidedRule s w Γ ρ rec b e held);
           wide = r .wide;
           kept = refl;
         }
@@ -138,7 +138,7 @@ module _ (s : List ℕ) (n : ℕ) (W env : List ℕ) (names rec : ℕ) (out Γ :
         entered-is : env₂ ≡ entered names o₁ env₁
         entered-is = rw value-is at g
 
-        framed : frames s (t ∷ Γ) env₂ ≡ valueAt undefinedLeaves s Γ ρ x ∷ ρ
+        framed : frames s (t ∷ Γ) env₂ ≡ valueAt undecidedRule s Γ ρ x ∷ ρ
         framed =
             rw (d₁ .value) at
             (name-frames s n W env names rec out Γ r t few o₁ typed env₁ (d₁ .wide) (d₁ .kept) small env₂ entered-is)
@@ -146,8 +146,8 @@ module _ (s : List ℕ) (n : ℕ) (W env : List ℕ) (names rec : ℕ) (out Γ :
         body-values : ValuesOf (map (typeAt s) (t ∷ Γ)) (frames s (t ∷ Γ) env₂)
         body-values = name-values s n W env names rec out Γ r t few o₁ typed env₁ (d₁ .wide) (d₁ .kept) small env₂ entered-is
 
-        body-value : valueAt undefinedLeaves s Γ ρ rec ≡ valueAt undefinedLeaves s (t ∷ Γ) (frames s (t ∷ Γ) env₂) y
-        body-value = rw (framed, ex, ey) (let-value undefinedLeaves s w Γ ρ rec b e)
+        body-value : valueAt undecidedRule s Γ ρ rec ≡ valueAt undecidedRule s (t ∷ Γ) (frames s (t ∷ Γ) env₂) y
+        body-value = rw (framed, ex, ey) (let-value undecidedRule s w Γ ρ rec b e)
 
         pub let-body-ready : EvaluatingIn s n W env₂ (names + 1) y out (t ∷ Γ)
         let-body-ready =
@@ -162,11 +162,11 @@ module _ (s : List ℕ) (n : ℕ) (W env : List ℕ) (names rec : ℕ) (out Γ :
             → EvaluatedIn s Γ env names rec held env₃ held₂ o₂
         let-done env₃ held₂ o₂ p₂ =
             let d₂ = p₂ .done (t ∷ Γ) let-body-ready in
-            let h₂ : held₂ ≡ storedAt undefinedLeaves s (t ∷ Γ) (valueAt undefinedLeaves s Γ ρ x ∷ ρ) y held₁ =
+            let h₂ : held₂ ≡ storedAt undecidedRule s (t ∷ Γ) (valueAt undecidedRule s Γ ρ x ∷ ρ) y held₁ =
             rw framed at (d₂ .stored) in
             record {
               value = d₂ .value ∙ sym body-value;
-              stored = h₂ ∙ rw (d₁ .stored, ex, ey) (sym (let-stored undefinedLeaves s w Γ ρ rec b e held));
+              stored = h₂ ∙ rw (d₁ .stored, ex, ey) (sym (let-stored undecidedRule s w Γ ρ rec b e held));
               wide = d₂ .wide;
               kept =
                   front-kept (64 * names) (64 * (names + 1)) env₃ env₂ (omega arith) (d₂ .kept)

@@ -17,7 +17,7 @@ use Rattle.records.proofs.Table.{askOfKind}
 use Rattle.records.proofs.Asked.{part-of-kind}
 use Rattle.typing.specs.Judgements.{typeRecordOf}
 use Rattle.verdict.specs.Scopes.{Scope, tuple-first, tuple-second, of-first, of-second}
-use Rattle.meaning.specs.Undecided.{undefinedLeaves}
+use Rattle.meaning.specs.Undecided.{undecidedRule}
 use Rattle.behaviour.specs.Evaluated.{valueAt, storedAt}
 use Rattle.behaviour.proofs.Evaluated.{constant-value, constant-stored, tuple-value, tuple-stored, first-value, first-stored, second-value, second-stored}
 use Rattle.values.specs.Chained.{Chained}
@@ -31,7 +31,7 @@ module _ (s : List ℕ) (n : ℕ) (W env : List ℕ) (names rec : ℕ) (out Γ :
   ρ = frames s Γ env
 
   abbrev val : ℕ → List ℕ
-  val x = valueAt undefinedLeaves s Γ ρ x
+  val x = valueAt undecidedRule s Γ ρ x
 
   sheet-written : Written s
   sheet-written = ready-written s n W env names rec out Γ r
@@ -51,7 +51,7 @@ module _ (s : List ℕ) (n : ℕ) (W env : List ℕ) (names rec : ℕ) (out Γ :
           written = sheet-written;
           there = omega (arith, p .1, ex);
           sort = rw ex (p .2);
-          many = rw ex (sym (long (chain s (wordB s rec))) ∙ ap length (sym (constant-value undefinedLeaves s sheet-written Γ ρ rec record-there e)) ∙ ready-value s n W env names rec out Γ r);
+          many = rw ex (sym (long (chain s (wordB s rec))) ∙ ap length (sym (constant-value undecidedRule s sheet-written Γ ρ rec record-there e)) ∙ ready-value s n W env names rec out Γ r);
         }
       where
         long : (ls : List ℕ) → length (leafValues s ls) ≡ length ls
@@ -61,8 +61,8 @@ module _ (s : List ℕ) (n : ℕ) (W env : List ℕ) (names rec : ℕ) (out Γ :
         → EvaluatedIn s Γ env names rec held env held out′
     constant-done x ex held out′ g =
         record {
-          value = g ∙ rw ex (sym (constant-value undefinedLeaves s sheet-written Γ ρ rec record-there e));
-          stored = sym (constant-stored undefinedLeaves s sheet-written Γ ρ rec record-there e held);
+          value = g ∙ rw ex (sym (constant-value undecidedRule s sheet-written Γ ρ rec record-there e));
+          stored = sym (constant-stored undecidedRule s sheet-written Γ ρ rec record-there e held);
           wide = r .wide;
           kept = refl;
         }
@@ -75,7 +75,7 @@ module _ (s : List ℕ) (n : ℕ) (W env : List ℕ) (names rec : ℕ) (out Γ :
     scope-b = rw ey (tuple-second e (r .scope))
 
     parts : val rec ≡ val x ++ val y
-    parts = rw (ex, ey) (tuple-value undefinedLeaves s sheet-written Γ ρ rec record-there e)
+    parts = rw (ex, ey) (tuple-value undecidedRule s sheet-written Γ ρ rec record-there e)
 
     pub pair-small : getD W x 0 ≤ 64
     pair-small = entry-few s n W env names rec out Γ r x Γ scope-a
@@ -125,10 +125,10 @@ module _ (s : List ℕ) (n : ℕ) (W env : List ℕ) (names rec : ℕ) (out Γ :
             let d₂ = p₂ .done Γ pair-second-ready in
             let f = same-frames s n W env names rec out Γ r env₁ (d₁ .kept) in
             let v₂ : o₂ ≡ val y = rw f at (d₂ .value) in
-            let h₂ : held₂ ≡ storedAt undefinedLeaves s Γ ρ y held₁ = rw f at (d₂ .stored) in
+            let h₂ : held₂ ≡ storedAt undecidedRule s Γ ρ y held₁ = rw f at (d₂ .stored) in
             record {
               value = both-back w out o₁ first-wide pair-cut o₂ ∙ rw (d₁ .value, v₂) (sym parts);
-              stored = h₂ ∙ rw (d₁ .stored, ex, ey) (sym (tuple-stored undefinedLeaves s sheet-written Γ ρ rec record-there e held));
+              stored = h₂ ∙ rw (d₁ .stored, ex, ey) (sym (tuple-stored undecidedRule s sheet-written Γ ρ rec record-there e held));
               wide = d₂ .wide;
               kept = d₂ .kept ∙ d₁ .kept;
             }
@@ -163,7 +163,7 @@ module _ (s : List ℕ) (n : ℕ) (W env : List ℕ) (names rec : ℕ) (out Γ :
 
       front : val rec ≡ take cut o₁
       front =
-          first-value undefinedLeaves s sheet-written Γ ρ rec record-there e
+          first-value undecidedRule s sheet-written Γ ρ rec record-there e
           ∙ ap (take cut) (rw ex at (sym (room-done x first-scope w ew R eR held env₁ held₁ o₁ p₁ .value)))
 
       cut-long : length out ≡ length (take cut o₁)
@@ -198,7 +198,7 @@ module _ (s : List ℕ) (n : ℕ) (W env : List ℕ) (names rec : ℕ) (out Γ :
           let d = room-done x first-scope w ew R eR held env₁ held₁ o₁ p₁ in
           record {
             value = put-whole (take (length out - 0) (o₁ ++ drop (w - 0) R)) out out′ first-fits g ∙ part-is ∙ sym front;
-            stored = d .stored ∙ rw ex (sym (first-stored undefinedLeaves s sheet-written Γ ρ rec record-there e held));
+            stored = d .stored ∙ rw ex (sym (first-stored undecidedRule s sheet-written Γ ρ rec record-there e held));
             wide = d .wide;
             kept = d .kept;
           }
@@ -214,7 +214,7 @@ module _ (s : List ℕ) (n : ℕ) (W env : List ℕ) (names rec : ℕ) (out Γ :
 
       end : val rec ≡ drop cut′ o₁
       end =
-          second-value undefinedLeaves s sheet-written Γ ρ rec record-there e
+          second-value undecidedRule s sheet-written Γ ρ rec record-there e
           ∙ ap (drop cut′) (rw ex at (sym (room-done x second-scope w ew R eR held env₁ held₁ o₁ p₁ .value)))
 
       end-long : length out ≡ length (drop cut′ o₁)
@@ -252,7 +252,7 @@ module _ (s : List ℕ) (n : ℕ) (W env : List ℕ) (names rec : ℕ) (out Γ :
           let d = room-done x second-scope w ew R eR held env₁ held₁ o₁ p₁ in
           record {
             value = put-whole piece out out′ second-fits g ∙ piece-is ∙ sym end;
-            stored = d .stored ∙ rw ex (sym (second-stored undefinedLeaves s sheet-written Γ ρ rec record-there e held));
+            stored = d .stored ∙ rw ex (sym (second-stored undecidedRule s sheet-written Γ ρ rec record-there e held));
             wide = d .wide;
             kept = d .kept;
           }

@@ -28,10 +28,10 @@ use Rattle.accepted.proofs.Laws.{exact}
 use Rattle.accepted.proofs.Scopes.{Checked, scope-checked, few-names, small-names, checked-type}
 use Rattle.meaning.specs.Values.{ValuesOf, more-values}
 use Rattle.meaning.specs.Elaboration.{Elaborated}
-use Rattle.meaning.specs.Undecided.{undefinedLeaves}
+use Rattle.meaning.specs.Undecided.{undecidedRule}
 use Rattle.meaning.proofs.Order.{value-length}
 use Rattle.meaning.proofs.EvaluationMonotone.{eval-typed}
-use Rattle.meaning.proofs.UndefinedLeavesLawful.{undefined-lawful}
+use Rattle.meaning.proofs.UndecidedRule.{rule-lawful}
 use Rattle.behaviour.specs.Terms.{term}
 use Rattle.behaviour.specs.Evaluated.{valueAt}
 use Rattle.behaviour.proofs.Terms.{checked-term}
@@ -73,11 +73,11 @@ module _ (s : List ℕ) (n : ℕ) (W env : List ℕ) (names rec : ℕ) (out Γ :
     elaborated = checked-term ready-passes in-circuit
 
     module _ (ρ : List (List ℕ)) (v : ValuesOf (map (typeAt s) Δ) ρ) where
-      pub value-typed : OfType (typeAt s (typeRecordOf s Δ (treeAt s x))) (valueAt undefinedLeaves s Δ ρ x)
+      pub value-typed : OfType (typeAt s (typeRecordOf s Δ (treeAt s x))) (valueAt undecidedRule s Δ ρ x)
       unfolding valueAt
-      value-typed = eval-typed undefinedLeaves undefined-lawful (Declared s) elaborated v
+      value-typed = eval-typed undecidedRule rule-lawful (Declared s) elaborated v
 
-      pub value-long : length (valueAt undefinedLeaves s Δ ρ x) ≡ getD W x 0
+      pub value-long : length (valueAt undecidedRule s Δ ρ x) ≡ getD W x 0
       value-long = value-length (typeAt s (typeRecordOf s Δ (treeAt s x))) value-typed ∙ sym entry-is
 
     pub ready-at : (env′ : List ℕ) (names′ : ℕ) (out′ : List ℕ) → length Δ ≡ names′ → length env′ ≡ 4096
@@ -102,7 +102,7 @@ module _ (s : List ℕ) (n : ℕ) (W env : List ℕ) (names rec : ℕ) (out Γ :
   pub ready-word : (k : ℕ) → k < 6 → Sized s n × (rec < n) × (k < 6)
   ready-word k h = let c = r .sized .counted in let t = ready-there in (r .sized, omega arith, h)
 
-  pub ready-value : length (valueAt undefinedLeaves s Γ (frames s Γ env) rec) ≡ length out
+  pub ready-value : length (valueAt undecidedRule s Γ (frames s Γ env) rec) ≡ length out
   ready-value = value-long rec Γ (r .scope) (frames s Γ env) (r .values) ∙ sym (r .room)
 
   pub room-few : length out ≤ 64

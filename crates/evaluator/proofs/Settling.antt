@@ -14,10 +14,10 @@ use Rattle.records.specs.TypeRecords.{typeAt, Declared}
 use Rattle.records.specs.Trees.{treeAt}
 use Rattle.meaning.specs.Values.{zeros, Both, ValuesOf, more-values}
 use Rattle.meaning.specs.Elaboration.{Term, Elaborated}
-use Rattle.meaning.specs.Undecided.{undefinedLeaves}
+use Rattle.meaning.specs.Undecided.{undecidedRule}
 use Rattle.meaning.specs.Evaluation.{application, iterate, settled}
 use Rattle.meaning.proofs.Order.{value-length}
-use Rattle.meaning.proofs.UndefinedLeavesLawful.{undefined-lawful}
+use Rattle.meaning.proofs.UndecidedRule.{rule-lawful}
 use Rattle.meaning.proofs.FeedbackLeast.{application-monotone, application-typed, application-falls, iterate-unchanged, iterate-again}
 use Rattle.behaviour.specs.Terms.{term}
 use Rattle.behaviour.specs.Evaluated.{valueAt, storedAt}
@@ -63,11 +63,11 @@ module _ (s : List ℕ) (n : ℕ) (W env : List ℕ) (names d : ℕ) (value : Li
   typed = rw (g .same) at (elaborated s n W env (names + 1) d value (t ∷ Γ) r d (t ∷ Γ) (r .scope))
 
   -- what the defining part gives for a value
-  gives : (u : List ℕ) → valueAt undefinedLeaves s (t ∷ Γ) (u ∷ ρ) d ≡ application undefinedLeaves ρ part u
+  gives : (u : List ℕ) → valueAt undecidedRule s (t ∷ Γ) (u ∷ ρ) d ≡ application undecidedRule ρ part u
   unfolding valueAt
   gives u = refl
 
-  rises : Both (bounds σ) v (application undefinedLeaves ρ part v)
+  rises : Both (bounds σ) v (application undecidedRule ρ part v)
   rises = rw (framed, gives v) at (g .rises)
 
   wide-leaves : getD W d 0 ≡ leaves σ
@@ -89,12 +89,12 @@ module _ (s : List ℕ) (n : ℕ) (W env : List ℕ) (names d : ℕ) (value : Li
     d₁ : EvaluatedIn s (t ∷ Γ) env (names + 1) d held env₁ held₁ o
     d₁ = p .done (t ∷ Γ) r
 
-    given : o ≡ application undefinedLeaves ρ part v
+    given : o ≡ application undecidedRule ρ part v
     given = d₁ .value ∙ rw framed (gives v)
 
     given-typed : OfType σ o
     given-typed =
-        rw given (application-typed undefinedLeaves undefined-lawful (Declared s) {ρ = ρ} {t = part} typed (typed-values .1) (typed-values .0))
+        rw given (application-typed undecidedRule rule-lawful (Declared s) {ρ = ρ} {t = part} typed (typed-values .1) (typed-values .0))
 
     given-long : length o ≡ leaves σ
     given-long = value-length σ given-typed
@@ -109,7 +109,7 @@ module _ (s : List ℕ) (n : ℕ) (W env : List ℕ) (names d : ℕ) (value : Li
     pub settle-room : (64 * names + length o ≤ length env₁) × (length env₁ ≤ 4096)
     settle-room = let l = given-long in let f = small in let m = settle-few in let w = d₁ .wide in (omega arith, omega arith)
 
-    held-is : held₁ ≡ storedAt undefinedLeaves s (t ∷ Γ) (v ∷ ρ) d held
+    held-is : held₁ ≡ storedAt undecidedRule s (t ∷ Γ) (v ∷ ρ) d held
     held-is = rw framed at (d₁ .stored)
 
     module _ (answer : Bool) (a : Agrees o (slot names (length o) env₁) answer) where
@@ -118,9 +118,9 @@ module _ (s : List ℕ) (n : ℕ) (W env : List ℕ) (names d : ℕ) (value : Li
 
       pub unchanged-settled : answer ≡ true → SettledIn s t Γ env names d held env₁ held₁
       unchanged-settled e =
-          let u : application undefinedLeaves ρ part v ≡ v = sym given ∙ a .same e ∙ standing in
-          let i : iterate undefinedLeaves ρ σ part v ≡ v =
-          iterate-unchanged undefinedLeaves undefined-lawful (Declared s) {ρ = ρ} {t = part} typed (typed-values .1) u in
+          let u : application undecidedRule ρ part v ≡ v = sym given ∙ a .same e ∙ standing in
+          let i : iterate undecidedRule ρ σ part v ≡ v =
+          iterate-unchanged undecidedRule rule-lawful (Declared s) {ρ = ρ} {t = part} typed (typed-values .1) u in
           record {
             reached = same-slot ∙ sym i;
             stored = held-is ∙ rw i refl;
@@ -129,7 +129,7 @@ module _ (s : List ℕ) (n : ℕ) (W env : List ℕ) (names d : ℕ) (value : Li
           }
 
       module _ (e : answer ≡ false) (env₂ : List ℕ) (ee : env₂ ≡ entered names o env₁) where
-        changed : application undefinedLeaves ρ part v ≢ v
+        changed : application undecidedRule ρ part v ≢ v
         changed u = a .other e (given ∙ u ∙ sym standing)
 
         below : 64 * names ≤ length env₁
@@ -152,10 +152,10 @@ module _ (s : List ℕ) (n : ℕ) (W env : List ℕ) (names d : ℕ) (value : Li
         framed₂ : frames s (t ∷ Γ) env₂ ≡ o ∷ ρ
         framed₂ = ap₂ _∷_ (rw around slot₂) ρ₂
 
-        rises₂ : Both (bounds σ) o (application undefinedLeaves ρ part o)
+        rises₂ : Both (bounds σ) o (application undecidedRule ρ part o)
         rises₂ =
-            rw given (application-monotone undefinedLeaves undefined-lawful (Declared s) {ρ = ρ} {t = part} typed (typed-values .1) v
-            (application undefinedLeaves ρ part v) rises)
+            rw given (application-monotone undecidedRule rule-lawful (Declared s) {ρ = ρ} {t = part} typed (typed-values .1) v
+            (application undecidedRule ρ part v) rises)
 
         pub settling-again : SettlingIn s n W env₂ names d o t Γ
         settling-again =
@@ -169,22 +169,22 @@ module _ (s : List ℕ) (n : ℕ) (W env : List ℕ) (names d : ℕ) (value : Li
         pub fewer-undefined : zeros (slot names (length o) env₂) < zeros (slot names (length value) env)
         fewer-undefined =
             rw (given-long, value-wide, slot₂, given)
-            (application-falls undefinedLeaves undefined-lawful (Declared s) {ρ = ρ} {t = part} typed (typed-values .1) rises changed)
+            (application-falls undecidedRule rule-lawful (Declared s) {ρ = ρ} {t = part} typed (typed-values .1) rises changed)
 
         leads : leadsTo s t Γ d names env₂ ≡ leadsTo s t Γ d names env
         leads =
             rw (ρ₂, slot₂, given)
-            (sym (iterate-again undefinedLeaves undefined-lawful (Declared s) {ρ = ρ} {t = part} typed (typed-values .1) rises))
+            (sym (iterate-again undecidedRule rule-lawful (Declared s) {ρ = ρ} {t = part} typed (typed-values .1) rises))
 
         pub changed-settled : (env₃ held₂ : List ℕ) → Settled s n W env₂ names d held₁ o env₃ held₂
             → SettledIn s t Γ env names d held env₃ held₂
         changed-settled env₃ held₂ q =
             let f = q .settled t Γ settling-again in
-            let h : held₂ ≡ storedAt undefinedLeaves s (t ∷ Γ) (leadsTo s t Γ d names env ∷ ρ) d held₁ = rw (leads, ρ₂) at (f .stored) in
+            let h : held₂ ≡ storedAt undecidedRule s (t ∷ Γ) (leadsTo s t Γ d names env ∷ ρ) d held₁ = rw (leads, ρ₂) at (f .stored) in
             record {
               reached = f .reached ∙ leads;
               stored = h ∙ rw held-is
-                  (stored-again undefinedLeaves s (ready-written s n W env (names + 1) d value (t ∷ Γ) r) (t ∷ Γ)
+                  (stored-again undecidedRule s (ready-written s n W env (names + 1) d value (t ∷ Γ) r) (t ∷ Γ)
                   (leadsTo s t Γ d names env ∷ ρ) d (ready-there s n W env (names + 1) d value (t ∷ Γ) r) (v ∷ ρ) held);
               wide = f .wide;
               kept = f .kept ∙ kept₂;

@@ -14,7 +14,7 @@ use Rattle.verdict.specs.Scopes.{Scope}
 use Rattle.verdict.specs.Widths.{Widths}
 use Rattle.verdict.specs.declared.Verdict.the-variants.{Accepted}
 use Rattle.meaning.specs.Values.{Both, ValuesOf}
-use Rattle.meaning.specs.Undecided.{undefinedLeaves}
+use Rattle.meaning.specs.Undecided.{undecidedRule}
 use Rattle.meaning.specs.Evaluation.{iterate}
 use Rattle.behaviour.specs.Terms.{term}
 use Rattle.behaviour.specs.Evaluated.{valueAt, storedAt}
@@ -34,8 +34,8 @@ pub record EvaluatingIn (s : List ℕ) (n : ℕ) (widths env : List ℕ) (names 
 
 -- what comes of it: the value, the table of the delays' next values, and an environment with the same names
 pub record EvaluatedIn (s Γ env : List ℕ) (names rec : ℕ) (held env′ held′ out′ : List ℕ) : Type 0 where
-  pub value : out′ ≡ valueAt undefinedLeaves s Γ (frames s Γ env) rec
-  pub stored : held′ ≡ storedAt undefinedLeaves s Γ (frames s Γ env) rec held
+  pub value : out′ ≡ valueAt undecidedRule s Γ (frames s Γ env) rec
+  pub stored : held′ ≡ storedAt undecidedRule s Γ (frames s Γ env) rec held
   pub wide : length env′ ≡ 4096
   pub kept : take (64 * names) env′ ≡ take (64 * names) env
 
@@ -46,7 +46,7 @@ approximation s t names env = slot names (leaves (typeAt s t)) env
 -- where the applications of the defining part lead from it
 abbrev pub leadsTo : (s : List ℕ) (t : ℕ) (Γ : List ℕ) (d names : ℕ) (env : List ℕ) → List ℕ
 leadsTo s t Γ d names env =
-    iterate undefinedLeaves (frames s Γ env) (typeAt s t) (term s (t ∷ Γ) (treeAt s d)) (approximation s t names env)
+    iterate undecidedRule (frames s Γ env) (typeAt s t) (term s (t ∷ Γ) (treeAt s d)) (approximation s t names env)
 
 -- a feedback of type t is settled, with the names of Γ around it, from an approximation that lies at or below what the defining
 -- part gives for it
@@ -55,11 +55,11 @@ pub record SettlingIn (s : List ℕ) (n : ℕ) (widths env : List ℕ) (names d 
   pub same : typeRecordOf s (t ∷ Γ) (treeAt s d) ≡ t
   pub rises
       : Both (bounds (typeAt s t)) (approximation s t names env)
-      (valueAt undefinedLeaves s (t ∷ Γ) (frames s (t ∷ Γ) env) d)
+      (valueAt undecidedRule s (t ∷ Γ) (frames s (t ∷ Γ) env) d)
 
 pub record SettledIn (s : List ℕ) (t : ℕ) (Γ env : List ℕ) (names d : ℕ) (held env′ held′ : List ℕ) : Type 0 where
   pub reached : approximation s t names env′ ≡ leadsTo s t Γ d names env
-  pub stored : held′ ≡ storedAt undefinedLeaves s (t ∷ Γ) (leadsTo s t Γ d names env ∷ frames s Γ env) d held
+  pub stored : held′ ≡ storedAt undecidedRule s (t ∷ Γ) (leadsTo s t Γ d names env ∷ frames s Γ env) d held
   pub wide : length env′ ≡ 4096
   pub kept : take (64 * names) env′ ≡ take (64 * names) env
 

@@ -26,7 +26,7 @@ use Rattle.meaning.specs.Elaboration.{
   e-if,
   e-delay,
 }
-use Rattle.meaning.specs.Undecided.{undefinedLeaves}
+use Rattle.meaning.specs.Undecided.{undecidedRule}
 use Rattle.meaning.specs.Evaluation.{application, applications, iter, eval, next}
 use Rattle.meaning.specs.Run.{outputs, after}
 
@@ -40,21 +40,21 @@ abbrev lo : Pattern
 lo = Constructor 1 2 2
 
 abbrev value : List (List ℕ) → Term → List ℕ
-value ρ t = eval undefinedLeaves ρ t
+value ρ t = eval undecidedRule ρ t
 
 abbrev gateAnd : Term
 gateAnd = IfThenElse (Name 0) (Parts hi hi) (Constant bit (1 ∷ [])) (Constant bit (2 ∷ []))
 
 and-no : value ((2 ∷ 0 ∷ []) ∷ []) gateAnd ≡ 2 ∷ []
-unfolding eval
+unfolding eval undecidedRule
 and-no = refl
 
 and-undecided : value ((1 ∷ 0 ∷ []) ∷ []) gateAnd ≡ 0 ∷ []
-unfolding eval
+unfolding eval undecidedRule
 and-undecided = refl
 
 and-yes : value ((1 ∷ 1 ∷ []) ∷ []) gateAnd ≡ 1 ∷ []
-unfolding eval
+unfolding eval undecidedRule
 and-yes = refl
 
 bar-on-undefined-undecided : matches (Bar hi lo) (0 ∷ []) ≡ Undecided
@@ -71,23 +71,23 @@ gateNot = IfThenElse (Name 0) hi (Constant bit (2 ∷ [])) (Constant bit (1 ∷ 
 
 -- a NOT fed back on itself
 not-fed-back-undefined : value [] (Feedback bit gateNot (Name 0)) ≡ 0 ∷ []
-unfolding eval
+unfolding eval undecidedRule
 not-fed-back-undefined = refl
 
 self-fed-back-undefined : value [] (Feedback bit (Name 0) (Name 0)) ≡ 0 ∷ []
-unfolding eval
+unfolding eval undecidedRule
 self-fed-back-undefined = refl
 
 -- the pair (hi, its own first part)
 abbrev ownFirst : Term
 ownFirst = Pair (Constant bit (1 ∷ [])) (First bit (Name 0))
 
-own-first-in-two : applications undefinedLeaves [] (TyTuple bit bit) ownFirst ≡ 2
-unfolding eval
+own-first-in-two : applications undecidedRule [] (TyTuple bit bit) ownFirst ≡ 2
+unfolding eval undecidedRule
 own-first-in-two = refl
 
-own-first-after-one : iter (application undefinedLeaves [] ownFirst) 1 (0 ∷ 0 ∷ []) ≡ 1 ∷ 0 ∷ []
-unfolding eval
+own-first-after-one : iter (application undecidedRule [] ownFirst) 1 (0 ∷ 0 ∷ []) ≡ 1 ∷ 0 ∷ []
+unfolding eval undecidedRule
 own-first-after-one = refl
 
 -- T: a bit that flips when the input is 1
@@ -99,12 +99,12 @@ toggle held =
     (IfThenElse (Name 0) lo (Constant bit (1 ∷ [])) (Constant bit (2 ∷ []))) (Name 0))) (Name 0)
 
 toggle-outputs
-    : outputs undefinedLeaves [] (toggle 2) ((1 ∷ []) ∷ (2 ∷ []) ∷ (1 ∷ []) ∷ []) ≡ (2 ∷ []) ∷ (1 ∷ []) ∷ (1 ∷ []) ∷ []
-unfolding outputs eval next
+    : outputs undecidedRule [] (toggle 2) ((1 ∷ []) ∷ (2 ∷ []) ∷ (1 ∷ []) ∷ []) ≡ (2 ∷ []) ∷ (1 ∷ []) ∷ (1 ∷ []) ∷ []
+unfolding outputs eval next undecidedRule
 toggle-outputs = refl
 
-toggle-after : after undefinedLeaves [] (toggle 2) ((1 ∷ []) ∷ (2 ∷ []) ∷ (1 ∷ []) ∷ []) ≡ toggle 2
-unfolding after eval next
+toggle-after : after undecidedRule [] (toggle 2) ((1 ∷ []) ∷ (2 ∷ []) ∷ (1 ∷ []) ∷ []) ≡ toggle 2
+unfolding after eval next undecidedRule
 toggle-after = refl
 
 hi-typed : OfType bit (1 ∷ [])

@@ -8,7 +8,7 @@ use Rattle.picoella.specs.Types.{Ty}
 use Rattle.meaning.specs.Values.{ValuesOf}
 use Rattle.meaning.specs.Elaboration.{Term, Elaborated}
 use Rattle.meaning.specs.Constants.{ConstantTree}
-use Rattle.meaning.specs.Undecided.{Lawful, Agreeing}
+use Rattle.meaning.specs.Undecided.{undecidedRule, undecidedConstant, Lawful, Agreeing}
 use Rattle.meaning.specs.Evaluation.{eval, next}
 use Rattle.meaning.specs.Promises.{IterateEquations, Settles, Promises, MeaningPromises}
 use Rattle.meaning.proofs.Order.{both-below, both-of}
@@ -36,6 +36,8 @@ use Rattle.meaning.proofs.MatchAgrees.{match-agrees}
 use Rattle.meaning.proofs.RulesDeterministic.{reduces-one, reduces-seq-one}
 use Rattle.meaning.proofs.Adequacy.{cycle-adequate, cycle-exists, run-adequate, run-exists}
 use Rattle.meaning.proofs.UndefinedLeavesLawful.{undefined-lawful, undefined-agreeing}
+use Rattle.meaning.proofs.AgreedLeavesLawful.{agreed-lawful, agreed-agreeing}
+use Rattle.meaning.proofs.UndecidedRule.{rule-lawful, rule-agreeing, earlier-rule-below}
 
 module _
     (undecided : List ℕ → List ℕ → List ℕ)
@@ -100,6 +102,7 @@ module _
         }
 
 pub kept : MeaningPromises
+unfolding undecidedRule undecidedConstant
 kept =
     record {
       every-rule = kept-promises;
@@ -111,6 +114,10 @@ kept =
         outputs-ordered rule other law under Declared h r given,
         after-ordered rule other law under Declared h r given,
       );
+      agreed-lawful = agreed-lawful;
+      agreed-agreeing = agreed-agreeing;
       undefined-lawful = undefined-lawful;
       undefined-agreeing = undefined-agreeing;
+      earlier-rule-below = earlier-rule-below;
+      rule-in-force = (λ v w. refl, λ c d. refl, rule-lawful, rule-agreeing);
     }

@@ -41,7 +41,7 @@ pub both-refl : {b v : List ℕ} → Within b v → Both b v v
 both-refl within-none = both-none
 both-refl (within-leaf h r) = both-leaf h h (inr refl) (both-refl r)
 
-leaf-trans : {x y z : ℕ} → LeafBelow x y → LeafBelow y z → LeafBelow x z
+pub leaf-trans : {x y z : ℕ} → LeafBelow x y → LeafBelow y z → LeafBelow x z
 leaf-trans (inl p) (inl q) = inl (cc)
 leaf-trans (inl p) (inr q) = inl (cc)
 leaf-trans (inr p) (inl q) = inl (cc)

@@ -1,10 +1,11 @@
--- The constants of 000 (§4.2.1: `const`, `typeOfConst`, `bottomOfConst`) and its matching (§3.3.1: `match`; §4.2.3: `bool3`,
+-- The constants of 000 (§4.2.1: `const`, `typeOfConst`, `bottomOfConst`, `cle`, `glb`) and its matching (§3.3.1: `match`; §4.2.3: `bool3`,
 -- `and3`): the i-th constructor of a type, the 0-th undefined, or a pair. A type is named by its record; that a constructor
 -- is at most the type's count, which 000's constants do not know, is in `ConstantOf`. `flatten` leads to the leaves of
 -- document 01. 000 uses `match` only on a chooser and a constant of one type; so the types' names are not compared here,
--- and where a pair meets a constructor the answer, which no well-typed expression asks for, is `uu3`.
+-- and where a pair meets a constructor the answer, which no well-typed expression asks for, is `uu3`. Its `cle` and `glb`
+-- are partial, on constants of one type; where a pair meets a constructor they are here no order, and undefined.
 use Prim.Native.Nat.{ℕ, zero, suc, _≤_}
-use mathlib.Core.Bool.{Bool, true, false}
+use mathlib.Core.Bool.{Bool, true, false, _&&_, _||_}
 use mathlib.Core.List.{List, [], _∷_, _++_}
 use lib.Dec.{eqb}
 use Rattle.picoella.specs.Types.{Ty, Flat, TyTuple}
@@ -44,6 +45,26 @@ bottomOfType (TyTuple σ τ) = CoTuple (bottomOfType σ) (bottomOfType τ)
 abbrev pub bottomOfConst : ConstantTree → ConstantTree
 bottomOfConst (Cons i t) = Cons 0 t
 bottomOfConst (CoTuple c d) = CoTuple (bottomOfConst c) (bottomOfConst d)
+
+-- the data order of constants
+abbrev pub cle : ConstantTree → ConstantTree → Bool
+cle (Cons c s) (Cons d t) = eqb s t && (eqb 0 c || eqb c d)
+cle (Cons c s) (CoTuple d₁ d₂) = false
+cle (CoTuple c₁ c₂) (Cons d t) = false
+cle (CoTuple c₁ c₂) (CoTuple d₁ d₂) = cle c₁ d₁ && cle c₂ d₂
+
+-- the lower of two constants, by whether each is at or below the other; with neither, the undefined one
+abbrev pub lower : (cle-cd cle-dc : Bool) (c d : ConstantTree) → ConstantTree
+lower true below c d = c
+lower false true c d = d
+lower false false c d = bottomOfConst c
+
+-- the greatest lower bound
+abbrev pub glb : ConstantTree → ConstantTree → ConstantTree
+glb (Cons c s) (Cons d t) = lower (cle (Cons c s) (Cons d t)) (cle (Cons d t) (Cons c s)) (Cons c s) (Cons d t)
+glb (Cons c s) (CoTuple d₁ d₂) = Cons 0 s
+glb (CoTuple c₁ c₂) (Cons d t) = bottomOfConst (CoTuple c₁ c₂)
+glb (CoTuple c₁ c₂) (CoTuple d₁ d₂) = CoTuple (glb c₁ d₁) (glb c₂ d₂)
 
 pub data Bool3 : Type 0 where
   tt3 ff3 uu3 : Bool3

@@ -1,7 +1,7 @@
 -- What is promised of the meaning: each promise a named type, and at the end the list of them. One term of each stands in
 -- `proofs/Kept.antt`; the list wants them all.
 -- Every promise holds for every lawful rule for an undecided IF (with its counterpart on the constants of 000, where those
--- are named) and for every choice of the declared pair types. Document 01's rule is such a one: the last two promises.
+-- are named) and for every choice of the declared pair types. The rule in force and the earlier one are such: the last promises.
 -- Terms are elaborated expressions; every well-typed expression has one, whose erasure it is.
 use Prim.Native.Nat.{ℕ, suc, _≤_, _<_}
 use mathlib.Core.Path.{_≡_}
@@ -19,11 +19,20 @@ use Rattle.meaning.specs.Constants.{
   ConstantOf,
   ConstantsOf,
   AllConstantsOf,
+  glb,
   flatten,
   answer3,
   match,
 }
-use Rattle.meaning.specs.Undecided.{undefinedLeaves, bottomOfThen, Lawful, Agreeing}
+use Rattle.meaning.specs.Undecided.{
+  undefinedLeaves,
+  bottomOfThen,
+  agreedLeaves,
+  undecidedRule,
+  undecidedConstant,
+  Lawful,
+  Agreeing,
+}
 use Rattle.meaning.specs.Ordered.{RuleBelow, Ordered, AllBoth}
 use Rattle.meaning.specs.Evaluation.{iter, eval, application, iterate, settled, applications, next}
 use Rattle.meaning.specs.Run.{outputs, after}
@@ -214,12 +223,30 @@ module _ (rule other : List ℕ → List ℕ → List ℕ) (Declared : Ty → Ty
       → AllBoth τ (outputs rule ρ t inputs) (outputs other π t′ inputs′)
       × Ordered Declared (σ ∷ Γ) (after rule ρ t inputs) (after other π t′ inputs′) τ
 
--- Document 01's rule for an undecided IF is lawful, and agrees with that of 000.
+-- The rule for an undecided IF, each leaf on which both branches agree and 0 elsewhere, is lawful, and agrees with 000's `glb`. The
+-- earlier rule, undefined in every leaf, is lawful too, agrees with 000's other semantics, and is at or below it.
+abbrev pub AgreedLawful : Type 0
+AgreedLawful = Lawful agreedLeaves
+
+abbrev pub AgreedAgreeing : Type 0
+AgreedAgreeing = Agreeing agreedLeaves glb
+
 abbrev pub UndefinedLawful : Type 0
 UndefinedLawful = Lawful undefinedLeaves
 
 abbrev pub UndefinedAgreeing : Type 0
 UndefinedAgreeing = Agreeing undefinedLeaves bottomOfThen
+
+abbrev pub EarlierRuleBelow : Type 0
+EarlierRuleBelow = RuleBelow undefinedLeaves undecidedRule
+
+-- The rule in force is the first of them, by its name.
+abbrev pub RuleInForce : Type 0
+RuleInForce =
+    ((v w : List ℕ) → undecidedRule v w ≡ agreedLeaves v w)
+    × ((c d : ConstantTree) → undecidedConstant c d ≡ glb c d)
+    × Lawful undecidedRule
+    × Agreeing undecidedRule undecidedConstant
 
 -- all of them
 pub record MeaningPromises : Type 1 where
@@ -233,5 +260,9 @@ pub record MeaningPromises : Type 1 where
       → Lawful rule → RuleBelow rule other → (Declared : Ty → Type 0) → CycleOrdered rule other Declared
   pub two-rules-run : (rule other : List ℕ → List ℕ → List ℕ)
       → Lawful rule → RuleBelow rule other → (Declared : Ty → Type 0) → RunOrdered rule other Declared
+  pub agreed-lawful : AgreedLawful
+  pub agreed-agreeing : AgreedAgreeing
   pub undefined-lawful : UndefinedLawful
   pub undefined-agreeing : UndefinedAgreeing
+  pub earlier-rule-below : EarlierRuleBelow
+  pub rule-in-force : RuleInForce

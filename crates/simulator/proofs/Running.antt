@@ -20,8 +20,8 @@ use Rattle.accepted.proofs.Laws.{exact}
 use Rattle.verdict.specs.Verdict.{verdict}
 use Rattle.verdict.specs.declared.Verdict.the-variants.{Accepted}
 use Rattle.meaning.specs.Values.{AllOf}
-use Rattle.meaning.specs.Undecided.{undefinedLeaves}
-use Rattle.meaning.proofs.UndefinedLeavesLawful.{undefined-lawful}
+use Rattle.meaning.specs.Undecided.{undecidedRule}
+use Rattle.meaning.proofs.UndecidedRule.{rule-lawful}
 use Rattle.meaning.proofs.Order.{value-length}
 use Rattle.behaviour.specs.Sheets.{OnlyDelays}
 use Rattle.behaviour.specs.Cycle.{output, sheetAfterCycle}
@@ -70,9 +70,9 @@ pub record Before (s stim : List ℕ) (wi wo count : ℕ) (out₀ : List ℕ) (k
   pub done : at ≡ k * wo
   pub wide : length env ≡ 4096
   pub long : length held ≡ 4096
-  pub sheet : current ≡ sheetBefore undefinedLeaves s (cycles s stim) k
+  pub sheet : current ≡ sheetBefore undecidedRule s (cycles s stim) k
   pub same : length out ≡ length out₀
-  pub outputs : take at out ≡ endToEnd (take k (outputsBy undefinedLeaves s (cycles s stim)))
+  pub outputs : take at out ≡ endToEnd (take k (outputsBy undecidedRule s (cycles s stim)))
 
 module _ (s : List ℕ) (n : ℕ) (W stim : List ℕ) (wi wo count : ℕ) (current₀ out₀ : List ℕ)
     (r : RunningCycles s n W stim wi wo count current₀ out₀)
@@ -81,13 +81,13 @@ module _ (s : List ℕ) (n : ℕ) (W stim : List ℕ) (wi wo count : ℕ) (curre
     inputs-typed = cycles-typed s stim (r .whole) (r .fitting)
 
     abbrev outs : List (List ℕ)
-    outs = outputsBy undefinedLeaves s (cycles s stim)
+    outs = outputsBy undecidedRule s (cycles s stim)
 
     in-list : (k : ℕ) → k < count → k < length (cycles s stim)
     in-list k h = let c = cycles-counted s stim in let e = r .counted in omega arith
 
     in-outs : (k : ℕ) → k < count → k < length outs
-    in-outs k h = let c = outputs-counted undefinedLeaves s (cycles s stim) in let i = in-list k h in omega arith
+    in-outs k h = let c = outputs-counted undecidedRule s (cycles s stim) in let i = in-list k h in omega arith
 
     one-more : (k : ℕ) → k < length outs → endToEnd (take k outs) ++ getD outs k [] ≡ endToEnd (take (k + 1) outs)
     one-more k h = sym (rw (add-one k, take-suc outs k [] h) (joined-one (take k outs) (getD outs k [])))
@@ -123,7 +123,7 @@ module _ (s : List ℕ) (n : ℕ) (W stim : List ℕ) (wi wo count : ℕ) (curre
           done = sym (zero-mul wo);
           wide = w;
           long = l;
-          sheet = r .start ∙ sym (sheet-first undefinedLeaves s (cycles s stim));
+          sheet = r .start ∙ sym (sheet-first undecidedRule s (cycles s stim));
           same = refl;
           outputs = refl;
         }
@@ -149,7 +149,7 @@ module _ (s : List ℕ) (n : ℕ) (W stim : List ℕ) (wi wo count : ℕ) (curre
             omega arith
 
         abbrev begins : List ℕ
-        begins = sheetBefore undefinedLeaves s (cycles s stim) k
+        begins = sheetBefore undecidedRule s (cycles s stim) k
 
         abbrev input : List ℕ
         input = take wi (drop from stim)
@@ -158,14 +158,14 @@ module _ (s : List ℕ) (n : ℕ) (W stim : List ℕ) (wi wo count : ℕ) (curre
         input-is = cycle-at s stim k (rw (← r .counted) h) ∙ rw (b .read, r .takes) refl
 
         delays : OnlyDelays s begins
-        delays = sheet-only-delays undefinedLeaves undefined-lawful s (r .type) (r .accepted) (cycles s stim) inputs-typed k
+        delays = sheet-only-delays undecidedRule rule-lawful s (r .type) (r .accepted) (cycles s stim) inputs-typed k
 
         begins-leaves : OnlyLeaves s begins
         begins-leaves = only-leaves (accepted-written s (r .type) (r .accepted)) delays
 
         begins-accepted : verdict begins ≡ Accepted (r .type)
         begins-accepted =
-            sheet-accepted undefinedLeaves undefined-lawful s (r .type) (r .accepted) (cycles s stim) inputs-typed k ∙ r .accepted
+            sheet-accepted undecidedRule rule-lawful s (r .type) (r .accepted) (cycles s stim) inputs-typed k ∙ r .accepted
 
         input-typed : OfType (inputType s) input
         input-typed = rw input-is at (all-at inputs-typed k (in-list k h))
@@ -209,12 +209,12 @@ module _ (s : List ℕ) (n : ℕ) (W stim : List ℕ) (wi wo count : ℕ) (curre
         output-long : length (output begins input) ≡ wo
         output-long =
             value-length (typeAt begins (r .type))
-            (output-typed undefinedLeaves undefined-lawful begins (r .type) begins-accepted input
+            (output-typed undecidedRule rule-lawful begins (r .type) begins-accepted input
             (rw (header-same (accepted-written s (r .type) (r .accepted)) delays 2 (omega arith), same-type s begins begins-leaves (wordA s 0)) input-typed))
             ∙ rw (same-type s begins begins-leaves (r .type)) (sym (r .gives))
 
         next-output : getD outs k [] ≡ output begins input
-        next-output = output-at undefinedLeaves s (cycles s stim) k (in-list k h) ∙ ap (output begins) input-is
+        next-output = output-at undecidedRule s (cycles s stim) k (in-list k h) ∙ ap (output begins) input-is
 
         pub gone-on : (from′ at′ : ℕ) (env′ held′ current′ out′ : List ℕ) → from′ ≡ from + wi → at′ ≡ at + wo
             → Lent stim from wi current out at wo env′ held′ current′ out′
@@ -234,7 +234,7 @@ module _ (s : List ℕ) (n : ℕ) (W stim : List ℕ) (wi wo count : ℕ) (curre
               wide = l .wide;
               long = l .long;
               sheet = l .next
-                  ∙ rw (b .sheet, add-one k, ← input-is) (sym (sheet-next undefinedLeaves s (cycles s stim) k (in-list k h)));
+                  ∙ rw (b .sheet, add-one k, ← input-is) (sym (sheet-next undecidedRule s (cycles s stim) k (in-list k h)));
               same =
                   ap length split
                   ∙ (let a = length-append (take at out ++ output begins input) (drop (at + wo) out) in
@@ -251,7 +251,7 @@ module _ (s : List ℕ) (n : ℕ) (W stim : List ℕ) (wi wo count : ℕ) (curre
         → length current ≡ length current₀
     sheet-long k from at env held current out b =
         ap length (b .sheet)
-        ∙ sheet-only-delays undefinedLeaves undefined-lawful s (r .type) (r .accepted) (cycles s stim) inputs-typed k .length
+        ∙ sheet-only-delays undecidedRule rule-lawful s (r .type) (r .accepted) (cycles s stim) inputs-typed k .length
         ∙ ap length (sym (r .start))
 
     pub ended : (k from at : ℕ) (env held current out : List ℕ) → Before s stim wi wo count out₀ k from at env held current out → count ≤ k
@@ -262,8 +262,8 @@ module _ (s : List ℕ) (n : ℕ) (W stim : List ℕ) (wi wo count : ℕ) (curre
         let c = cycles-counted s stim in
         let l : count ≡ length (cycles s stim) = r .counted ∙ sym c in
         let all : at ≡ length out = b .done ∙ rw e (sym (b .same ∙ r .room)) in
-        let m : length outs ≤ k = let q = outputs-counted undefinedLeaves s (cycles s stim) in omega arith in
+        let m : length outs ≤ k = let q = outputs-counted undecidedRule s (cycles s stim) in omega arith in
         record {
           outputs = sym (take-length out) ∙ rw all at (b .outputs) ∙ ap endToEnd (take-all k outs m);
-          next = b .sheet ∙ rw (e, l) (sheet-last undefinedLeaves s (cycles s stim));
+          next = b .sheet ∙ rw (e, l) (sheet-last undecidedRule s (cycles s stim));
         }

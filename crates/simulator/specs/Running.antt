@@ -13,7 +13,7 @@ use Rattle.answers.specs.Lowest.{lowest}
 use Rattle.verdict.specs.Verdict.{verdict}
 use Rattle.verdict.specs.Widths.{Widths}
 use Rattle.verdict.specs.declared.Verdict.the-variants.{Accepted}
-use Rattle.meaning.specs.Undecided.{undefinedLeaves}
+use Rattle.meaning.specs.Undecided.{undecidedRule}
 use Rattle.behaviour.specs.Sheets.{Bytes}
 use Rattle.behaviour.specs.Cycle.{output, sheetAfterCycle}
 use Rattle.stimulus.specs.Stimulus.{inputLeaves, cycleCount, endToEnd, cycles, wrongStimulus, wrongByte}
@@ -59,8 +59,8 @@ pub record RunningCycles (s : List ℕ) (n : ℕ) (widths stim : List ℕ) (wi w
   pub start : current ≡ s
 
 pub record RanCycles (s stim current′ out′ : List ℕ) : Type 0 where
-  pub outputs : out′ ≡ endToEnd (outputsBy undefinedLeaves s (cycles s stim))
-  pub next : current′ ≡ sheetAfter undefinedLeaves s (cycles s stim)
+  pub outputs : out′ ≡ endToEnd (outputsBy undecidedRule s (cycles s stim))
+  pub next : current′ ≡ sheetAfter undecidedRule s (cycles s stim)
 
 -- an accepted sheet with output type t is run, with the table that the check filled
 pub record RunningAccepted (s : List ℕ) (n : ℕ) (widths : List ℕ) (t : ℕ) : Type 0 where

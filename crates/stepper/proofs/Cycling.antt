@@ -25,10 +25,10 @@ use Rattle.verdict.specs.Scopes.{root}
 use Rattle.verdict.specs.Widths.{Widths}
 use Rattle.accepted.proofs.Laws.{exact, accepted-judged}
 use Rattle.meaning.specs.Values.{no-values, more-values}
-use Rattle.meaning.specs.Undecided.{undefinedLeaves}
+use Rattle.meaning.specs.Undecided.{undecidedRule}
 use Rattle.meaning.specs.Evaluation.{next}
 use Rattle.meaning.proofs.Order.{value-length}
-use Rattle.meaning.proofs.UndefinedLeavesLawful.{undefined-lawful}
+use Rattle.meaning.proofs.UndecidedRule.{rule-lawful}
 use Rattle.behaviour.specs.Terms.{circuitTerm}
 use Rattle.behaviour.specs.Delays.{store}
 use Rattle.behaviour.specs.Copies.{copied, leavesOf, delayChains}
@@ -113,13 +113,13 @@ module _ (s : List ℕ) (n : ℕ) (W env held input current out : List ℕ) (g :
         → Looked input current held env₂ held₁ o₁
     look-done env₂ held₁ o₁ p =
         let d = p .done (inputs current) root-ready in
-        let v : o₁ ≡ valueAt undefinedLeaves current (inputs current) (input ∷ []) (wordB current 0) = rw (framed, at-root) at (d .value) in
-        let h : held₁ ≡ store (next undefinedLeaves (input ∷ []) (circuitTerm current)) held =
-        rw (framed, at-root) at (d .stored) ∙ sym (root-stored undefinedLeaves current input held) in
+        let v : o₁ ≡ valueAt undecidedRule current (inputs current) (input ∷ []) (wordB current 0) = rw (framed, at-root) at (d .value) in
+        let h : held₁ ≡ store (next undecidedRule (input ∷ []) (circuitTerm current)) held =
+        rw (framed, at-root) at (d .stored) ∙ sym (root-stored undecidedRule current input held) in
         record {
           wide = d .wide;
-          long = rw h (store-length (next undefinedLeaves (input ∷ []) (circuitTerm current)) held ∙ g .long);
-          value = v ∙ sym (root-value undefinedLeaves current input);
+          long = rw h (store-length (next undecidedRule (input ∷ []) (circuitTerm current)) held ∙ g .long);
+          value = v ∙ sym (root-value undecidedRule current input);
           stored = h;
         }
 
@@ -138,11 +138,11 @@ module _ (s : List ℕ) (n : ℕ) (W env held input current out : List ℕ) (g :
   room l m = let h = leaves-in-table current (g .type) (g .again) l m in let w = g .long in omega arith
 
   written-after : sheetAfterCycle current input
-      ≡ copied (store (next undefinedLeaves (input ∷ []) (circuitTerm current)) held) (delayChains current (count current)) current
+      ≡ copied (store (next undecidedRule (input ∷ []) (circuitTerm current)) held) (delayChains current (count current)) current
   unfolding afterBy
   written-after =
-      write-copied-chains current (g .type) (g .again) (next undefinedLeaves (input ∷ []) (circuitTerm current))
-      (cycle-writable undefinedLeaves undefined-lawful current (g .type) (g .again) input input-typed) held room
+      write-copied-chains current (g .type) (g .again) (next undecidedRule (input ∷ []) (circuitTerm current))
+      (cycle-writable undecidedRule rule-lawful current (g .type) (g .again) input input-typed) held room
 
   pub cycle-done : (env₂ held₁ o₁ : List ℕ) → Looked input current held env₂ held₁ o₁
       → (current′ : List ℕ) → current′ ≡ copied held₁ (delayChains s n) current → Cycled input current env₂ held₁ current′ o₁

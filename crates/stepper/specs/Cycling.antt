@@ -13,7 +13,7 @@ use Rattle.records.specs.Rewritten.{OnlyLeaves}
 use Rattle.verdict.specs.Verdict.{verdict}
 use Rattle.verdict.specs.Widths.{Widths}
 use Rattle.verdict.specs.declared.Verdict.the-variants.{Accepted}
-use Rattle.meaning.specs.Undecided.{undefinedLeaves}
+use Rattle.meaning.specs.Undecided.{undecidedRule}
 use Rattle.meaning.specs.Evaluation.{next}
 use Rattle.behaviour.specs.Terms.{circuitTerm}
 use Rattle.behaviour.specs.Delays.{store}
@@ -41,7 +41,7 @@ pub record Cycling (first : List ℕ) (n : ℕ) (widths env held input current o
 -- the root is evaluated: the output, and the delays' next values in their table; the sheet is only read
 pub record Looked (input current held env′ held′ out′ : List ℕ) : Type 0 where
   pub value : out′ ≡ output current input
-  pub stored : held′ ≡ store (next undefinedLeaves (input ∷ []) (circuitTerm current)) held
+  pub stored : held′ ≡ store (next undecidedRule (input ∷ []) (circuitTerm current)) held
   pub wide : length env′ ≡ 4096
   pub long : length held′ ≡ 4096
 

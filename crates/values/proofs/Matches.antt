@@ -44,7 +44,7 @@ use Rattle.accepted.proofs.FittingWidths.{fitting-leaves}
 use Rattle.meaning.specs.Matching.{Decision, Yes, No, Undecided, pairDecision, chainDecision, constructorDecision, patternWidth, matches}
 use Rattle.values.specs.Matchings.{Matching, withRest, MatchedAll, MatchedOne, Chosen}
 use Rattle.meaning.specs.Evaluation.{choose}
-use Rattle.meaning.specs.Undecided.{undefinedLeaves}
+use Rattle.meaning.specs.Undecided.{undecidedRule}
 use Rattle.values.specs.Answers.{decisionOf}
 use Rattle.values.specs.declared.Match.{Match}
 use Rattle.values.specs.declared.Match.the-variants as Matched′
@@ -312,5 +312,5 @@ left-falls n (suc at) (suc x) f h g = let q = g (λ z. omega arith) in omega (ar
 
 -- the value of an IF, by the answer of its match
 pub chosen : (s : List ℕ) (p : ℕ) (v otherwise out out′ : List ℕ) (a : Match) → MatchedAll s p v a
-    → out′ ≡ choose undefinedLeaves (decisionOf a) out otherwise → Chosen s p v otherwise out out′
+    → out′ ≡ choose undecidedRule (decisionOf a) out otherwise → Chosen s p v otherwise out out′
 chosen s p v otherwise out out′ a e g = rw (← e) g

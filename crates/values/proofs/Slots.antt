@@ -1,19 +1,19 @@
--- A value copied to the front of a slot, and held against it; a slice cleared; a constructor held against a leaf.
+-- A value copied to the front of a slot, and held against it; a constructor held against a leaf.
 -- Assumes nothing.
 use Prim.Native.Nat.{ℕ, zero, suc, _+_, _-_, _≤_, _<_}
 use mathlib.Core.Bool.{Bool, true, false}
-use mathlib.Core.List.{List, [], _∷_, _++_, append-nil}
+use mathlib.Core.List.{List, [], _++_, append-nil}
 use mathlib.Core.Path.{_≡_, refl, sym, ap, _∙_}
 use mathlib.Core.Logic.{_≢_}
 use native.Mathlib.Omega.{arith}
 use native.Mathlib.Numerals.{add-one}
 use borrow.Author.Tests.{eq-eqb, ne-eqb}
-use lib.ListN.{length, getD, set, take, drop, replicate, length-drop, length-set}
-use lib.Seq.{take-length, take-all, take-take, take-suc, take-suc-set, drop-length, length-take-le, getD-take, paste, paste-zero, paste-suc, length-paste}
+use lib.ListN.{length, getD, set, take, drop, length-drop}
+use lib.Seq.{take-length, take-all, take-take, take-suc, drop-length, length-take-le, getD-take, paste, paste-zero, paste-suc, length-paste}
 use Rattle.records.proofs.Tests.{never-both}
 use Rattle.meaning.specs.Matching.{Yes, No, constructorDecision}
 use Rattle.meaning.specs.Evaluation.{choose}
-use Rattle.meaning.specs.Undecided.{undefinedLeaves}
+use Rattle.meaning.specs.Undecided.{undecidedRule}
 use Rattle.values.specs.Answers.{decisionOf, Agrees}
 use Rattle.values.specs.declared.Match.{Match}
 use Rattle.values.specs.declared.Match.the-variants as Matches
@@ -105,40 +105,7 @@ module _ (n a : ℕ) (env r : List ℕ) (e : r ≡ take n (drop a env)) where
       let all : length r ≡ length out = looked-up-long h ∙ sym k in
       g ∙ rw (all, drop-length out) (append-nil r) ∙ e
 
--- i leaves are undefined
-pub record Cleared (out₀ : List ℕ) (i : ℕ) (out : List ℕ) : Type 0 where
-  pub few : i ≤ length out₀
-  pub long : length out ≡ length out₀
-  pub so-far : take i out ≡ replicate i 0
-
-pub none-cleared : (out : List ℕ) → Cleared out 0 out
-none-cleared out = record { few = omega arith; long = refl; so-far = refl }
-
-pub clear-next : (out₀ : List ℕ) (i : ℕ) (out : List ℕ) → i < length out₀ → Cleared out₀ i out → Cleared out₀ (i + 1) (set out i 0)
-clear-next out₀ i out h c =
-    let l = c .long in
-    record {
-      few = omega arith;
-      long = length-set out i 0 ∙ l;
-      so-far = rw (add-one i, take-suc-set out i 0 (omega arith), c .so-far) (one-more i);
-    }
-  where
-    one-more : (i : ℕ) → _++_ {A = ℕ} (replicate i 0) (0 ∷ []) ≡ replicate (suc i) 0
-    one-more zero = refl
-    one-more (suc i) = ap (λ l. 0 ∷ l) (one-more i)
-
-pub all-cleared : (out₀ : List ℕ) (i : ℕ) (out : List ℕ) → length out₀ ≤ i → Cleared out₀ i out → out ≡ replicate (length out₀) 0
-all-cleared out₀ i out h c =
-    let f = c .few in
-    let e : i ≡ length out = let l = c .long in omega arith in
-    let f : take (length out) out ≡ replicate (length out) 0 = rw e at (c .so-far) in
-    sym (take-length out) ∙ f ∙ rw (c .long) refl
-
 -- the value of an IF by the answer of its match
 pub otherwise-chosen : (a : Match) (otherwise out out′ : List ℕ) → a ≡ Matches.No → length otherwise ≡ length out
-    → out′ ≡ otherwise ++ drop (length otherwise) out → out′ ≡ choose undefinedLeaves (decisionOf a) out otherwise
+    → out′ ≡ otherwise ++ drop (length otherwise) out → out′ ≡ choose undecidedRule (decisionOf a) out otherwise
 otherwise-chosen a otherwise out out′ e l g = g ∙ rw (e, l, drop-length out) (append-nil otherwise)
-
-pub undefined-chosen : (a : Match) (otherwise out out′ : List ℕ) → a ≡ Matches.Undecided → out′ ≡ replicate (length out) 0
-    → out′ ≡ choose undefinedLeaves (decisionOf a) out otherwise
-undefined-chosen a otherwise out out′ e g = g ∙ rw e refl

@@ -24,7 +24,7 @@ use Rattle.typing.specs.Judgements.{patternFits}
 use Rattle.typing.specs.Judging.{Fitting}
 use Rattle.verdict.specs.Widths.{patternEntry}
 use Rattle.meaning.specs.Matching.{Decision, chainDecision, matches}
-use Rattle.meaning.specs.Undecided.{undefinedLeaves}
+use Rattle.meaning.specs.Undecided.{undecidedRule}
 use Rattle.meaning.specs.Evaluation.{choose}
 use Rattle.values.specs.Answers.{decisionOf}
 use Rattle.values.specs.declared.Match.{Match}
@@ -54,4 +54,4 @@ MatchedOne s p v r =
 -- the value of an IF whose pattern is at p, from the value tested and those of its branches
 abbrev pub Chosen : (sheet : List ℕ) (p : ℕ) (tested otherwise then value : List ℕ) → Type 0
 Chosen s p v otherwise then value =
-    value ≡ choose undefinedLeaves (matches (patternOf s (alternatives s p)) v) then otherwise
+    value ≡ choose undecidedRule (matches (patternOf s (alternatives s p)) v) then otherwise

@@ -13,7 +13,7 @@ ghost use Rattle.values.specs.Answers.{decisionOf, Agrees};
 ghost use Rattle.values.specs.Matchings.{Matching, MatchedAll, MatchedOne, Chosen};
 ghost use Rattle.values.specs.Slots.{slot, entered};
 ghost use Rattle.meaning.specs.Evaluation.{choose};
-ghost use Rattle.meaning.specs.Undecided.{undefinedLeaves};
+ghost use Rattle.meaning.specs.Undecided.{agreedLeaf, undecidedRule};
 use records::KIND_CONSTRUCTOR_PATTERN;
 use records::KIND_WHOLE_PATTERN;
 use records::RECORDS;
@@ -127,14 +127,22 @@ pub fn room() -> [u8; 64]
     [0; 64]
 }
 
-// Undefined in every leaf.
-fn clear(out: &mut [u8])
-    ensures { λ _. ⌜ now (out .exit) ≡ replicate (length (now (out .entry))) 0 ⌝ }
+// The leaf that both branches of an undecided IF give, or 0.
+fn agreed(leaf: u8, other: u8) -> u8
+    ensures { λ r. ⌜ r ≡ agreedLeaf leaf other ⌝ }
+{
+    if leaf == other { leaf } else { 0 }
+}
+
+// The value of an undecided IF, where the then value is in `out`: each leaf on which both agree, and 0 elsewhere.
+fn undecided(otherwise: &[u8], out: &mut [u8])
+    requires { ⌜ length (now otherwise) ≡ length (now out) ⌝ }
+    ensures { λ _. ⌜ now (out .exit) ≡ undecidedRule (now (out .entry)) (now (otherwise .entry)) ⌝ }
 {
     let all = out.len();
     let mut i = 0;
     while i < all {
-        out[i] = 0;
+        out[i] = agreed(out[i], otherwise[i]);
         i += 1;
     }
 }
@@ -225,12 +233,12 @@ fn match_one(sheet: &[u8], n: usize, widths: &Widths, p: usize, value: &[u8]) ->
 // The value of an IF by the answer of its match, where the then value is in `out`.
 fn by_answer(answer: Match, otherwise: &[u8], out: &mut [u8])
     requires { ⌜ length (now otherwise) ≡ length (now out) ⌝ }
-    ensures { λ _. ⌜ now (out .exit) ≡ choose undefinedLeaves (decisionOf answer) (now (out .entry)) (now (otherwise .entry)) ⌝ }
+    ensures { λ _. ⌜ now (out .exit) ≡ choose undecidedRule (decisionOf answer) (now (out .entry)) (now (otherwise .entry)) ⌝ }
 {
     match answer {
         Match::Yes => return,
         Match::No => put(otherwise, out),
-        Match::Undecided => clear(out),
+        Match::Undecided => undecided(otherwise, out),
     }
 }
 

@@ -1,8 +1,12 @@
 //! Calls that keep every rule.
 
 use second::accepted::Circuit;
+use second::generate::circuits::circuit;
+use second::generate::network::network;
+use second::generate::small::small;
+use second::layout::{record_count, sheet};
 use second::random::Random;
-use second::records::{sort, Sort, KIND};
+use second::records::{sort, Sort, KIND, MAX_RECORDS};
 
 use super::compare::Case;
 
@@ -63,6 +67,21 @@ pub fn good(
     let stimulus = frame.stimulus(cycles, random);
     let (output_length, next_length) = (cycles * frame.output, sheet.len());
     Case { source: source.to_string(), sheet, stimulus, output_length, next_length }
+}
+
+/// A call that keeps every rule, on any sheet that is not large.
+pub fn any(source: &str, random: &mut Random) -> Option<Case> {
+    let draft = match random.below(10) {
+        0..=3 => network(random),
+        4..=7 => small(random),
+        _ => circuit(random),
+    };
+    if record_count(&draft) > MAX_RECORDS {
+        return None;
+    }
+    let sheet = sheet(&draft, random);
+    let frame = Frame::of(&sheet)?;
+    Some(good(source, sheet, &frame, few_cycles(random), random))
 }
 
 /// A few cycles, sometimes one or two, seldom many.

@@ -10,16 +10,15 @@ use second::generate::network::{chain_of_64, network};
 use second::generate::small::small;
 use second::layout::{layout, layout_in, record_count, sheet, Order};
 use second::random::Random;
-use second::records::{bytes, read, KIND, KINDS, MAX_RECORDS};
+use second::records::{bytes, MAX_RECORDS};
 use second::samples;
 use second::shapes;
 use second::stimulus::MAX_STIMULUS;
-use second::structure::{depths, nestings};
-use second::watch::Watch;
 
 use super::cases::{few_cycles, good, Frame};
 use super::compare::{Case, Comparer, Ended};
 use super::faults::{break_call, break_sheet};
+use super::good_calls::{compare_good, several};
 use super::tally::{self, quota, two_codes};
 
 /// Into how many shards the random sheets are divided.
@@ -74,37 +73,6 @@ fn share(name: &str) -> u64 {
     quota(name).div_ceil(SHARDS)
 }
 
-/// Compares a call that keeps every rule, and counts what came up in it.
-fn compare_good(to: &mut Comparer, case: &Case, frame: &Frame, values: usize) -> Ended {
-    let mut watch = Watch::of_types_up_to(values);
-    let outcome = to.compare_watched(case, &mut watch)?;
-    let (Some(outputs), Some(next)) = (&outcome.outputs, &outcome.next) else { return Ok(()) };
-    let records = read(&case.sheet);
-    let first = &outputs[..frame.output];
-    let counts = [
-        (tally::SHEETS, several(case, frame)),
-        (tally::DEFINED, outputs.iter().any(|&leaf| leaf != 0)),
-        (tally::CHANGED, *next != case.sheet),
-        (tally::OUTPUTS_DIFFER, outputs.chunks(first.len()).any(|cycle| cycle != first)),
-        (tally::OTHERS, watch.others),
-        (tally::SLOW, watch.most > 16),
-        (tally::SLOWEST, watch.most == 64),
-        (tally::NESTED, nestings(&records).contains(&3)),
-        (tally::WIDE, frame.widest == 64),
-        (tally::CHAINS, frame.longest_chain == 64),
-        (tally::DEEP, depths(&records).contains(&64)),
-        (tally::LONGEST, records.len() == MAX_RECORDS),
-        (tally::MANY_CYCLES, case.stimulus.len() > 60_000),
-    ];
-    counts.into_iter().for_each(|(name, holds)| to.tally.add(name, u64::from(holds)));
-    to.tally.add(tally::TRIED, watch.tried);
-    for (k, kind) in KINDS.iter().enumerate() {
-        let has = records.iter().any(|record| record[KIND] == *kind);
-        to.tally.kinds[k] += u64::from(has);
-    }
-    Ok(())
-}
-
 /// T and the circuits of the bench cases on random stimuli, T on the longest.
 fn bench_cases(to: &mut Comparer, random: &mut Random) -> Ended {
     let sheets = [
@@ -140,11 +108,6 @@ fn named_shapes(to: &mut Comparer, random: &mut Random) -> Ended {
         }
     }
     Ok(())
-}
-
-/// Whether a call is one of at least three cycles.
-fn several(case: &Case, frame: &Frame) -> bool {
-    case.stimulus.len() >= 3 * frame.counts.len()
 }
 
 /// Accepted sheets: small types, all types, and limits.

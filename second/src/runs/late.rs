@@ -2,19 +2,15 @@
 //! its sheet's delays are 0 where those of the other need not be. Its outputs
 //! and next sheet are to be at or below those of the other.
 
-use second::generate::circuits::circuit;
-use second::generate::network::network;
-use second::generate::small::small;
-use second::layout::{record_count, sheet};
 use second::order::{lower_sheet, lower_stimulus};
 use second::random::Random;
-use second::records::{read, FEEDBACK, KIND, MAX_RECORDS};
+use second::records::{read, FEEDBACK, KIND};
+use second::rule::IN_FORCE;
 use second::run_mistakes::RunMistake;
-use second::simulator;
 
-use super::cases::{few_cycles, good, Frame};
-use super::compare::{Case, Left};
-use super::ordered::{Comparison, Lender, Pair};
+use super::cases::any;
+use super::compare::Case;
+use super::ordered::{second_run, Comparison, Lender, Pair};
 
 const OUTPUTS: &str = "pairs with strictly lower outputs";
 const DELAYS: &str = "pairs with strictly lower delay leaves";
@@ -38,21 +34,6 @@ pub const LATE: Comparison = Comparison {
     counts,
 };
 
-/// A call that keeps every rule, on any sheet that is not large.
-pub fn call(source: &str, random: &mut Random) -> Option<Case> {
-    let draft = match random.below(10) {
-        0..=3 => network(random),
-        4..=7 => small(random),
-        _ => circuit(random),
-    };
-    if record_count(&draft) > MAX_RECORDS {
-        return None;
-    }
-    let sheet = sheet(&draft, random);
-    let frame = Frame::of(&sheet)?;
-    Some(good(source, sheet, &frame, few_cycles(random), random))
-}
-
 /// The same call with lower leaves: in the stimulus, in the delays or in both.
 fn later(case: &Case, random: &mut Random) -> Case {
     let one_in = random.pick(&[1, 2, 3, 8]).unwrap_or(1);
@@ -69,7 +50,7 @@ fn later(case: &Case, random: &mut Random) -> Case {
 
 /// Both runs by the archive, or by the second simulator with a mistake.
 fn make(lender: &mut Lender, mistake: Option<RunMistake>, random: &mut Random) -> Option<Pair> {
-    let second = call("one call", random)?;
+    let second = any("one call", random)?;
     let cases = [later(&second, random), second];
     let mut altered = false;
     let left = [0, 1].map(|k| match mistake {
@@ -78,15 +59,7 @@ fn make(lender: &mut Lender, mistake: Option<RunMistake>, random: &mut Random) -
             altered |= wrong;
             left
         }
-        mistake => {
-            let outcome = simulator::run(&cases[k].call(), mistake);
-            let (outputs, next) = (outcome.outputs, outcome.next);
-            Left {
-                packed: outcome.answer.packed(),
-                outputs: outputs.unwrap_or_default(),
-                next: next.unwrap_or_default(),
-            }
-        }
+        mistake => second_run(IN_FORCE, &cases[k], mistake),
     });
     Some(Pair { cases, left, altered })
 }

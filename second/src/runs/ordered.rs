@@ -8,8 +8,11 @@ use std::sync::atomic::Ordering;
 
 use second::order::{delay_values, only_delays_differ};
 use second::random::Random;
+use second::rule::Rule;
 use second::run_mistakes::RunMistake;
+use second::simulator::run_by;
 use second::values::at_or_below;
+use second::watch::Watch;
 
 use super::compare::{filling, Case, Left, Memory};
 use super::plan::Options;
@@ -52,6 +55,16 @@ impl Lender {
         let outputs = filling(case.output_length, &mut self.fill);
         let next = filling(case.next_length, &mut self.fill);
         self.memory.lend(case, [&outputs, &next], Placement::of_turn(self.turn))
+    }
+}
+
+/// What the second simulator's run leaves of a call that keeps every rule.
+pub fn second_run(rule: Rule, case: &Case, mistake: Option<RunMistake>) -> Left {
+    let outcome = run_by(rule, &case.call(), mistake, &mut Watch::nothing());
+    Left {
+        packed: outcome.answer.packed(),
+        outputs: outcome.outputs.unwrap_or_default(),
+        next: outcome.next.unwrap_or_default(),
     }
 }
 

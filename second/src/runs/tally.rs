@@ -35,6 +35,8 @@ pub const SHEETS: &str = "accepted sheets with at least three cycles";
 pub const DEFINED: &str = "runs with a defined output leaf";
 pub const CHANGED: &str = "runs whose next sheet differs from the sheet";
 pub const OUTPUTS_DIFFER: &str = "runs whose cycles differ in output";
+pub const RULES: &str = "sheets on which the two rules for undecided IFs differ";
+pub const RULES_IN_FEEDBACKS: &str = "sheets on which they differ inside feedbacks";
 pub const OTHERS: &str = "runs with another fixed point above the least";
 pub const SLOW: &str = "runs with a feedback of over 16 applications";
 pub const SLOWEST: &str = "runs with a feedback of 64 applications";
@@ -61,11 +63,13 @@ pub const NEXT_LONGER: &str = "11: next slice longer";
 pub const NEXT_NONE: &str = "11: next slice of 0 bytes";
 
 /// The quotas of the named counts.
-pub const QUOTAS: [(&str, u64); 28] = [
+pub const QUOTAS: [(&str, u64); 30] = [
     (SHEETS, 100_000),
     (DEFINED, 30_000),
     (CHANGED, 20_000),
     (OUTPUTS_DIFFER, 20_000),
+    (RULES, 10_000),
+    (RULES_IN_FEEDBACKS, 1_000),
     (OTHERS, 5_000),
     (TRIED, 50_000),
     (SLOW, 1_000),

@@ -8,30 +8,19 @@ use super::syntax::Syntax;
 use super::terms::{Circuit, Pattern, Term, Value};
 use super::tokens::INPUT;
 use crate::matching::Match;
-
-/// What an undecided IF gives.
-#[derive(Clone, Copy, PartialEq, Eq, Debug)]
-pub enum Undecided {
-    /// Undefined in every leaf.
-    Undefined,
-    /// Each leaf on which both branches agree, undefined elsewhere.
-    Agreed,
-}
-
-/// The rule in force.
-pub const IN_FORCE: Undecided = Undecided::Undefined;
+use crate::rule::Rule;
 
 /// The outputs of a text, cycle for cycle; each input is the leaves of one.
 pub fn outputs<'a>(
     syntax: &Syntax,
     inputs: impl Iterator<Item = &'a [u8]>,
-    undecided: Undecided,
+    rule: Rule,
 ) -> Vec<Vec<u8>> {
     let circuit = Circuit::new(syntax);
     let mut term = circuit.term();
     let mut outputs = Vec::new();
     for input in inputs {
-        let mut rules = Rules { undecided, environment: Vec::new() };
+        let mut rules = Rules { rule, environment: Vec::new() };
         rules.environment.push((INPUT.to_string(), circuit.input(input)));
         let (value, next) = rules.reduce(&term);
         outputs.push(circuit.leaves(&value));
@@ -43,7 +32,7 @@ pub fn outputs<'a>(
 /// The rules of one cycle, with the values of the names in scope, the nearest
 /// last.
 struct Rules {
-    undecided: Undecided,
+    rule: Rule,
     environment: Vec<(String, Value)>,
 }
 
@@ -132,7 +121,7 @@ impl Rules {
                 let (first, second) = (self.undecided(a, c), self.undecided(b, d));
                 Value::Pair(Rc::new(first), Rc::new(second))
             }
-            _ if self.undecided == Undecided::Agreed && yes == no => yes.clone(),
+            _ if self.rule == Rule::Agreed && yes == no => yes.clone(),
             _ => Value::Undefined,
         }
     }

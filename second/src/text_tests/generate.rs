@@ -5,13 +5,14 @@ use crate::generate::circuits::circuit;
 use crate::generate::small::small;
 use crate::random::Random;
 use crate::records::{bytes, MAX_RECORDS};
+use crate::rule::IN_FORCE;
 use crate::simulator::{run, Call};
 use crate::stimulus;
 use crate::text::generate::faults::categories;
 use crate::text::generate::sentence::Sentence;
 use crate::text::generate::{circuits, damage, free, sizes};
 use crate::text::lexer::{positions_in, tokens, Way};
-use crate::text::meaning::{outputs, Undecided};
+use crate::text::meaning::outputs;
 use crate::text::mistakes::{self, TextMistake, MISTAKES};
 use crate::text::translator::{records, syntax, translate};
 use crate::verdict::check;
@@ -56,7 +57,7 @@ fn reading_17_runs_give_the_meaning() {
         let call =
             Call { sheet: &sheet, stimulus: &stimulus, output_length, next_length: sheet.len() };
         let inputs = stimulus::cycles(&circuit, &stimulus);
-        let meant = outputs(&syntax, inputs, Undecided::Undefined).concat();
+        let meant = outputs(&syntax, inputs, IN_FORCE).concat();
         assert_eq!(run(&call, None).outputs, Some(meant), "{}", String::from_utf8_lossy(&text));
     }
     assert!(accepted > 450, "{accepted}");

@@ -2,14 +2,15 @@
 
 use super::expected::{records, BIT, TWO};
 use crate::records::bytes;
+use crate::rule::{Rule, IN_FORCE};
 use crate::simulator::{ready, run, Call};
-use crate::text::meaning::{outputs, Undecided};
+use crate::text::meaning::outputs;
 use crate::text::translator::syntax;
 
 /// The outputs of a text, by one rule for undecided IFs.
-fn meant(text: &str, leaves: usize, stimulus: &[u8], undecided: Undecided) -> Vec<u8> {
+fn meant(text: &str, leaves: usize, stimulus: &[u8], rule: Rule) -> Vec<u8> {
     let Ok(syntax) = syntax(text.as_bytes(), None) else { panic!("{text}") };
-    outputs(&syntax, stimulus.chunks_exact(leaves), undecided).concat()
+    outputs(&syntax, stimulus.chunks_exact(leaves), rule).concat()
 }
 
 /// The outputs of a run of a text's sheet.
@@ -21,10 +22,9 @@ fn ran(text: &str, stimulus: &[u8]) -> Vec<u8> {
     run(&call, None).outputs.unwrap_or_default()
 }
 
-/// Outputs where undecided is undefined in every leaf: the meaning's and the
-/// run's.
+/// Outputs by the rule in force: the meaning's and the run's.
 fn gives(text: &str, leaves: usize, stimulus: &[u8], expected: &[u8]) {
-    assert_eq!(meant(text, leaves, stimulus, Undecided::Undefined), expected, "{text}");
+    assert_eq!(meant(text, leaves, stimulus, IN_FORCE), expected, "{text}");
     assert_eq!(ran(text, stimulus), expected, "{text}");
 }
 
@@ -50,7 +50,9 @@ fn bench_cases() {
     let and = format!("{TWO}(IF input MATCHES (hi, hi) THEN hi ELSE lo)");
     gives(&and, 2, &[2, 0, 1, 0, 1, 1], &[2, 0, 1]);
     let either = format!("{BIT}(IF input MATCHES hi|lo THEN hi ELSE hi)");
-    gives(&either, 1, &[0, 1, 2], &[0, 1, 1]);
+    gives(&either, 1, &[0, 1, 2], &[1, 1, 1]);
+    let other = format!("{BIT}(IF input MATCHES hi|lo THEN hi ELSE lo)");
+    gives(&other, 1, &[0, 1, 2], &[0, 1, 1]);
     let whole = format!("{BIT}(IF input MATCHES hi|bit THEN hi ELSE lo)");
     gives(&whole, 1, &[0, 1, 2], &[1, 1, 1]);
     let not = "(LET INIT ?bit REC x = (IF x MATCHES hi THEN lo ELSE hi) IN x)";
@@ -77,25 +79,25 @@ fn names_and_parts() {
 fn delays() {
     let both = "TYPE tri = a | b | c IN INPUT tri
         (IF input MATCHES a THEN (DELAY (b, input)) ELSE (DELAY (c, input)))";
-    gives(both, 1, &[1, 2, 1, 0, 3], &[2, 1, 2, 0, 0]);
+    gives(both, 1, &[1, 2, 1, 0, 3], &[2, 1, 2, 1, 0]);
     let twice = "(LET INIT ?two REC x = ((DELAY (hi, (DELAY (lo, x[2])))), input[1]) IN x)";
     gives(&format!("{TWO}{twice}"), 2, &[1, 0, 1, 0, 2, 0], &[1, 1, 2, 1, 1, 2]);
 }
 
 #[test]
 fn undecided_but_agreed() {
-    let agreed = |text: &str, stimulus: &[u8]| meant(text, 1, stimulus, Undecided::Agreed);
+    let earlier = |text: &str, stimulus: &[u8]| meant(text, 1, stimulus, Rule::Earlier);
     let same = format!("{BIT}(IF input MATCHES hi THEN lo ELSE lo)");
-    gives(&same, 1, &[0, 1], &[0, 2]);
-    assert_eq!(agreed(&same, &[0, 1]), [2, 2]);
+    gives(&same, 1, &[0, 1], &[2, 2]);
+    assert_eq!(earlier(&same, &[0, 1]), [0, 2]);
     let pairs = "TYPE bit = hi | lo IN TYPE two = (bit, bit) IN INPUT bit
         (IF input MATCHES hi THEN (hi, lo) ELSE (hi, hi))";
-    gives(pairs, 1, &[0, 1, 2], &[0, 0, 1, 2, 1, 1]);
-    assert_eq!(agreed(pairs, &[0, 1, 2]), [1, 0, 1, 2, 1, 1]);
+    gives(pairs, 1, &[0, 1, 2], &[1, 0, 1, 2, 1, 1]);
+    assert_eq!(earlier(pairs, &[0, 1, 2]), [0, 0, 1, 2, 1, 1]);
     // Inside a feedback too: from undefined both branches give lo.
     let fed = format!("{BIT}(LET INIT ?bit REC x = (IF x MATCHES hi THEN lo ELSE lo) IN x)");
-    gives(&fed, 1, &[1], &[0]);
-    assert_eq!(agreed(&fed, &[1]), [2]);
+    gives(&fed, 1, &[1], &[2]);
+    assert_eq!(earlier(&fed, &[1]), [0]);
     let undefined = format!("{BIT}(IF input MATCHES hi THEN ?bit ELSE hi)");
-    assert_eq!(agreed(&undefined, &[0, 1, 2]), [0, 0, 1]);
+    gives(&undefined, 1, &[0, 1, 2], &[0, 0, 1]);
 }

@@ -8,8 +8,9 @@ use std::sync::atomic::{AtomicBool, Ordering};
 use second::accepted::Circuit;
 use second::answers::Answer;
 use second::random::Random;
+use second::rule::IN_FORCE;
 use second::stimulus;
-use second::text::meaning::{outputs, IN_FORCE};
+use second::text::meaning::outputs;
 use second::text::mistakes::TextMistake;
 use second::text::translator::{syntax, translate, Outcome};
 

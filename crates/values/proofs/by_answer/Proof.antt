@@ -1,5 +1,6 @@
 -- Assumes nothing.
-use Rattle.values.proofs.Slots.{otherwise-chosen, undefined-chosen}
+use Rattle.values.proofs.Slots.{otherwise-chosen}
+use Rattle.values.proofs.Agreement.{undecided-chosen}
 use borrow.Author.Needs.{needs}
 use Rattle.values.proofs.by_answer.Statement.{statement}
 use Rattle.values.proofs.by_answer.Tie as tie
@@ -19,8 +20,8 @@ put-requires c κs = search needs
 enum-told-3 : tie.Need-enum-told-3
 enum-told-3 c = search needs
 
-clear-requires : tie.Need-clear-requires
-clear-requires c κs = search needs
+undecided-requires : tie.Need-undecided-requires
+undecided-requires c κs = search needs
 
 same-length : tie.Need-same-length
 same-length c = search needs
@@ -32,7 +33,7 @@ same-length-2 : tie.Need-same-length-2
 same-length-2 c = search needs
 
 returns-3 : tie.Need-returns-3
-returns-3 c = undefined-chosen _ _ _ _ (c .before .before .before .before .enum-told3 .given .1) (c .before .before .clear .ensures)
+returns-3 c = undecided-chosen _ _ _ _ (c .before .before .before .before .enum-told3 .given .1) (c .before .before .undecided .ensures)
 
 pub by-answer-spec : {M : Type 1} → statement M
 by-answer-spec =
@@ -43,7 +44,7 @@ by-answer-spec =
     enum-told-2
     put-requires
     enum-told-3
-    clear-requires
+    undecided-requires
     same-length
     returns-2
     same-length-2

@@ -1,0 +1,66 @@
+//! Compares calls that keep every rule, and counts what comes up in them.
+
+use second::records::{read, KIND, KINDS, MAX_RECORDS};
+use second::rule::Rule;
+use second::run_mistakes::RunMistake;
+use second::simulator::{run_by, Outcome};
+use second::structure::{depths, nestings};
+use second::watch::Watch;
+
+use super::cases::Frame;
+use super::compare::{Case, Comparer, Ended};
+use super::tally;
+
+/// Compares a call that keeps every rule, and counts what came up in it.
+pub fn compare_good(to: &mut Comparer, case: &Case, frame: &Frame, values: usize) -> Ended {
+    let mut watch = Watch::of_types_up_to(values);
+    let outcome = to.compare_watched(case, &mut watch)?;
+    let (Some(outputs), Some(next)) = (&outcome.outputs, &outcome.next) else { return Ok(()) };
+    let records = read(&case.sheet);
+    let first = &outputs[..frame.output];
+    let counts = [
+        (tally::SHEETS, several(case, frame)),
+        (tally::DEFINED, outputs.iter().any(|&leaf| leaf != 0)),
+        (tally::CHANGED, *next != case.sheet),
+        (tally::OUTPUTS_DIFFER, outputs.chunks(first.len()).any(|cycle| cycle != first)),
+        (tally::OTHERS, watch.others),
+        (tally::SLOW, watch.most > 16),
+        (tally::SLOWEST, watch.most == 64),
+        (tally::NESTED, nestings(&records).contains(&3)),
+        (tally::WIDE, frame.widest == 64),
+        (tally::CHAINS, frame.longest_chain == 64),
+        (tally::DEEP, depths(&records).contains(&64)),
+        (tally::LONGEST, records.len() == MAX_RECORDS),
+        (tally::MANY_CYCLES, case.stimulus.len() > 60_000),
+    ];
+    counts.into_iter().for_each(|(name, holds)| to.tally.add(name, u64::from(holds)));
+    to.tally.add(tally::TRIED, watch.tried);
+    if to.mistake.is_none() {
+        count_rules(to, case, &outcome);
+    }
+    for (k, kind) in KINDS.iter().enumerate() {
+        let has = records.iter().any(|record| record[KIND] == *kind);
+        to.tally.kinds[k] += u64::from(has);
+    }
+    Ok(())
+}
+
+/// Counts a run on which the two rules for undecided IFs differ, and one on
+/// which it matters inside feedbacks which rule it is.
+fn count_rules(to: &mut Comparer, case: &Case, outcome: &Outcome) {
+    let differs = |rule: Rule, mistake: Option<RunMistake>| {
+        let other = run_by(rule, &case.call(), mistake, &mut Watch::nothing());
+        other.outputs != outcome.outputs || other.next != outcome.next
+    };
+    if !differs(Rule::Earlier, None) {
+        return;
+    }
+    to.tally.add(tally::RULES, 1);
+    let inside = differs(Rule::Agreed, Some(RunMistake::EarlierRuleInFeedbacks));
+    to.tally.add(tally::RULES_IN_FEEDBACKS, u64::from(inside));
+}
+
+/// Whether a call is one of at least three cycles.
+pub fn several(case: &Case, frame: &Frame) -> bool {
+    case.stimulus.len() >= 3 * frame.counts.len()
+}
