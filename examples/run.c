@@ -58,7 +58,7 @@ int main(int count, char **words)
     if (!read_file(words[2], stimulus, sizeof stimulus, &stimulus_length))
         return refuse(SHEET_NO_FILE, 2);
 
-    /* With no room for outputs a good run is refused with code 10 and the length that they need. */
+    /* With no room for outputs a good run is refused with code 10 and the length that they need; one of no cycles is made. */
     uint8_t none[1], *out = none;
     size_t out_length = 0;
     uint64_t result = sheet_run(sheet, length, stimulus, stimulus_length, none, 0, next, length);

@@ -14,7 +14,7 @@ void changed_cases(void);
 /* Small sheets written out in full: codes 3, 4, 5 and 7. */
 void written_cases(void);
 
-/* T in one call, in pieces through the next slice, and on the longest stimulus. */
+/* T in one call, in pieces through the next slice, on the longest stimulus and on none. */
 void runs_of_t(void);
 
 /* Small sheets written out in full, with their outputs and what their delays hold at the end. */

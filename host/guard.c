@@ -153,7 +153,7 @@ void expect(const char *name, const uint8_t *sheet, size_t length, uint32_t code
     int accepted = code == SHEET_ACCEPTED;
     struct run_call call = {sheet, length, stim, accepted ? 0 : sizeof stim, 5, 7};
     tally_result(name, "check", guarded_check(name, sheet, length), code, place);
-    expect_refused(name, &call, accepted ? SHEET_WRONG_STIMULUS : code, place * !accepted);
+    expect_refused(name, &call, accepted ? SHEET_WRONG_OUTPUT_LENGTH : code, place * !accepted);
 }
 
 static int possible(uint32_t code, uint32_t place, size_t length)

@@ -54,8 +54,8 @@ void expect_refused(const char *name, const struct run_call *call, uint32_t code
 void expect_run(const char *name, const struct run_call *call, uint32_t cycles, const uint8_t *out, const uint8_t *next);
 
 /*
- * The verdict must be this one. A run whose stimulus and lengths are wrong too must be refused with the same, or with 8 at 0 where
- * the verdict is to accept.
+ * The verdict must be this one. A run whose stimulus and lengths are wrong too must be refused with the same; where the verdict is
+ * to accept, one of no cycles with wrong lengths must be refused with 10 at 0.
  */
 void expect(const char *name, const uint8_t *sheet, size_t length, uint32_t code, uint32_t place);
 

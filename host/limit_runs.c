@@ -81,12 +81,21 @@ static void run_on_cycles(const struct limit_case *one, size_t cycles)
     expect_run(one->name, &call, (uint32_t)cycles, out, next);
 }
 
+/* On no cycles there are no outputs, and the next sheet is the sheet. */
+static void run_on_nothing(const struct limit_case *one)
+{
+    size_t length = limit_sheet(one, sheet);
+    struct run_call call = {sheet, length, stim, 0, 0, length};
+    expect_run(one->name, &call, 0, out, sheet);
+}
+
 void limits_run(void)
 {
     for (size_t k = 0; k < limit_count; k++) {
         if (limit_cases[k].answer == NO_RUN)
             continue;
         run_on_cycles(&limit_cases[k], CYCLES);
+        run_on_nothing(&limit_cases[k]);
         /* One byte a cycle, and 64 leaves each: the longest stimulus and the longest output. */
         if (strcmp(limit_cases[k].name, "pairs 64 deep") == 0)
             run_on_cycles(&limit_cases[k], SHEET_LONGEST_STIMULUS);

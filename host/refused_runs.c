@@ -22,7 +22,6 @@ struct refused_run {
 
 static const struct refused_run runs[] = {
     /* Code 8, place 0. 65,535 bytes are not whole cycles of two; 65,536 are, and too many. */
-    {"stimulus: empty", OF_T, 0, 0, 1, 0, T_BYTES, SHEET_WRONG_STIMULUS, 0},
     {"stimulus: over 65,535 bytes", OF_T, 65536, 65536, 1, 65536, T_BYTES, SHEET_WRONG_STIMULUS, 0},
     {"stimulus: half a cycle", OF_P, 1, 1, 1, 2, P_BYTES, SHEET_WRONG_STIMULUS, 0},
     {"stimulus: a cycle and a half", OF_P, 3, 3, 1, 4, P_BYTES, SHEET_WRONG_STIMULUS, 0},
@@ -45,6 +44,10 @@ static const struct refused_run runs[] = {
     {"output: 64 times as long", OF_T, 65535, 65535, 1, 64 * 65535, T_BYTES, SHEET_WRONG_OUTPUT_LENGTH, 65535},
     {"output: a leaf for each cycle of two", OF_P, 6, 6, 1, 3, P_BYTES, SHEET_WRONG_OUTPUT_LENGTH, 6},
     {"output: a cycle more", OF_P, 6, 6, 1, 8, P_BYTES, SHEET_WRONG_OUTPUT_LENGTH, 6},
+    /* An empty stimulus is of no cycles, and needs an output slice of no bytes. */
+    {"output: a byte for no cycles", OF_T, 0, 0, 1, 1, T_BYTES, SHEET_WRONG_OUTPUT_LENGTH, 0},
+    {"output: a cycle's leaves for no cycles", OF_P, 0, 0, 1, 2, P_BYTES, SHEET_WRONG_OUTPUT_LENGTH, 0},
+    {"output: the longest for no cycles", OF_T, 0, 0, 1, SHEET_LONGEST_OUTPUT, T_BYTES, SHEET_WRONG_OUTPUT_LENGTH, 0},
 
     /* Code 11, at the sheet's length. */
     {"next: none", OF_T, 3, 3, 1, 3, 0, SHEET_WRONG_NEXT_LENGTH, T_BYTES},
@@ -52,10 +55,13 @@ static const struct refused_run runs[] = {
     {"next: one long", OF_T, 3, 3, 1, 3, T_BYTES + 1, SHEET_WRONG_NEXT_LENGTH, T_BYTES},
     {"next: a record short", OF_T, 3, 3, 1, 3, T_BYTES - RECORD_BYTES, SHEET_WRONG_NEXT_LENGTH, T_BYTES},
     {"next: as long as the longest sheet", OF_P, 4, 4, 1, 4, SHEET_LONGEST, SHEET_WRONG_NEXT_LENGTH, P_BYTES},
+    {"next: none for no cycles", OF_T, 0, 0, 1, 0, 0, SHEET_WRONG_NEXT_LENGTH, T_BYTES},
+    {"next: one short for no cycles", OF_P, 0, 0, 1, 0, P_BYTES - 1, SHEET_WRONG_NEXT_LENGTH, P_BYTES},
+    {"next: one long for no cycles", OF_T, 0, 0, 1, 0, T_BYTES + 1, SHEET_WRONG_NEXT_LENGTH, T_BYTES},
 
     /* The lowest number first. */
     {"8 before 9", OF_P, 3, 0, 255, 2, P_BYTES, SHEET_WRONG_STIMULUS, 0},
-    {"8 before 10", OF_T, 0, 0, 1, 1, T_BYTES, SHEET_WRONG_STIMULUS, 0},
+    {"8 before 10", OF_P, 1, 1, 1, 1, P_BYTES, SHEET_WRONG_STIMULUS, 0},
     {"8 before 11", OF_P, 5, 5, 1, 4, 0, SHEET_WRONG_STIMULUS, 0},
     {"8 before 9, 10 and 11", OF_P, 3, 1, 255, 1, P_BYTES - 1, SHEET_WRONG_STIMULUS, 0},
     {"8 for length before 9, 10 and 11", OF_T, 65536, 7, 255, 1, T_BYTES - 1, SHEET_WRONG_STIMULUS, 0},
@@ -64,6 +70,7 @@ static const struct refused_run runs[] = {
     {"9 before 10 and 11", OF_P, 6, 5, 4, 0, 0, SHEET_WRONG_INPUT, 5},
     {"10 before 11", OF_T, 3, 3, 1, 2, T_BYTES - 1, SHEET_WRONG_OUTPUT_LENGTH, 3},
     {"10 before 11, both none", OF_P, 6, 6, 1, 0, 0, SHEET_WRONG_OUTPUT_LENGTH, 6},
+    {"10 before 11, no cycles", OF_P, 0, 0, 1, 2, 0, SHEET_WRONG_OUTPUT_LENGTH, 0},
 };
 
 void refused_runs(void)

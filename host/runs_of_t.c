@@ -25,6 +25,14 @@ static void in_one_call(void)
     expect_run("T on 1 2 1", &call, 3, out, t);
 }
 
+/* T on nothing: no outputs, and the next sheet is T. */
+static void on_nothing(void)
+{
+    static const uint8_t none[1] = {0};
+    struct run_call call = {t, T_BYTES, none, 0, 0, T_BYTES};
+    expect_run("T on no cycles", &call, 0, none, t);
+}
+
 /* T on 1 2 1 in pieces of such lengths: each begins from the next slice of the one before. The delay holds 2, 1, 1, 2. */
 static void in_pieces(const char *name, const size_t *pieces)
 {
@@ -69,9 +77,12 @@ void runs_of_t(void)
 {
     write_t();
     in_one_call();
+    on_nothing();
     in_pieces("T cycle by cycle", (size_t[]){1, 1, 1});
     in_pieces("T in one cycle and two", (size_t[]){1, 2});
     in_pieces("T in two cycles and one", (size_t[]){2, 1});
+    in_pieces("T in one cycle, none, one, none and one", (size_t[]){1, 0, 1, 0, 1});
+    in_pieces("T in no cycles and three", (size_t[]){0, 3});
     on_longest("T on 65,535 cycles", 1);
     on_longest("T on 65,535 cycles, the last undefined", 0);
 }

@@ -153,5 +153,8 @@ void written_runs(void)
         draft_write(&draft, next);
         struct run_call call = {sheet, length, one->stim, one->stim_length, one->out_length, length};
         expect_run(one->name, &call, (uint32_t)one->cycles, one->out, next);
+        /* On no cycles there are no outputs, and the next sheet is the sheet. */
+        struct run_call none = {sheet, length, one->stim, 0, 0, length};
+        expect_run(one->name, &none, 0, one->out, sheet);
     }
 }

@@ -47,11 +47,11 @@ extern "C" {
  * be, the second where a call or a code is added, the third where neither is so.
  */
 #define SHEET_VERSION_MAJOR 1
-#define SHEET_VERSION_MINOR 0
+#define SHEET_VERSION_MINOR 1
 #define SHEET_VERSION_PATCH 0
 
 /* The same as text, and as one number to compare: 1.2.3 is 10203. */
-#define SHEET_VERSION "1.0.0"
+#define SHEET_VERSION "1.1.0"
 #define SHEET_VERSION_NUMBER (SHEET_VERSION_MAJOR * 10000 + SHEET_VERSION_MINOR * 100 + SHEET_VERSION_PATCH)
 
 /* The most bytes that a sheet may have: 4,096 records of 12. */
@@ -121,7 +121,7 @@ static inline const char *sheet_sentence(uint32_t code)
         "A pair type has the same parts as a lower one, or over 64 leaves.",
         "An expression lies over 64 deep, or in the defining parts of over three feedbacks.",
         "A type rule is broken.",
-        "The stimulus is empty, over 65,535 bytes long, or not made of whole cycles.",
+        "The stimulus is over 65,535 bytes long, or not made of whole cycles.",
         "A byte of the stimulus is above the constructor count of its leaf.",
         "The output slice has another length than the cycles times the output's leaves.",
         "The next slice is not as long as the sheet.",
@@ -147,19 +147,22 @@ uint64_t sheet_check(const uint8_t *sheet, size_t length);
  * host/tests.c on the deepest sheets and on sheets of 4,096 records: the stack is filled with a pattern before the call, and after
  * it the lowest byte that changed is looked for. The tests fail where a call uses more than this figure, or never half of it.
  */
-#define SHEET_CHECK_STACK 65536
+#define SHEET_CHECK_STACK 98304
 
 /*
  * The run: what the sheet puts out for a stimulus, and the sheet after it. It begins with the check. Codes 0 to 11.
  *
  * Each cycle takes as many bytes of the stimulus as the input has leaves. On success `out` holds the output's leaves of each cycle
  * after those of the cycle before, and `next` the sheet after the last cycle: the sheet with what its delays then hold. A run that
- * begins from there goes on where this one ended, so many cycles may be run in one call or in several.
+ * begins from there goes on where this one ended, so many cycles may be run in one call or in several. An empty stimulus is a
+ * run of no cycles: `out` has length 0, `next` receives the sheet as it is, and the place is 0.
  *
  * `next` is to be as long as the sheet, and `out` as long as the cycles times the output's leaves, which the host need not know:
- * lend `out` with length 0. A good sheet with a good stimulus is then refused with code 10, whose place is the length that `out`
- * needs, 1 to SHEET_LONGEST_OUTPUT; a lower code says what is wrong with them. Code 10 goes before 11, so the answer does not depend
- * on `next`. Nothing is written, as on every refusal. That length divided by the number of cycles is the number of output leaves.
+ * lend `out` with length 0. A good sheet with a good stimulus that is not empty is then refused with code 10, whose place is the
+ * length that `out` needs, 1 to SHEET_LONGEST_OUTPUT; a lower code says what is wrong with them. Code 10 goes before 11, so the
+ * answer does not depend on `next`. Nothing is written, as on every refusal. That length divided by the number of cycles is the
+ * number of output leaves. With an empty stimulus `out` needs length 0, so that this call is the run itself: it answers 0 at place
+ * 0 and fills `next`, or 11 if `next` is not as long as the sheet, and says nothing of the output's leaves.
  *
  *     uint8_t none[1], *out = none;
  *     uint64_t result = sheet_run(sheet, length, stim, stim_length, none, 0, next, length);
@@ -180,7 +183,7 @@ uint64_t sheet_run(const uint8_t *sheet, size_t sheet_length, const uint8_t *sti
  * bounds above, a feedback is applied at most 65 times, once more than a type has leaves, and lies in the defining parts of at
  * most two others.
  */
-#define SHEET_RUN_STACK 98304
+#define SHEET_RUN_STACK 106496
 
 #ifdef __cplusplus
 }

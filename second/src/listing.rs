@@ -20,7 +20,7 @@ pub fn listing(
         return Err(outcome.answer);
     };
     let mut text = format!("type {}\n", ready.circuit.typed.output);
-    for (cycle, leaves) in outputs.chunks_exact(ready.output_length / ready.cycles).enumerate() {
+    for (cycle, leaves) in outputs.chunks_exact(ready.leaves).enumerate() {
         let _ = write!(text, "{cycle}:");
         for leaf in leaves {
             let _ = write!(text, " {leaf}");

@@ -41,6 +41,8 @@ pub enum RunMistake {
     RefusalClearsOut,
     /// A refusal copies the sheet to a next slice of its length.
     RefusalFillsNext,
+    /// An empty stimulus is refused with code 8.
+    EmptyRefused,
     /// Code 9 is judged before code 8.
     NineBeforeEight,
     /// Code 10 is judged before code 9.
@@ -52,7 +54,7 @@ pub enum RunMistake {
 }
 
 /// Every mistake and its name.
-pub const MISTAKES: [(&str, RunMistake); 22] = [
+pub const MISTAKES: [(&str, RunMistake); 23] = [
     ("undefined-everywhere", RunMistake::UndefinedEverywhere),
     ("copy-sheet", RunMistake::CopySheet),
     ("cycle-zero-again", RunMistake::CycleZeroAgain),
@@ -71,6 +73,7 @@ pub const MISTAKES: [(&str, RunMistake); 22] = [
     ("output-one-leaf-off", RunMistake::OutputOneLeafOff),
     ("refusal-clears-out", RunMistake::RefusalClearsOut),
     ("refusal-fills-next", RunMistake::RefusalFillsNext),
+    ("empty-refused", RunMistake::EmptyRefused),
     ("nine-before-eight", RunMistake::NineBeforeEight),
     ("ten-before-nine", RunMistake::TenBeforeNine),
     ("eleven-before-ten", RunMistake::ElevenBeforeTen),

@@ -28,7 +28,10 @@ pub struct Outcome {
 /// An accepted sheet with a stimulus of whole cycles.
 pub struct Ready {
     pub circuit: Circuit,
+    /// How many there are; none for an empty stimulus.
     pub cycles: usize,
+    /// How many leaves the output has.
+    pub leaves: usize,
     /// The length of the output slice that is needed.
     pub output_length: usize,
 }
@@ -66,19 +69,19 @@ fn refused(call: &Call, answer: Answer, mistake: Option<RunMistake>) -> Outcome 
 
 /// Codes 1 to 9.
 pub fn ready(sheet: &[u8], stimulus: &[u8]) -> Result<Ready, Answer> {
-    let ready = in_cycles(sheet, stimulus)?;
+    let ready = in_cycles(sheet, stimulus, None)?;
     stimulus::above_count(&ready.circuit, stimulus, None).map_or(Ok(ready), Err)
 }
 
 /// Codes 1 to 8.
-fn in_cycles(sheet: &[u8], stimulus: &[u8]) -> Result<Ready, Answer> {
+fn in_cycles(sheet: &[u8], stimulus: &[u8], mistake: Option<RunMistake>) -> Result<Ready, Answer> {
     let circuit = Circuit::read(sheet)?;
-    if let Some(answer) = stimulus::wrong_length(&circuit, stimulus) {
+    if let Some(answer) = stimulus::wrong_length(&circuit, stimulus, mistake) {
         return Err(answer);
     }
     let cycles = stimulus::cycles(&circuit, stimulus).len();
-    let output_length = cycles * circuit.width(circuit.root());
-    Ok(Ready { circuit, cycles, output_length })
+    let leaves = circuit.width(circuit.root());
+    Ok(Ready { circuit, cycles, leaves, output_length: cycles * leaves })
 }
 
 /// All codes, the lowest first.
@@ -87,7 +90,7 @@ fn judge(call: &Call, mistake: Option<RunMistake>) -> Result<Ready, Answer> {
         let circuit = Circuit::read(call.sheet)?;
         stimulus::above_count(&circuit, call.stimulus, None).map_or(Ok(()), Err)?;
     }
-    let ready = in_cycles(call.sheet, call.stimulus)?;
+    let ready = in_cycles(call.sheet, call.stimulus, mistake)?;
     let length = |code: u8, given: usize, needed: usize| {
         (given != needed).then_some(Answer { code, place: needed as u32 })
     };
@@ -117,13 +120,15 @@ fn all_cycles(
     }
     let mut next = stepper.next_sheet(call.sheet);
     let mut place = ready.cycles;
-    let leaves = ready.output_length / ready.cycles;
     match mistake {
         Some(RunMistake::UndefinedEverywhere) => outputs.fill(0),
         Some(RunMistake::CopySheet) => next = call.sheet.to_vec(),
-        Some(RunMistake::CycleZeroAgain) => outputs = outputs[..leaves].repeat(ready.cycles),
+        Some(RunMistake::CycleZeroAgain) => {
+            outputs.truncate(ready.leaves);
+            outputs = outputs.repeat(ready.cycles);
+        }
         Some(RunMistake::InventedCount) => place = call.stimulus.len(),
-        Some(RunMistake::OutputOneLeafOff) => outputs.rotate_right(1),
+        Some(RunMistake::OutputOneLeafOff) => outputs.rotate_right(1.min(ready.output_length)),
         _ => {}
     }
     let answer = Answer { code: 0, place: place as u32 };

@@ -6,6 +6,7 @@ use crate::listing::{listing, refusal};
 use crate::matching::{chain, Match};
 use crate::records::{bytes, read, A, D, FEEDBACK, IF, KIND};
 use crate::rule::IN_FORCE;
+use crate::run_mistakes::MISTAKES;
 use crate::samples::{self, from_words};
 use crate::simulator::{ready, run, run_watched, Call};
 use crate::values::all_values;
@@ -121,7 +122,9 @@ fn t_listing() {
     );
     let pairs = listing(&samples::pair_feedback(), &[2], None);
     assert!(matches!(pairs, Ok((found, _)) if found == "type 2\n0: 1 1\ncycles 1\n"));
-    let refusals = [(&t[..], &[1, 3][..]), (&t[..], &[]), (&t[1..], &[1])];
+    let none = listing(&t, &[], None);
+    assert!(matches!(none, Ok((found, next)) if found == "type 1\ncycles 0\n" && next == t));
+    let refusals = [(&t[..], &[1, 3][..]), (&t[..], &[1; 65_536]), (&t[1..], &[])];
     let lines = ["refused 9 at 1\n", "refused 8 at 0\n", "refused 1 at 0\n"];
     for ((sheet, stimulus), line) in refusals.into_iter().zip(lines) {
         assert_eq!(listing(sheet, stimulus, None).map_err(refusal).err().as_deref(), Some(line));
@@ -211,7 +214,6 @@ fn delays_in_a_feedback_advance_once() {
 #[test]
 fn code_8_stimulus_length() {
     let (t, and) = (samples::t(), samples::and());
-    assert_eq!(refused(&t, &[], 0, t.len()), (8, 0));
     assert_eq!(refused(&t, &[1; 65_536], 65_536, t.len()), (8, 0));
     assert_eq!(ran(&t, &[1; 65_535]).1, 65_535);
     assert_eq!(refused(&and, &[1; 3], 1, and.len()), (8, 0));
@@ -219,6 +221,28 @@ fn code_8_stimulus_length() {
     assert_eq!(ran(&and, &[1; 65_534]).1, 32_767);
     assert_eq!(refused(&and, &[9; 3], 7, 7), (8, 0));
     assert_eq!(refused(&t[..t.len() - 1], &[], 0, 0), (1, 0));
+}
+
+#[test]
+fn no_cycles() {
+    let (t, and) = (samples::t(), samples::and());
+    assert_eq!(ran(&t, &[]), (0, 0, vec![], t.clone()));
+    assert_eq!(ran(&and, &[]), (0, 0, vec![], and.clone()));
+    // After one flip, too: the delay holds 1.
+    let flipped = ran(&t, &[1]).3;
+    assert_eq!(ran(&flipped, &[]), (0, 0, vec![], flipped.clone()));
+    for output_length in [1, 2, 1000] {
+        assert_eq!(refused(&t, &[], output_length, t.len()), (10, 0));
+        assert_eq!(refused(&t, &[], output_length, 0), (10, 0));
+    }
+    for next_length in [0, 203, 205, 49_152] {
+        assert_eq!(refused(&t, &[], 0, next_length), (11, 204));
+    }
+    let call = Call { sheet: &t, stimulus: &[], output_length: 0, next_length: t.len() };
+    for (name, mistake) in MISTAKES {
+        let code = if name == "empty-refused" { 8 } else { 0 };
+        assert_eq!(run(&call, Some(mistake)).answer.code, code, "{name}");
+    }
 }
 
 #[test]

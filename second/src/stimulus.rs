@@ -7,10 +7,15 @@ use crate::run_mistakes::RunMistake;
 /// The greatest length of a stimulus.
 pub const MAX_STIMULUS: usize = 65_535;
 
-/// Code 8: empty, too long or not whole cycles.
-pub fn wrong_length(circuit: &Circuit, stimulus: &[u8]) -> Option<Answer> {
+/// Code 8: too long or not whole cycles. An empty one is of no cycles.
+pub fn wrong_length(
+    circuit: &Circuit,
+    stimulus: &[u8],
+    mistake: Option<RunMistake>,
+) -> Option<Answer> {
+    let refused = mistake == Some(RunMistake::EmptyRefused) && stimulus.is_empty();
     let whole = stimulus.len().is_multiple_of(leaves(circuit));
-    let holds = (1..=MAX_STIMULUS).contains(&stimulus.len()) && whole;
+    let holds = stimulus.len() <= MAX_STIMULUS && whole && !refused;
     (!holds).then_some(Answer { code: 8, place: 0 })
 }
 

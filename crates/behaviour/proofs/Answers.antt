@@ -140,7 +140,7 @@ slices-small s t stim out next v =
     (λ e. let whole = stimulus-whole s stim (when-none (wrongStimulus s stim) 0 e) in
     let few = cycles-few s t stim v (when-none (wrongStimulus s stim) 0 e) in
     place-or 9 (lowest (wrongByte s stim) (length stim)) byOut
-    (λ i f. let l = lowest-some-passes (wrongByte s stim) (length stim) i f .0 in let w = whole .1 in omega arith)
+    (λ i f. let l = lowest-some-passes (wrongByte s stim) (length stim) i f .0 in let w = whole .0 in omega arith)
     (λ f. place-or 10 (when (not (eqb (length out) needed)) needed) last
     (λ p h. let z = when-some (not (eqb (length out) needed)) needed p h in omega arith)
     (λ h. place-or 11 (when (not (eqb (length next) (length s))) (length s)) done
@@ -156,8 +156,8 @@ slices-small s t stim out next v =
         let m : cycleCount s stim * 1 ≤ cycleCount s stim * inputLeaves s = mul-le-mul-left (cycleCount s stim) (omega arith) in
         let few = accepted-few s t v in
         let n : cycleCount s stim * leaves (typeAt s t) ≤ cycleCount s stim * 64 = mul-le-mul-left (cycleCount s stim) few in
-        let e = h .2 in
-        let f = h .1 in
+        let e = h .1 in
+        let f = h .0 in
         (omega arith, omega arith)
 
 pub places-small : PlacesSmall

@@ -8,6 +8,7 @@ use Rattle.stimulus.proofs.Stimulus.{cycles-joined, cycles-counted}
 use Rattle.behaviour.proofs.Run.{run-outputs, run-sheet}
 use Rattle.behaviour.proofs.Reduces.{run-reduces}
 use Rattle.behaviour.proofs.Afterwards.{afterwards}
+use Rattle.behaviour.proofs.ZeroCycles.{zero-cycles}
 use Rattle.behaviour.proofs.Answers.{lowest-first, places-small, refusal-unaltered}
 use Rattle.behaviour.proofs.SheetRunOrdered.{sheet-run-ordered, late-scanner}
 use Rattle.behaviour.proofs.LateToggle.{late-input, late-delay}
@@ -17,6 +18,7 @@ pub kept : RunPromises
 kept = record {
   lowest-first = lowest-first;
   places-small = places-small;
+  zero-cycles = zero-cycles;
   refusal-unaltered = refusal-unaltered;
   write-reads = λ s t v e h. record {
     only-delays = write-only-delays s e (h .frame);

@@ -42,3 +42,12 @@ toggle-afterwards = afterwards toggle ones room lent 1 toggle-formed
 toggle-feedback : FeedbackAt toggle (toggle-afterwards .sheets) (cycleCount toggle ones) 2
 unfolding word count
 toggle-feedback = toggle-afterwards .feedbacks 2 (omega arith) refl
+
+-- and of a run of no cycles
+toggle-none : WellFormed toggle [] [] lent 1
+unfolding verdict byRecords byTypes wrongLength wrongHeader wrongRecord wrongNaming wrongType tooDeep depth nesting ancestry ancestryWithin circuit treeAt treeWithin alternatives alternativesWithin chain chainWithin pairOf typeAt typeWithin namings wellSaid askOf kindOf rowOf word count wrongStimulus wrongByte
+toggle-none = record { accepted = refl; whole = refl; fitting = refl; room = refl; long = refl }
+
+toggle-none-afterwards
+    : Afterwards toggle [] 1 (packed (answer toggle [] [] lent)) (finalOut toggle [] [] lent) (finalNext toggle [] [] lent)
+toggle-none-afterwards = afterwards toggle [] [] lent 1 toggle-none

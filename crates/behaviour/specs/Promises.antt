@@ -52,6 +52,17 @@ RefusalUnaltered =
     (s stim out next : List ℕ) → code (answer s stim out next) ≢ 0
     → (finalOut s stim out next ≡ out) × (finalNext s stim out next ≡ next)
 
+-- An empty stimulus is a run of no cycles: on an accepted sheet it is answered with no cycles, no outputs and the sheet as it is. An
+-- output slice that is not empty is 10 at place 0, and a next slice of another length than the sheet 11.
+pub record RunsNone (s : List ℕ) : Type 0 where
+  pub done : (next : List ℕ) → length next ≡ length s
+      → (answer s [] [] next ≡ Done 0) × (finalOut s [] [] next ≡ []) × (finalNext s [] [] next ≡ s)
+  pub some-output : (out next : List ℕ) → length out ≢ 0 → answer s [] out next ≡ Refused 10 0
+  pub wrong-next : (next : List ℕ) → length next ≢ length s → answer s [] [] next ≡ Refused 11 (length s)
+
+abbrev pub ZeroCycles : Type 0
+ZeroCycles = (s : List ℕ) (t : ℕ) → verdict s ≡ Accepted t → RunsNone s
+
 -- Any term of the circuit's frame and type, written to an accepted sheet, changes the delay leaves alone, is what the sheet then
 -- reads as, and leaves the sheet accepted with the same type. What a sheet holds, written to it, changes nothing.
 pub record WritesBack (s : List ℕ) (e : Term) : Type 0 where
@@ -146,6 +157,7 @@ EarlierStrictlyBelow =
 pub record RunPromises : Type 0 where
   pub lowest-first : LowestFirst
   pub places-small : PlacesSmall
+  pub zero-cycles : ZeroCycles
   pub refusal-unaltered : RefusalUnaltered
   pub write-reads : WriteReads
   pub write-own : WriteOwn

@@ -4,7 +4,6 @@ ghost use mathlib.Core.Path.{_≡_};
 ghost use lib.ListN.{length};
 use answers::NO_FILE;
 use answers::PLACES;
-use answers::WRONG_OUTPUT;
 use files::flush;
 use files::read_named;
 use files::refuse;
@@ -13,7 +12,9 @@ use libc::STDOUT_FILENO;
 use listing::put_cycles;
 use listing::put_lines;
 use listing::put_type;
+use simulator::leaves_of;
 use simulator::run;
+use stimulus::STIMULUS_BYTES;
 use verdict::check;
 
 // The longest sheet and a byte more, and the longest output: 65,535 cycles of 64 leaves.
@@ -61,67 +62,60 @@ fn print_listing(t: u64, w: usize, outputs: &[u8])
     print_cycles(&mut buffer, start, w, outputs);
 }
 
-// The leaves of a cycle, from those of all. By the run's promise there are 1 to 64, and the tests change nothing.
-fn width(all: usize, cycles: usize) -> usize
+// A number of leaves from 1 to 64: of an accepted sheet there are as many, and the tests change nothing.
+fn width(leaves: usize) -> usize
     ensures { λ r. ⌜ (0 < r) × (r ≤ 64) ⌝ }
 {
-    if cycles == 0 {
+    if leaves == 0 {
         return 1;
     }
-    let w = all / cycles;
-    if w == 0 {
-        return 1;
-    }
-    if 64 < w {
+    if 64 < leaves {
         return 64;
     }
-    w
+    leaves
 }
 
-// Runs with slices of the right lengths.
-fn run_into(sheet: &[u8], stim: &[u8], output: &mut [u8], next: &mut [u8]) {
+// The length of the outputs for a stimulus of so many bytes; of one that is refused, none.
+fn outputs_length(input: usize, output: usize, all: usize) -> usize
+    requires { ⌜ output ≤ 64 ⌝ }
+    ensures { λ r. ⌜ r ≤ 4194240 ⌝ }
+{
+    if input == 0 {
+        return 0;
+    }
+    if STIMULUS_BYTES < all {
+        return 0;
+    }
+    all / input * output
+}
+
+// Runs into slices, and prints the listing or the refusal.
+fn run_into(sheet: &[u8], stim: &[u8], leaves: usize, output: &mut [u8], next: &mut [u8]) {
     let answer = run(sheet, stim, output, next);
-    let place = answer % PLACES;
     if answer / PLACES != 0 {
-        refuse(answer / PLACES, place);
+        refuse(answer / PLACES, answer % PLACES);
         return;
     }
-    print_listing(
-        check(sheet) % PLACES,
-        width(output.len(), place as usize),
-        output,
-    );
+    print_listing(check(sheet) % PLACES, width(leaves), output);
     // where next.bin can't be written, nothing more is done: the listing is printed already
     replace(b"next.bin", next);
-}
-
-// The answer where there is no room for outputs: a refusal, which by code 10 gives the length that they need.
-fn ask(sheet: &[u8], stim: &[u8]) -> u64 {
-    let mut output = [0u8; 1];
-    let mut next = [0u8; 1];
-    run(sheet, stim, &mut output[0..0], &mut next[0..0])
 }
 
 fn run_files(sheet: &[u8], stim: &[u8])
     requires { ⌜ length (now sheet) ≤ 49153 ⌝ }
 {
-    let asked = ask(sheet, stim);
-    let code = asked / PLACES;
-    let place = asked % PLACES;
-    let needed = place as usize;
+    let leaves = leaves_of(sheet);
+    let needed = outputs_length(leaves.input, leaves.output, stim.len());
     let length = sheet.len();
-    if code != WRONG_OUTPUT {
-        refuse(code, place);
-        return;
-    }
-    // by the run's promise there is always room
-    if OUTPUT_ROOM < needed {
-        refuse(code, place);
-        return;
-    }
     let mut output = output_room();
     let mut next = sheet_room();
-    run_into(sheet, stim, &mut output[0..needed], &mut next[0..length]);
+    run_into(
+        sheet,
+        stim,
+        leaves.output,
+        &mut output[0..needed],
+        &mut next[0..length],
+    );
 }
 
 fn main() {

@@ -41,7 +41,7 @@ use Rattle.behaviour.proofs.Answers.{
   next-refused,
 }
 use Rattle.evaluator.proofs.Frames.{put-whole}
-use Rattle.simulator.specs.Running.{RunningCycles, RanCycles, RunningAccepted, Ran}
+use Rattle.simulator.specs.Running.{RunningCycles, RanCycles, RunningAccepted, Measured, Ran}
 
 module _ {s : List ℕ} {n : ℕ} {W : List ℕ} {t : ℕ} (g : RunningAccepted s n W t) where
   pub call-accepting : Accepting s n W
@@ -164,3 +164,25 @@ pub accepted-call : (s : List ℕ) (w : Verdict) (before table : List ℕ) (t : 
 accepted-call s w before table t l e =
     let v : verdict s ≡ Verdicts.Accepted t = sym (l .answered) ∙ e in
     record { sized = accepted-sized s t v; accepted = v; table = l .accepted (rw e refl) }
+
+-- the leaves that a host asks for
+pub measured-refused : (s : List ℕ) (w : Verdict) → w ≡ verdict s → OneOf (1 ∷ 2 ∷ 3 ∷ 4 ∷ 5 ∷ 6 ∷ 7 ∷ []) (tagOf Verdict-type.the-type w) → Measured s 0 0
+measured-refused s w e o =
+    let r = refusing-answer w o in
+    record {
+      leaves-of = λ t v. let z : _≡_ {A = ℕ} 0 1 = cc (ap verdictAnswer (e ∙ v), r .2) in absurd (omega arith);
+      few-input = omega arith;
+      few-output = omega arith;
+    }
+
+pub measured-accepted : {s : List ℕ} {n : ℕ} {W : List ℕ} {t : ℕ} (g : RunningAccepted s n W t) {a : ℕ} → a ≡ word s 0 2
+    → Measured s (getD W a 0) (getD W t 0)
+measured-accepted {s} {n} {W} {t} g {a} ea =
+    record {
+      leaves-of = λ u v.
+          let same : Verdicts.Accepted t ≡ Verdicts.Accepted u = sym (g .accepted) ∙ v in
+          let eu : t ≡ u = cc in
+          (Holding.takes (call-accepting g) ea, g .table .types t (output-typed s t (g .accepted)) ∙ rw eu refl);
+      few-input = Holding.input-few (call-accepting g) ea;
+      few-output = output-few g;
+    }

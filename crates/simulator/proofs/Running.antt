@@ -96,7 +96,7 @@ module _ (s : List ℕ) (n : ℕ) (W stim : List ℕ) (wi wo count : ℕ) (curre
     up-to h = omega arith
 
     stim-long : length stim ≡ count * wi
-    stim-long = stimulus-whole s stim (r .whole) .2 ∙ rw (r .counted, r .takes) refl
+    stim-long = stimulus-whole s stim (r .whole) .1 ∙ rw (r .counted, r .takes) refl
 
     pub count-small : count ≤ 65535
     count-small =
@@ -104,7 +104,7 @@ module _ (s : List ℕ) (n : ℕ) (W stim : List ℕ) (wi wo count : ℕ) (curre
         let t = r .takes in
         let some = some-leaves (inputType s) in
         let m : count * 1 ≤ count * wi = mul-le-mul-left count (omega arith) in
-        omega (arith, stimulus-whole s stim (r .whole) .1)
+        omega (arith, stimulus-whole s stim (r .whole) .0)
 
     output-small : wo ≤ 64
     output-small =
@@ -182,7 +182,7 @@ module _ (s : List ℕ) (n : ℕ) (W stim : List ℕ) (wi wo count : ℕ) (curre
             let l = b .same in
             let c = count-small in
             let o : count * wo ≤ count * 64 = mul-le-mul-left count output-small in
-            (stimulus-whole s stim (r .whole) .1, omega arith)
+            (stimulus-whole s stim (r .whole) .0, omega arith)
 
         pub lending : Lending s n W env held stim from wi current out at wo
         lending =

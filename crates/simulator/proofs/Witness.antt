@@ -1,4 +1,4 @@
--- What the functions of the run are called with is not contradictory: for every well-formed call there are a table, names' bytes and
+-- What the functions of the run are called with is not contradictory: for every well-formed call of one cycle or more there are a table, names' bytes and
 -- a table of delay values with which its run, its first cycle, its root and the leaves that it copies meet what they ask; so at
 -- document 01's sheet T on 1 2 1, where the root is a feedback that is ready to be settled, record 4 a chain of leaves, and record 7
 -- a pattern that a value is matched against.
@@ -41,8 +41,8 @@ use Rattle.accepted.proofs.Small.{accepted-passes, accepted-records}
 abbrev names : List ℕ
 names = replicate 4096 0
 
--- a well-formed call
-module _ (s stim out next : List ℕ) (t : ℕ) (h : WellFormed s stim out next t) where
+-- a well-formed call with a first cycle
+module _ (s stim out next : List ℕ) (t : ℕ) (h : WellFormed s stim out next t) (some : 0 < length stim) where
   passes : Passes s
   passes = accepted-passes s t (h .accepted)
 
@@ -70,7 +70,7 @@ module _ (s stim out next : List ℕ) (t : ℕ) (h : WellFormed s stim out next 
 
   -- there is a first cycle
   some-cycle : 0 < cycleCount s stim
-  some-cycle = let w = stimulus-whole s stim (h .whole) in positive (cycleCount s stim) (inputLeaves s) (length stim) (w .0) (w .2)
+  some-cycle = let w = stimulus-whole s stim (h .whole) in positive (cycleCount s stim) (inputLeaves s) (length stim) some (w .1)
     where
       positive : (n w l : ℕ) → 0 < l → l ≡ n * w → 0 < n
       positive zero w l k e = absurd (omega arith)
@@ -126,43 +126,46 @@ module _ (s stim out next : List ℕ) (t : ℕ) (h : WellFormed s stim out next 
       }
 
 -- sheet T
+some-input : 0 < length ones
+some-input = omega arith
+
 toggle-running
-    : RunningCycles toggle (count toggle) (table toggle ones room lent 1 toggle-formed) ones (inputLeaves toggle) (leaves (typeAt toggle 1))
+    : RunningCycles toggle (count toggle) (table toggle ones room lent 1 toggle-formed some-input) ones (inputLeaves toggle) (leaves (typeAt toggle 1))
     (cycleCount toggle ones) toggle room
-toggle-running = running toggle ones room lent 1 toggle-formed
+toggle-running = running toggle ones room lent 1 toggle-formed some-input
 
 toggle-lending
-    : Lending toggle (count toggle) (table toggle ones room lent 1 toggle-formed) names names ones 0 (inputLeaves toggle) toggle room 0
+    : Lending toggle (count toggle) (table toggle ones room lent 1 toggle-formed some-input) names names ones 0 (inputLeaves toggle) toggle room 0
     (leaves (typeAt toggle 1))
-toggle-lending = first-lending toggle ones room lent 1 toggle-formed
+toggle-lending = first-lending toggle ones room lent 1 toggle-formed some-input
 
 toggle-cycling
-    : Cycling toggle (count toggle) (table toggle ones room lent 1 toggle-formed) names names (input toggle ones room lent 1 toggle-formed) toggle
-    (part toggle ones room lent 1 toggle-formed)
-toggle-cycling = first-cycling toggle ones room lent 1 toggle-formed
+    : Cycling toggle (count toggle) (table toggle ones room lent 1 toggle-formed some-input) names names (input toggle ones room lent 1 toggle-formed some-input) toggle
+    (part toggle ones room lent 1 toggle-formed some-input)
+toggle-cycling = first-cycling toggle ones room lent 1 toggle-formed some-input
 
 toggle-copying : Copying toggle (count toggle) toggle
-toggle-copying = first-copying toggle ones room lent 1 toggle-formed
+toggle-copying = first-copying toggle ones room lent 1 toggle-formed some-input
 
 toggle-ready
-    : EvaluatingIn toggle (count toggle) (table toggle ones room lent 1 toggle-formed) (entered 0 (input toggle ones room lent 1 toggle-formed) names) 1
-    (wordB toggle 0) (part toggle ones room lent 1 toggle-formed) (inputs toggle)
-toggle-ready = first-ready toggle ones room lent 1 toggle-formed
+    : EvaluatingIn toggle (count toggle) (table toggle ones room lent 1 toggle-formed some-input) (entered 0 (input toggle ones room lent 1 toggle-formed some-input) names) 1
+    (wordB toggle 0) (part toggle ones room lent 1 toggle-formed some-input) (inputs toggle)
+toggle-ready = first-ready toggle ones room lent 1 toggle-formed some-input
 
 toggle-settling
-    : SettlingIn toggle (count toggle) (table toggle ones room lent 1 toggle-formed) (started toggle ones room lent 1 toggle-formed) 1
+    : SettlingIn toggle (count toggle) (table toggle ones room lent 1 toggle-formed some-input) (started toggle ones room lent 1 toggle-formed some-input) 1
     (word toggle (wordB toggle 0) 3)
-    (take (getD (table toggle ones room lent 1 toggle-formed) (word toggle (wordB toggle 0) 3) 0 - 0) (replicate 64 0))
+    (take (getD (table toggle ones room lent 1 toggle-formed some-input) (word toggle (wordB toggle 0) 3) 0 - 0) (replicate 64 0))
     (wordA toggle (wordB toggle 0)) (inputs toggle)
 unfolding word kindOf rowOf
-toggle-settling = settling toggle ones room lent 1 toggle-formed refl
+toggle-settling = settling toggle ones room lent 1 toggle-formed some-input refl
 
 toggle-chained : Chained toggle (count toggle) 4 1
 unfolding count word kindOf rowOf chain chainWithin
-toggle-chained = chained toggle ones room lent 1 toggle-formed 4 (omega arith) refl
+toggle-chained = chained toggle ones room lent 1 toggle-formed some-input 4 (omega arith) refl
 
-toggle-matched : Matching toggle (count toggle) (table toggle ones room lent 1 toggle-formed) 7 (1 ∷ [])
+toggle-matched : Matching toggle (count toggle) (table toggle ones room lent 1 toggle-formed some-input) 7 (1 ∷ [])
 unfolding count word kindOf rowOf alternatives alternativesWithin typeAt typeWithin
 toggle-matched =
-    matched toggle ones room lent 1 toggle-formed 7 1 (1 ∷ []) (omega arith) refl
+    matched toggle ones room lent 1 toggle-formed some-input 7 1 (1 ∷ []) (omega arith) refl
     (record { past = omega arith; there = omega arith; sort = refl }) refl refl

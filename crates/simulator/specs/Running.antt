@@ -68,6 +68,12 @@ pub record RunningAccepted (s : List ℕ) (n : ℕ) (widths : List ℕ) (t : ℕ
   pub accepted : verdict s ≡ Accepted t
   pub table : Widths s widths
 
+-- the leaves of a cycle's input and output, for an accepted sheet
+pub record Measured (s : List ℕ) (input output : ℕ) : Type 0 where
+  pub leaves-of : (t : ℕ) → verdict s ≡ Accepted t → (input ≡ inputLeaves s) × (output ≡ leaves (typeAt s t))
+  pub few-input : input ≤ 64
+  pub few-output : output ≤ 64
+
 -- the call: what it gives, and demand 3; the sheet handed in is one of bytes, and so, by demand 3, is each after it
 pub record Ran (sheet stimulus out next : List ℕ) (result : ℕ) (out′ next′ : List ℕ) : Type 0 where
   pub gives : Gives sheet stimulus out next result out′ next′

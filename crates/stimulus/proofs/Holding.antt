@@ -102,7 +102,7 @@ module _ {s : List ℕ} {n : ℕ} {W : List ℕ} (g : Accepting s n W) {a : ℕ}
       whole = sym stimulus-test ∙ sym e ∙ q
 
       few-bytes : length stim ≤ 65535
-      few-bytes = stimulus-whole s stim whole .1
+      few-bytes = stimulus-whole s stim whole .0
 
       module _ (r : Found) (f : found r ≡ lowest (above (bounds (typeAt s a)) stim) (length stim)) where
         byte-test : found r ≡ lowest (wrongByte s stim) (length stim)
@@ -130,7 +130,7 @@ module _ {s : List ℕ} {n : ℕ} {W : List ℕ} (g : Accepting s n W) {a : ℕ}
             let c : length stim / getD W a 0 ≡ cycleCount s stim = rw takes refl in
             let some = input-some in
             let t = takes in
-            let h : length stim ≡ cycleCount s stim * inputLeaves s = stimulus-whole s stim whole .2 in
+            let h : length stim ≡ cycleCount s stim * inputLeaves s = stimulus-whole s stim whole .1 in
             let m : cycleCount s stim * 1 ≤ cycleCount s stim * inputLeaves s = mul-le-mul-left (cycleCount s stim) (omega arith) in
             let few = few-bytes in
             record { answered = rw (whole, l, c) refl; numbered = omega arith; small = rw c (omega arith) }

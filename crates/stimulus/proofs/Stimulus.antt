@@ -2,7 +2,7 @@
 -- the input type: byte i stands at leaf i % w of its cycle.
 -- Assumes nothing.
 use Prim.Native.Nat.{ℕ, zero, suc, _+_, _*_, _-_, _%_, _≤_, _<_}
-use mathlib.Core.Bool.{false, not, _||_}
+use mathlib.Core.Bool.{false, not}
 use mathlib.Core.List.{List, [], _∷_}
 use mathlib.Core.Option.{none}
 use mathlib.Core.Path.{_≡_, _∙_}
@@ -11,7 +11,7 @@ use native.Mathlib.Nat.{div-add-mod', mod-eq-of-lt, add-mod-left}
 use lib.ListN.{length, getD, take, drop, length-drop}
 use lib.Seq.{getD-take, getD-drop, length-take-le}
 use lib.Dec.{eqb, ltb}
-use borrow.Author.Tests.{ltb-false, not-false, eqb-true, eqb-false}
+use borrow.Author.Tests.{ltb-false, not-false, eqb-true}
 use Rattle.picoella.specs.Types.{Ty, bounds, leaves, Within, within-leaf}
 use Rattle.picoella.specs.Types as Types
 use Rattle.records.proofs.Tests.{neither-left, neither-right}
@@ -23,19 +23,16 @@ use Rattle.stimulus.specs.Stimulus.{inputType, inputLeaves, cycleCount, 
 use Rattle.stimulus.proofs.Pieces.{pieces-length, piece-at, pieces-joined}
 
 pub stimulus-whole : (s stim : List ℕ) → wrongStimulus s stim ≡ false
-    → (0 < length stim) × (length stim ≤ 65535) × (length stim ≡ cycleCount s stim * inputLeaves s)
+    → (length stim ≤ 65535) × (length stim ≡ cycleCount s stim * inputLeaves s)
 unfolding wrongStimulus
 stimulus-whole s stim e =
-    let rest = ltb 65535 (length stim) || not (eqb (length stim % inputLeaves s) 0) in
-    let some = eqb-false (length stim) 0 (neither-left (eqb (length stim) 0) rest e) in
-    let f = neither-right (eqb (length stim) 0) rest e in
     let few : length stim ≤ 65535 =
-    ltb-false 65535 (length stim) (neither-left (ltb 65535 (length stim)) (not (eqb (length stim % inputLeaves s) 0)) f) in
+    ltb-false 65535 (length stim) (neither-left (ltb 65535 (length stim)) (not (eqb (length stim % inputLeaves s) 0)) e) in
     let over : length stim % inputLeaves s ≡ 0 = eqb-true (length stim % inputLeaves s) 0
     (not-false (eqb (length stim % inputLeaves s) 0)
-    (neither-right (ltb 65535 (length stim)) (not (eqb (length stim % inputLeaves s) 0)) f)) in
+    (neither-right (ltb 65535 (length stim)) (not (eqb (length stim % inputLeaves s) 0)) e)) in
     let whole = div-add-mod' (length stim) (inputLeaves s) in
-    (omega arith, few, omega arith)
+    (few, omega arith)
 
 -- a value is within bounds where each leaf is
 within-by-leaf : (ns vs : List ℕ) → length vs ≡ length ns → ((j : ℕ) → j < length ns → getD vs j 0 ≤ getD ns j 0) → Within ns vs
@@ -63,13 +60,13 @@ pub cycles-typed : (s stim : List ℕ) → wrongStimulus s stim ≡ false → lo
     → AllOf (inputType s) (cycles s stim)
 unfolding cycles wrongByte
 cycles-typed s stim whole fits =
-    pieces-typed (inputType s) (cycleCount s stim) stim (stimulus-whole s stim whole .2)
+    pieces-typed (inputType s) (cycleCount s stim) stim (stimulus-whole s stim whole .1)
     (λ i h. ltb-false (getD (bounds (inputType s)) (i % inputLeaves s) 0) (getD stim i 0)
     (lowest-none-fails (wrongByte s stim) (length stim) fits i h))
 
 pub cycles-joined : (s stim : List ℕ) → wrongStimulus s stim ≡ false → endToEnd (cycles s stim) ≡ stim
 unfolding cycles
-cycles-joined s stim whole = pieces-joined (inputLeaves s) (cycleCount s stim) stim (stimulus-whole s stim whole .2)
+cycles-joined s stim whole = pieces-joined (inputLeaves s) (cycleCount s stim) stim (stimulus-whole s stim whole .1)
 
 pub cycles-counted : (s stim : List ℕ) → length (cycles s stim) ≡ cycleCount s stim
 unfolding cycles

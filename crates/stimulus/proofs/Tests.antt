@@ -4,20 +4,17 @@ use Prim.Native.Nat.{ℕ, _%_, _≤_, _<_}
 use mathlib.Core.Bool.{true, false, not}
 use mathlib.Core.List.{List}
 use mathlib.Core.Path.{_≡_, refl}
-use borrow.Author.Tests.{eq-eqb, ne-eqb, lt-ltb, le-ltb}
+use borrow.Author.Tests.{lt-ltb, le-ltb}
 use lib.Dec.{eqb}
 use lib.ListN.{length, getD}
 use Rattle.stimulus.specs.Tests.{notWhole, above}
 
--- empty, too long, or not whole cycles
-pub empty-refused : (all w : ℕ) → all ≡ 0 → true ≡ notWhole all w
-empty-refused all w e = rw (eq-eqb all 0 e) refl
+-- too long, or not whole cycles
+pub long-refused : (all w : ℕ) → 65535 < all → true ≡ notWhole all w
+long-refused all w h = rw (lt-ltb 65535 all h) refl
 
-pub long-refused : (all w : ℕ) → (all ≡ 0 → ⊥) → 65535 < all → true ≡ notWhole all w
-long-refused all w f h = rw (ne-eqb all 0 f, lt-ltb 65535 all h) refl
-
-pub whole-or-not : (all w : ℕ) → (all ≡ 0 → ⊥) → all ≤ 65535 → not (eqb (all % w) 0) ≡ notWhole all w
-whole-or-not all w f h = rw (ne-eqb all 0 f, le-ltb 65535 all h) refl
+pub whole-or-not : (all w : ℕ) → all ≤ 65535 → not (eqb (all % w) 0) ≡ notWhole all w
+whole-or-not all w h = rw (le-ltb 65535 all h) refl
 
 -- a byte above its leaf's count, or not
 module _ (bs stim : List ℕ) (i w : ℕ) (e : w ≡ length bs) where

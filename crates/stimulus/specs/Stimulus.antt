@@ -1,5 +1,5 @@
 -- The stimulus (document 01, "The run" and "The words of demand 3"): its bytes taken in pieces of the input type's leaves, and when
--- the run refuses it. Code 8: "stimulus empty, over 65,535 bytes, or not whole cycles"; code 9: "byte above its leaf's
+-- the run refuses it. Code 8: a stimulus over 65,535 bytes, or not whole cycles; code 9: "byte above its leaf's
 -- constructor count", at the first such byte, from 0.
 use Prim.Native.Nat.{ℕ, zero, suc, _%_, _/_}
 use mathlib.Core.Bool.{Bool, not, _||_}
@@ -37,10 +37,9 @@ endToEnd (v ∷ vs) = v ++ endToEnd vs
 unfoldable pub cycles : (sheet stimulus : List ℕ) → List (List ℕ)
 cycles s stim = pieces (inputLeaves s) (cycleCount s stim) stim
 
--- 8: stimulus empty, over 65,535 bytes, or not whole cycles
+-- 8: stimulus over 65,535 bytes, or not whole cycles; an empty one is a run of no cycles
 unfoldable pub wrongStimulus : (sheet stimulus : List ℕ) → Bool
-wrongStimulus s stim =
-    eqb (length stim) 0 || (ltb 65535 (length stim) || not (eqb (length stim % inputLeaves s) 0))
+wrongStimulus s stim = ltb 65535 (length stim) || not (eqb (length stim % inputLeaves s) 0)
 
 -- 9: byte i is above its leaf's constructor count
 unfoldable pub wrongByte : (sheet stimulus : List ℕ) → ℕ → Bool

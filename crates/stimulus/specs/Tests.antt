@@ -7,7 +7,7 @@ use lib.ListN.{length, getD}
 
 -- a stimulus of so many bytes is refused, where a cycle takes w
 abbrev pub notWhole : (all w : ℕ) → Bool
-notWhole all w = eqb all 0 || (ltb 65535 all || not (eqb (all % w) 0))
+notWhole all w = ltb 65535 all || not (eqb (all % w) 0)
 
 -- byte i of a stimulus is above its leaf's count
 abbrev pub above : (bounds stimulus : List ℕ) → ℕ → Bool

@@ -28,14 +28,11 @@ fn no_counts() -> [u8; 64]
     [0; 64]
 }
 
-// Whether a stimulus of so many bytes is empty, too long or not whole cycles of w bytes.
+// Whether a stimulus of so many bytes is too long or not whole cycles of w bytes.
 fn not_whole(all: usize, w: usize) -> bool
     requires { ⌜ 0 < w ⌝ }
     ensures { λ r. ⌜ r ≡ notWhole all w ⌝ }
 {
-    if all == 0 {
-        return true;
-    }
     if STIMULUS_BYTES < all {
         return true;
     }

@@ -21,4 +21,3 @@ pub use types::capped_sum;
 pub use types::count_types;
 pub use types::first_wrong_type;
 pub use types::no_leaves;
-

@@ -84,12 +84,13 @@ pub fn any(source: &str, random: &mut Random) -> Option<Case> {
     Some(good(source, sheet, &frame, few_cycles(random), random))
 }
 
-/// A few cycles, sometimes one or two, seldom many.
+/// A few cycles, sometimes none, one or two, seldom many.
 pub fn few_cycles(random: &mut Random) -> usize {
     match random.below(40) {
-        0 => random.range(1, 2),
-        1 => random.range(20, 120),
-        2..=6 => random.range(8, 16),
+        0 => 0,
+        1 => random.range(1, 2),
+        2 => random.range(20, 120),
+        3..=7 => random.range(8, 16),
         _ => random.range(3, 7),
     }
 }

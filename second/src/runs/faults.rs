@@ -53,17 +53,39 @@ pub fn break_call(
     match code {
         8 => break_stimulus(case, frame, random),
         9 => break_bytes(case, frame, random),
+        10 if without_cycles(case, frame, random) => {
+            case.output_length = random.pick(&[1, frame.output, frame.output + 1])?;
+            Some(tally::OUT_OF_NO_CYCLES)
+        }
         10 => {
             let (given, way) = other_length(case.output_length, frame.output, random);
             case.output_length = given;
             Some([tally::OUT_NONE, tally::OUT_SHORTER, tally::OUT_LONGER][way])
         }
         _ => {
+            let none = without_cycles(case, frame, random);
             let (given, way) = other_length(case.next_length, RECORD_BYTES, random);
             case.next_length = given;
-            Some([tally::NEXT_NONE, tally::NEXT_SHORTER, tally::NEXT_LONGER][way])
+            let ways = [tally::NEXT_NONE, tally::NEXT_SHORTER, tally::NEXT_LONGER];
+            Some(if none { tally::NEXT_OF_NO_CYCLES } else { ways[way] })
         }
     }
+}
+
+/// Takes all cycles out of one call in four, if it keeps the rules 8 to 10.
+fn without_cycles(case: &mut Case, frame: &Frame, random: &mut Random) -> bool {
+    let leaves = frame.counts.len();
+    let cycles = case.stimulus.len() / leaves;
+    let keeps = case.stimulus.len() <= MAX_STIMULUS
+        && case.stimulus.len() == cycles * leaves
+        && case.stimulus.iter().zip(frame.counts.iter().cycle()).all(|(byte, count)| byte <= count)
+        && case.output_length == cycles * frame.output;
+    let taken = keeps && random.one_in(4);
+    if taken {
+        case.stimulus.clear();
+        case.output_length = 0;
+    }
+    taken
 }
 
 /// A length other than the one needed, which is not 0: 0, shorter or longer
@@ -81,7 +103,7 @@ fn other_length(needed: usize, step: usize, random: &mut Random) -> (usize, usiz
     }
 }
 
-/// Code 8: empty, too long or not whole cycles. The output slice is as long as
+/// Code 8: too long or not whole cycles. The output slice is as long as
 /// the cycles ask for, where there are whole cycles and not very many.
 fn break_stimulus(case: &mut Case, frame: &Frame, random: &mut Random) -> Option<&'static str> {
     let leaves = frame.counts.len();
@@ -90,13 +112,8 @@ fn break_stimulus(case: &mut Case, frame: &Frame, random: &mut Random) -> Option
         let present = stimulus.len();
         stimulus.extend(good.skip(present));
     };
-    match random.below(3) {
-        0 if case.stimulus.iter().zip(frame.counts.iter().cycle()).all(|(b, c)| b <= c) => {
-            case.stimulus.clear();
-            case.output_length = 0;
-            Some(tally::EMPTY)
-        }
-        1 => {
+    match random.below(2) {
+        0 => {
             let cycles = MAX_STIMULUS / leaves + random.range(1, 2);
             longer(&mut case.stimulus, cycles * leaves);
             case.output_length = (cycles * frame.output).min(1 << 17);

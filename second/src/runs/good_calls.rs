@@ -17,12 +17,13 @@ pub fn compare_good(to: &mut Comparer, case: &Case, frame: &Frame, values: usize
     let outcome = to.compare_watched(case, &mut watch)?;
     let (Some(outputs), Some(next)) = (&outcome.outputs, &outcome.next) else { return Ok(()) };
     let records = read(&case.sheet);
-    let first = &outputs[..frame.output];
+    let mut cycles = outputs.chunks(frame.output);
+    let first = cycles.next();
     let counts = [
         (tally::SHEETS, several(case, frame)),
         (tally::DEFINED, outputs.iter().any(|&leaf| leaf != 0)),
         (tally::CHANGED, *next != case.sheet),
-        (tally::OUTPUTS_DIFFER, outputs.chunks(first.len()).any(|cycle| cycle != first)),
+        (tally::OUTPUTS_DIFFER, cycles.any(|cycle| Some(cycle) != first)),
         (tally::OTHERS, watch.others),
         (tally::SLOW, watch.most > 16),
         (tally::SLOWEST, watch.most == 64),
@@ -31,6 +32,7 @@ pub fn compare_good(to: &mut Comparer, case: &Case, frame: &Frame, values: usize
         (tally::CHAINS, frame.longest_chain == 64),
         (tally::DEEP, depths(&records).contains(&64)),
         (tally::LONGEST, records.len() == MAX_RECORDS),
+        (tally::NO_CYCLES, case.stimulus.is_empty()),
         (tally::MANY_CYCLES, case.stimulus.len() > 60_000),
     ];
     counts.into_iter().for_each(|(name, holds)| to.tally.add(name, u64::from(holds)));

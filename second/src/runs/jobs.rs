@@ -101,7 +101,7 @@ fn named_shapes(to: &mut Comparer, random: &mut Random) -> Ended {
     for (name, make) in shapes::all().filter(|(name, _)| *name != "three-slow-feedbacks-64") {
         let sheet = make();
         let Some(frame) = Frame::of(&sheet) else { continue };
-        for cycles in [1, 3, 7, 12] {
+        for cycles in [0, 1, 3, 7, 12] {
             let case = good(name, sheet.clone(), &frame, cycles, random);
             compare_good(to, &case, &frame, 0)?;
             to.tally.add(tally::SHAPES, 1);
@@ -150,11 +150,12 @@ fn base(random: &mut Random) -> Draft {
     }
 }
 
-/// A call that keeps every rule, for faults to be put into.
+/// A call of some cycles that keeps every rule, for faults to be put into.
 fn whole_call(draft: &Draft, random: &mut Random) -> Option<(Case, Frame)> {
     let sheet = sheet(draft, random);
     let frame = Frame::of(&sheet)?;
-    Some((good("one call", sheet, &frame, few_cycles(random), random), frame))
+    let cycles = few_cycles(random).max(1);
+    Some((good("one call", sheet, &frame, cycles, random), frame))
 }
 
 /// A call with faults of some codes; the ways in which those from 8 on were

@@ -17,6 +17,7 @@ const DELAYS: &str = "pairs with strictly lower delay leaves";
 const SAME_SHEET: &str = "pairs of one sheet with strictly lower outputs";
 const SAME_STIMULUS: &str = "pairs of one stimulus with strictly lower outputs";
 const FEEDBACKS: &str = "pairs with a feedback and strictly lower outputs";
+const NO_CYCLES: &str = "pairs of no cycles with strictly lower delay leaves";
 const THERE: &str = "pairs with a defined output leaf at a cycle with lower inputs";
 
 pub const LATE: Comparison = Comparison {
@@ -29,6 +30,7 @@ pub const LATE: Comparison = Comparison {
         (SAME_STIMULUS, 500),
         (FEEDBACKS, 1_000),
         (THERE, 1_000),
+        (NO_CYCLES, 100),
     ],
     make,
     counts,
@@ -75,6 +77,7 @@ fn counts(pair: &Pair) -> Vec<(&'static str, bool)> {
         (SAME_STIMULUS, outputs && first.stimulus == second.stimulus),
         (FEEDBACKS, outputs && feedback),
         (THERE, there(pair)),
+        (NO_CYCLES, first.stimulus.is_empty() && pair.delays_lower()),
     ]
 }
 

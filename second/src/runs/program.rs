@@ -27,6 +27,7 @@ use crate::workers;
 /// How many sheets are run.
 const ACCEPTED: u64 = 750;
 const PER_CODE: u64 = 30;
+const OF_NO_CYCLES: u64 = 10;
 /// The most bytes of an old next sheet, over those of any sheet.
 const LONGEST_OLD: usize = 60_000;
 
@@ -108,10 +109,11 @@ fn cases(categories: &[Category], random: &mut Random) -> Vec<Case> {
     cases
 }
 
-/// Compares all; the number of runs by code, or the first difference.
-fn compare_all(program: &Program, options: &Options) -> Result<[u64; 10], String> {
+/// Compares all; the number of runs by code, and of accepted ones of no cycles,
+/// or the first difference.
+fn compare_all(program: &Program, options: &Options) -> Result<([u64; 10], u64), String> {
     let mut random = Random::new(options.seed);
-    let mut codes = [0; 10];
+    let (mut codes, mut of_no_cycles) = ([0; 10], 0);
     for case in cases(&categories(), &mut random) {
         let length = random.below(LONGEST_OLD);
         let old = random.one_in(2).then(|| random_bytes(length, &mut random));
@@ -120,8 +122,9 @@ fn compare_all(program: &Program, options: &Options) -> Result<[u64; 10], String
             format!("in: {source}\nsheet: {}\nstimulus: {}\n{what}", hex(sheet), hex(stimulus))
         })?;
         codes[usize::from(code)] += 1;
+        of_no_cycles += u64::from(code == 0 && case.stimulus.is_empty());
     }
-    Ok(codes)
+    Ok((codes, of_no_cycles))
 }
 
 pub fn run(program: &str, folder: &str, options: &Options) -> ExitCode {
@@ -139,16 +142,20 @@ pub fn run(program: &str, folder: &str, options: &Options) -> ExitCode {
             println!("difference found, {difference}");
             ExitCode::from(1)
         }
-        Ok(codes) => {
+        Ok((codes, of_no_cycles)) => {
             let mut unmet = Vec::new();
+            let mut line = |name: String, got: u64, need: u64| {
+                println!("quota {name}: {got} of {need}");
+                if got < need {
+                    unmet.push(format!("{name}: {got} of {need}"));
+                }
+            };
             for (code, got) in codes.iter().enumerate() {
                 // Some circuits have no place for a fault that shows.
                 let need = if code == 0 { ACCEPTED } else { PER_CODE * 2 / 3 };
-                println!("quota sheets with code {code}: {got} of {need}");
-                if *got < need {
-                    unmet.push(format!("sheets with code {code}: {got} of {need}"));
-                }
+                line(format!("sheets with code {code}"), *got, need);
             }
+            line("accepted sheets with no cycles".to_string(), of_no_cycles, OF_NO_CYCLES);
             workers::answer(options, &unmet, codes.iter().sum(), "sheets")
         }
     }

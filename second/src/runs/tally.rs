@@ -46,24 +46,26 @@ pub const WIDE: &str = "runs with an expression of 64 leaves";
 pub const CHAINS: &str = "runs with a constant or delay of 64 leaves";
 pub const DEEP: &str = "runs with an expression at depth 64";
 pub const LONGEST: &str = "accepted sheets of 4,096 records";
+pub const NO_CYCLES: &str = "accepted runs of no cycles";
 pub const MANY_CYCLES: &str = "accepted stimuli of over 60,000 bytes";
 pub const SHAPES: &str = "runs of named sheets";
 pub const BENCH: &str = "runs of the bench cases and T";
 pub const FUZZED: &str = "sheets changed at random";
-pub const EMPTY: &str = "8: stimulus empty";
 pub const OVER: &str = "8: stimulus over 65,535 bytes";
 pub const NOT_WHOLE: &str = "8: stimulus not whole cycles";
 pub const ABOVE: &str = "9: one byte above its leaf's count";
 pub const SOME_ABOVE: &str = "9: some bytes above their leaves' counts";
 pub const OUT_SHORTER: &str = "10: output slice shorter";
 pub const OUT_LONGER: &str = "10: output slice longer";
+pub const OUT_OF_NO_CYCLES: &str = "10: output slice not empty for no cycles";
 pub const OUT_NONE: &str = "10: output slice of 0 bytes";
 pub const NEXT_SHORTER: &str = "11: next slice shorter";
 pub const NEXT_LONGER: &str = "11: next slice longer";
+pub const NEXT_OF_NO_CYCLES: &str = "11: next slice of another length for no cycles";
 pub const NEXT_NONE: &str = "11: next slice of 0 bytes";
 
 /// The quotas of the named counts.
-pub const QUOTAS: [(&str, u64); 30] = [
+pub const QUOTAS: [(&str, u64); 32] = [
     (SHEETS, 100_000),
     (DEFINED, 30_000),
     (CHANGED, 20_000),
@@ -79,11 +81,11 @@ pub const QUOTAS: [(&str, u64); 30] = [
     (CHAINS, 1_000),
     (DEEP, 1_000),
     (LONGEST, 40),
+    (NO_CYCLES, 2_000),
     (MANY_CYCLES, 40),
     (SHAPES, 100),
     (BENCH, 200),
     (FUZZED, 10_000),
-    (EMPTY, 1_000),
     (OVER, 1_000),
     (NOT_WHOLE, 1_000),
     (ABOVE, 2_000),
@@ -91,9 +93,11 @@ pub const QUOTAS: [(&str, u64); 30] = [
     (OUT_SHORTER, 1_000),
     (OUT_LONGER, 1_000),
     (OUT_NONE, 1_000),
+    (OUT_OF_NO_CYCLES, 1_000),
     (NEXT_SHORTER, 1_000),
     (NEXT_LONGER, 1_000),
     (NEXT_NONE, 1_000),
+    (NEXT_OF_NO_CYCLES, 1_000),
 ];
 
 /// Two codes of which one is about the call: the lower one, the higher one.
