@@ -5,13 +5,13 @@ use native.Mathlib.Omega.{arith}
 use Rattle.answers.specs.Answers.{inOne}
 use Rattle.answers.specs.declared.Answer.{Answer}
 use Rattle.answers.specs.declared.Answer.the-variants.{Done}
-use Rattle.answers.specs.Checks.{SaysOf, firstOf, Check}
+use Rattle.answers.specs.Checks.{SaysOf, firstApplying, Check}
 use Rattle.answers.specs.Promises.{AnswerPromises}
 use mathlib.Core.List.{List}
 use Rattle.answers.proofs.Lowest as Low
 use Rattle.answers.proofs.First.{first-says, says-first}
 
-says-of-equal : (ks : List Check) (done : ℕ) (a : Answer) → firstOf ks (Done done) ≡ a → SaysOf ks done a
+says-of-equal : (ks : List Check) (done : ℕ) (a : Answer) → firstApplying ks (Done done) ≡ a → SaysOf ks done a
 says-of-equal ks done a e = subst (λ (x : Answer). SaysOf ks done x) e (first-says ks done)
 
 pub kept : AnswerPromises

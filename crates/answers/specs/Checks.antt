@@ -26,9 +26,9 @@ orRefused c (some p) rest = Refused c p
 orRefused c none rest = rest
 
 -- the first check of the list that applies, and else done
-abbrev pub firstOf : List Check → (done : Answer) → Answer
-firstOf [] done = done
-firstOf (k ∷ ks) done = orRefused (k .number) (k .found) (firstOf ks done)
+abbrev pub firstApplying : List Check → (done : Answer) → Answer
+firstApplying [] done = done
+firstApplying (k ∷ ks) done = orRefused (k .number) (k .found) (firstApplying ks done)
 
 abbrev pub NoneApplies : List Check → Type 0
 NoneApplies [] = Unit {0}

@@ -9,7 +9,7 @@ use Rattle.answers.specs.Answers.{inOne}
 use Rattle.answers.specs.declared.Answer.{Answer}
 use Rattle.answers.specs.declared.Answer.the-variants.{Done}
 use Rattle.answers.specs.Lowest.{lowest}
-use Rattle.answers.specs.Checks.{Check, firstOf, SaysOf}
+use Rattle.answers.specs.Checks.{Check, firstApplying, SaysOf}
 
 -- the number r passes the test, and no lower one does
 abbrev pub LowestBreaking : (ℕ → Bool) → ℕ → ℕ → Type 0
@@ -25,7 +25,7 @@ LowestNone = (wrong : ℕ → Bool) (n : ℕ) → lowest wrong n ≡ none ↔ ((
 -- The answer of a list of checks is that of the first that applies, and no other answer is.
 abbrev pub FirstThatApplies : Type 0
 FirstThatApplies =
-    (ks : List Check) (done : ℕ) (a : Answer) → firstOf ks (Done done) ≡ a ↔ SaysOf ks done a
+    (ks : List Check) (done : ℕ) (a : Answer) → firstApplying ks (Done done) ≡ a ↔ SaysOf ks done a
 
 -- A code and a place below 2^32 are read back from the one number.
 abbrev pub TakenApart : Type 0

@@ -13,7 +13,7 @@ use lib.ListN.{length}
 use lib.Dec.{eqb}
 use borrow.Author.Tests.{eqb-true, eqb-false, eq-eqb, ne-eqb, not-false}
 use Rattle.answers.specs.Answers.{code, place, inOne, packed, whenDone, onDone}
-use Rattle.answers.specs.Checks.{Check, check, when, orRefused, firstOf, NoneApplies, Refuses, SaysOf}
+use Rattle.answers.specs.Checks.{Check, check, when, orRefused, firstApplying, NoneApplies, Refuses, SaysOf}
 use Rattle.answers.specs.Lowest.{lowest}
 use Rattle.answers.specs.declared.Answer.{Answer}
 use Rattle.answers.specs.declared.Answer.the-variants.{Done, Refused}
@@ -49,30 +49,30 @@ use Rattle.behaviour.specs.Promises.{SaysOfCall, LowestFirst, PlacesSmal
 use Rattle.behaviour.proofs.Afterwards.{answer-done, afterwards}
 
 -- two lists of checks, one after the other
-first-both : (ks js : List Check) (done : Answer) → firstOf (ks ++ js) done ≡ firstOf ks (firstOf js done)
+first-both : (ks js : List Check) (done : Answer) → firstApplying (ks ++ js) done ≡ firstApplying ks (firstApplying js done)
 first-both [] js done = refl
 first-both (k ∷ ks) js done = go (k .found) (first-both ks js done)
   where
-    go : (o : Option ℕ) → firstOf (ks ++ js) done ≡ firstOf ks (firstOf js done)
-        → orRefused (k .number) o (firstOf (ks ++ js) done) ≡ orRefused (k .number) o (firstOf ks (firstOf js done))
+    go : (o : Option ℕ) → firstApplying (ks ++ js) done ≡ firstApplying ks (firstApplying js done)
+        → orRefused (k .number) o (firstApplying (ks ++ js) done) ≡ orRefused (k .number) o (firstApplying ks (firstApplying js done))
     go none e = e
     go (some p) e = refl
 
 -- what comes after a refusal does not matter
-first-then : (ks : List Check) (p : ℕ) (rest : ℕ → Answer) → firstOf ks (rest p) ≡ onDone (firstOf ks (Done p)) rest
+first-then : (ks : List Check) (p : ℕ) (rest : ℕ → Answer) → firstApplying ks (rest p) ≡ onDone (firstApplying ks (Done p)) rest
 first-then [] p rest = refl
 first-then (k ∷ ks) p rest = go (k .found) (first-then ks p rest)
   where
-    go : (o : Option ℕ) → firstOf ks (rest p) ≡ onDone (firstOf ks (Done p)) rest
-        → orRefused (k .number) o (firstOf ks (rest p)) ≡ onDone (orRefused (k .number) o (firstOf ks (Done p))) rest
+    go : (o : Option ℕ) → firstApplying ks (rest p) ≡ onDone (firstApplying ks (Done p)) rest
+        → orRefused (k .number) o (firstApplying ks (rest p)) ≡ onDone (orRefused (k .number) o (firstApplying ks (Done p))) rest
     go none e = e
     go (some q) e = refl
 
 -- the answer of a call is that of the first of all its checks
-pub answer-first : (s stim out next : List ℕ) → answer s stim out next ≡ firstOf (callChecks s stim out next) (Done (cycleCount s stim))
+pub answer-first : (s stim out next : List ℕ) → answer s stim out next ≡ firstApplying (callChecks s stim out next) (Done (cycleCount s stim))
 unfolding answer bySlices
 answer-first s stim out next =
-    let rest : ℕ → Answer = λ t. firstOf (runChecks s t stim out next) (Done (cycleCount s stim)) in
+    let rest : ℕ → Answer = λ t. firstApplying (runChecks s t stim out next) (Done (cycleCount s stim)) in
     ap (λ (a : Answer). onDone a rest) (verdict-first s)
     ∙ sym (first-then (sheetChecks s) (outputType s) rest)
     ∙ sym (first-both (sheetChecks s) (runChecks s (outputType s) stim out next) (Done (cycleCount s stim)))
@@ -133,8 +133,8 @@ unfolding bySlices
 slices-small s t stim out next v =
     let needed = outputNeeded s t stim in
     let done = Done (cycleCount s stim) in
-    let last = firstOf (check 11 (when (not (eqb (length next) (length s))) (length s)) ∷ []) done in
-    let byOut = firstOf (lengthChecks s t stim out next) done in
+    let last = firstApplying (check 11 (when (not (eqb (length next) (length s))) (length s)) ∷ []) done in
+    let byOut = firstApplying (lengthChecks s t stim out next) done in
     let byByte = orRefused 9 (lowest (wrongByte s stim) (length stim)) byOut in
     place-or 8 (when (wrongStimulus s stim) 0) byByte (λ p e. let z = when-some (wrongStimulus s stim) 0 p e in omega arith)
     (λ e. let whole = stimulus-whole s stim (when-none (wrongStimulus s stim) 0 e) in
@@ -214,24 +214,24 @@ refused-by-verdict s stim out next c p e = rw e refl
 
 module _ (s stim out next : List ℕ) (t : ℕ) (v : verdict s ≡ Accepted t) where
   -- by the stimulus
-  pub stimulus-refused : (c p : ℕ) → firstOf (stimulusChecks s stim) (Done (cycleCount s stim)) ≡ Refused c p
+  pub stimulus-refused : (c p : ℕ) → firstApplying (stimulusChecks s stim) (Done (cycleCount s stim)) ≡ Refused c p
       → answer s stim out next ≡ Refused c p
   unfolding answer bySlices
   stimulus-refused c p e =
       rw v
       (first-both (stimulusChecks s stim) (lengthChecks s t stim out next) (Done (cycleCount s stim))
-      ∙ first-then (stimulusChecks s stim) (cycleCount s stim) (λ n. firstOf (lengthChecks s t stim out next) (Done n))
-      ∙ ap (λ (a : Answer). onDone a (λ n. firstOf (lengthChecks s t stim out next) (Done n))) e)
+      ∙ first-then (stimulusChecks s stim) (cycleCount s stim) (λ n. firstApplying (lengthChecks s t stim out next) (Done n))
+      ∙ ap (λ (a : Answer). onDone a (λ n. firstApplying (lengthChecks s t stim out next) (Done n))) e)
 
   -- and by the slices' lengths
-  module _ (e : firstOf (stimulusChecks s stim) (Done (cycleCount s stim)) ≡ Done (cycleCount s stim)) where
-    by-lengths : answer s stim out next ≡ firstOf (lengthChecks s t stim out next) (Done (cycleCount s stim))
+  module _ (e : firstApplying (stimulusChecks s stim) (Done (cycleCount s stim)) ≡ Done (cycleCount s stim)) where
+    by-lengths : answer s stim out next ≡ firstApplying (lengthChecks s t stim out next) (Done (cycleCount s stim))
     unfolding answer bySlices
     by-lengths =
         rw v
         (first-both (stimulusChecks s stim) (lengthChecks s t stim out next) (Done (cycleCount s stim))
-        ∙ first-then (stimulusChecks s stim) (cycleCount s stim) (λ n. firstOf (lengthChecks s t stim out next) (Done n))
-        ∙ ap (λ (a : Answer). onDone a (λ n. firstOf (lengthChecks s t stim out next) (Done n))) e)
+        ∙ first-then (stimulusChecks s stim) (cycleCount s stim) (λ n. firstApplying (lengthChecks s t stim out next) (Done n))
+        ∙ ap (λ (a : Answer). onDone a (λ n. firstApplying (lengthChecks s t stim out next) (Done n))) e)
 
     pub output-refused : length out ≢ outputNeeded s t stim → answer s stim out next ≡ Refused 10 (outputNeeded s t stim)
     output-refused f = by-lengths ∙ rw (ne-eqb (length out) (outputNeeded s t stim) f) refl

@@ -12,7 +12,7 @@ use lib.Dec.{eqb}
 use lib.ListN.{length}
 use Rattle.picoella.specs.Types.{leaves}
 use Rattle.records.specs.TypeRecords.{typeAt}
-use Rattle.answers.specs.Checks.{firstOf}
+use Rattle.answers.specs.Checks.{firstApplying}
 use Rattle.answers.specs.declared.Answer.the-variants.{Done, Refused}
 use Rattle.verdict.specs.Verdict.{verdict}
 use Rattle.verdict.specs.declared.Verdict.the-variants.{Accepted}
@@ -35,7 +35,7 @@ module _ (s : List ℕ) where
   unfolding cycles
   none-cut = rw no-cycles refl
 
-  stimulus-done : firstOf (stimulusChecks s []) (Done (cycleCount s [])) ≡ Done (cycleCount s [])
+  stimulus-done : firstApplying (stimulusChecks s []) (Done (cycleCount s [])) ≡ Done (cycleCount s [])
   stimulus-done = rw whole refl
 
   module _ (t : ℕ) (v : verdict s ≡ Accepted t) where

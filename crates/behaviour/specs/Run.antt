@@ -11,7 +11,7 @@ use lib.Dec.{eqb}
 use Rattle.picoella.specs.Types.{leaves}
 use Rattle.records.specs.TypeRecords.{typeAt}
 use Rattle.answers.specs.Answers.{packed, whenDone, onDone}
-use Rattle.answers.specs.Checks.{Check, check, when, firstOf}
+use Rattle.answers.specs.Checks.{Check, check, when, firstApplying}
 use Rattle.answers.specs.declared.Answer.{Answer}
 use Rattle.answers.specs.declared.Answer.the-variants.{Done}
 use Rattle.verdict.specs.Verdict.{verdictAnswer, sheetChecks, outputType, verdict}
@@ -53,7 +53,7 @@ runChecks s t stim out next = stimulusChecks s stim ++ lengthChecks s t stim out
 
 -- codes 8 to 11, for an accepted sheet with output type t
 unfoldable pub bySlices : (sheet : List ℕ) (t : ℕ) (stimulus out next : List ℕ) → Answer
-bySlices s t stim out next = firstOf (runChecks s t stim out next) (Done (cycleCount s stim))
+bySlices s t stim out next = firstApplying (runChecks s t stim out next) (Done (cycleCount s stim))
 
 -- codes 1 to 7 by the verdict, and then the others
 unfoldable pub answer : (sheet stimulus out next : List ℕ) → Answer

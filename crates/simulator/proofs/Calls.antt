@@ -14,7 +14,7 @@ use mir.Val.{Fits}
 use lib.ListN.{length, getD, drop}
 use Rattle.records.specs.Words.{word}
 use Rattle.answers.specs.Answers.{code, place, inOne, packed}
-use Rattle.answers.specs.Checks.{firstOf, SaysOf}
+use Rattle.answers.specs.Checks.{firstApplying, SaysOf}
 use Rattle.answers.specs.Lowest.{lowest}
 use Rattle.answers.specs.declared.Answer.{Answer}
 use Rattle.answers.specs.declared.Answer.the-variants.{Done, Refused}
@@ -78,7 +78,7 @@ module _ {s : List ℕ} {n : ℕ} {W : List ℕ} {t : ℕ} (g : RunningAccepted 
       fitting : lowest (wrongByte s stim) (length stim) ≡ none
       fitting = says .0 .1 .0
 
-      stimulus-done : firstOf (stimulusChecks s stim) (Done (cycleCount s stim)) ≡ Done (cycleCount s stim)
+      stimulus-done : firstApplying (stimulusChecks s stim) (Done (cycleCount s stim)) ≡ Done (cycleCount s stim)
       stimulus-done = sym (h .answered) ∙ e ∙ ap Done counted
 
       pub count-few : count ≤ 65535

@@ -16,7 +16,7 @@ use Rattle.records.specs.Words.{word, wordA}
 use Rattle.records.specs.TypeRecords.{typeAt, TypeRecord}
 use Rattle.records.proofs.Types.{few-leaves, some-leaves, leaves-of-bounds}
 use Rattle.records.proofs.TypeRecords.{input-type}
-use Rattle.answers.specs.Checks.{firstOf}
+use Rattle.answers.specs.Checks.{firstApplying}
 use Rattle.answers.specs.Lowest.{lowest}
 use Rattle.answers.specs.Searches.{found}
 use Rattle.answers.specs.declared.Found.{Found}

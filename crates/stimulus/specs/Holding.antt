@@ -3,12 +3,12 @@ use Prim.Native.Nat.{ℕ, _≤_, _<_}
 use mathlib.Core.Path.{_≡_}
 use mathlib.Core.List.{List}
 use Rattle.answers.specs.Answers.{code, place}
-use Rattle.answers.specs.Checks.{firstOf}
+use Rattle.answers.specs.Checks.{firstApplying}
 use Rattle.answers.specs.declared.Answer.{Answer}
 use Rattle.answers.specs.declared.Answer.the-variants.{Done}
 use Rattle.stimulus.specs.Stimulus.{cycleCount, stimulusChecks}
 
 pub record Held (s stim : List ℕ) (answer : Answer) : Type 0 where
-  pub answered : answer ≡ firstOf (stimulusChecks s stim) (Done (cycleCount s stim))
+  pub answered : answer ≡ firstApplying (stimulusChecks s stim) (Done (cycleCount s stim))
   pub numbered : code answer < 256
   pub small : place answer ≤ 65535

@@ -18,7 +18,7 @@ use Rattle.answers.specs.Lowest.{lowest}
 use Rattle.answers.specs.Promises.{LowestBreaking}
 use Rattle.answers.specs.declared.Answer.the-variants.{Done}
 use Rattle.answers.specs.Answers.{place}
-use Rattle.answers.specs.Checks.{firstOf}
+use Rattle.answers.specs.Checks.{firstApplying}
 use Rattle.structure.specs.Rules.{wrongLength, wrongHeader, wrongRecord, wrongNaming, wrongType, tooDeep}
 use Rattle.typing.specs.Judgements.{Judgement, holds, judgements}
 use Rattle.structure.specs.Passes.{Passes}
@@ -89,7 +89,7 @@ SaysExactly = (s : List ℕ) (v : Verdict) → verdict s ≡ v ↔ Says s v
 
 -- The verdict is the answer of the first check of a sheet that applies.
 abbrev pub VerdictFirst : Type 0
-VerdictFirst = (s : List ℕ) → verdictAnswer (verdict s) ≡ firstOf (sheetChecks s) (Done (outputType s))
+VerdictFirst = (s : List ℕ) → verdictAnswer (verdict s) ≡ firstApplying (sheetChecks s) (Done (outputType s))
 
 -- The place of a verdict is below 4,096, so below 2^32: code and place are read back from the one number that is returned
 -- (`TakenApart` of `answers`).

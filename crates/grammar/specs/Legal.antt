@@ -1,0 +1,44 @@
+-- Where a text leaves the grammar (request (a), code 13): "text outside the grammar, place: first byte at which no continuation is legal,
+-- 65,535 at the latest, the length if it ends early".
+use Prim.Native.Nat.{ℕ, suc, _≤_, _<_}
+use mathlib.Core.List.{List, _++_}
+use mathlib.Core.Option.{Option, none, some}
+use lib.ListN.{length, take}
+use Rattle.grammar.specs.Tokens.{Token, Tokens}
+use Rattle.grammar.specs.Source.{Text}
+use Rattle.grammar.specs.Grammar.{ReadsText}
+
+-- a reading of the bytes: their tokens and the abstract text
+pub record Reading (bytes : List ℕ) (tokens : List Token) (t : Text) : Type 0 where
+  pub lexed : Tokens 0 bytes tokens
+  pub parsed : ReadsText tokens t
+
+-- bytes in the grammar, whatever their number
+abbrev pub Legal : List ℕ → Type 0
+Legal bytes = (tokens : List Token) × (t : Text) × Reading bytes tokens t
+
+-- some continuation is legal
+abbrev pub Viable : List ℕ → Type 0
+Viable bytes = (more : List ℕ) × Legal (bytes ++ more)
+
+-- the most bytes that a text has
+abbrev pub limit : ℕ
+limit = 65535
+
+-- the places that code 13 tells: a byte after which no continuation is legal, where one was before it; the limit, where more bytes follow;
+-- the end of a text that could go on
+pub data Leaves : List ℕ → ℕ → Type 0 where
+  at-byte : {bytes : List ℕ} {i : ℕ}
+      → i < length bytes → i < limit → Viable (take i bytes) → (Viable (take (suc i) bytes) → ⊥) → Leaves bytes i
+  at-limit : {bytes : List ℕ} → limit < length bytes → Viable (take limit bytes) → Leaves bytes limit
+  at-end : {bytes : List ℕ} → length bytes ≤ limit → Viable bytes → (Legal bytes → ⊥) → Leaves bytes (length bytes)
+
+-- a text that keeps to the grammar: legal, and no longer than the limit
+pub record Keeps (bytes : List ℕ) : Type 0 where
+  pub legal : Legal bytes
+  pub short : length bytes ≤ limit
+
+-- what an answer says of a text: where it leaves the grammar, or that it keeps to it
+abbrev pub Told : List ℕ → Option ℕ → Type 0
+Told bytes none = Keeps bytes
+Told bytes (some i) = Leaves bytes i

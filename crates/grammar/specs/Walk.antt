@@ -1,0 +1,30 @@
+-- The first place at which the machine has no step, with the limit and the end of the text.
+use Prim.Native.Nat.{ℕ, suc}
+use mathlib.Core.Bool.{cond}
+use mathlib.Core.List.{List, [], _∷_}
+use mathlib.Core.Option.{Option, none, some}
+use lib.ListN.{length, take}
+use lib.Dec.{ltb}
+use Rattle.grammar.specs.Legal.{limit}
+use Rattle.grammar.specs.Machine.{Config, dead, live, onByte, ends, begins}
+
+pub data Outcome : Type 0 where
+  stopped : (place : ℕ) → Outcome
+  reached : Config → Outcome
+
+abbrev pub onward : (Config → Outcome) → Config → ℕ → Outcome
+onward further dead i = stopped i
+onward further (live q K w) i = further (live q K w)
+
+abbrev pub walk : List ℕ → ℕ → Config → Outcome
+walk [] i c = reached c
+walk (b ∷ bs) i dead = stopped i
+walk (b ∷ bs) i (live q K w) = onward (walk bs (suc i)) (onByte b q K w) i
+
+abbrev pub concluded : ℕ → Outcome → Option ℕ
+concluded n (stopped i) = some i
+concluded n (reached c) = cond (ltb limit n) (some limit) (cond (ends c) none (some n))
+
+-- the place that code 13 tells, or none
+unfoldable pub firstIllegal : List ℕ → Option ℕ
+firstIllegal text = concluded (length text) (walk (take limit text) 0 begins)

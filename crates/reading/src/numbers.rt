@@ -1,0 +1,30 @@
+// The numbers that the machine's states and classes have in the code.
+ghost use mathlib.Core.Path.{_≡_};
+
+// The state in which the text's expression is complete.
+pub const DONE: u8 = 16;
+
+// In the table of next states: go back to the state that waits.
+pub const BACK: u8 = 48;
+
+// The classes below this one are of bytes that a token begins with.
+pub const LEADS: u8 = 18;
+
+// The class of small letters; those of capitals follow it, up to 18.
+pub const SMALL_LETTER: u8 = 10;
+
+// The class of blanks.
+pub const BLANK: u8 = 19;
+
+// The most letters of a name.
+pub const LETTERS: u8 = 16;
+
+// The most bytes of a text.
+pub const LIMIT: usize = 65535;
+
+// A byte as an index.
+pub fn wide(b: u8) -> usize
+    ensures { λ r. ⌜ r ≡ b ⌝ }
+{
+    b as usize
+}
