@@ -1,10 +1,10 @@
-/* Sheets whose verdict was worked out by hand from document 01, and runs whose outputs were. */
+/* Sheets whose verdict was worked out by hand from docs/SHEETS.md, and runs whose outputs were. */
 #ifndef CASES_H
 #define CASES_H
 
 #include "draft.h"
 
-/* Sheet T of document 01. */
+/* Sheet T of docs/SHEETS.md. */
 enum { T_RECORDS = 17, T_BYTES = T_RECORDS * RECORD_BYTES };
 extern const uint16_t sheet_t[T_RECORDS][WORDS];
 
@@ -39,7 +39,7 @@ enum answer {
     DELAYED_IN_A_ROW
 };
 
-/* Sheets at a limit of document 01 and just past it, among them the deepest and the longest. */
+/* Sheets at a limit of docs/SHEETS.md and just past it, among them the deepest and the longest. */
 struct limit_case {
     const char *name;
     void (*build)(struct draft *draft, const struct limit_case *one);

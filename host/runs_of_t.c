@@ -17,7 +17,7 @@ static void write_t(void)
     draft_write(&draft, t);
 }
 
-/* T in one call: document 01's outputs, and the next sheet is T. */
+/* T in one call: docs/SHEETS.md's outputs, and the next sheet is T. */
 static void in_one_call(void)
 {
     static const uint8_t stim[] = {1, 2, 1}, out[] = {2, 1, 1};

@@ -24,7 +24,7 @@ struct written_run {
 };
 
 static const struct written_run runs[] = {
-    /* The bench cases of document 01. AND: (2,0) gives 2, (1,0) gives 0, (1,1) gives 1; no where either part says no. */
+    /* The bench cases of docs/SHEETS.md. AND: (2,0) gives 2, (1,0) gives 0, (1,1) gives 1; no where either part says no. */
     {"AND",
      12,
      {{1, 1, 2, 3, 12}, {16, 2, 2}, {17, 0, 1, 1}, {39, 0, 4, 8, 10, 5}, {33}, {50, 0, 6, 7}, {49, 0, 1, 1}, {49, 0, 1, 1},

@@ -1,5 +1,5 @@
--- The laws speak of some sheet: document 01's sheet T is accepted with type 1, by computation; so it passes codes 1 to 6, is well
--- typed, and its root is an expression of an accepted circuit.
+-- The laws speak of some sheet: the sheet T of docs/SHEETS.md is accepted with type 1, by computation; so it passes codes 1 to 6,
+-- is well typed, and its root is an expression of an accepted circuit.
 -- Assumes nothing.
 use Prim.Native.Nat.{ℕ, _*_, _%_, _/_}
 use mathlib.Core.List.{List, [], _∷_}

@@ -1,5 +1,5 @@
--- The promises speak of some call: document 01's sheet T on 1 2 1, with slices of the right lengths, is well formed, by computation;
--- so demand 3 holds of it, and its record 2 is a feedback.
+-- The promises speak of some call: the sheet T of docs/SHEETS.md on 1 2 1, with slices of the right lengths, is well formed, by
+-- computation; so demand 3 holds of it, and its record 2 is a feedback.
 -- Assumes nothing.
 use Prim.Native.Nat.{ℕ}
 use mathlib.Core.List.{List, [], _∷_}

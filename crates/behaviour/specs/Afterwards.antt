@@ -1,4 +1,4 @@
--- Demand 3 (document 01, "The words of demand 3"): what holds after a run of an accepted sheet on a well-formed stimulus with slices
+-- Demand 3 (docs/SHEETS.md, "After a run"): what holds after a run of an accepted sheet on a well-formed stimulus with slices
 -- of the right lengths, one claim about the whole list of cycles. It speaks of the number returned and of the final bytes of the
 -- output slice and the next slice, whatever they are; that the call returned 0 is concluded, not supposed.
 use Prim.Native.Nat.{ℕ, suc, _+_, _*_, _^_, _≤_, _<_}

@@ -1,6 +1,7 @@
--- The bench cases of document 01 that are marked P, on bytes: sheets run by the definition of the run, patterns of their records
+-- The bench cases (docs/SHEETS.md) that are marked P, on bytes: sheets run by the definition of the run, patterns of their records
 -- matched, and a feedback's chain from undefined; and a sheet on which the rule for an undecided IF tells, in a feedback too
--- (document 02, (e)). Bit has constructors 1 hi and 2 lo. A sheet is written by its words, six a record: kind, next, a, b, c, d.
+-- (docs/SHEETS.md, "One cycle"). Bit has constructors 1 hi and 2 lo. A sheet is written by its words, six a record: kind, next, a,
+-- b, c, d.
 use Prim.Native.Nat.{ℕ, zero, suc, _%_, _/_}
 use mathlib.Core.Path.{_≡_}
 use mathlib.Core.List.{List, [], _∷_, _++_}
@@ -176,7 +177,7 @@ itself =
     ∷ 33 ∷ 0 ∷ 0 ∷ 0 ∷ 0 ∷ 0
     ∷ [])
 
--- the sheet T (document 01, "Listing")
+-- the sheet T (docs/SHEETS.md, "Sheet T")
 abbrev pub toggle : List ℕ
 toggle =
     bytes
@@ -201,7 +202,7 @@ toggle =
 
 -- a feedback of a pair of bits whose defining part is an IF on its own first part, pattern 1, then (1,1), else (1,2); its body is an
 -- IF on the input, pattern 1, then a delay of the feedback, else the feedback. On input 0 both IFs are undecided at first, and
--- their branches agree in some leaves (document 02, (e))
+-- their branches agree in some leaves (docs/SHEETS.md, "One cycle")
 abbrev pub agreeing : List ℕ
 agreeing =
     bytes

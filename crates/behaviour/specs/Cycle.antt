@@ -1,4 +1,4 @@
--- One cycle on bytes (document 01, "One cycle", "The words of demand 3"): the value of a sheet's root for an input, and the sheet
+-- One cycle on bytes (docs/SHEETS.md, "One cycle", "After a run"): the value of a sheet's root for an input, and the sheet
 -- after the cycle, "that cycle's sheet with every delay holding its next value". What an undecided IF gives is a parameter;
 -- the rule in force is the instance.
 use Prim.Native.Nat.{ℕ}

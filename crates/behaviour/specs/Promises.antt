@@ -118,9 +118,9 @@ SheetRunOrdered =
     → AllBoth (typeAt s t) (outputsBy rule s inputs) (outputsBy other s′ inputs′)
     × SheetBelow (sheetAfter rule s inputs) (sheetAfter other s′ inputs′)
 
--- A late scanner (document 02, (c)): two well-formed calls on sheets in order, whose stimuli are of equal length and the first leaf by
--- leaf at or below the second. Every output leaf of the first is at or below that of the second, and so is each delay leaf of the
--- next sheets, which again differ in delay leaves alone. Any number of cycles, none included.
+-- A late scanner (docs/LANDINGS.md, (c)): two well-formed calls on sheets in order, whose stimuli are of equal length and the
+-- first leaf by leaf at or below the second. Every output leaf of the first is at or below that of the second, and so is each
+-- delay leaf of the next sheets, which again differ in delay leaves alone. Any number of cycles, none included.
 abbrev pub LateScanner : Type 0
 LateScanner =
     (s s′ stimulus stimulus′ outputs outputs′ next next′ : List ℕ)
@@ -136,8 +136,9 @@ LateInput = StrictlyBelow toggle toggle (0 ∷ 1 ∷ []) (1 ∷ 1 ∷ []) (2 ∷
 abbrev pub LateDelay : Type 0
 LateDelay = StrictlyBelow (holding 0) toggle (1 ∷ []) (1 ∷ []) (0 ∷ []) (2 ∷ []) (holding 0) (holding 1)
 
--- The earlier rule for an undecided IF, undefined in every leaf, stays as a definition (document 02, (e)): on every accepted sheet, over
--- any number of cycles of well-formed input, each output leaf and each delay leaf under it is at or below what the run gives.
+-- The earlier rule for an undecided IF, undefined in every leaf, stays as a definition (docs/LANDINGS.md, (e)): on every accepted
+-- sheet, over any number of cycles of well-formed input, each output leaf and each delay leaf under it is at or below what the run
+-- gives.
 abbrev pub EarlierBelow : Type 0
 EarlierBelow =
     (s : List ℕ) (t : ℕ) → verdict s ≡ Accepted t → (inputs : List (List ℕ)) → AllOf (inputType s) inputs

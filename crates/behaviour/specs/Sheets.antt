@@ -1,4 +1,4 @@
--- The sheet with other values in its delays (document 01, "The run": "The next slice receives the sheet with only delay leaves
+-- The sheet with other values in its delays (docs/SHEETS.md, "The run": "The next slice receives the sheet with only delay leaves
 -- rewritten"; "The values that delays hold are the words a of the leaf records in the chains that the delays' words b begin").
 -- Any term of the circuit's frame can be written, not only what comes after a cycle. A value is at most 255, so the word's
 -- second byte is 0.

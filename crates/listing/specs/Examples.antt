@@ -1,5 +1,5 @@
--- Worked examples, each by computation: document 01's listing of sheet T on the stimulus 1 2 1, a refusal, two cycles of two leaves,
--- and some numbers.
+-- Worked examples, each by computation: the listing of sheet T on 1 2 1 (docs/SHEETS.md, "Sheet T"), a refusal, two cycles of two
+-- leaves, and some numbers.
 use mathlib.Core.Path.{_≡_, refl}
 use mathlib.Core.List.{[], _∷_}
 use Rattle.listing.specs.Digits.{digits}

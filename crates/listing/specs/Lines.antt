@@ -1,6 +1,6 @@
--- The listing (document 01, "Listing"): `type` and the output type's record, one line per cycle (number from 0, colon, then a space
--- and a decimal number for each leaf), then `cycles` and their count. A refusal is `refused CODE at PLACE`. Every line ends with a
--- line feed, a refusal too. A text is the list of its bytes.
+-- The listing (docs/SHEETS.md, "Listing"): `type` and the output type's record, one line per cycle (number from 0, colon, then a
+-- space and a decimal number for each leaf), then `cycles` and their count. A refusal is `refused CODE at PLACE`. Every line ends
+-- with a line feed, a refusal too. A text is the list of its bytes.
 use Prim.Native.Nat.{ℕ, zero, suc, _/_}
 use Prim.Native.Char.{code}
 use Prim.Native.String as Quoted

@@ -1,4 +1,4 @@
--- The bench values of document 01 ("Bench cases", those marked P) that need no bytes, by computation: bit has constructors
+-- The bench values of docs/SHEETS.md ("Bench cases", those marked P) that need no bytes, by computation: bit has constructors
 -- 1 hi and 2 lo. The circuit T stands here as a term; its sheet is read elsewhere. It is well typed, so the promises speak of
 -- it, whatever pair types are declared.
 -- Assumes nothing.

@@ -86,7 +86,7 @@ module _
         : {w : List ℕ} → OfType σ w → application undecided ρ t w ≡ w → Both (bounds σ) (settled undecided ρ σ t) w
     feedback-least h p = chain-least (bounds σ) _ application-monotone (leaves σ) (undefined-below σ h) p
 
-    -- the count of document 01
+    -- the count of docs/SHEETS.md, "After a run"
     pub applications-most : applications undecided ρ σ t ≤ leaves σ
     applications-most = counted-most _ (leaves σ) (undefined σ)
 

@@ -1,4 +1,4 @@
--- Document 01's rule for an undecided IF, undefined in every leaf, is lawful, since undefined lies below every value and depends
+-- The earlier rule for an undecided IF, undefined in every leaf, is lawful, since undefined lies below every value and depends
 -- on the branches' lengths alone; and it is 000's rule on constants, through `flatten`.
 -- Assumes nothing.
 use Prim.Native.Nat.{ℕ, zero-le}

@@ -1,7 +1,7 @@
 -- The constants of 000 (§4.2.1: `const`, `typeOfConst`, `bottomOfConst`, `cle`, `glb`) and its matching (§3.3.1: `match`; §4.2.3: `bool3`,
 -- `and3`): the i-th constructor of a type, the 0-th undefined, or a pair. A type is named by its record; that a constructor
 -- is at most the type's count, which 000's constants do not know, is in `ConstantOf`. `flatten` leads to the leaves of
--- document 01. 000 uses `match` only on a chooser and a constant of one type; so the types' names are not compared here,
+-- docs/SHEETS.md. 000 uses `match` only on a chooser and a constant of one type; so the types' names are not compared here,
 -- and where a pair meets a constructor the answer, which no well-typed expression asks for, is `uu3`. Its `cle` and `glb`
 -- are partial, on constants of one type; where a pair meets a constructor they are here no order, and undefined.
 use Prim.Native.Nat.{ℕ, zero, suc, _≤_}
@@ -69,7 +69,7 @@ glb (CoTuple c₁ c₂) (CoTuple d₁ d₂) = CoTuple (glb c₁ d₁) (glb c₂ 
 pub data Bool3 : Type 0 where
   tt3 ff3 uu3 : Bool3
 
--- the answers of document 01 in 000's words
+-- the answers of docs/SHEETS.md in 000's words
 abbrev pub answer3 : Decision → Bool3
 answer3 Yes = tt3
 answer3 No = ff3

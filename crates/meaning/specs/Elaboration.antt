@@ -1,5 +1,5 @@
 -- Elaborated expressions: an expression of the language whose first and second parts say the type of the first part of what
--- they take apart, so that flat leaves can be cut (document 01: a value is its leaves; 000 cuts a pair by its constructor).
+-- they take apart, so that flat leaves can be cut (docs/SHEETS.md: a value is its leaves; 000 cuts a pair by its constructor).
 -- Erasure takes that type away again. The typing is that of the language (000, §3.3.2), one constructor a form; every
 -- well-typed expression has exactly one elaboration. `onDelays` says which parts of a delay may differ: its annotation, on
 -- which no meaning depends, and the value it holds, which alone changes from cycle to cycle.

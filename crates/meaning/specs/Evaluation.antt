@@ -1,6 +1,6 @@
--- One cycle (document 01, "One cycle"; 000, §4.2.3: `reduce`, `iterate`): the value of a term in an environment, and the term
+-- One cycle (docs/SHEETS.md, "One cycle"; 000, §4.2.3: `reduce`, `iterate`): the value of a term in an environment, and the term
 -- after the cycle. What an undecided IF gives is a parameter, a rule on the values of its two branches.
--- Document 01 calls a feedback's value the least one that its defining part gives back unchanged, and 000 applies the part
+-- docs/SHEETS.md calls a feedback's value the least one that its defining part gives back unchanged, and 000 applies the part
 -- until nothing changes. Here it is the part applied as often as the type has leaves, from undefined: that the three are
 -- one is proved. A name without a value, which no well-typed term has, has no leaves.
 use Prim.Native.Nat.{ℕ, zero, suc}

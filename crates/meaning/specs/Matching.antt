@@ -1,4 +1,4 @@
--- Matching (document 01, "One cycle": "A match is yes, no or undecided"; 000, §4.2.3: `match`), on leaves. A pair pattern cuts
+-- Matching (docs/SHEETS.md, "One cycle": "A match is yes, no or undecided"; 000, §4.2.3: `match`), on leaves. A pair pattern cuts
 -- the leaves at the width of its first part, which the pattern itself has: on a value of its type that is where the first
 -- part's leaves end. All alternatives of a chain have one width; the first gives it. Without leaves a constructor pattern
 -- is undecided.

@@ -1,8 +1,8 @@
 -- What an undecided IF gives: a rule on the values of its two branches, a parameter of everything else. `undecidedRule` names the
--- rule in force; every evaluation of a sheet goes by it, and nothing above this crate says which it is. It is that of document 02
--- (e) and 000's alternative (§4.3.3: `reduceGlb`): each leaf on which both branches agree, and 0 elsewhere. The earlier rule,
--- of document 01 ("One cycle") and 000 (§4.2.3: `reduce`), undefined in every leaf, stays as a definition. `Lawful` is what is
--- asked of a rule: it is monotone, and gives nothing that either branch does not give. It then keeps types: a value is of a
+-- rule in force; every evaluation of a sheet goes by it, and nothing above this crate says which it is. It is that of
+-- docs/SHEETS.md ("One cycle") and 000's alternative (§4.3.3: `reduceGlb`): each leaf on which both branches agree, and 0
+-- elsewhere. The earlier rule, that of 000's `reduce` (§4.2.3), undefined in every leaf, stays as a definition. `Lawful` is what
+-- is asked of a rule: it is monotone, and gives nothing that either branch does not give. It then keeps types: a value is of a
 -- type when it is below itself. A rule on leaves has a counterpart on 000's constants, and the two agree through `flatten`.
 use Prim.Native.Nat.{ℕ}
 use mathlib.Core.Path.{_≡_}

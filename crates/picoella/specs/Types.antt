@@ -1,4 +1,4 @@
--- Types of picoELLA (000, §4.2.1: `tpe`), with what document 01 adds: a flat type carries its record's number and the number
+-- Types of picoELLA (000, §4.2.1: `tpe`), with what docs/SHEETS.md adds: a flat type carries its record's number and the number
 -- of its constructors. Two flat types are the same only as the same record, so equality of trees is that of records: no two
 -- pair types of a sheet have the same two parts.
 use Prim.Native.Nat.{ℕ, _+_, _≤_}

@@ -1,5 +1,5 @@
--- Two sheets with the expression that each says, found by hand from document 01: its sheet T, and one that has each form that T has
--- not. That they decode so is shown where decoding is defined, `Decoding`.
+-- Two sheets with the expression that each says, found by hand from docs/SHEETS.md: its sheet T, and one that has each form that T
+-- has not. That they decode so is shown where decoding is defined, `Decoding`.
 use mathlib.Core.List.{List, [], _∷_}
 use Rattle.picoella.specs.Types.{Ty, Flat, TyTuple}
 use Rattle.picoella.specs.Patterns.{Whole, Constructor, Parts, Bar}

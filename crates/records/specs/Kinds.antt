@@ -1,4 +1,4 @@
--- The table of kinds (document 01, "The sheet"), once: each kind's number, what it is, and what its words next, a, b, c and d
+-- The table of kinds (docs/SHEETS.md, "Records"), once: each kind's number, what it is, and what its words next, a, b, c and d
 -- ask. The kinds are grouped by sort. A number that no row has is an unknown kind, whose words nothing meets.
 use Prim.Native.Nat.{ℕ, _+_}
 use mathlib.Core.Bool.{Bool, true, false, cond}

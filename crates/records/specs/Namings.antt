@@ -1,6 +1,6 @@
--- Which words name a record (document 01: "Every record but 0 is named exactly once; type words that aren't next do not count
--- as naming"). A naming is the record and the word that names. The rule that a record is named once is a predicate on the list of its
--- namings.
+-- Which words name a record (docs/SHEETS.md, "Numbering and naming": "Every record but 0 is named exactly once; type words that
+-- aren't next do not count as naming"). A naming is the record and the word that names. The rule that a record is named once is a
+-- predicate on the list of its namings.
 use Prim.Native.Nat.{ℕ, zero, suc}
 use mathlib.Core.Bool.{Bool, true, false, cond, _&&_}
 use mathlib.Core.List.{List, [], _∷_, _++_}

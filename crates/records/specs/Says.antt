@@ -1,7 +1,7 @@
--- What a record says (document 01, "The sheet"): its kind, and for each word whether the number in it is what the table asks.
--- "Outside the header a type word names a type record with a lower number; each other named record, and every next that isn't
--- zero, has a higher number than the record naming it. A named record is of the sort its word asks for; a number at or past
--- the count names no record."
+-- What a record says (docs/SHEETS.md, "Numbering and naming"): its kind, and for each word whether the number in it is what the
+-- table asks. "Outside the header a type word names a type record with a lower number; each other named record, and every next
+-- that isn't zero, has a higher number than the record naming it. A named record is of the sort its word asks for; a number at or
+-- past the count names no record."
 use Prim.Native.Nat.{ℕ}
 use mathlib.Core.Bool.{Bool, true, false, cond, _&&_, _||_}
 use mathlib.Core.List.{List}

@@ -1,4 +1,4 @@
--- Bytes, words and records (document 01, "The sheet"): a record is 12 bytes, six words of 16 bits, low byte first. Past the
+-- Bytes, words and records (docs/SHEETS.md, "The sheet"): a record is 12 bytes, six words of 16 bits, low byte first. Past the
 -- end of the bytes a byte reads as 0. Record 0 is the header.
 use Prim.Native.Nat.{ℕ, _+_, _*_, _/_}
 use mathlib.Core.List.{List}

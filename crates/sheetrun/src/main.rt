@@ -1,4 +1,4 @@
-// Runs sheet.bin on stim.bin: prints the listing and writes next.bin, or prints only the refusal (document 01, "Listing").
+// Runs sheet.bin on stim.bin: prints the listing and writes next.bin, or prints only the refusal (docs/SHEETS.md, "Listing").
 ghost use Prim.Native.Nat.{_+_, _≤_, _<_};
 ghost use mathlib.Core.Path.{_≡_};
 ghost use lib.ListN.{length};

@@ -1,7 +1,7 @@
 -- What the functions of the run are called with is not contradictory: for every well-formed call of one cycle or more there are a table, names' bytes and
 -- a table of delay values with which its run, its first cycle, its root and the leaves that it copies meet what they ask; so at
--- document 01's sheet T on 1 2 1, where the root is a feedback that is ready to be settled, record 4 a chain of leaves, and record 7
--- a pattern that a value is matched against.
+-- the sheet T of docs/SHEETS.md on 1 2 1, where the root is a feedback that is ready to be settled, record 4 a chain of leaves,
+-- and record 7 a pattern that a value is matched against.
 -- Assumes nothing.
 use Prim.Native.Nat.{ℕ, zero, suc, _-_, _*_, _<_}
 use mathlib.Core.List.{List, [], _∷_}

@@ -1,5 +1,5 @@
--- The stimulus (document 01, "The run" and "The words of demand 3"): its bytes taken in pieces of the input type's leaves, and when
--- the run refuses it. Code 8: a stimulus over 65,535 bytes, or not whole cycles; code 9: "byte above its leaf's
+-- The stimulus (docs/SHEETS.md, "The run", "Codes" and "After a run"): its bytes taken in pieces of the input type's leaves, and
+-- when the run refuses it. Code 8: over 65,535 bytes, or not whole cycles; code 9: "byte above its leaf's
 -- constructor count", at the first such byte, from 0.
 use Prim.Native.Nat.{ℕ, zero, suc, _%_, _/_}
 use mathlib.Core.Bool.{Bool, not, _||_}

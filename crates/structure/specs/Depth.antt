@@ -1,6 +1,6 @@
--- How deep an expression lies, and in how many feedbacks' defining parts (document 01: "An expression may lie at most 64 deep,
--- the root being at depth 1 .. No expression lies in the defining parts of more than three feedbacks"). Both are read off the
--- namings that lead from a record up to the header. A record that names is lower than the one it names, so as many steps as
+-- How deep an expression lies, and in how many feedbacks' defining parts (docs/SHEETS.md, "Limits": "An expression may lie at most
+-- 64 deep, the root being at depth 1 .. No expression lies in the defining parts of more than three feedbacks"). Both are read off
+-- the namings that lead from a record up to the header. A record that names is lower than the one it names, so as many steps as
 -- the record's number are enough.
 use Prim.Native.Nat.{ℕ, zero, suc}
 use mathlib.Core.Bool.{Bool, true, false, cond, _&&_}

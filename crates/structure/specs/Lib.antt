@@ -1,4 +1,4 @@
--- The rules on records: what codes 1 to 6 of document 01 say, and when none of them applies.
+-- The rules on records: what codes 1 to 6 say (docs/SHEETS.md, "Codes"), and when none of them applies.
 pub mod Depth
 pub mod Rules
 pub mod Passes

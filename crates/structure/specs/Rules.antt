@@ -1,4 +1,4 @@
--- When a byte string or a record of it breaks the rule of each of the codes 1 to 6 (document 01, the table under "The run").
+-- When a byte string or a record of it breaks the rule of each of the codes 1 to 6 (docs/SHEETS.md, "Codes").
 use Prim.Native.Nat.{ℕ, _%_}
 use mathlib.Core.Bool.{Bool, not, _&&_, _||_}
 use mathlib.Core.List.{List}

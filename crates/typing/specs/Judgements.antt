@@ -1,5 +1,5 @@
--- The type rules (document 01, "Type rules") as a list of judgements in document 01's order: parts a, b, c, then the whole; an
--- IF's pattern after a, reported at the IF. A judgement is a rule and the record at which it is reported. Types are type
+-- The type rules (docs/SHEETS.md, "Type rules") as a list of judgements in the order of code 7 ("Codes"): parts a, b, c, then the
+-- whole; an IF's pattern after a, reported at the IF. A judgement is a rule and the record at which it is reported. Types are type
 -- records, and the same only as the same record; 0 stands for none, and comes only after a judgement that fails.
 use Prim.Native.Nat.{ℕ, zero, suc}
 use mathlib.Core.Bool.{Bool, true, false, cond, _&&_}

@@ -54,8 +54,8 @@ conclude (some r) t = Fault r
 unfoldable pub judged : List ℕ → List ℕ → Tree → Outcome
 judged s Γ e = conclude (firstFailing s (judgements s Γ e)) (typeRecordOf s Γ e)
 
--- the circuit of a sheet, where the input is the only name; in every row of the table for code 7 it has the outcome that document
--- 01 gives it
+-- the circuit of a sheet, where the input is the only name; in every row of the table for code 7 it has the outcome that
+-- docs/SHEETS.md gives it
 abbrev pub circuitJudged : List ℕ → Outcome
 circuitJudged s = judged s (wordA s 0 ∷ []) (circuit s)
 

@@ -1,4 +1,4 @@
--- The type rules of document 01 on expressions: its judgements in their order, and what judging an expression gives.
+-- The type rules (docs/SHEETS.md) on expressions: the judgements in their order, and what judging an expression gives.
 pub mod Judgements
 pub mod Rows
 pub mod NameRows

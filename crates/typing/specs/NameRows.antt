@@ -1,6 +1,6 @@
--- Code 7, names and leaves (document 01: "The input is the outermost name. A LET adds a name for its body; a feedback adds
--- one of its type for both parts. A name's number is below the count of names in scope. A constant or delay has as many
--- leaves as its type, each no greater than its flat type's count; 0 is undefined").
+-- Code 7, names and leaves (docs/SHEETS.md, "Type rules": "The input is the outermost name. A LET adds a name for its body; a
+-- feedback adds one of its type for both parts. A name's number is below the count of names in scope. A constant or delay has as
+-- many leaves as its type, each no greater than its flat type's count; 0 is undefined").
 use mathlib.Core.List.{List, [], _∷_}
 use Rattle.records.specs.SheetOf.{words}
 use Rattle.typing.specs.declared.Outcome.the-variants.{Sound, Fault}

@@ -1,5 +1,5 @@
--- Code 7, the order (document 01: "first such record, parts before whole" and "parts go in the order a, b, c; an IF's pattern
--- is judged after a and reported at the IF"): each sheet breaks two rules, the one that is judged later at a lower record
+-- Code 7, the order (docs/SHEETS.md, "Codes": "first such record, parts before whole" and "parts go in the order a, b, c; an IF's
+-- pattern is judged after a and reported at the IF"): each sheet breaks two rules, the one that is judged later at a lower record
 -- where it can be.
 use mathlib.Core.List.{List, [], _∷_}
 use Rattle.records.specs.SheetOf.{words}

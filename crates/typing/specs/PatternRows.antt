@@ -1,4 +1,5 @@
--- Code 7, patterns (document 01: "each alternative of its pattern has the tested type, pair patterns part by part").
+-- Code 7, patterns (docs/SHEETS.md, "Type rules": "each alternative of its pattern has the tested type, pair patterns part by
+-- part").
 use mathlib.Core.List.{List, [], _∷_}
 use Rattle.records.specs.SheetOf.{words}
 use Rattle.typing.specs.declared.Outcome.the-variants.{Sound, Fault}

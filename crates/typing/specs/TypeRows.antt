@@ -1,6 +1,6 @@
--- Code 7, types (document 01: "First and second part need a pair type; a pair needs a pair record of exactly those two types.
--- A feedback's defining part has its named type, a delay's part likewise. An IF's two branches have one type; (..) A type is
--- the same only as the same record").
+-- Code 7, types (docs/SHEETS.md, "Type rules": "First and second part need a pair type; a pair needs a pair record of exactly
+-- those two types. A feedback's defining part has its named type, a delay's part likewise. An IF's two branches have one type;
+-- (..) A type is the same only as the same record").
 use mathlib.Core.List.{List, [], _∷_}
 use Rattle.records.specs.SheetOf.{words}
 use Rattle.typing.specs.declared.Outcome.the-variants.{Sound, Fault}

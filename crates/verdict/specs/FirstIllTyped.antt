@@ -1,5 +1,5 @@
--- Where code 7 is reported, in the terms of the typing relation alone (document 01: "first such record, parts before whole" and
--- "parts go in the order a, b, c; an IF's pattern is judged after a and reported at the IF").
+-- Where code 7 is reported, in the terms of the typing relation alone (docs/SHEETS.md, "Codes": "first such record, parts before
+-- whole" and "parts go in the order a, b, c; an IF's pattern is judged after a and reported at the IF").
 use Prim.Native.Nat.{ℕ, _<_}
 use mathlib.Core.Path.{_≡_}
 use mathlib.Core.List.{List, _∷_, map}

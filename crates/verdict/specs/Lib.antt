@@ -1,4 +1,4 @@
--- The check of document 01: the verdict on a byte string, what it promises, and the table of an accepted sheet.
+-- The check (docs/SHEETS.md): the verdict on a byte string, what it promises, and the table of an accepted sheet.
 pub mod Stages
 pub mod Verdict
 pub mod Scopes

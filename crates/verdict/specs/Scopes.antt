@@ -1,5 +1,6 @@
--- Which names are in scope at an expression of the circuit (document 01: "The input is the outermost name. A LET adds a name for
--- its body; a feedback adds one of its type for both parts"). A scope lists the names' type records, the innermost first.
+-- Which names are in scope at an expression of the circuit (docs/SHEETS.md, "Type rules": "The input is the outermost name. A LET
+-- adds a name for its body; a feedback adds one of its type for both parts"). A scope lists the names' type records, the innermost
+-- first.
 use Prim.Native.Nat.{ℕ}
 use mathlib.Core.Path.{_≡_}
 use mathlib.Core.List.{List, _∷_}

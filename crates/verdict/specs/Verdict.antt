@@ -1,4 +1,4 @@
--- The verdict on a byte string (document 01, the table under "The run", codes 0 to 7): the lowest code that applies, with its
+-- The verdict on a byte string (docs/SHEETS.md, "Codes", 0 to 7): the lowest code that applies, with its
 -- place; and the numbers that stand for a verdict.
 use Prim.Native.Nat.{ℕ}
 use mathlib.Core.Path.{_≡_}
@@ -28,7 +28,7 @@ use Rattle.verdict.specs.declared.Verdict.the-variants.{
   IllTyped,
 }
 
--- document 01's number and place for each case
+-- the number and the place of each case
 abbrev pub verdictAnswer : Verdict → Answer
 verdictAnswer (Accepted t) = Done t
 verdictAnswer WrongLength = Refused 1 0

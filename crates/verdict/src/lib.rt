@@ -50,7 +50,7 @@ use typing::Outcome;
 use typing::input_scope;
 use typing::judge;
 
-// The answer of the check. `specs/Verdict.antt` gives document 01's number and place for each case.
+// The answer of the check. `specs/Verdict.antt` gives the number and the place of each case (docs/SHEETS.md, "Codes").
 pub enum Verdict {
     // The output type's record.
     Accepted(usize),

@@ -1,4 +1,4 @@
--- Accepted sheets that no other file has: the smallest, document 01's sheet T, and one whose input type is a high record.
+-- Accepted sheets that no other file has: the smallest, the sheet T of docs/SHEETS.md, and one whose input type is a high record.
 use mathlib.Core.List.{List, [], _∷_}
 use Rattle.records.specs.SheetOf.{words}
 use Rattle.verdict.specs.declared.Verdict.the-variants.{Accepted}

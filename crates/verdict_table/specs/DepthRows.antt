@@ -1,5 +1,5 @@
--- Code 6 (document 01: "An expression may lie at most 64 deep, the root being at depth 1; patterns and leaves don't count. No
--- expression lies in the defining parts of more than three feedbacks").
+-- Code 6 (docs/SHEETS.md, "Limits": "An expression may lie at most 64 deep, the root being at depth 1; patterns and leaves don't
+-- count. No expression lies in the defining parts of more than three feedbacks").
 use Prim.Native.Nat.{ℕ, zero, suc, _+_}
 use mathlib.Core.List.{List, [], _∷_}
 use Rattle.records.specs.SheetOf.{Record, words}

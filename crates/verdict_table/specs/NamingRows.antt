@@ -1,4 +1,5 @@
--- Code 4 (document 01: "Every record but 0 is named exactly once; type words that aren't next do not count as naming").
+-- Code 4 (docs/SHEETS.md, "Numbering and naming": "Every record but 0 is named exactly once; type words that aren't next do not
+-- count as naming").
 use mathlib.Core.List.{List, [], _∷_}
 use Rattle.records.specs.SheetOf.{words}
 use Rattle.verdict.specs.declared.Verdict.the-variants.{Accepted, WrongNaming}

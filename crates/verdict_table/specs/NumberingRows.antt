@@ -1,6 +1,6 @@
--- Code 3, the numbering rule and the sorts (document 01: "Outside the header a type word names a type record with a lower
--- number; each other named record, and every next that isn't zero, has a higher number than the record naming it. A named
--- record is of the sort its word asks for (..); a number at or past the count names no record and breaks the numbering
+-- Code 3, the numbering rule and the sorts (docs/SHEETS.md, "Numbering and naming": "Outside the header a type word names a type
+-- record with a lower number; each other named record, and every next that isn't zero, has a higher number than the record naming
+-- it. A named record is of the sort its word asks for (..); a number at or past the count names no record and breaks the numbering
 -- rule").
 use mathlib.Core.List.{List, [], _∷_}
 use Rattle.records.specs.SheetOf.{words}

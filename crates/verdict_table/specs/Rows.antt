@@ -1,6 +1,6 @@
--- The table of verdicts: sheets with the verdict that document 01 gives each of them. Each row that is refused breaks one rule, which
--- its name says, or shows which of two goes first; beside it stand sheets that just pass. The rows for code 7 stand in `typing`,
--- beside the rules that they try.
+-- The table of verdicts: sheets with the verdict that docs/SHEETS.md gives each of them. Each row that is refused breaks one rule,
+-- which its name says, or shows which of two goes first; beside it stand sheets that just pass. The rows for code 7 stand in
+-- `typing`, beside the rules that they try.
 use Prim.Native.Nat.{ℕ}
 use Prim.Native.String.{String}
 use mathlib.Core.Path.{_≡_}

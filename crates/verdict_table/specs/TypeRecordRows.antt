@@ -1,4 +1,4 @@
--- Code 5 (document 01: "No two pair types have the same two parts in the same order. A flat type has one leaf, a pair type
+-- Code 5 (docs/SHEETS.md: "No two pair types have the same two parts in the same order. A flat type has one leaf, a pair type
 -- the leaves of its first part and then its second; at most 64").
 use mathlib.Core.List.{List, [], _∷_}
 use Rattle.records.specs.SheetOf.{words}

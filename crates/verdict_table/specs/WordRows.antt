@@ -1,5 +1,5 @@
--- Code 3 (document 01: "unknown kind, kind 1, or a word against the table"): the kind, words that a kind does not mention,
--- and numbers out of the table's bounds.
+-- Code 3 (docs/SHEETS.md, "Codes": "unknown kind, kind 1, or a word against the table"): the kind, words that a kind does not
+-- mention, and numbers out of the table's bounds.
 use mathlib.Core.List.{List, [], _∷_}
 use Rattle.records.specs.SheetOf.{words}
 use Rattle.verdict.specs.declared.Verdict.the-variants.{Accepted, WrongRecord}
