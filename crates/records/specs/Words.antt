@@ -8,9 +8,13 @@ use lib.ListN.{length, getD}
 unfoldable pub count : List ℕ → ℕ
 count s = length s / 12
 
+-- where word k of record r begins: 12 times the record's number, plus the word's offset
+abbrev pub offset : ℕ → ℕ → ℕ
+offset r k = 12 * r + 2 * k
+
 -- word k of record r: 0 is the kind, 1 next, 2 to 5 the words a, b, c, d
 unfoldable pub word : List ℕ → ℕ → ℕ → ℕ
-word s r k = getD s (12 * r + 2 * k) 0 + 256 * getD s (12 * r + 2 * k + 1) 0
+word s r k = getD s (offset r k) 0 + 256 * getD s (offset r k + 1) 0
 
 abbrev pub kindWord : List ℕ → ℕ → ℕ
 kindWord s r = word s r 0

@@ -8,6 +8,8 @@ pub use kinds::ask_number;
 pub use kinds::asks;
 pub use kinds::sort_number;
 pub use says::well_said;
+pub use words::offset;
+pub use words::records_in;
 pub use words::word;
 
 // The sheet: records of 12 bytes, each six words.

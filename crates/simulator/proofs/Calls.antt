@@ -159,11 +159,11 @@ call-refused s stim out next b w e o result q =
     (rw (q, r .2) (gives-refusal s stim out next (r .0) (r .1) (refused-by-verdict s stim out next (r .0) (r .1) f)))
 
 -- and one that does not
-pub accepted-call : (s : List ℕ) (w : Verdict) (before table : List ℕ) (t : ℕ) → Checked s w before table → w ≡ Verdicts.Accepted t
-    → RunningAccepted s (length s / 12) table t
-accepted-call s w before table t l e =
+pub accepted-call : (s : List ℕ) (n : ℕ) → n ≡ length s / 12 → (w : Verdict) (before table : List ℕ) (t : ℕ)
+    → Checked s w before table → w ≡ Verdicts.Accepted t → RunningAccepted s n table t
+accepted-call s n c w before table t l e =
     let v : verdict s ≡ Verdicts.Accepted t = sym (l .answered) ∙ e in
-    record { sized = accepted-sized s t v; accepted = v; table = l .accepted (rw e refl) }
+    record { sized = rw c (accepted-sized s t v); accepted = v; table = l .accepted (rw e refl) }
 
 -- the leaves that a host asks for
 pub measured-refused : (s : List ℕ) (w : Verdict) → w ≡ verdict s → OneOf (1 ∷ 2 ∷ 3 ∷ 4 ∷ 5 ∷ 6 ∷ 7 ∷ []) (tagOf Verdict-type.the-type w) → Measured s 0 0

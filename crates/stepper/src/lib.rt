@@ -9,17 +9,15 @@ ghost use Rattle.behaviour.specs.Copies.{copied, leavesOf, delayChains};
 ghost use Rattle.stepper.specs.Cycling.{Copying, Cycling, Looked, Cycled};
 use evaluator::eval;
 use records::KIND_DELAY;
-use records::RECORD_BYTES;
+use records::WORD_A;
 use records::WORD_B;
 use records::WORD_KIND;
 use records::WORD_NEXT;
 use records::Widths;
+use records::offset;
 use records::word;
 use values::NextValues;
 use values::enter_value;
-
-// Where a leaf's value begins in its record: word a.
-const VALUE_AT: usize = 4;
 
 // Copies a table's entries to the leaves from `first`: word a, low byte first.
 fn copy_chain(sheet: &[u8], n: usize, first: usize, held: &NextValues, current: &mut [u8])
@@ -28,7 +26,7 @@ fn copy_chain(sheet: &[u8], n: usize, first: usize, held: &NextValues, current: 
 {
     let mut leaf = first;
     while leaf != 0 {
-        let at = RECORD_BYTES * leaf + VALUE_AT;
+        let at = offset(leaf, WORD_A);
         current[at] = held[leaf];
         current[at + 1] = 0;
         leaf = word(sheet, n, leaf, WORD_NEXT);

@@ -1,6 +1,6 @@
 // The check: whether a sheet is accepted, and with which type, or the number and the place of its first fault.
 ghost use mathlib.Core.Path.{_≡_};
-ghost use Prim.Native.Nat.{_+_, _<_};
+ghost use Prim.Native.Nat.{_+_, _/_, _<_};
 ghost use lib.ListN.{length};
 ghost use Rattle.records.specs.Sized.{Sized};
 ghost use Rattle.records.specs.Namings.{namings};
@@ -33,6 +33,7 @@ use records::WORD_A;
 use records::WORD_B;
 use records::WORD_KIND;
 use records::Widths;
+use records::records_in;
 use records::word;
 use structure::capped_sum;
 use structure::count_types;
@@ -206,8 +207,9 @@ pub fn no_widths() -> Widths
     [0; 4096]
 }
 
-// The check, with the leaf counts of the types of expressions, patterns and types for an accepted sheet.
-pub fn check_into(sheet: &[u8], table: &mut Widths) -> Verdict
+// The check of a sheet of n records, with the leaf counts of the types of expressions, patterns and types for an accepted sheet.
+pub fn check_into(sheet: &[u8], n: usize, table: &mut Widths) -> Verdict
+    requires { ⌜ n ≡ length (now sheet) / 12 ⌝ }
     ensures { λ r. ⌜ Checked (now (sheet .entry)) r (now (table .entry)) (now (table .exit)) ⌝ }
 {
     let len = sheet.len();
@@ -217,7 +219,6 @@ pub fn check_into(sheet: &[u8], table: &mut Widths) -> Verdict
     if SHEET_BYTES < len {
         return Verdict::WrongLength;
     }
-    let n = len / RECORD_BYTES;
     if RECORD_BYTES * n != len {
         return Verdict::WrongLength;
     }
@@ -253,6 +254,6 @@ pub fn check(sheet: &[u8]) -> u64
     ensures { λ r. ⌜ r ≡ packed (verdictAnswer (verdict (now (sheet .entry)))) ⌝ }
 {
     let mut table = no_widths();
-    let answer = check_into(sheet, &mut table);
+    let answer = check_into(sheet, records_in(sheet.len()), &mut table);
     packed_verdict(answer)
 }

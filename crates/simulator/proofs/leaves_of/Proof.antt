@@ -7,6 +7,9 @@ use borrow.Author.Needs.{needs}
 use Rattle.simulator.proofs.leaves_of.Statement.{statement}
 use Rattle.simulator.proofs.leaves_of.Tie as tie
 
+records-in-requires : tie.Need-records-in-requires
+records-in-requires c κs = search needs
+
 no-widths-requires : tie.Need-no-widths-requires
 no-widths-requires c κs = search needs
 
@@ -20,34 +23,35 @@ returns : tie.Need-returns
 returns c = measured-refused _ (c .before .check-into .result) (c .before .check-into .ensures .answered) (c .match .keys2)
 
 word-requires : tie.Need-word-requires
-word-requires c κs = let g = accepted-call _ _ _ _ _ (c .before .before .before .check-into .ensures) (c .before .verdict .given .1) in (g .sized, g .sized .some, omega arith)
+word-requires c κs = let g = accepted-call _ _ (c .before .before .before .before .before .before .records-in .ensures) _ _ _ _ (c .before .before .before .check-into .ensures) (c .before .verdict .given .1) in (g .sized, g .sized .some, omega arith)
 
 array-read-t12 : tie.Need-array-read-t12
-array-read-t12 c = input-there (call-accepting (accepted-call _ _ _ _ _ (c .before .before .before .before .check-into .ensures) (c .before .before .verdict .given .1))) (c .word .ensures .0)
+array-read-t12 c = input-there (call-accepting (accepted-call _ _ (c .before .before .before .before .before .before .before .records-in .ensures) _ _ _ _ (c .before .before .before .before .check-into .ensures) (c .before .before .verdict .given .1))) (c .word .ensures .0)
 
-cast-t9 : tie.Need-cast-t9
-cast-t9 c = let f = input-few (call-accepting (accepted-call _ _ _ _ _ (c .before .before .before .before .check-into .ensures) (c .before .before .verdict .given .1))) (c .word .ensures .0) in omega arith
+cast-t7 : tie.Need-cast-t7
+cast-t7 c = let f = input-few (call-accepting (accepted-call _ _ (c .before .before .before .before .before .before .before .records-in .ensures) _ _ _ _ (c .before .before .before .before .check-into .ensures) (c .before .before .verdict .given .1))) (c .word .ensures .0) in omega arith
 
 array-read-t15 : tie.Need-array-read-t15
-array-read-t15 c = output-there (accepted-call _ _ _ _ _ (c .before .before .before .before .check-into .ensures) (c .before .before .verdict .given .1))
+array-read-t15 c = output-there (accepted-call _ _ (c .before .before .before .before .before .before .before .records-in .ensures) _ _ _ _ (c .before .before .before .before .check-into .ensures) (c .before .before .verdict .given .1))
 
 cast-t16 : tie.Need-cast-t16
-cast-t16 c = let f = output-few (accepted-call _ _ _ _ _ (c .before .before .before .before .check-into .ensures) (c .before .before .verdict .given .1)) in omega arith
+cast-t16 c = let f = output-few (accepted-call _ _ (c .before .before .before .before .before .before .before .records-in .ensures) _ _ _ _ (c .before .before .before .before .check-into .ensures) (c .before .before .verdict .given .1)) in omega arith
 
 returns-2 : tie.Need-returns-2
-returns-2 c = measured-accepted (accepted-call _ _ _ _ _ (c .before .before .before .before .check-into .ensures) (c .before .before .verdict .given .1)) (c .word .ensures .0)
+returns-2 c = measured-accepted (accepted-call _ _ (c .before .before .before .before .before .before .before .records-in .ensures) _ _ _ _ (c .before .before .before .before .check-into .ensures) (c .before .before .verdict .given .1)) (c .word .ensures .0)
 
 pub leaves-of-spec : {M : Type 1} → statement M
 leaves-of-spec =
     tie.close
     (tie.spec
+    records-in-requires
     no-widths-requires
     check-into-requires
     enum-known-verdict
     returns
     word-requires
     array-read-t12
-    cast-t9
+    cast-t7
     array-read-t15
     cast-t16
     returns-2)

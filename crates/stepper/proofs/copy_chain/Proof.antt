@@ -16,32 +16,29 @@ abbrev μ-loop : tie.MeasureT-loop
 loop-holds : tie.Need-loop-holds Inv-loop μ-loop
 loop-holds c = λ g. all-left _ _ _ _ g _ (c .before .before .pre .1) (c .before .before .pre .2)
 
-mul-at : tie.Need-mul-at Inv-loop μ-loop
-mul-at c = let h = leaf-there _ _ _ _ (c .before .before .before .before .pre .0) _ _ _ (c .before .loop .inv (c .before .before .before .before .pre .0)) (c .loop-test .taken) in let f = c .before .before .before .before .pre .0 .sized .few in omega arith
-
-add-at : tie.Need-add-at Inv-loop μ-loop
-add-at c = let h = leaf-there _ _ _ _ (c .before .before .before .before .pre .0) _ _ _ (c .before .loop .inv (c .before .before .before .before .pre .0)) (c .loop-test .taken) in let f = c .before .before .before .before .pre .0 .sized .few in omega arith
+offset-requires : tie.Need-offset-requires Inv-loop μ-loop
+offset-requires c κs = let h = leaf-there _ _ _ _ (c .before .before .before .before .pre .0) _ _ _ (c .before .loop .inv (c .before .before .before .before .pre .0)) (c .loop-test .taken) in let f = c .before .before .before .before .pre .0 .sized .few in (omega arith, omega arith)
 
 element-copy-out-current : tie.Need-element-copy-out-current Inv-loop μ-loop
-element-copy-out-current c = let h = leaf-there _ _ _ _ (c .before .before .before .before .pre .0) _ _ _ (c .before .loop .inv (c .before .before .before .before .pre .0)) (c .loop-test .taken) in let f = c .before .before .before .before .pre .0 .sized .few in omega arith
+element-copy-out-current c = let h = leaf-there _ _ _ _ (c .before .before .before .before .before .pre .0) _ _ _ (c .before .before .loop .inv (c .before .before .before .before .before .pre .0)) (c .before .loop-test .taken) in let f = c .before .before .before .before .before .pre .0 .sized .few in omega arith
 
 slice-write-current : tie.Need-slice-write-current Inv-loop μ-loop
-slice-write-current c = let h = leaf-bytes _ _ _ _ (c .before .before .before .before .before .pre .0) _ _ _ (c .before .before .loop .inv (c .before .before .before .before .before .pre .0)) (c .before .loop-test .taken) in omega arith
+slice-write-current c = let h = leaf-bytes _ _ _ _ (c .before .before .before .before .before .before .pre .0) _ _ _ (c .before .before .before .loop .inv (c .before .before .before .before .before .before .pre .0)) (c .before .before .loop-test .taken) in omega (arith, c .before .offset .ensures)
 
 add-current : tie.Need-add-current Inv-loop μ-loop
-add-current c = let h = leaf-there _ _ _ _ (c .before .before .before .before .before .pre .0) _ _ _ (c .before .before .loop .inv (c .before .before .before .before .before .pre .0)) (c .before .loop-test .taken) in let f = c .before .before .before .before .before .pre .0 .sized .few in omega arith
+add-current c = let h = leaf-there _ _ _ _ (c .before .before .before .before .before .before .pre .0) _ _ _ (c .before .before .before .loop .inv (c .before .before .before .before .before .before .pre .0)) (c .before .before .loop-test .taken) in let f = c .before .before .before .before .before .before .pre .0 .sized .few in omega (arith, c .before .offset .ensures)
 
 slice-write-current-2 : tie.Need-slice-write-current-2 Inv-loop μ-loop
-slice-write-current-2 c = high-byte _ _ _ _ (c .before .before .before .before .before .pre .0) _ _ _ (c .before .before .loop .inv (c .before .before .before .before .before .pre .0)) (c .before .loop-test .taken)
+slice-write-current-2 c = rw (c .before .offset .ensures) (high-byte _ _ _ _ (c .before .before .before .before .before .before .pre .0) _ _ _ (c .before .before .before .loop .inv (c .before .before .before .before .before .before .pre .0)) (c .before .before .loop-test .taken))
 
 word-requires : tie.Need-word-requires Inv-loop μ-loop
-word-requires c κs = (c .before .before .before .before .before .pre .0 .sized, leaf-there _ _ _ _ (c .before .before .before .before .before .pre .0) _ _ _ (c .before .before .loop .inv (c .before .before .before .before .before .pre .0)) (c .before .loop-test .taken), omega arith)
+word-requires c κs = (c .before .before .before .before .before .before .pre .0 .sized, leaf-there _ _ _ _ (c .before .before .before .before .before .before .pre .0) _ _ _ (c .before .before .before .loop .inv (c .before .before .before .before .before .before .pre .0)) (c .before .before .loop-test .taken), omega arith)
 
 loop-less : tie.Need-loop-less Inv-loop μ-loop
-loop-less c = next-falls _ _ _ _ (c .before .before .before .before .before .before .pre .0) _ _ _ (c .before .before .before .loop .inv (c .before .before .before .before .before .before .pre .0)) (c .before .before .loop-test .taken) _ (c .word .ensures .0)
+loop-less c = next-falls _ _ _ _ (c .before .before .before .before .before .before .before .pre .0) _ _ _ (c .before .before .before .before .loop .inv (c .before .before .before .before .before .before .before .pre .0)) (c .before .before .before .loop-test .taken) _ (c .word .ensures .0)
 
 loop-again : tie.Need-loop-again Inv-loop μ-loop
-loop-again c = λ g. next-left _ _ _ _ g _ _ _ (c .before .before .before .loop .inv g) (c .before .before .loop-test .taken) _ (c .word .ensures .0)
+loop-again c = λ g. rw (c .before .before .offset .ensures) (next-left _ _ _ _ g _ _ _ (c .before .before .before .before .loop .inv g) (c .before .before .before .loop-test .taken) _ (c .word .ensures .0))
 
 same-length : tie.Need-same-length Inv-loop μ-loop
 same-length c = c .before .loop .inv (c .before .before .before .before .pre .0) .long
@@ -56,8 +53,7 @@ copy-chain-spec =
     Inv-loop
     μ-loop
     loop-holds
-    mul-at
-    add-at
+    offset-requires
     element-copy-out-current
     slice-write-current
     add-current

@@ -1,17 +1,12 @@
 -- The two bytes are those of the word, and each is below 256. Assumes nothing.
-use borrow.Author.Needs.{needs}
+use native.Mathlib.Omega.{arith}
 use Rattle.records.specs.Words.{word}
+use borrow.Author.Needs.{needs}
 use Rattle.records.proofs.words.word.Statement.{statement}
 use Rattle.records.proofs.words.word.Tie as tie
 
-mul-at : tie.Need-mul-at
-mul-at c = search needs
-
-mul-at-2 : tie.Need-mul-at-2
-mul-at-2 c = search needs
-
-add-at : tie.Need-add-at
-add-at c = search needs
+offset-requires : tie.Need-offset-requires
+offset-requires c κs = search needs
 
 shared-slice-read-wide : tie.Need-shared-slice-read-wide
 shared-slice-read-wide c = search needs
@@ -36,15 +31,16 @@ add-result c = search needs
 
 returns : tie.Need-returns
 unfolding word
-returns c = search needs
+returns c =
+    let a = c .before .before .wide .ensures in
+    let b = c .wide2 .ensures in
+    (rw (← c .before .before .before .before .offset .ensures) (omega arith), omega arith)
 
 pub word-spec : {M : Type 1} → statement M
 word-spec =
     tie.close
     (tie.spec
-    mul-at
-    mul-at-2
-    add-at
+    offset-requires
     shared-slice-read-wide
     wide-requires
     add-wide
