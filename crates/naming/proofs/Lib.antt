@@ -1,0 +1,5 @@
+-- The theorems, a file each; `Kept` holds a term of every promise of the front page.
+pub mod First
+pub mod EachOnce
+pub mod TextOrder
+pub mod Kept

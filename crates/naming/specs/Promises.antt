@@ -1,0 +1,47 @@
+-- What is promised of the names and constants of a text (code 14). One term of each promise stands in `proofs/Kept.antt`.
+use Prim.Native.Nat.{ℕ, _<_}
+use mathlib.Core.Path.{_≡_}
+use mathlib.Core.Logic.{_⊎_}
+use mathlib.Core.List.{List, [], _∷_}
+use Rattle.grammar.specs.Tokens.{Token, keyword, symbol, name}
+use Rattle.grammar.specs.Source.{Text}
+use Rattle.grammar.specs.Grammar.{ReadsText}
+use Rattle.grammar.specs.Legal.{Reading}
+use Rattle.naming.specs.Checks.{Check, AllHold, FirstFails, places}
+use Rattle.naming.specs.Names.{nameChecks, textChecks}
+
+-- 1. All checks of a text hold, or one fails that all before it hold; never both, and at one place.
+abbrev pub HoldOrFail : Type 0
+HoldOrFail = (t : Text) → AllHold (textChecks t) ⊎ ((p : ℕ) × FirstFails (textChecks t) p)
+
+abbrev pub NotBoth : Type 0
+NotBoth = (t : Text) (p : ℕ) → FirstFails (textChecks t) p → AllHold (textChecks t) → ⊥
+
+abbrev pub OneBadPlace : Type 0
+OneBadPlace = (t : Text) (p q : ℕ) → FirstFails (textChecks t) p → FirstFails (textChecks t) q → p ≡ q
+
+-- the places of the names of a text
+abbrev pub namePlaces : List Token → List ℕ
+namePlaces [] = []
+namePlaces (keyword k p ∷ ts) = namePlaces ts
+namePlaces (symbol s p ∷ ts) = namePlaces ts
+namePlaces (name w p ∷ ts) = p ∷ namePlaces ts
+
+pub data Increasing : List ℕ → Type 0 where
+  no-place : Increasing []
+  one-place : {p : ℕ} → Increasing (p ∷ [])
+  two-places : {p q : ℕ} {ps : List ℕ} → p < q → Increasing (q ∷ ps) → Increasing (p ∷ q ∷ ps)
+
+-- 2. Each name of a text is checked once, in text order.
+abbrev pub EachNameOnce : Type 0
+EachNameOnce = (ts : List Token) (t : Text) → ReadsText ts t → places (nameChecks t) ≡ namePlaces ts
+
+abbrev pub InTextOrder : Type 0
+InTextOrder = (bytes : List ℕ) (ts : List Token) (t : Text) → Reading bytes ts t → Increasing (places (nameChecks t))
+
+pub record Promises : Type 0 where
+  pub hold-or-fail : HoldOrFail
+  pub not-both : NotBoth
+  pub one-bad-place : OneBadPlace
+  pub each-name-once : EachNameOnce
+  pub in-text-order : InTextOrder
