@@ -91,5 +91,5 @@ each-once (reads-text {p} {w} {c} {d} {ds} {e} h k l) =
     let body = isOne types D (named w p) ∷ expressionChecks D [] e in
     sym (append-nothing (places (head ++ body)))
     ∙ both head body []
-      (both (declarationChecks atFirst d) (declarationsChecks (afterDeclaration atFirst d) ds) (namePlaces (name w p ∷ c)) (declaration-once atFirst h) (list-once (afterDeclaration atFirst d) k))
-      (ap (λ x. p ∷ x) (expression-once D [] l))
+    (both (declarationChecks atFirst d) (declarationsChecks (afterDeclaration atFirst d) ds) (namePlaces (name w p ∷ c)) (declaration-once atFirst h) (list-once (afterDeclaration atFirst d) k))
+    (ap (λ x. p ∷ x) (expression-once D [] l))

@@ -3,3 +3,4 @@ pub mod First
 pub mod EachOnce
 pub mod TextOrder
 pub mod Kept
+pub mod Examples

@@ -3,4 +3,5 @@ pub mod Declared
 pub mod Checks
 pub mod Constants
 pub mod Names
+pub mod Records
 pub mod Promises
