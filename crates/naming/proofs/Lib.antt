@@ -2,5 +2,6 @@
 pub mod First
 pub mod EachOnce
 pub mod TextOrder
+pub mod Bounded
 pub mod Kept
 pub mod Examples

@@ -1,13 +1,15 @@
 -- What is promised of the names and constants of a text (code 14). One term of each promise stands in `proofs/Kept.antt`.
-use Prim.Native.Nat.{ℕ, _<_}
+use Prim.Native.Nat.{ℕ, _*_, _≤_, _<_}
 use mathlib.Core.Path.{_≡_}
 use mathlib.Core.Logic.{_⊎_}
 use mathlib.Core.List.{List, [], _∷_}
+use lib.ListN.{length}
 use Rattle.grammar.specs.Tokens.{Token, keyword, symbol, name}
 use Rattle.grammar.specs.Source.{Text}
 use Rattle.grammar.specs.Grammar.{ReadsText}
 use Rattle.grammar.specs.Legal.{Reading}
 use Rattle.naming.specs.Checks.{Check, AllHold, FirstFails, places}
+use Rattle.naming.specs.Records.{recordsNeeded}
 use Rattle.naming.specs.Names.{nameChecks, textChecks}
 
 -- 1. All checks of a text hold, or one fails that all before it hold; never both, and at one place.
@@ -39,9 +41,14 @@ EachNameOnce = (ts : List Token) (t : Text) → ReadsText ts t → places (nameC
 abbrev pub InTextOrder : Type 0
 InTextOrder = (bytes : List ℕ) (ts : List Token) (t : Text) → Reading bytes ts t → Increasing (places (nameChecks t))
 
+-- 3. A text needs at most 65 records a byte; so within the limit the length needed, 12 bytes a record, is below 2^26.
+abbrev pub RecordsBounded : Type 0
+RecordsBounded = (bytes : List ℕ) (ts : List Token) (t : Text) → Reading bytes ts t → recordsNeeded t ≤ 65 * length bytes
+
 pub record Promises : Type 0 where
   pub hold-or-fail : HoldOrFail
   pub not-both : NotBoth
   pub one-bad-place : OneBadPlace
   pub each-name-once : EachNameOnce
   pub in-text-order : InTextOrder
+  pub records-bounded : RecordsBounded
