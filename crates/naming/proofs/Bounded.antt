@@ -1,12 +1,12 @@
 -- A text needs at most 65 records a byte: each token has at most 65, and each token has a byte.
 -- Assumes nothing.
-use Prim.Native.Nat.{ℕ, zero, suc, _+_, _*_, _≤_, min}
+use Prim.Native.Nat.{ℕ, _+_, _*_, _≤_, min}
 use native.Mathlib.Omega.{arith}
 use mathlib.Core.Bool.{Bool, true, false, cond}
 use mathlib.Core.List.{List, [], _∷_}
 use lib.ListN.{length}
 use Rattle.grammar.specs.Tokens.{Token, Tokens, no-token, a-blank, a-symbol, a-word, Run, run-last, run-more}
-use Rattle.grammar.specs.Source.{Name, named, Declaration, Constructors, PairOf, Constant, Pattern, Expression, Text}
+use Rattle.grammar.specs.Source.{Name, Declaration, Constructors, PairOf, Constant, Pattern, Expression, Text}
 use Rattle.grammar.specs.Grammar.{ReadsOthers, no-other, another, ReadsDeclaration, reads-constructors, reads-pair-of}
 use Rattle.grammar.specs.Grammar.{ReadsMore, no-more, one-more, ReadsConstant, reads-constructor, reads-undefined, reads-both}
 use Rattle.grammar.specs.Grammar.{ReadsPattern, reads-alone, reads-parts, reads-alone-or, reads-parts-or}

@@ -13,7 +13,7 @@ use Rattle.grammar.specs.Grammar.{reads-let-rec, reads-if, reads-delay, ReadsTe
 use Rattle.naming.specs.Declared.{Declared, declared, aType, aConstructor, atFirst}
 use Rattle.naming.specs.Checks.{Check, check, places}
 use Rattle.naming.specs.Names.{constructorChecks, declarationChecks, declarationsChecks, afterDeclaration, afterAll, patternChecks}
-use Rattle.naming.specs.Names.{constantNames, expressionChecks, nameChecks, isOne, add}
+use Rattle.naming.specs.Names.{constantNames, expressionChecks, nameChecks, isOne}
 use Rattle.naming.specs.Declared.{types}
 use Rattle.naming.specs.Promises.{namePlaces}
 

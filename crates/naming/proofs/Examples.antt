@@ -58,8 +58,8 @@ value-as-type = refl
 bound-in-pattern : firstFailing (textChecks (text (Constructors (named (98 ∷ 105 ∷ 116 ∷ []) 5) (named (104 ∷ 105 ∷ []) 11) ((named (108 ∷ 111 ∷ []) 16) ∷ [])) ([]) (named (98 ∷ 105 ∷ 116 ∷ []) 28) (Let (named (120 ∷ []) 37) (Named (named (104 ∷ 105 ∷ []) 41)) (If (Named (named (120 ∷ []) 51)) (Alone (named (120 ∷ []) 61)) (Named (named (104 ∷ 105 ∷ []) 68)) (Named (named (108 ∷ 111 ∷ []) 76)))))) ≡ some 61
 bound-in-pattern = refl
 
--- TYPE bit = hi | lo IN INPUT bit (DELAY (input, hi)): a constant names constructors
-input-in-constant : firstFailing (textChecks (text (Constructors (named (98 ∷ 105 ∷ 116 ∷ []) 5) (named (104 ∷ 105 ∷ []) 11) ((named (108 ∷ 111 ∷ []) 16) ∷ [])) ([]) (named (98 ∷ 105 ∷ 116 ∷ []) 28) (Delay (Constructor (named (105 ∷ 110 ∷ 112 ∷ 117 ∷ 116 ∷ []) 40)) (Named (named (104 ∷ 105 ∷ []) 47))))) ≡ some 40
+-- TYPE bit = hi | lo IN INPUT bit (DELAY (input, x)): a constant names constructors
+input-in-constant : firstFailing (textChecks (text (Constructors (named (98 ∷ 105 ∷ 116 ∷ []) 5) (named (104 ∷ 105 ∷ []) 11) ((named (108 ∷ 111 ∷ []) 16) ∷ [])) ([]) (named (98 ∷ 105 ∷ 116 ∷ []) 28) (Delay (Constructor (named (105 ∷ 110 ∷ 112 ∷ 117 ∷ 116 ∷ []) 40)) (Named (named (120 ∷ []) 47))))) ≡ some 40
 input-in-constant = refl
 
 -- TYPE bit = hi | lo IN INPUT bit (DELAY ((hi, lo), input)): the pair of a constant without a type

@@ -1,11 +1,11 @@
 -- The places of a text's tokens, and so of its names, increase.
 -- Assumes nothing.
-use Prim.Native.Nat.{ℕ, suc, _+_, _≤_, _<_}
+use Prim.Native.Nat.{ℕ, suc, _≤_}
 use native.Mathlib.Omega.{arith}
 use mathlib.Core.List.{List, [], _∷_}
 use lib.ListN.{length}
-use Rattle.grammar.specs.Tokens.{Token, keyword, symbol, name, Tokens, no-token, a-blank, a-symbol, a-word, Run, run-last, run-more}
-use Rattle.grammar.specs.Tokens.{Spells, spells-keyword, spells-name}
+use Rattle.grammar.specs.Tokens.{Token, Tokens, no-token, a-blank, a-symbol, a-word, Run, run-last, run-more}
+use Rattle.grammar.specs.Tokens.{spells-keyword, spells-name}
 use Rattle.naming.specs.Promises.{namePlaces, Increasing, no-place, one-place, two-places}
 
 -- places from i on, increasing

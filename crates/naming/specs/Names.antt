@@ -1,6 +1,6 @@
 -- The checks on the names of a text, one for each name, declaring and using alike, in text order.
 use Prim.Native.Nat.{ℕ}
-use mathlib.Core.Bool.{Bool, true, false, cond, not}
+use mathlib.Core.Bool.{Bool, true, cond, not}
 use mathlib.Core.List.{List, [], _∷_, _++_}
 use Rattle.grammar.specs.Source.{Name, named, Declaration, Constructors, PairOf, Constant, Constructor, Undefined, Both}
 use Rattle.grammar.specs.Source.{Pattern, Alone, Parts, Either, Text, text}

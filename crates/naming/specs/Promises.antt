@@ -8,7 +8,7 @@ use Rattle.grammar.specs.Tokens.{Token, keyword, symbol, name}
 use Rattle.grammar.specs.Source.{Text}
 use Rattle.grammar.specs.Grammar.{ReadsText}
 use Rattle.grammar.specs.Legal.{Reading}
-use Rattle.naming.specs.Checks.{Check, AllHold, FirstFails, places}
+use Rattle.naming.specs.Checks.{AllHold, FirstFails, places}
 use Rattle.naming.specs.Records.{recordsNeeded}
 use Rattle.naming.specs.Names.{nameChecks, textChecks}
 

@@ -1,10 +1,10 @@
 -- How many records the sheet of a text needs, without limit: the header, one for each declaration, and those of the expression. "An undefined
 -- constant of a type over 64 leaves gets 64 leaves."
 use Prim.Native.Nat.{ℕ, _+_, min}
-use mathlib.Core.Bool.{Bool, true, false, cond}
+use mathlib.Core.Bool.{cond}
 use mathlib.Core.List.{List, [], _∷_}
 use lib.ListN.{length}
-use Rattle.grammar.specs.Source.{Name, named, Declaration, Constructors, PairOf, Constant, Constructor, Undefined, Both}
+use Rattle.grammar.specs.Source.{Declaration, Constructors, PairOf, Constant, Constructor, Undefined, Both}
 use Rattle.grammar.specs.Source.{Pattern, Alone, Parts, Either, Text, text}
 use Rattle.grammar.specs.Source.{Expression, Named, UndefinedOf, Pair, First, Second, Let, LetRec, If, Delay}
 use Rattle.naming.specs.Declared.{Declared, sameName, isAmong, atFirst, isDeclared, constructors}
