@@ -6,6 +6,7 @@ use Rattle.naming.specs.Promises.{Promises, Increasing}
 use Rattle.naming.proofs.First.{hold-or-fail, not-both, one-place}
 use Rattle.naming.proofs.EachOnce.{each-once}
 use Rattle.naming.proofs.Bounded.{records-bounded}
+use Rattle.naming.proofs.SameName.{same-equal, equal-same}
 use Rattle.naming.proofs.TextOrder.{names-increase}
 
 pub kept : Promises
@@ -17,4 +18,5 @@ kept =
       each-name-once = λ ts t r. each-once r;
       in-text-order = λ bytes ts t r. subst Increasing (sym (each-once (r .parsed))) (names-increase (r .lexed));
       records-bounded = λ bytes ts t r. records-bounded (r .lexed) (r .parsed);
+      same-letters = λ v w. (same-equal v w, equal-same v w);
     }

@@ -3,5 +3,6 @@ pub mod First
 pub mod EachOnce
 pub mod TextOrder
 pub mod Bounded
+pub mod SameName
 pub mod Kept
 pub mod Examples

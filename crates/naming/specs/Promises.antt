@@ -1,13 +1,15 @@
 -- What is promised of the names and constants of a text (code 14). One term of each promise stands in `proofs/Kept.antt`.
 use Prim.Native.Nat.{ℕ, _*_, _≤_, _<_}
 use mathlib.Core.Path.{_≡_}
-use mathlib.Core.Logic.{_⊎_}
+use mathlib.Core.Logic.{_⊎_, _↔_}
+use mathlib.Core.Bool.{true}
 use mathlib.Core.List.{List, [], _∷_}
 use lib.ListN.{length}
 use Rattle.grammar.specs.Tokens.{Token, keyword, symbol, name}
 use Rattle.grammar.specs.Source.{Text}
 use Rattle.grammar.specs.Grammar.{ReadsText}
 use Rattle.grammar.specs.Legal.{Reading}
+use Rattle.naming.specs.Declared.{sameName}
 use Rattle.naming.specs.Checks.{AllHold, FirstFails, places}
 use Rattle.naming.specs.Records.{recordsNeeded}
 use Rattle.naming.specs.Names.{nameChecks, textChecks}
@@ -45,6 +47,10 @@ InTextOrder = (bytes : List ℕ) (ts : List Token) (t : Text) → Reading bytes 
 abbrev pub RecordsBounded : Type 0
 RecordsBounded = (bytes : List ℕ) (ts : List Token) (t : Text) → Reading bytes ts t → recordsNeeded t ≤ 65 * length bytes
 
+-- 4. Two names are the same exactly where they have the same letters.
+abbrev pub SameLetters : Type 0
+SameLetters = (v w : List ℕ) → (sameName v w ≡ true) ↔ (v ≡ w)
+
 pub record Promises : Type 0 where
   pub hold-or-fail : HoldOrFail
   pub not-both : NotBoth
@@ -52,3 +58,4 @@ pub record Promises : Type 0 where
   pub each-name-once : EachNameOnce
   pub in-text-order : InTextOrder
   pub records-bounded : RecordsBounded
+  pub same-letters : SameLetters
