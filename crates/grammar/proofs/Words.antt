@@ -67,7 +67,7 @@ run-name n (run-last h e) (all-more k a) l = name-more {n = n} k (omega arith) (
 run-name n (run-more h r) (all-more k a) l = name-more {n = n} k (omega arith) (run-name (n + 1) r a (omega arith))
 
 -- a run that is a token: its first byte, and how it goes on
-pub record Begun (bs word rest : List ℕ) (l : Lead) : Type 0 where
+pub record BegunWord (bs word rest : List ℕ) (l : Lead) : Type 0 where
   pub first : ℕ
   pub following : List ℕ
   pub letters : List ℕ
@@ -79,7 +79,7 @@ pub record Begun (bs word rest : List ℕ) (l : Lead) : Type 0 where
 alike-first : (b : ℕ) (k : Keyword) → b ≡ firstLetter (spelling k) → alike b ≡ firstLetter (spelling k)
 alike-first b k e = alike-upper b (ap kindOf e ∙ lead-kind (aKeyword k)) ∙ e
 
-begun-keyword : {bs word rest : List ℕ} (k : Keyword) → Run bs word rest → word ≡ spelling k → Begun bs word rest (aKeyword k)
+begun-keyword : {bs word rest : List ℕ} (k : Keyword) → Run bs word rest → word ≡ spelling k → BegunWord bs word rest (aKeyword k)
 begun-keyword k (run-last {b} {rest} h n) e = record {
   first = b;
   following = rest;
@@ -99,12 +99,12 @@ begun-keyword k (run-more {b} {bs} {word} {rest} h r) e = record {
   continued = subst (λ w. Continued (spelt w) bs word rest) (ap afterFirst e) (run-keyword r);
 }
 
-begun-name : {bs word rest : List ℕ} → Run bs word rest → AllLower word → length word ≤ 16 → Begun bs word rest aName
+begun-name : {bs word rest : List ℕ} → Run bs word rest → AllLower word → length word ≤ 16 → BegunWord bs word rest aName
 begun-name (run-last {b} {rest} h n) (all-more k a) l =
     record { first = b; following = rest; letters = []; split = refl; letter = h; leads = alike-lower b k; continued = name-end n }
 begun-name (run-more {b} {bs} {word} h r) (all-more k a) l =
     record { first = b; following = bs; letters = word; split = refl; letter = h; leads = alike-lower b k; continued = run-name 1 r a (omega arith) }
 
-pub begun : {bs word rest : List ℕ} {i : ℕ} {t : Token} → Run bs word rest → Spells word i t → Begun bs word rest (leadOf t)
+pub begun : {bs word rest : List ℕ} {i : ℕ} {t : Token} → Run bs word rest → Spells word i t → BegunWord bs word rest (leadOf t)
 begun r (spells-keyword {k} e) = begun-keyword k r e
 begun r (spells-name a l) = begun-name r a l

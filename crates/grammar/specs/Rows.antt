@@ -44,7 +44,9 @@ rows pairIn = on (aKeyword IN) (go declared) ∷ []
 rows inputType = on aName (go expression) ∷ []
 rows expression = on aName return ∷ on (aSymbol query) (go undefinedType) ∷ on (aSymbol opens) (go bracket) ∷ []
 rows undefinedType = on aName return ∷ []
-rows bracket = on aName (go inPairFirst) ∷ on (aSymbol query) (call inPairFirst undefinedType) ∷ on (aSymbol opens) (call inPairFirst bracket) ∷ on (aKeyword LET) (go letName) ∷ on (aKeyword IF) (call inTested expression) ∷ on (aKeyword DELAY) (go delayBracket) ∷ []
+rows bracket =
+    on aName (go inPairFirst) ∷ on (aSymbol query) (call inPairFirst undefinedType) ∷ on (aSymbol opens) (call inPairFirst bracket)
+    ∷ on (aKeyword LET) (go letName) ∷ on (aKeyword IF) (call inTested expression) ∷ on (aKeyword DELAY) (go delayBracket) ∷ []
 rows done = on (aSymbol indexOpens) (go index) ∷ []
 rows inPairFirst = on (aSymbol indexOpens) (call inPairFirst index) ∷ on (aSymbol comma) (call inPairSecond expression) ∷ []
 rows inPairSecond = on (aSymbol indexOpens) (call inPairSecond index) ∷ on (aSymbol closes) return ∷ []
