@@ -15,25 +15,25 @@ use Rattle.grammar.specs.Grammar.{reads-let-rec, reads-if, reads-delay, ReadsTe
 use Rattle.naming.specs.Declared.{Declared, sameName, isAmong, isDeclared, constructors, atFirst}
 use Rattle.naming.specs.Constants.{letters}
 use Rattle.naming.specs.Names.{afterAll}
-use Rattle.naming.specs.Records.{Leaves, leaves, leavesOf, leafCounts, patternRecords, constantLeaves, nameRecords}
+use Rattle.naming.specs.Records.{LeafCount, leafCount, leavesOf, leafCounts, patternRecords, constantLeaves, nameRecords}
 use Rattle.naming.specs.Records.{expressionRecords, recordsNeeded}
 
 -- no type has more than 64 leaves
-abbrev Few : List Leaves → Type 0
+abbrev Few : List LeafCount → Type 0
 Few L = (w : List ℕ) → leavesOf L w ≤ 64
 
-few-more : (L : List Leaves) (t : List ℕ) (n : ℕ) → Few L → n ≤ 64 → Few (leaves t n ∷ L)
+few-more : (L : List LeafCount) (t : List ℕ) (n : ℕ) → Few L → n ≤ 64 → Few (leafCount t n ∷ L)
 few-more L t n f h w = go (sameName w t)
   where
     go : (x : Bool) → cond x n (leavesOf L w) ≤ 64
     go true = h
     go false = f w
 
-few-counts : (L : List Leaves) (ds : List Declaration) → Few L → Few (leafCounts L ds)
+few-counts : (L : List LeafCount) (ds : List Declaration) → Few L → Few (leafCounts L ds)
 few-counts L [] f = f
-few-counts L (Constructors t c cs ∷ ds) f = few-counts (leaves (letters t) 1 ∷ L) ds (few-more L (letters t) 1 f (omega arith))
+few-counts L (Constructors t c cs ∷ ds) f = few-counts (leafCount (letters t) 1 ∷ L) ds (few-more L (letters t) 1 f (omega arith))
 few-counts L (PairOf t a b ∷ ds) f =
-    few-counts (leaves (letters t) (min 64 (leavesOf L (letters a) + leavesOf L (letters b))) ∷ L) ds
+    few-counts (leafCount (letters t) (min 64 (leavesOf L (letters a) + leavesOf L (letters b))) ∷ L) ds
     (few-more L (letters t) (min 64 (leavesOf L (letters a) + leavesOf L (letters b))) f (omega arith))
 
 name-few : (D : List Declared) (bound : List (List ℕ)) (w : List ℕ) → nameRecords D bound w ≤ 2
@@ -50,7 +50,7 @@ pattern-few (reads-parts h k) = omega (arith, pattern-few h, pattern-few k)
 pattern-few (reads-alone-or h) = omega (arith, pattern-few h)
 pattern-few (reads-parts-or h k l) = omega (arith, pattern-few h, pattern-few k, pattern-few l)
 
-module _ (L : List Leaves) (f : Few L) where
+module _ (L : List LeafCount) (f : Few L) where
   constant-few : {a r : List Token} {c : Constant} → ReadsConstant a c r → constantLeaves L c + 65 * length r ≤ 65 * length a
   constant-few reads-constructor = omega arith
   constant-few (reads-undefined {w} {r}) = omega (arith, f w)

@@ -12,17 +12,17 @@ use Rattle.naming.specs.Constants.{letters}
 use Rattle.naming.specs.Names.{afterAll, bind}
 
 -- the leaves of the types declared so far, 64 at most
-pub data Leaves : Type 0 where
-  leaves : (type : List ℕ) (count : ℕ) → Leaves
+pub data LeafCount : Type 0 where
+  leafCount : (type : List ℕ) (count : ℕ) → LeafCount
 
-abbrev pub leavesOf : List Leaves → List ℕ → ℕ
+abbrev pub leavesOf : List LeafCount → List ℕ → ℕ
 leavesOf [] w = 0
-leavesOf (leaves t n ∷ more) w = cond (sameName w t) n (leavesOf more w)
+leavesOf (leafCount t n ∷ more) w = cond (sameName w t) n (leavesOf more w)
 
-abbrev pub leafCounts : List Leaves → List Declaration → List Leaves
+abbrev pub leafCounts : List LeafCount → List Declaration → List LeafCount
 leafCounts L [] = L
-leafCounts L (Constructors t c cs ∷ ds) = leafCounts (leaves (letters t) 1 ∷ L) ds
-leafCounts L (PairOf t a b ∷ ds) = leafCounts (leaves (letters t) (min 64 (leavesOf L (letters a) + leavesOf L (letters b))) ∷ L) ds
+leafCounts L (Constructors t c cs ∷ ds) = leafCounts (leafCount (letters t) 1 ∷ L) ds
+leafCounts L (PairOf t a b ∷ ds) = leafCounts (leafCount (letters t) (min 64 (leavesOf L (letters a) + leavesOf L (letters b))) ∷ L) ds
 
 -- alternatives are chained by their next words: a bar takes no record
 abbrev pub patternRecords : Pattern → ℕ
@@ -31,7 +31,7 @@ patternRecords (Parts m n) = 1 + patternRecords m + patternRecords n
 patternRecords (Either m n) = patternRecords m + patternRecords n
 
 -- the leaves of a DELAY's constant; an undefined part has the leaves of its own type
-abbrev pub constantLeaves : List Leaves → Constant → ℕ
+abbrev pub constantLeaves : List LeafCount → Constant → ℕ
 constantLeaves L (Constructor n) = 1
 constantLeaves L (Undefined t) = leavesOf L (letters t)
 constantLeaves L (Both p c d) = constantLeaves L c + constantLeaves L d
@@ -40,7 +40,7 @@ constantLeaves L (Both p c d) = constantLeaves L c + constantLeaves L d
 abbrev pub nameRecords : List Declared → List (List ℕ) → List ℕ → ℕ
 nameRecords D bound w = cond (isAmong w bound) 1 (cond (isDeclared constructors w D) 2 1)
 
-abbrev pub expressionRecords : List Leaves → List Declared → List (List ℕ) → Expression → ℕ
+abbrev pub expressionRecords : List LeafCount → List Declared → List (List ℕ) → Expression → ℕ
 expressionRecords L D bound (Named n) = nameRecords D bound (letters n)
 expressionRecords L D bound (UndefinedOf t) = 1 + leavesOf L (letters t)
 expressionRecords L D bound (Pair e f) = 1 + expressionRecords L D bound e + expressionRecords L D bound f
