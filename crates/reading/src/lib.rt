@@ -2,8 +2,8 @@
 // There is no recursion: a text of 65,535 open brackets is read like any other.
 // States, classes of bytes and words are numbers; `grammar` has the machine that they stand for.
 mod classes;
-mod numbers;
-mod tables;
+pub mod numbers;
+pub mod tables;
 
 ghost use mathlib.Core.Path.{_≡_};
 ghost use Prim.Native.Nat.{_+_, _≤_, _<_, min};
