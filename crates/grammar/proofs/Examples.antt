@@ -2,7 +2,7 @@
 -- and a text with its tokens and its abstract text, derived by hand.
 -- Assumes nothing.
 use Prim.Native.Nat.{ℕ}
-use mathlib.Core.Path.{_≡_, refl}
+use mathlib.Core.Path.{refl}
 use mathlib.Core.List.{List, [], _∷_}
 use Rattle.grammar.specs.Tokens.{Token, keyword, symbol, name, TYPE, IN, INPUT, equals, opens, comma, query, closes}
 use Rattle.grammar.specs.Tokens.{indexOpens, two, indexCloses, no-token, a-blank, a-symbol, a-word, run-last, run-more}

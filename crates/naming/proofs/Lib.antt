@@ -1,0 +1,8 @@
+-- The theorems, a file each; `Kept` holds a term of every promise of the front page.
+pub mod First
+pub mod EachOnce
+pub mod TextOrder
+pub mod Bounded
+pub mod SameName
+pub mod Kept
+pub mod Examples

@@ -1,0 +1,40 @@
+-- The places of a text's tokens, and so of its names, increase.
+-- Assumes nothing.
+use Prim.Native.Nat.{ℕ, suc, _≤_}
+use native.Mathlib.Omega.{arith}
+use mathlib.Core.List.{List, [], _∷_}
+use lib.ListN.{length}
+use Rattle.grammar.specs.Tokens.{Token, Tokens, no-token, a-blank, a-symbol, a-word, Run, run-last, run-more}
+use Rattle.grammar.specs.Tokens.{spells-keyword, spells-name}
+use Rattle.naming.specs.Promises.{namePlaces, Increasing, no-place, one-place, two-places}
+
+-- places from i on, increasing
+data From : ℕ → List ℕ → Type 0 where
+  from-none : {i : ℕ} → From i []
+  from-one : {i p : ℕ} {ps : List ℕ} → i ≤ p → From (suc p) ps → From i (p ∷ ps)
+
+lower : {i j : ℕ} {ps : List ℕ} → i ≤ j → From j ps → From i ps
+lower h from-none = from-none
+lower {i} h (from-one {p} l f) = from-one {i = i} {p = p} (omega arith) f
+
+after : {p : ℕ} {ps : List ℕ} → From (suc p) ps → Increasing (p ∷ ps)
+after from-none = one-place
+after {p} (from-one {p = q} h f) = two-places {p = p} {q = q} (omega arith) (after f)
+
+increasing : {i : ℕ} {ps : List ℕ} → From i ps → Increasing ps
+increasing from-none = no-place
+increasing (from-one h f) = after f
+
+run-long : {bs word rest : List ℕ} → Run bs word rest → 1 ≤ length word
+run-long (run-last h n) = omega arith
+run-long (run-more h r) = omega arith
+
+names-from : {i : ℕ} {bs : List ℕ} {ts : List Token} → Tokens i bs ts → From i (namePlaces ts)
+names-from no-token = from-none
+names-from (a-blank e t) = lower (omega arith) (names-from t)
+names-from (a-symbol e t) = lower (omega arith) (names-from t)
+names-from (a-word {i} {word} r (spells-keyword e) t) = lower (omega (arith, run-long r)) (names-from t)
+names-from (a-word {i} {word} r (spells-name a l) t) = from-one {i = i} {p = i} (omega arith) (lower (omega (arith, run-long r)) (names-from t))
+
+pub names-increase : {i : ℕ} {bs : List ℕ} {ts : List Token} → Tokens i bs ts → Increasing (namePlaces ts)
+names-increase t = increasing (names-from t)

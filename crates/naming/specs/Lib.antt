@@ -1,0 +1,7 @@
+-- The rules on names and constants of request (a), code 14: as a list of checks in text order, of which the first that fails is told.
+pub mod Declared
+pub mod Checks
+pub mod Constants
+pub mod Names
+pub mod Records
+pub mod Promises
