@@ -22,6 +22,19 @@ leaf-agreed v w e = ap (λ x. leafIf x v 0) (sym (eq-eqb v w e))
 pub leaf-differs : (v w : ℕ) → v ≢ w → 0 ≡ agreedLeaf v w
 leaf-differs v w f = ap (λ x. leafIf x v 0) (sym (ne-eqb v w f))
 
+-- the rule in force on values of one leaf
+pub one-agreed : (v w : ℕ) → v ≡ w → v ∷ [] ≡ undecidedRule (v ∷ []) (w ∷ [])
+unfolding undecidedRule
+one-agreed v w e = ap (λ x. x ∷ []) (leaf-agreed v w e)
+
+pub one-differs : (v w : ℕ) → v ≢ w → 0 ∷ [] ≡ undecidedRule (v ∷ []) (w ∷ [])
+unfolding undecidedRule
+one-differs v w f = ap (λ x. x ∷ []) (leaf-differs v w f)
+
+pub one-leaf : (r v w : ℕ) → r ∷ [] ≡ undecidedRule (v ∷ []) (w ∷ []) → r ≡ agreedLeaf v w
+unfolding undecidedRule
+one-leaf r v w e = let f : r ∷ [] ≡ agreedLeaf v w ∷ [] = e in cc
+
 agreed-length : (vs ws : List ℕ) → length (agreedLeaves vs ws) ≡ length vs
 agreed-length [] ws = refl
 agreed-length (v ∷ vs) [] = ap suc (agreed-length vs [])

@@ -6,14 +6,14 @@ ghost use Rattle.records.specs.Sized.{Sized};
 ghost use Rattle.records.specs.Trees.{chain};
 ghost use Rattle.records.specs.Decoding.{leafValues};
 ghost use Rattle.behaviour.specs.Delays.{assigned, putAll, enter};
-ghost use mathlib.Core.List.{List, _++_};
+ghost use mathlib.Core.List.{List, [], _∷_, _++_};
 ghost use Rattle.meaning.specs.Matching.{constructorDecision, pairDecision, chainDecision};
 ghost use Rattle.values.specs.Chained.{Chained};
 ghost use Rattle.values.specs.Answers.{decisionOf, Agrees};
 ghost use Rattle.values.specs.Matchings.{Matching, MatchedAll, MatchedOne, Chosen};
 ghost use Rattle.values.specs.Slots.{slot, entered};
 ghost use Rattle.meaning.specs.Evaluation.{choose};
-ghost use Rattle.meaning.specs.Undecided.{agreedLeaf, undecidedRule};
+ghost use Rattle.meaning.specs.Undecided.{undecidedRule};
 use records::KIND_CONSTRUCTOR_PATTERN;
 use records::KIND_WHOLE_PATTERN;
 use records::RECORDS;
@@ -127,9 +127,9 @@ pub fn room() -> [u8; 64]
     [0; 64]
 }
 
-// The leaf that both branches of an undecided IF give, or 0.
+// The leaf of an undecided IF, from those of its branches: the one that both give, or 0.
 fn agreed(leaf: u8, other: u8) -> u8
-    ensures { λ r. ⌜ r ≡ agreedLeaf leaf other ⌝ }
+    ensures { λ r. ⌜ r ∷ [] ≡ undecidedRule (leaf ∷ []) (other ∷ []) ⌝ }
 {
     if leaf == other { leaf } else { 0 }
 }

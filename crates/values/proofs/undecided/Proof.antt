@@ -2,7 +2,7 @@
 use borrow.Author.Needs.{needs}
 use native.Mathlib.Omega.{arith}
 use Prim.Native.Nat.{_-_}
-use Rattle.values.proofs.Agreement.{AgreedTo, none-agreed, agree-next, all-agreed}
+use Rattle.values.proofs.Agreement.{AgreedTo, one-leaf, none-agreed, agree-next, all-agreed}
 use Rattle.values.proofs.undecided.Statement.{statement}
 use Rattle.values.proofs.undecided.Tie as tie
 
@@ -34,7 +34,7 @@ loop-less : tie.Need-loop-less Inv-loop μ-loop
 loop-less c = search needs
 
 loop-again : tie.Need-loop-again Inv-loop μ-loop
-loop-again c = agree-next _ _ _ _ _ (search needs) (c .before .before .before .before .loop .inv) (c .agreed .ensures)
+loop-again c = agree-next _ _ _ _ _ (search needs) (c .before .before .before .before .loop .inv) (one-leaf _ _ _ (c .agreed .ensures))
 
 same-length : tie.Need-same-length Inv-loop μ-loop
 same-length c = c .before .loop .inv .long
