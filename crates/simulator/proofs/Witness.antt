@@ -93,10 +93,10 @@ module _ (s stim out next : List ℕ) (t : ℕ) (h : WellFormed s stim out next 
   first-cycling = first-lending .cycling
 
   first-copying : Copying s (count s) s
-  first-copying = copying s (count s) table names names input s part first-cycling
+  first-copying = copying first-cycling
 
   first-ready : EvaluatingIn s (count s) table (entered 0 input names) 1 (wordB s 0) part (inputs s)
-  first-ready = root-ready s (count s) table names names input s part first-cycling (wordB s 0) refl (entered 0 input names) refl
+  first-ready = root-ready first-cycling refl refl
 
   -- where the root is a feedback
   abbrev started : List ℕ
