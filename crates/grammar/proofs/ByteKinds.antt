@@ -4,29 +4,29 @@ use Prim.Native.Nat.{ℕ}
 use mathlib.Core.Path.{_≡_, refl, sym, ap, subst, _∙_}
 use mathlib.Core.Bool.{Bool, true, false, cond}
 use lib.Dec.{T, eqb, eqb→eq}
-use Rattle.grammar.specs.Tokens.{Kind, isBlank, isLower, isUpper, isOther, isSymbol, between, unlettered, kindOf}
+use Rattle.grammar.specs.Tokens.{ByteClass, isBlank, isLower, isUpper, isOther, isSymbol, between, unlettered, byteClass}
 use Rattle.grammar.specs.Tokens.{Keyword, TYPE, IN, INPUT, LET, INIT, REC, IF, MATCHES, THEN, ELSE, DELAY, spelling}
 use Rattle.grammar.specs.Tokens.{Symbol, opens, closes, comma, equals, bar, query, indexOpens, indexCloses, one, two}
 use Rattle.grammar.specs.Rows.{Lead, aSymbol, aKeyword, aName}
 use Rattle.grammar.specs.Machine.{leadByte, alike, symbolByte, firstLetter}
 
 -- a byte that stands for its likes is of their kind
-pub kind-alike : (b : ℕ) → kindOf (alike b) ≡ kindOf b
+pub kind-alike : (b : ℕ) → byteClass (alike b) ≡ byteClass b
 kind-alike b = go (between 97 122 b) refl
   where
-    go : (x : Bool) → between 97 122 b ≡ x → kindOf (cond x 97 b) ≡ kindOf b
+    go : (x : Bool) → between 97 122 b ≡ x → byteClass (cond x 97 b) ≡ byteClass b
     go true e = sym (ap (λ y. cond y isLower (cond (between 65 90 b) isUpper (unlettered b))) e)
     go false e = refl
 
 -- what a byte of each kind is: its symbol's byte, or for a letter nothing more
-abbrev IsByte : ℕ → Kind → Type 0
+abbrev IsByte : ℕ → ByteClass → Type 0
 IsByte b isLower = alike b ≡ 97
 IsByte b isUpper = alike b ≡ b
 IsByte b isBlank = Unit {0}
 IsByte b isOther = Unit {0}
 IsByte b (isSymbol s) = b ≡ symbolByte s
 
-one-of : (b : ℕ) (P : Kind → Type 0) (n : ℕ) (k l : Kind) → (b ≡ n → P k) → P l → P (cond (eqb b n) k l)
+one-of : (b : ℕ) (P : ByteClass → Type 0) (n : ℕ) (k l : ByteClass) → (b ≡ n → P k) → P l → P (cond (eqb b n) k l)
 one-of b P n k l h i = go (eqb b n) (eqb→eq b n)
   where
     go : (x : Bool) → (T x → b ≡ n) → P (cond x k l)
@@ -49,7 +49,7 @@ is-unlettered b =
     (one-of b (IsByte b) 50 _ _ (λ e. e)
     tt)))))))))))
 
-is-byte : (b : ℕ) → IsByte b (kindOf b)
+is-byte : (b : ℕ) → IsByte b (byteClass b)
 is-byte b = go (between 97 122 b) refl
   where
     go : (x : Bool) → between 97 122 b ≡ x → IsByte b (cond x isLower (cond (between 65 90 b) isUpper (unlettered b)))
@@ -60,10 +60,10 @@ is-byte b = go (between 97 122 b) refl
         upper true = ap (λ z. cond z 97 b) e
         upper false = is-unlettered b
 
-pub alike-lower : (b : ℕ) → kindOf b ≡ isLower → alike b ≡ 97
+pub alike-lower : (b : ℕ) → byteClass b ≡ isLower → alike b ≡ 97
 alike-lower b h = subst (IsByte b) h (is-byte b)
 
-pub alike-upper : (b : ℕ) → kindOf b ≡ isUpper → alike b ≡ b
+pub alike-upper : (b : ℕ) → byteClass b ≡ isUpper → alike b ≡ b
 alike-upper b h = subst (IsByte b) h (is-byte b)
 
 symbol-alike : (s : Symbol) → alike (symbolByte s) ≡ symbolByte s
@@ -78,16 +78,16 @@ symbol-alike indexCloses = refl
 symbol-alike one = refl
 symbol-alike two = refl
 
-pub alike-symbol : (b : ℕ) (s : Symbol) → kindOf b ≡ isSymbol s → alike b ≡ symbolByte s
+pub alike-symbol : (b : ℕ) (s : Symbol) → byteClass b ≡ isSymbol s → alike b ≡ symbolByte s
 alike-symbol b s h = ap alike (subst (IsByte b) h (is-byte b)) ∙ symbol-alike s
 
 -- the kind of the byte that a token begins with
-abbrev pub leadKind : Lead → Kind
+abbrev pub leadKind : Lead → ByteClass
 leadKind (aSymbol s) = isSymbol s
 leadKind (aKeyword k) = isUpper
 leadKind aName = isLower
 
-symbol-kind : (s : Symbol) → kindOf (symbolByte s) ≡ isSymbol s
+symbol-kind : (s : Symbol) → byteClass (symbolByte s) ≡ isSymbol s
 symbol-kind opens = refl
 symbol-kind closes = refl
 symbol-kind comma = refl
@@ -99,7 +99,7 @@ symbol-kind indexCloses = refl
 symbol-kind one = refl
 symbol-kind two = refl
 
-keyword-kind : (k : Keyword) → kindOf (firstLetter (spelling k)) ≡ isUpper
+keyword-kind : (k : Keyword) → byteClass (firstLetter (spelling k)) ≡ isUpper
 keyword-kind TYPE = refl
 keyword-kind IN = refl
 keyword-kind INPUT = refl
@@ -112,11 +112,11 @@ keyword-kind THEN = refl
 keyword-kind ELSE = refl
 keyword-kind DELAY = refl
 
-pub lead-kind : (l : Lead) → kindOf (leadByte l) ≡ leadKind l
+pub lead-kind : (l : Lead) → byteClass (leadByte l) ≡ leadKind l
 lead-kind (aSymbol s) = symbol-kind s
 lead-kind (aKeyword k) = keyword-kind k
 lead-kind aName = refl
 
 -- a byte that a row is found by is of the kind of what the row begins with
-pub found-kind : (b : ℕ) (l : Lead) → alike b ≡ leadByte l → kindOf b ≡ leadKind l
-found-kind b l e = sym (kind-alike b) ∙ ap kindOf e ∙ lead-kind l
+pub found-kind : (b : ℕ) (l : Lead) → alike b ≡ leadByte l → byteClass b ≡ leadKind l
+found-kind b l e = sym (kind-alike b) ∙ ap byteClass e ∙ lead-kind l

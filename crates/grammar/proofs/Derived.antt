@@ -4,9 +4,9 @@
 use Prim.Native.Nat.{ℕ}
 use mathlib.Core.Path.{_≡_, refl, _∙_}
 use mathlib.Core.List.{List, [], _∷_}
-use Rattle.grammar.specs.Tokens.{Token, symbol, name, bar, indexOpens, indexCloses, one, two}
-use Rattle.grammar.specs.Source.{Name, Declaration, Constant, Pattern, Expression, Text}
-use Rattle.grammar.specs.Grammar.{ReadsOthers, no-other, another, ReadsDeclaration, reads-constructors, reads-pair-of}
+use Rattle.grammar.specs.Tokens.{Token, symbol, nameToken, bar, indexOpens, indexCloses, one, two}
+use Rattle.grammar.specs.Source.{Identifier, Declaration, SourceConstant, SourcePattern, Expression, Text}
+use Rattle.grammar.specs.Grammar.{ReadsOthers, no-other, one-other, ReadsDeclaration, reads-constructors, reads-pair-of}
 use Rattle.grammar.specs.Grammar.{ReadsConstant, reads-constructor, reads-undefined, reads-both}
 use Rattle.grammar.specs.Grammar.{ReadsPattern, reads-alone, reads-parts, reads-alone-or, reads-parts-or}
 use Rattle.grammar.specs.Grammar.{ReadsExpression, reads-named, reads-undefined-of, reads-pair, reads-first, reads-second, reads-let}
@@ -14,44 +14,44 @@ use Rattle.grammar.specs.Grammar.{reads-let-rec, reads-if, reads-delay, 
 use Rattle.grammar.specs.Rows.{State, start, declared, constructorEnd, expression, bracket, pattern, constant, index, done}
 use Rattle.grammar.specs.Rows.{inPairFirst, inPairSecond, inLetBound, inLetBody, inRecBound, inRecBody, inTested, inMatched, inThen, inElse}
 use Rattle.grammar.specs.Rows.{inPatternFirst, inPatternSecond, inConstantFirst, inConstantSecond, inDelayConstant, inDelayed}
-use Rattle.grammar.specs.Machine.{Config, live, noWord, back, tokens}
+use Rattle.grammar.specs.Machine.{Config, live, noWord, back, afterTokens}
 
 -- the machine with no word begun
 abbrev pub at : State → List State → Config
 at q K = live q K noWord
 
-others : {a r : List Token} {cs : List Name} (K : List State)
-    → ReadsOthers a cs r → tokens (at constructorEnd K) a ≡ tokens (at declared K) r
+others : {a r : List Token} {cs : List Identifier} (K : List State)
+    → ReadsOthers a cs r → afterTokens (at constructorEnd K) a ≡ afterTokens (at declared K) r
 others K no-other = refl
-others K (another h) = others K h
+others K (one-other h) = others K h
 
 declaration : {a r : List Token} {d : Declaration} (K : List State)
-    → ReadsDeclaration a d r → tokens (at declared K) a ≡ tokens (at declared K) r
+    → ReadsDeclaration a d r → afterTokens (at declared K) a ≡ afterTokens (at declared K) r
 declaration K (reads-constructors h) = others K h
 declaration K reads-pair-of = refl
 
 first-declaration : {a r : List Token} {d : Declaration} (K : List State)
-    → ReadsDeclaration a d r → tokens (at start K) a ≡ tokens (at declared K) r
+    → ReadsDeclaration a d r → afterTokens (at start K) a ≡ afterTokens (at declared K) r
 first-declaration K (reads-constructors h) = others K h
 first-declaration K reads-pair-of = refl
 
 more : {a r : List Token} {ds : List Declaration} {w : List ℕ} {p : ℕ} (K : List State)
-    → ReadsMore a ds (name w p ∷ r) → tokens (at declared K) a ≡ tokens (at expression K) r
+    → ReadsMore a ds (nameToken w p ∷ r) → afterTokens (at declared K) a ≡ afterTokens (at expression K) r
 more K no-more = refl
 more K (one-more h k) = declaration K h ∙ more K k
 
-constants : {a r : List Token} {c : Constant} (K : List State)
-    → ReadsConstant a c r → tokens (at constant K) a ≡ tokens (back K noWord) r
+constants : {a r : List Token} {c : SourceConstant} (K : List State)
+    → ReadsConstant a c r → afterTokens (at constant K) a ≡ afterTokens (back K noWord) r
 constants K reads-constructor = refl
 constants K reads-undefined = refl
 constants K (reads-both h k) = constants (inConstantFirst ∷ K) h ∙ constants (inConstantSecond ∷ K) k
 
 -- a state after which a bar goes on with a pattern
 abbrev Barred : State → List State → Type 0
-Barred q K = (p : ℕ) (b : List Token) → tokens (at q K) (symbol bar p ∷ b) ≡ tokens (at pattern (q ∷ K)) b
+Barred q K = (p : ℕ) (b : List Token) → afterTokens (at q K) (symbol bar p ∷ b) ≡ afterTokens (at pattern (q ∷ K)) b
 
-patterns : {a r : List Token} {m : Pattern} (q : State) (K : List State) → Barred q K
-    → ReadsPattern a m r → tokens (at pattern (q ∷ K)) a ≡ tokens (at q K) r
+patterns : {a r : List Token} {m : SourcePattern} (q : State) (K : List State) → Barred q K
+    → ReadsPattern a m r → afterTokens (at pattern (q ∷ K)) a ≡ afterTokens (at q K) r
 patterns q K b reads-alone = refl
 patterns q K b (reads-parts h k) =
     patterns inPatternFirst (q ∷ K) (λ p c. refl) h ∙ patterns inPatternSecond (q ∷ K) (λ p c. refl) k
@@ -61,11 +61,11 @@ patterns q K b (reads-parts-or {t} {c} h k l) =
 
 -- a stack under which `[` begins an index
 abbrev Indexed : List State → Type 0
-Indexed K = (p : ℕ) (b : List Token) → tokens (back K noWord) (symbol indexOpens p ∷ b) ≡ tokens (at index K) b
+Indexed K = (p : ℕ) (b : List Token) → afterTokens (back K noWord) (symbol indexOpens p ∷ b) ≡ afterTokens (at index K) b
 
 -- after a bracket an expression is the first of a pair
 in-bracket : {a r : List Token} {e : Expression} (K : List State)
-    → ReadsExpression a e r → tokens (at bracket K) a ≡ tokens (at expression (inPairFirst ∷ K)) a
+    → ReadsExpression a e r → afterTokens (at bracket K) a ≡ afterTokens (at expression (inPairFirst ∷ K)) a
 in-bracket K reads-named = refl
 in-bracket K reads-undefined-of = refl
 in-bracket K (reads-pair h k) = refl
@@ -77,7 +77,7 @@ in-bracket K (reads-if h m k l) = refl
 in-bracket K (reads-delay h k) = refl
 
 expressions : {a r : List Token} {e : Expression} (K : List State) → Indexed K
-    → ReadsExpression a e r → tokens (at expression K) a ≡ tokens (back K noWord) r
+    → ReadsExpression a e r → afterTokens (at expression K) a ≡ afterTokens (back K noWord) r
 expressions K i reads-named = refl
 expressions K i reads-undefined-of = refl
 expressions K i (reads-pair h k) =
@@ -94,5 +94,5 @@ expressions K i (reads-if h m k l) =
 expressions K i (reads-delay h k) = constants (inDelayConstant ∷ K) h ∙ expressions (inDelayed ∷ K) (λ p b. refl) k
 
 -- a text's tokens bring the machine to its end
-pub derived : {ts : List Token} {t : Text} → ReadsText ts t → tokens (at start []) ts ≡ at done []
+pub derived : {ts : List Token} {t : Text} → ReadsText ts t → afterTokens (at start []) ts ≡ at done []
 derived (reads-text d ds e) = first-declaration [] d ∙ more [] ds ∙ expressions [] (λ p b. refl) e

@@ -17,7 +17,7 @@ use Rattle.grammar.specs.Rows.{inLetBound, inLetBody, initQuery, initTyp
 use Rattle.grammar.specs.Rows.{inRecBody, inTested, pattern, inMatched, inPatternFirst, inPatternSecond, inThen}
 use Rattle.grammar.specs.Rows.{inElse, delayBracket, constant, inDelayConstant, inConstantFirst, inConstantSecond}
 use Rattle.grammar.specs.Rows.{inDelayed, delayClose, index, indexOne, indexTwo}
-use Rattle.grammar.specs.Machine.{dead, live, Word, noWord, naming, spelt, back, bytes, ends}
+use Rattle.grammar.specs.Machine.{dead, live, Word, noWord, naming, spelt, back, afterBytes, ends}
 
 -- the bytes that complete what a state is in
 abbrev closing : State → List ℕ
@@ -119,11 +119,11 @@ Unended index = Unit {0}
 Unended indexOne = Unit {0}
 Unended indexTwo = Unit {0}
 
-name-ended : (K : List State) (rest : List ℕ) → bytes (back K (naming 1)) (32 ∷ rest) ≡ bytes (back K noWord) rest
+name-ended : (K : List State) (rest : List ℕ) → afterBytes (back K (naming 1)) (32 ∷ rest) ≡ afterBytes (back K noWord) rest
 name-ended [] rest = refl
 name-ended (q ∷ K) rest = refl
 
-closed : (q : State) → Unended q → (K : List State) (rest : List ℕ) → bytes (live q K noWord) (closing q ++ rest) ≡ bytes (back K noWord) rest
+closed : (q : State) → Unended q → (K : List State) (rest : List ℕ) → afterBytes (live q K noWord) (closing q ++ rest) ≡ afterBytes (back K noWord) rest
 closed start u K rest = name-ended K rest
 closed declared u K rest = name-ended K rest
 closed typeName u K rest = name-ended K rest
@@ -228,16 +228,16 @@ allClosing [] = []
 allClosing (q ∷ K) = cond (eqb (stateNumber q) 16) [] (closing q ++ allClosing K)
 
 -- at the end no more is needed; from another state its bytes lead back to the one that waits
-module _ (q : State) (K : List State) (more : List ℕ) (onward : ends (bytes (back K noWord) more) ≡ true) where
-  closes-one : (x : Bool) → eqb (stateNumber q) 16 ≡ x → (x ≡ true) ⊎ Unended q → ends (bytes (live q K noWord) (cond x [] (closing q ++ more))) ≡ true
+module _ (q : State) (K : List State) (more : List ℕ) (onward : ends (afterBytes (back K noWord) more) ≡ true) where
+  closes-one : (x : Bool) → eqb (stateNumber q) 16 ≡ x → (x ≡ true) ⊎ Unended q → ends (afterBytes (live q K noWord) (cond x [] (closing q ++ more))) ≡ true
   closes-one true e d = e
   closes-one false e (inl d) = absurd (let z : _≡_ {A = ℕ} 0 1 = cc in omega arith)
   closes-one false e (inr u) = ap ends (closed q u K more) ∙ onward
 
-  pub closes-state : ends (bytes (live q K noWord) (cond (eqb (stateNumber q) 16) [] (closing q ++ more))) ≡ true
+  pub closes-state : ends (afterBytes (live q K noWord) (cond (eqb (stateNumber q) 16) [] (closing q ++ more))) ≡ true
   closes-state = closes-one (eqb (stateNumber q) 16) refl (end-or-not q)
 
-closes-all : (K : List State) → ends (bytes (back K noWord) (allClosing K)) ≡ true
+closes-all : (K : List State) → ends (afterBytes (back K noWord) (allClosing K)) ≡ true
 closes-all [] = refl
 closes-all (q ∷ K) = closes-state q K (allClosing K) (closes-all K)
 
@@ -248,16 +248,16 @@ wordEnding (naming n) = 32 ∷ []
 wordEnding (spelt left) = left ++ (32 ∷ [])
 
 letters-read : (q : State) (K : List State) (left more : List ℕ)
-    → bytes (live q K (spelt left)) ((left ++ (32 ∷ [])) ++ more) ≡ bytes (live q K noWord) more
+    → afterBytes (live q K (spelt left)) ((left ++ (32 ∷ [])) ++ more) ≡ afterBytes (live q K noWord) more
 letters-read q K [] more = refl
 letters-read q K (c ∷ left) more =
-    ap (λ x. bytes (cond x (live q K (spelt left)) dead) ((left ++ (32 ∷ [])) ++ more)) (eq-eqb c c refl) ∙ letters-read q K left more
+    ap (λ x. afterBytes (cond x (live q K (spelt left)) dead) ((left ++ (32 ∷ [])) ++ more)) (eq-eqb c c refl) ∙ letters-read q K left more
 
 word-ended : (q : State) (K : List State) (w : Word) (more : List ℕ)
-    → bytes (live q K w) (wordEnding w ++ more) ≡ bytes (live q K noWord) more
+    → afterBytes (live q K w) (wordEnding w ++ more) ≡ afterBytes (live q K noWord) more
 word-ended q K noWord more = refl
 word-ended q K (naming n) more = refl
 word-ended q K (spelt left) more = letters-read q K left more
 
-pub completable : (q : State) (K : List State) (w : Word) → (more : List ℕ) × (ends (bytes (live q K w) more) ≡ true)
+pub completable : (q : State) (K : List State) (w : Word) → (more : List ℕ) × (ends (afterBytes (live q K w) more) ≡ true)
 completable q K w = (wordEnding w ++ allClosing (q ∷ K), ap ends (word-ended q K w (allClosing (q ∷ K))) ∙ closes-all (q ∷ K))

@@ -13,8 +13,8 @@ use lib.Dec.{T, ltb, ltb→lt, nltb→le}
 use Rattle.grammar.specs.Tokens.{Token, Tokens}
 use Rattle.grammar.specs.Legal.{Legal, Viable, limit, Leaves, at-byte, at-limit, at-end, Told}
 use Rattle.grammar.specs.Rows.{State, start}
-use Rattle.grammar.specs.Machine.{Config, dead, live, Word, noWord, onByte, bytes, ends, begins}
-use Rattle.grammar.specs.Walk.{Outcome, stopped, reached, onward, walk, concluded, firstIllegal}
+use Rattle.grammar.specs.Machine.{Config, dead, live, Word, noWord, onByte, afterBytes, ends, begins}
+use Rattle.grammar.specs.Walk.{Walked, stopped, reached, onward, walk, concluded, firstIllegal}
 use Rattle.grammar.proofs.Derived.{derived}
 use Rattle.grammar.proofs.ReadToEnd.{read-to-end}
 use Rattle.grammar.proofs.Endings.{completable}
@@ -23,19 +23,19 @@ use Rattle.grammar.proofs.RowFound.{dead-bytes}
 use Rattle.grammar.proofs.BytesOfTokens.{bytes-of-tokens}
 use Rattle.grammar.proofs.TokensOfBytes.{tokens-of-bytes}
 
-pub legal-read : (bs : List ℕ) → Legal bs → ends (bytes begins bs) ≡ true
+pub legal-read : (bs : List ℕ) → Legal bs → ends (afterBytes begins bs) ≡ true
 legal-read bs (ts, t, r) = bytes-of-tokens start [] (r .lexed) (ap ends (derived (r .parsed)))
 
 all-lexed : {bs v rest : List ℕ} {ts : List Token} → Continued noWord bs v rest → Tokens (0 + length v) rest ts → Tokens 0 bs ts
 all-lexed no-word t = t
 
-pub read-legal : (bs : List ℕ) → ends (bytes begins bs) ≡ true → Legal bs
+pub read-legal : (bs : List ℕ) → ends (afterBytes begins bs) ≡ true → Legal bs
 read-legal bs h =
     let x = tokens-of-bytes bs 0 start [] noWord h in
     let y = read-to-end (x .later) (x .ending) in
     (x .later, y .0, record { lexed = all-lexed (x .continued) (x .lexed); parsed = y .1 })
 
-bytes-append : (c : Config) (bs cs : List ℕ) → bytes c (bs ++ cs) ≡ bytes (bytes c bs) cs
+bytes-append : (c : Config) (bs cs : List ℕ) → afterBytes c (bs ++ cs) ≡ afterBytes (afterBytes c bs) cs
 bytes-append c [] cs = refl
 bytes-append dead (b ∷ bs) [] = refl
 bytes-append dead (b ∷ bs) (d ∷ cs) = refl
@@ -46,26 +46,26 @@ abbrev pub Alive : Config → Type 0
 Alive dead = ⊥
 Alive (live q K w) = Unit {0}
 
-pub alive-viable : (bs : List ℕ) → Alive (bytes begins bs) → Viable bs
-alive-viable bs h = go (bytes begins bs) refl h
+pub alive-viable : (bs : List ℕ) → Alive (afterBytes begins bs) → Viable bs
+alive-viable bs h = go (afterBytes begins bs) refl h
   where
-    go : (c : Config) → bytes begins bs ≡ c → Alive c → Viable bs
+    go : (c : Config) → afterBytes begins bs ≡ c → Alive c → Viable bs
     go dead e a = absurd a
     go (live q K w) e a =
         let x = completable q K w in
-        (x .0, read-legal (bs ++ x .0) (ap ends (bytes-append begins bs (x .0) ∙ ap (λ c. bytes c (x .0)) e) ∙ x .1))
+        (x .0, read-legal (bs ++ x .0) (ap ends (bytes-append begins bs (x .0) ∙ ap (λ c. afterBytes c (x .0)) e) ∙ x .1))
 
-pub dead-not-viable : (bs : List ℕ) → bytes begins bs ≡ dead → Viable bs → ⊥
+pub dead-not-viable : (bs : List ℕ) → afterBytes begins bs ≡ dead → Viable bs → ⊥
 dead-not-viable bs h v =
-    dead-bytes (v .0) (ap ends (sym (bytes-append begins bs (v .0) ∙ ap (λ c. bytes c (v .0)) h)) ∙ legal-read (bs ++ v .0) (v .1))
+    dead-bytes (v .0) (ap ends (sym (bytes-append begins bs (v .0) ∙ ap (λ c. afterBytes c (v .0)) h)) ∙ legal-read (bs ++ v .0) (v .1))
 
 -- where the walk stops
 record Stops (bs : List ℕ) (i j : ℕ) (c : Config) : Type 0 where
   count : ℕ
   place : j ≡ i + count
   within : count < length bs
-  until : Alive (bytes c (take count bs))
-  there : bytes c (take (suc count) bs) ≡ dead
+  until : Alive (afterBytes c (take count bs))
+  there : afterBytes c (take (suc count) bs) ≡ dead
 
 stops : (bs : List ℕ) (i j : ℕ) (q : State) (K : List State) (w : Word) → walk bs i (live q K w) ≡ stopped j → Stops bs i j (live q K w)
 stops [] i j q K w h = absurd (let z : _≡_ {A = ℕ} 0 1 = cc in omega arith)
@@ -81,21 +81,21 @@ stops (b ∷ bs) i j q K w h = go (onByte b q K w) refl h (λ r L v k. stops bs 
           count = suc (s .count);
           place = omega (arith, s .place);
           within = omega (arith, s .within);
-          until = subst (λ c. Alive (bytes c (take (s .count) bs))) (sym e) (s .until);
-          there = ap (λ c. bytes c (take (suc (s .count)) bs)) e ∙ s .there;
+          until = subst (λ c. Alive (afterBytes c (take (s .count) bs))) (sym e) (s .until);
+          there = ap (λ c. afterBytes c (take (suc (s .count)) bs)) e ∙ s .there;
         }
 
 -- where it does not
 reaches : (bs : List ℕ) (i : ℕ) (q : State) (K : List State) (w : Word) (d : Config)
-    → walk bs i (live q K w) ≡ reached d → (bytes (live q K w) bs ≡ d) × Alive d
+    → walk bs i (live q K w) ≡ reached d → (afterBytes (live q K w) bs ≡ d) × Alive d
 reaches [] i q K w d h = let e : live q K w ≡ d = cc in (e, subst Alive e tt)
 reaches (b ∷ bs) i q K w d h = go (onByte b q K w) refl h (λ r L v k. reaches bs (suc i) r L v d k)
   where
     go : (c : Config) → onByte b q K w ≡ c → onward (walk bs (suc i)) c i ≡ reached d
-        → ((r : State) (L : List State) (v : Word) → walk bs (suc i) (live r L v) ≡ reached d → (bytes (live r L v) bs ≡ d) × Alive d)
-        → (bytes (onByte b q K w) bs ≡ d) × Alive d
+        → ((r : State) (L : List State) (v : Word) → walk bs (suc i) (live r L v) ≡ reached d → (afterBytes (live r L v) bs ≡ d) × Alive d)
+        → (afterBytes (onByte b q K w) bs ≡ d) × Alive d
     go dead e k again = absurd (let z : _≡_ {A = ℕ} 0 1 = cc in omega arith)
-    go (live r L v) e k again = let s = again r L v k in (ap (λ c. bytes c bs) e ∙ s .0, s .1)
+    go (live r L v) e k again = let s = again r L v k in (ap (λ c. afterBytes c bs) e ∙ s .0, s .1)
 
 module _ (text : List ℕ) where
   stopped-told : (j : ℕ) → walk (take limit text) 0 begins ≡ stopped j → Leaves text j
@@ -108,21 +108,21 @@ module _ (text : List ℕ) where
       subst (Leaves text) e
       (at-byte (omega (arith, few, both)) below
       (alive-viable (take (s .count) text)
-      (subst (λ l. Alive (bytes begins l)) (take-take (s .count) limit text (omega (arith, below))) (s .until)))
+      (subst (λ l. Alive (afterBytes begins l)) (take-take (s .count) limit text (omega (arith, below))) (s .until)))
       (dead-not-viable (take (suc (s .count)) text)
-      (ap (bytes begins) (sym (take-take (suc (s .count)) limit text below)) ∙ s .there)))
+      (ap (afterBytes begins) (sym (take-take (suc (s .count)) limit text below)) ∙ s .there)))
 
-  module _ (d : Config) (read : bytes begins (take limit text) ≡ d) (alive : Alive d) where
+  module _ (d : Config) (read : afterBytes begins (take limit text) ≡ d) (alive : Alive d) where
     taken-viable : Viable (take limit text)
     taken-viable = alive-viable (take limit text) (subst Alive (sym read) alive)
 
     ended-told : length text ≤ limit → (x : Bool) → ends d ≡ x → Told text (cond x none (some (length text)))
     ended-told l x e =
         let all : take limit text ≡ text = take-all limit text l in
-        let whole : bytes begins text ≡ d = ap (bytes begins) (sym all) ∙ read in
+        let whole : afterBytes begins text ≡ d = ap (afterBytes begins) (sym all) ∙ read in
         told x e (ap ends whole) (subst Viable all taken-viable)
       where
-        told : (y : Bool) → ends d ≡ y → ends (bytes begins text) ≡ ends d → Viable text → Told text (cond y none (some (length text)))
+        told : (y : Bool) → ends d ≡ y → ends (afterBytes begins text) ≡ ends d → Viable text → Told text (cond y none (some (length text)))
         told true f g v = record { legal = read-legal text (g ∙ f); short = l }
         told false f g v = at-end l v (λ k. let z : false ≡ true = sym (g ∙ f) ∙ legal-read text k in absurd (let y : _≡_ {A = ℕ} 0 1 = cc in omega arith))
 
@@ -131,11 +131,11 @@ module _ (text : List ℕ) where
     reached-told true l m = at-limit (l tt) taken-viable
     reached-told false l m = ended-told (m tt) (ends d) refl
 
-  pub exact : Told text (firstIllegal text)
+  pub first-illegal-exact : Told text (firstIllegal text)
   unfolding firstIllegal
-  exact = go (walk (take limit text) 0 begins) refl
+  first-illegal-exact = go (walk (take limit text) 0 begins) refl
     where
-      go : (o : Outcome) → walk (take limit text) 0 begins ≡ o → Told text (concluded (length text) o)
+      go : (o : Walked) → walk (take limit text) 0 begins ≡ o → Told text (concluded (length text) o)
       go (stopped j) h = stopped-told j h
       go (reached d) h =
           let r = reaches (take limit text) 0 start [] noWord d h in

@@ -4,80 +4,80 @@
 use Prim.Native.Nat.{ℕ}
 use mathlib.Core.Path.{refl}
 use mathlib.Core.List.{List, [], _∷_}
-use Rattle.grammar.specs.Tokens.{Token, keyword, symbol, name, TYPE, IN, INPUT, equals, opens, comma, query, closes}
+use Rattle.grammar.specs.Tokens.{Token, keyword, symbol, nameToken, TYPE, IN, INPUT, equals, opens, comma, query, closes}
 use Rattle.grammar.specs.Tokens.{indexOpens, two, indexCloses, no-token, a-blank, a-symbol, a-word, run-last, run-more}
-use Rattle.grammar.specs.Tokens.{all-none, all-more, spells-keyword, spells-name}
-use Rattle.grammar.specs.Source.{Text, text, named, Constructors, Named, UndefinedOf, Pair, Second}
+use Rattle.grammar.specs.Tokens.{lower-none, lower-more, spells-keyword, spells-name}
+use Rattle.grammar.specs.Source.{Text, text, identifier, Constructors, NameUse, UndefinedOf, PairExpression, SecondOf}
 use Rattle.grammar.specs.Grammar.{no-other, reads-constructors, no-more, reads-named, reads-undefined-of, reads-pair, reads-second, reads-text}
 use Rattle.grammar.specs.Legal.{Leaves, Keeps, Reading}
 use Rattle.grammar.specs.Walk.{firstIllegal}
-use Rattle.grammar.proofs.Exact.{exact}
+use Rattle.grammar.proofs.Exact.{first-illegal-exact}
 use lib.Dec.{lit≤}
 
 -- TYPX: a letter after which no keyword goes on
 typx : Leaves (84 ∷ 89 ∷ 80 ∷ 88 ∷ []) 3
 unfolding firstIllegal
-typx = exact (84 ∷ 89 ∷ 80 ∷ 88 ∷ [])
+typx = first-illegal-exact (84 ∷ 89 ∷ 80 ∷ 88 ∷ [])
 
 -- TYP : a keyword cut short
 keyword-cut : Leaves (84 ∷ 89 ∷ 80 ∷ 32 ∷ []) 3
 unfolding firstIllegal
-keyword-cut = exact (84 ∷ 89 ∷ 80 ∷ 32 ∷ [])
+keyword-cut = first-illegal-exact (84 ∷ 89 ∷ 80 ∷ 32 ∷ [])
 
 -- TYPEx: a run of letters is one token
 keyword-run-on : Leaves (84 ∷ 89 ∷ 80 ∷ 69 ∷ 120 ∷ []) 4
 unfolding firstIllegal
-keyword-run-on = exact (84 ∷ 89 ∷ 80 ∷ 69 ∷ 120 ∷ [])
+keyword-run-on = first-illegal-exact (84 ∷ 89 ∷ 80 ∷ 69 ∷ 120 ∷ [])
 
 -- the empty text: a text that ends early: its length
 no-text : Leaves ([]) 0
 unfolding firstIllegal
-no-text = exact ([])
+no-text = first-illegal-exact ([])
 
 -- TYPE a = b INPUT: after the constructors IN is awaited
 in-for-input : Leaves (84 ∷ 89 ∷ 80 ∷ 69 ∷ 32 ∷ 97 ∷ 32 ∷ 61 ∷ 32 ∷ 98 ∷ 32 ∷ 73 ∷ 78 ∷ 80 ∷ 85 ∷ 84 ∷ []) 13
 unfolding firstIllegal
-in-for-input = exact (84 ∷ 89 ∷ 80 ∷ 69 ∷ 32 ∷ 97 ∷ 32 ∷ 61 ∷ 32 ∷ 98 ∷ 32 ∷ 73 ∷ 78 ∷ 80 ∷ 85 ∷ 84 ∷ [])
+in-for-input = first-illegal-exact (84 ∷ 89 ∷ 80 ∷ 69 ∷ 32 ∷ 97 ∷ 32 ∷ 61 ∷ 32 ∷ 98 ∷ 32 ∷ 73 ∷ 78 ∷ 80 ∷ 85 ∷ 84 ∷ [])
 
 -- TYPE aaaaaaaaaaaaaaaaa: the 17th letter of a name
 seventeen-letters : Leaves (84 ∷ 89 ∷ 80 ∷ 69 ∷ 32 ∷ 97 ∷ 97 ∷ 97 ∷ 97 ∷ 97 ∷ 97 ∷ 97 ∷ 97 ∷ 97 ∷ 97 ∷ 97 ∷ 97 ∷ 97 ∷ 97 ∷ 97 ∷ 97 ∷ 97 ∷ []) 21
 unfolding firstIllegal
-seventeen-letters = exact (84 ∷ 89 ∷ 80 ∷ 69 ∷ 32 ∷ 97 ∷ 97 ∷ 97 ∷ 97 ∷ 97 ∷ 97 ∷ 97 ∷ 97 ∷ 97 ∷ 97 ∷ 97 ∷ 97 ∷ 97 ∷ 97 ∷ 97 ∷ 97 ∷ 97 ∷ [])
+seventeen-letters = first-illegal-exact (84 ∷ 89 ∷ 80 ∷ 69 ∷ 32 ∷ 97 ∷ 97 ∷ 97 ∷ 97 ∷ 97 ∷ 97 ∷ 97 ∷ 97 ∷ 97 ∷ 97 ∷ 97 ∷ 97 ∷ 97 ∷ 97 ∷ 97 ∷ 97 ∷ 97 ∷ [])
 
 -- TYPE a=b IN INPUT a (b): brackets never group
 brackets-group : Leaves (84 ∷ 89 ∷ 80 ∷ 69 ∷ 32 ∷ 97 ∷ 61 ∷ 98 ∷ 32 ∷ 73 ∷ 78 ∷ 32 ∷ 73 ∷ 78 ∷ 80 ∷ 85 ∷ 84 ∷ 32 ∷ 97 ∷ 32 ∷ 40 ∷ 98 ∷ 41 ∷ []) 22
 unfolding firstIllegal
-brackets-group = exact (84 ∷ 89 ∷ 80 ∷ 69 ∷ 32 ∷ 97 ∷ 61 ∷ 98 ∷ 32 ∷ 73 ∷ 78 ∷ 32 ∷ 73 ∷ 78 ∷ 80 ∷ 85 ∷ 84 ∷ 32 ∷ 97 ∷ 32 ∷ 40 ∷ 98 ∷ 41 ∷ [])
+brackets-group = first-illegal-exact (84 ∷ 89 ∷ 80 ∷ 69 ∷ 32 ∷ 97 ∷ 61 ∷ 98 ∷ 32 ∷ 73 ∷ 78 ∷ 32 ∷ 73 ∷ 78 ∷ 80 ∷ 85 ∷ 84 ∷ 32 ∷ 97 ∷ 32 ∷ 40 ∷ 98 ∷ 41 ∷ [])
 
 -- TYPE a=b IN INPUT a b[12]: one digit to an index
 two-digits : Leaves (84 ∷ 89 ∷ 80 ∷ 69 ∷ 32 ∷ 97 ∷ 61 ∷ 98 ∷ 32 ∷ 73 ∷ 78 ∷ 32 ∷ 73 ∷ 78 ∷ 80 ∷ 85 ∷ 84 ∷ 32 ∷ 97 ∷ 32 ∷ 98 ∷ 91 ∷ 49 ∷ 50 ∷ 93 ∷ []) 23
 unfolding firstIllegal
-two-digits = exact (84 ∷ 89 ∷ 80 ∷ 69 ∷ 32 ∷ 97 ∷ 61 ∷ 98 ∷ 32 ∷ 73 ∷ 78 ∷ 32 ∷ 73 ∷ 78 ∷ 80 ∷ 85 ∷ 84 ∷ 32 ∷ 97 ∷ 32 ∷ 98 ∷ 91 ∷ 49 ∷ 50 ∷ 93 ∷ [])
+two-digits = first-illegal-exact (84 ∷ 89 ∷ 80 ∷ 69 ∷ 32 ∷ 97 ∷ 61 ∷ 98 ∷ 32 ∷ 73 ∷ 78 ∷ 32 ∷ 73 ∷ 78 ∷ 80 ∷ 85 ∷ 84 ∷ 32 ∷ 97 ∷ 32 ∷ 98 ∷ 91 ∷ 49 ∷ 50 ∷ 93 ∷ [])
 
 -- TYPE a=b IN INPUT a (DELAY (b[1], b)): no index on the constant of a DELAY
 index-of-constant : Leaves (84 ∷ 89 ∷ 80 ∷ 69 ∷ 32 ∷ 97 ∷ 61 ∷ 98 ∷ 32 ∷ 73 ∷ 78 ∷ 32 ∷ 73 ∷ 78 ∷ 80 ∷ 85 ∷ 84 ∷ 32 ∷ 97 ∷ 32 ∷ 40 ∷ 68 ∷ 69 ∷ 76 ∷ 65 ∷ 89 ∷ 32 ∷ 40 ∷ 98 ∷ 91 ∷ 49 ∷ 93 ∷ 44 ∷ 32 ∷ 98 ∷ 41 ∷ 41 ∷ []) 29
 unfolding firstIllegal
-index-of-constant = exact (84 ∷ 89 ∷ 80 ∷ 69 ∷ 32 ∷ 97 ∷ 61 ∷ 98 ∷ 32 ∷ 73 ∷ 78 ∷ 32 ∷ 73 ∷ 78 ∷ 80 ∷ 85 ∷ 84 ∷ 32 ∷ 97 ∷ 32 ∷ 40 ∷ 68 ∷ 69 ∷ 76 ∷ 65 ∷ 89 ∷ 32 ∷ 40 ∷ 98 ∷ 91 ∷ 49 ∷ 93 ∷ 44 ∷ 32 ∷ 98 ∷ 41 ∷ 41 ∷ [])
+index-of-constant = first-illegal-exact (84 ∷ 89 ∷ 80 ∷ 69 ∷ 32 ∷ 97 ∷ 61 ∷ 98 ∷ 32 ∷ 73 ∷ 78 ∷ 32 ∷ 73 ∷ 78 ∷ 80 ∷ 85 ∷ 84 ∷ 32 ∷ 97 ∷ 32 ∷ 40 ∷ 68 ∷ 69 ∷ 76 ∷ 65 ∷ 89 ∷ 32 ∷ 40 ∷ 98 ∷ 91 ∷ 49 ∷ 93 ∷ 44 ∷ 32 ∷ 98 ∷ 41 ∷ 41 ∷ [])
 
 -- TYPE a=b IN INPUT a (IF b MATCHES ?a THEN b ELSE b): no ? in a pattern
 query-in-pattern : Leaves (84 ∷ 89 ∷ 80 ∷ 69 ∷ 32 ∷ 97 ∷ 61 ∷ 98 ∷ 32 ∷ 73 ∷ 78 ∷ 32 ∷ 73 ∷ 78 ∷ 80 ∷ 85 ∷ 84 ∷ 32 ∷ 97 ∷ 32 ∷ 40 ∷ 73 ∷ 70 ∷ 32 ∷ 98 ∷ 32 ∷ 77 ∷ 65 ∷ 84 ∷ 67 ∷ 72 ∷ 69 ∷ 83 ∷ 32 ∷ 63 ∷ 97 ∷ 32 ∷ 84 ∷ 72 ∷ 69 ∷ 78 ∷ 32 ∷ 98 ∷ 32 ∷ 69 ∷ 76 ∷ 83 ∷ 69 ∷ 32 ∷ 98 ∷ 41 ∷ []) 34
 unfolding firstIllegal
-query-in-pattern = exact (84 ∷ 89 ∷ 80 ∷ 69 ∷ 32 ∷ 97 ∷ 61 ∷ 98 ∷ 32 ∷ 73 ∷ 78 ∷ 32 ∷ 73 ∷ 78 ∷ 80 ∷ 85 ∷ 84 ∷ 32 ∷ 97 ∷ 32 ∷ 40 ∷ 73 ∷ 70 ∷ 32 ∷ 98 ∷ 32 ∷ 77 ∷ 65 ∷ 84 ∷ 67 ∷ 72 ∷ 69 ∷ 83 ∷ 32 ∷ 63 ∷ 97 ∷ 32 ∷ 84 ∷ 72 ∷ 69 ∷ 78 ∷ 32 ∷ 98 ∷ 32 ∷ 69 ∷ 76 ∷ 83 ∷ 69 ∷ 32 ∷ 98 ∷ 41 ∷ [])
+query-in-pattern = first-illegal-exact (84 ∷ 89 ∷ 80 ∷ 69 ∷ 32 ∷ 97 ∷ 61 ∷ 98 ∷ 32 ∷ 73 ∷ 78 ∷ 32 ∷ 73 ∷ 78 ∷ 80 ∷ 85 ∷ 84 ∷ 32 ∷ 97 ∷ 32 ∷ 40 ∷ 73 ∷ 70 ∷ 32 ∷ 98 ∷ 32 ∷ 77 ∷ 65 ∷ 84 ∷ 67 ∷ 72 ∷ 69 ∷ 83 ∷ 32 ∷ 63 ∷ 97 ∷ 32 ∷ 84 ∷ 72 ∷ 69 ∷ 78 ∷ 32 ∷ 98 ∷ 32 ∷ 69 ∷ 76 ∷ 83 ∷ 69 ∷ 32 ∷ 98 ∷ 41 ∷ [])
 
 -- TYPE a=b IN INPUT a b IN: after the expression anything but blanks and [
 past-the-end : Leaves (84 ∷ 89 ∷ 80 ∷ 69 ∷ 32 ∷ 97 ∷ 61 ∷ 98 ∷ 32 ∷ 73 ∷ 78 ∷ 32 ∷ 73 ∷ 78 ∷ 80 ∷ 85 ∷ 84 ∷ 32 ∷ 97 ∷ 32 ∷ 98 ∷ 32 ∷ 73 ∷ 78 ∷ []) 22
 unfolding firstIllegal
-past-the-end = exact (84 ∷ 89 ∷ 80 ∷ 69 ∷ 32 ∷ 97 ∷ 61 ∷ 98 ∷ 32 ∷ 73 ∷ 78 ∷ 32 ∷ 73 ∷ 78 ∷ 80 ∷ 85 ∷ 84 ∷ 32 ∷ 97 ∷ 32 ∷ 98 ∷ 32 ∷ 73 ∷ 78 ∷ [])
+past-the-end = first-illegal-exact (84 ∷ 89 ∷ 80 ∷ 69 ∷ 32 ∷ 97 ∷ 61 ∷ 98 ∷ 32 ∷ 73 ∷ 78 ∷ 32 ∷ 73 ∷ 78 ∷ 80 ∷ 85 ∷ 84 ∷ 32 ∷ 97 ∷ 32 ∷ 98 ∷ 32 ∷ 73 ∷ 78 ∷ [])
 
 -- TYPE\ta: a tab is no blank
 tab : Leaves (84 ∷ 89 ∷ 80 ∷ 69 ∷ 9 ∷ 97 ∷ []) 4
 unfolding firstIllegal
-tab = exact (84 ∷ 89 ∷ 80 ∷ 69 ∷ 9 ∷ 97 ∷ [])
+tab = first-illegal-exact (84 ∷ 89 ∷ 80 ∷ 69 ∷ 9 ∷ 97 ∷ [])
 
 -- TYPE a=b IN INPUT a (b,: a text that could go on
 unclosed : Leaves (84 ∷ 89 ∷ 80 ∷ 69 ∷ 32 ∷ 97 ∷ 61 ∷ 98 ∷ 32 ∷ 73 ∷ 78 ∷ 32 ∷ 73 ∷ 78 ∷ 80 ∷ 85 ∷ 84 ∷ 32 ∷ 97 ∷ 32 ∷ 40 ∷ 98 ∷ 44 ∷ []) 23
 unfolding firstIllegal
-unclosed = exact (84 ∷ 89 ∷ 80 ∷ 69 ∷ 32 ∷ 97 ∷ 61 ∷ 98 ∷ 32 ∷ 73 ∷ 78 ∷ 32 ∷ 73 ∷ 78 ∷ 80 ∷ 85 ∷ 84 ∷ 32 ∷ 97 ∷ 32 ∷ 40 ∷ 98 ∷ 44 ∷ [])
+unclosed = first-illegal-exact (84 ∷ 89 ∷ 80 ∷ 69 ∷ 32 ∷ 97 ∷ 61 ∷ 98 ∷ 32 ∷ 73 ∷ 78 ∷ 32 ∷ 73 ∷ 78 ∷ 80 ∷ 85 ∷ 84 ∷ 32 ∷ 97 ∷ 32 ∷ 40 ∷ 98 ∷ 44 ∷ [])
 
 -- TYPE a=b IN INPUT a (b,?a)[2]
 abbrev example : List ℕ
@@ -85,22 +85,22 @@ example = 84 ∷ 89 ∷ 80 ∷ 69 ∷ 32 ∷ 97 ∷ 61 ∷ 98 ∷ 32 ∷ 73 ∷ 
 
 kept-example : Keeps example
 unfolding firstIllegal
-kept-example = exact example
+kept-example = first-illegal-exact example
 
 abbrev its-tokens : List Token
 its-tokens =
-    keyword TYPE 0 ∷ name (97 ∷ []) 5 ∷ symbol equals 6 ∷ name (98 ∷ []) 7 ∷ keyword IN 9 ∷ keyword INPUT 12 ∷ name (97 ∷ []) 18
-    ∷ symbol opens 20 ∷ name (98 ∷ []) 21 ∷ symbol comma 22 ∷ symbol query 23 ∷ name (97 ∷ []) 24 ∷ symbol closes 25
+    keyword TYPE 0 ∷ nameToken (97 ∷ []) 5 ∷ symbol equals 6 ∷ nameToken (98 ∷ []) 7 ∷ keyword IN 9 ∷ keyword INPUT 12 ∷ nameToken (97 ∷ []) 18
+    ∷ symbol opens 20 ∷ nameToken (98 ∷ []) 21 ∷ symbol comma 22 ∷ symbol query 23 ∷ nameToken (97 ∷ []) 24 ∷ symbol closes 25
     ∷ symbol indexOpens 26 ∷ symbol two 27 ∷ symbol indexCloses 28 ∷ []
 
 abbrev its-text : Text
 its-text =
-    text (Constructors (named (97 ∷ []) 5) (named (98 ∷ []) 7) []) [] (named (97 ∷ []) 18)
-    (Second (Pair (Named (named (98 ∷ []) 21)) (UndefinedOf (named (97 ∷ []) 24))))
+    text (Constructors (identifier (97 ∷ []) 5) (identifier (98 ∷ []) 7) []) [] (identifier (97 ∷ []) 18)
+    (SecondOf (PairExpression (NameUse (identifier (98 ∷ []) 21)) (UndefinedOf (identifier (97 ∷ []) 24))))
 
 its-reading : Reading example its-tokens its-text
 its-reading =
     record {
-      lexed = a-word (run-more refl (run-more refl (run-more refl (run-last refl refl)))) (spells-keyword refl) (a-blank refl (a-word (run-last refl refl) (spells-name (all-more refl all-none) (lit≤ tt)) (a-symbol refl (a-word (run-last refl refl) (spells-name (all-more refl all-none) (lit≤ tt)) (a-blank refl (a-word (run-more refl (run-last refl refl)) (spells-keyword refl) (a-blank refl (a-word (run-more refl (run-more refl (run-more refl (run-more refl (run-last refl refl))))) (spells-keyword refl) (a-blank refl (a-word (run-last refl refl) (spells-name (all-more refl all-none) (lit≤ tt)) (a-blank refl (a-symbol refl (a-word (run-last refl refl) (spells-name (all-more refl all-none) (lit≤ tt)) (a-symbol refl (a-symbol refl (a-word (run-last refl refl) (spells-name (all-more refl all-none) (lit≤ tt)) (a-symbol refl (a-symbol refl (a-symbol refl (a-symbol refl (no-token)))))))))))))))))))));
+      lexed = a-word (run-more refl (run-more refl (run-more refl (run-last refl refl)))) (spells-keyword refl) (a-blank refl (a-word (run-last refl refl) (spells-name (lower-more refl lower-none) (lit≤ tt)) (a-symbol refl (a-word (run-last refl refl) (spells-name (lower-more refl lower-none) (lit≤ tt)) (a-blank refl (a-word (run-more refl (run-last refl refl)) (spells-keyword refl) (a-blank refl (a-word (run-more refl (run-more refl (run-more refl (run-more refl (run-last refl refl))))) (spells-keyword refl) (a-blank refl (a-word (run-last refl refl) (spells-name (lower-more refl lower-none) (lit≤ tt)) (a-blank refl (a-symbol refl (a-word (run-last refl refl) (spells-name (lower-more refl lower-none) (lit≤ tt)) (a-symbol refl (a-symbol refl (a-word (run-last refl refl) (spells-name (lower-more refl lower-none) (lit≤ tt)) (a-symbol refl (a-symbol refl (a-symbol refl (a-symbol refl (no-token)))))))))))))))))))));
       parsed = reads-text (reads-constructors no-other) no-more (reads-second (reads-pair reads-named reads-undefined-of));
     }

@@ -12,11 +12,11 @@ use Rattle.grammar.specs.Source.{Text}
 use Rattle.grammar.specs.Grammar.{ReadsText}
 use Rattle.grammar.specs.Legal.{Reading, Viable, limit, Leaves, at-byte, at-limit, at-end, Keeps, Told}
 use Rattle.grammar.specs.Walk.{firstIllegal}
-use Rattle.grammar.specs.Promises.{Promises}
+use Rattle.grammar.specs.Promises.{GrammarPromises}
 use Rattle.grammar.proofs.OneLexing.{one-lexing}
 use Rattle.grammar.proofs.OneReading.{one-reading}
 use Rattle.grammar.proofs.Prefixes.{before, one-place, not-both, viable-earlier}
-use Rattle.grammar.proofs.Exact.{exact}
+use Rattle.grammar.proofs.Exact.{first-illegal-exact}
 
 both-one : (bytes : List ℕ) (ts us : List Token) (t u : Text) → Reading bytes ts t → Reading bytes us u → (ts ≡ us) × (t ≡ u)
 both-one bytes ts us t u r s =
@@ -24,7 +24,7 @@ both-one bytes ts us t u r s =
     (e, one-reading (r .parsed) (subst (λ x. ReadsText x u) (sym e) (s .parsed)))
 
 either : (bytes : List ℕ) → Keeps bytes ⊎ ((i : ℕ) × Leaves bytes i)
-either bytes = go (firstIllegal bytes) (exact bytes)
+either bytes = go (firstIllegal bytes) (first-illegal-exact bytes)
   where
     go : (o : Option ℕ) → Told bytes o → Keeps bytes ⊎ ((i : ℕ) × Leaves bytes i)
     go none h = inl h
@@ -44,7 +44,7 @@ within bytes i (at-byte l m v n) = (omega (arith, l), omega (arith, m))
 within bytes i (at-limit l v) = (omega (arith, l), omega arith)
 within bytes i (at-end l v n) = (omega arith, l)
 
-pub kept : Promises
+pub kept : GrammarPromises
 kept =
     record {
       one-lexing = λ i bytes ts us t u. one-lexing t u;

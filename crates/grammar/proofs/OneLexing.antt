@@ -9,17 +9,17 @@ use lib.ListN.{length, getD}
 use lib.Dec.{eqb}
 use Rattle.grammar.specs.Tokens.{Token, keyword, symbol, Symbol, Keyword, spelling, Tokens, no-token, a-blank, a-symbol, a-word}
 use Rattle.grammar.specs.Tokens.{TYPE, IN, INPUT, LET, INIT, REC, IF, MATCHES, THEN, ELSE, DELAY}
-use Rattle.grammar.specs.Tokens.{isBlank, isLower, isUpper, isSymbol, kindOf, isLetter, NoLetter}
-use Rattle.grammar.specs.Tokens.{Run, run-last, run-more, AllLower, all-none, all-more, Spells, spells-keyword, spells-name}
+use Rattle.grammar.specs.Tokens.{isBlank, isLower, isUpper, isSymbol, byteClass, isLetter, NoLetter}
+use Rattle.grammar.specs.Tokens.{Run, run-last, run-more, AllLower, lower-none, lower-more, Spells, spells-keyword, spells-name}
 
 -- no list begins with two kinds of token
-letter-no-blank : (b : ℕ) → isLetter (kindOf b) ≡ true → kindOf b ≡ isBlank → ⊥
+letter-no-blank : (b : ℕ) → isLetter (byteClass b) ≡ true → byteClass b ≡ isBlank → ⊥
 letter-no-blank b h e = let f : true ≡ false = sym h ∙ ap isLetter e in let z : _≡_ {A = ℕ} 0 1 = cc in omega arith
 
-letter-no-symbol : (b : ℕ) (s : Symbol) → isLetter (kindOf b) ≡ true → kindOf b ≡ isSymbol s → ⊥
+letter-no-symbol : (b : ℕ) (s : Symbol) → isLetter (byteClass b) ≡ true → byteClass b ≡ isSymbol s → ⊥
 letter-no-symbol b s h e = let f : true ≡ false = sym h ∙ ap isLetter e in let z : _≡_ {A = ℕ} 0 1 = cc in omega arith
 
-run-letter : {b : ℕ} {bs word rest : List ℕ} → Run (b ∷ bs) word rest → isLetter (kindOf b) ≡ true
+run-letter : {b : ℕ} {bs word rest : List ℕ} → Run (b ∷ bs) word rest → isLetter (byteClass b) ≡ true
 run-letter (run-last h n) = h
 run-letter (run-more h r) = h
 
@@ -70,18 +70,18 @@ one-keyword j k e = sym (told-spelling j) ∙ ap told e ∙ told-spelling k
 head-of : {a b : ℕ} {s t : List ℕ} → a ∷ s ≡ b ∷ t → a ≡ b
 head-of e = cc
 
-first-upper : (k : Keyword) (b : ℕ) (bs : List ℕ) → b ∷ bs ≡ spelling k → kindOf b ≡ isUpper
-first-upper TYPE b bs e = ap kindOf (head-of e)
-first-upper IN b bs e = ap kindOf (head-of e)
-first-upper INPUT b bs e = ap kindOf (head-of e)
-first-upper LET b bs e = ap kindOf (head-of e)
-first-upper INIT b bs e = ap kindOf (head-of e)
-first-upper REC b bs e = ap kindOf (head-of e)
-first-upper IF b bs e = ap kindOf (head-of e)
-first-upper MATCHES b bs e = ap kindOf (head-of e)
-first-upper THEN b bs e = ap kindOf (head-of e)
-first-upper ELSE b bs e = ap kindOf (head-of e)
-first-upper DELAY b bs e = ap kindOf (head-of e)
+first-upper : (k : Keyword) (b : ℕ) (bs : List ℕ) → b ∷ bs ≡ spelling k → byteClass b ≡ isUpper
+first-upper TYPE b bs e = ap byteClass (head-of e)
+first-upper IN b bs e = ap byteClass (head-of e)
+first-upper INPUT b bs e = ap byteClass (head-of e)
+first-upper LET b bs e = ap byteClass (head-of e)
+first-upper INIT b bs e = ap byteClass (head-of e)
+first-upper REC b bs e = ap byteClass (head-of e)
+first-upper IF b bs e = ap byteClass (head-of e)
+first-upper MATCHES b bs e = ap byteClass (head-of e)
+first-upper THEN b bs e = ap byteClass (head-of e)
+first-upper ELSE b bs e = ap byteClass (head-of e)
+first-upper DELAY b bs e = ap byteClass (head-of e)
 
 empty-no-more : {b : ℕ} {bs : List ℕ} → _≡_ {A = List ℕ} [] (b ∷ bs) → ⊥
 empty-no-more e = let z : _≡_ {A = ℕ} 0 1 = cc in omega arith
@@ -100,8 +100,8 @@ nothing ELSE e = empty-no-more e
 nothing DELAY e = empty-no-more e
 
 not-keyword : (k : Keyword) {word : List ℕ} → AllLower word → word ≡ spelling k → ⊥
-not-keyword k all-none e = nothing k e
-not-keyword k (all-more {b} {bs} h a) e =
+not-keyword k lower-none e = nothing k e
+not-keyword k (lower-more {b} {bs} h a) e =
     let f : isLower ≡ isUpper = sym h ∙ first-upper k b bs e in let z : _≡_ {A = ℕ} 0 1 = cc in omega arith
 
 one-token : {w : List ℕ} {i : ℕ} {t u : Token} → Spells w i t → Spells w i u → t ≡ u

@@ -7,22 +7,22 @@ use mathlib.Core.List.{List, [], _∷_}
 use mathlib.Core.Option.{Option, none, some}
 use native.Mathlib.Omega.{arith}
 use lib.Dec.{T, eqb, eqb→eq}
-use Rattle.grammar.specs.Tokens.{Token, keyword, symbol, name}
-use Rattle.grammar.specs.Source.{named, Text, text}
+use Rattle.grammar.specs.Tokens.{Token, keyword, symbol, nameToken}
+use Rattle.grammar.specs.Source.{identifier, Text, text}
 use Rattle.grammar.specs.Grammar.{ReadsText, reads-text}
-use Rattle.grammar.specs.Rows.{State, start, done, stateNumber, Lead, Action, Row, on, rows}
-use Rattle.grammar.specs.Machine.{Config, dead, live, Word, noWord, find, perform, taken, onToken, tokens, ends, whole}
+use Rattle.grammar.specs.Rows.{State, start, done, stateNumber, Lead, Action, Transition, on, transitions}
+use Rattle.grammar.specs.Machine.{Config, dead, live, Word, noWord, find, perform, taken, onToken, afterTokens, ends, canEnd}
 use Rattle.grammar.specs.Machine.{leadOf, leadByte, leadNumber}
 use Rattle.grammar.proofs.Awaiting.{Indexing, indexing, await-end}
-use Rattle.grammar.proofs.Sound.{Empty, Sound, SoundAt, Moves, Each, moves}
+use Rattle.grammar.proofs.Sound.{Empty, Sound, SoundAt, Moves, EachTransition, moves}
 use Rattle.grammar.proofs.Numbered.{same-lead, same-state}
 
 -- the row that is found
-abbrev pub OfFound : (Lead → Action → Type 0) → Option Row → Type 0
+abbrev pub OfFound : (Lead → Action → Type 0) → Option Transition → Type 0
 OfFound P none = Unit {0}
 OfFound P (some (on l a)) = P l a
 
-pub picked : (P : Lead → Action → Type 0) (b : ℕ) (rs : List Row) → Each P rs → OfFound P (find b rs)
+pub picked : (P : Lead → Action → Type 0) (b : ℕ) (rs : List Transition) → EachTransition P rs → OfFound P (find b rs)
 picked P b [] e = tt
 picked P b (on l a ∷ more) e = go (eqb b (leadByte l)) (e .0) (picked P b more (e .1))
   where
@@ -34,9 +34,9 @@ module _ (ts : List Token) (q : State) (K : List State) (b : List Token) where
   moved : (t : Token) (l : Lead) (a : Action) → leadOf t ≡ l → Moves ts q l a → Sound ts q K (t ∷ b) → SoundAt ts (perform a K noWord) b
   moved (keyword k p) l a e m h = subst (λ x. Moves ts q x a) (sym e) m K b p h
   moved (symbol s p) l a e m h = subst (λ x. Moves ts q x a) (sym e) m K b p h
-  moved (name w p) l a e m h = subst (λ x. Moves ts q x a) (sym e) m K b w p h
+  moved (nameToken w p) l a e m h = subst (λ x. Moves ts q x a) (sym e) m K b w p h
 
-  by-row : (t : Token) (r : Option Row) → OfFound (Moves ts q) r → Sound ts q K (t ∷ b) → SoundAt ts (taken (leadOf t) K r) b
+  by-row : (t : Token) (r : Option Transition) → OfFound (Moves ts q) r → Sound ts q K (t ∷ b) → SoundAt ts (taken (leadOf t) K r) b
   by-row t none m h = tt
   by-row t (some (on l a)) m h = go (eqb (leadNumber (leadOf t)) (leadNumber l)) (eqb→eq (leadNumber (leadOf t)) (leadNumber l))
     where
@@ -45,16 +45,16 @@ module _ (ts : List Token) (q : State) (K : List State) (b : List Token) where
       go false e = tt
 
   by-token : (t : Token) → Sound ts q K (t ∷ b) → SoundAt ts (onToken t q K) b
-  by-token t h = by-row t (find (leadByte (leadOf t)) (rows q)) (picked (Moves ts q) (leadByte (leadOf t)) (rows q) (moves ts q)) h
+  by-token t h = by-row t (find (leadByte (leadOf t)) (transitions q)) (picked (Moves ts q) (leadByte (leadOf t)) (transitions q) (moves ts q)) h
 
-by-tokens : (ts b : List Token) (c : Config) → SoundAt ts c b → SoundAt ts (tokens c b) []
+by-tokens : (ts b : List Token) (c : Config) → SoundAt ts c b → SoundAt ts (afterTokens c b) []
 by-tokens ts [] c h = h
 by-tokens ts (t ∷ b) dead h = tt
 by-tokens ts (t ∷ b) (live q K w) h = by-tokens ts b (onToken t q K) (by-token ts q K b t h)
 
 -- the end is reached in one state alone
-pub at-end : (q : State) (K : List State) (w : Word) → ends (live q K w) ≡ true → q ≡ done
-at-end q K w h = go (whole w) h
+pub ends-done : (q : State) (K : List State) (w : Word) → ends (live q K w) ≡ true → q ≡ done
+ends-done q K w h = go (canEnd w) h
   where
     test : (x : Bool) → (T x → stateNumber q ≡ 16) → x ≡ true → q ≡ done
     test true e k = same-state q done (e tt)
@@ -70,10 +70,10 @@ whole-text (q ∷ K) u i = absurd u
 
 ended : (ts : List Token) (c : Config) → SoundAt ts c [] → ends c ≡ true → (t : Text) × ReadsText ts t
 ended ts dead s h = absurd (let z : _≡_ {A = ℕ} 0 1 = cc in omega arith)
-ended ts (live q K w) s h = let f = subst (λ x. Sound ts x K []) (at-end q K w h) s in whole-text K (f .0) (f .1)
+ended ts (live q K w) s h = let f = subst (λ x. Sound ts x K []) (ends-done q K w h) s in whole-text K (f .0) (f .1)
 
-pub read-to-end : (ts : List Token) → ends (tokens (live start [] noWord) ts) ≡ true → (t : Text) × ReadsText ts t
+pub read-to-end : (ts : List Token) → ends (afterTokens (live start [] noWord) ts) ≡ true → (t : Text) × ReadsText ts t
 read-to-end ts h =
-    ended ts (tokens (live start [] noWord) ts)
-    (by-tokens ts ts (live start [] noWord) (tt, λ d r k. λ ds w p c l. λ e x. (text d ds (named w p) e, reads-text k l x)))
+    ended ts (afterTokens (live start [] noWord) ts)
+    (by-tokens ts ts (live start [] noWord) (tt, λ d r k. λ ds w p c l. λ e x. (text d ds (identifier w p) e, reads-text k l x)))
     h

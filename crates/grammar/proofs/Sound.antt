@@ -4,14 +4,14 @@
 use Prim.Native.Nat.{ℕ}
 use mathlib.Core.Logic.{_⊎_, inl, inr}
 use mathlib.Core.List.{List, [], _∷_}
-use Rattle.grammar.specs.Tokens.{Token, keyword, symbol, name, TYPE, IN, INPUT, LET, INIT, REC, MATCHES, THEN, ELSE, DELAY}
+use Rattle.grammar.specs.Tokens.{Token, keyword, symbol, nameToken, TYPE, IN, INPUT, LET, INIT, REC, MATCHES, THEN, ELSE, DELAY}
 use Rattle.grammar.specs.Tokens.{opens, closes, comma, equals, bar, query, indexOpens, indexCloses, one, two}
-use Rattle.grammar.specs.Source.{named, Constant, Expression}
-use Rattle.grammar.specs.Grammar.{no-other, another, reads-constructors, reads-pair-of, no-more, one-more}
+use Rattle.grammar.specs.Source.{identifier, SourceConstant, Expression}
+use Rattle.grammar.specs.Grammar.{no-other, one-other, reads-constructors, reads-pair-of, no-more, one-more}
 use Rattle.grammar.specs.Grammar.{ReadsConstant, reads-constructor, reads-undefined, reads-both}
 use Rattle.grammar.specs.Grammar.{ReadsExpression, reads-named, reads-undefined-of, reads-pair, reads-first, reads-second, reads-let}
 use Rattle.grammar.specs.Grammar.{reads-let-rec, reads-if, reads-delay}
-use Rattle.grammar.specs.Rows.{State, Lead, aSymbol, aKeyword, aName, Action, Row, on, rows}
+use Rattle.grammar.specs.Rows.{State, Lead, aSymbol, aKeyword, aName, Action, Transition, on, transitions}
 use Rattle.grammar.specs.Rows.{start, declared, typeName, typeEquals, typeBody, constructorEnd, constructorNext}
 use Rattle.grammar.specs.Rows.{pairFirstType, pairComma, pairSecondType, pairClose, pairIn, inputType, expression}
 use Rattle.grammar.specs.Rows.{undefinedType, bracket, done, inPairFirst, inPairSecond, letName, letEquals}
@@ -20,12 +20,12 @@ use Rattle.grammar.specs.Rows.{inRecBody, inTested, pattern, inMatched, 
 use Rattle.grammar.specs.Rows.{inElse, delayBracket, constant, inDelayConstant, inConstantFirst, inConstantSecond}
 use Rattle.grammar.specs.Rows.{inDelayed, delayClose, index, indexOne, indexTwo}
 use Rattle.grammar.specs.Machine.{Config, dead, live, noWord, back, perform}
-use Rattle.grammar.proofs.Awaiting.{Headed, Declared, Declares, Constructs, Alternative, alternative-name, alternative-parts}
+use Rattle.grammar.proofs.Awaiting.{Headed, AwaitsDeclared, Declares, Constructs, AwaitsAlternative, alternative-name, alternative-parts}
 use Rattle.grammar.proofs.Awaiting.{alone, barred, Awaits, await-end, await-pair-first, await-pair-second, await-let-bound}
 use Rattle.grammar.proofs.Awaiting.{await-let-body, await-rec-bound, await-rec-body, await-tested, await-then, await-else}
 use Rattle.grammar.proofs.Awaiting.{await-delayed, AwaitsPattern, await-matched, await-pattern-first, await-pattern-second}
 use Rattle.grammar.proofs.Awaiting.{AwaitsConstant, await-delay-constant, await-constant-first, await-constant-second}
-use Rattle.grammar.proofs.Awaiting.{After, after, AfterAlternative, after-alternative, AfterConstant, after-constant, Indexing, indexing}
+use Rattle.grammar.proofs.Awaiting.{After, awaits-after, AfterAlternative, after-alternative, AfterConstant, after-constant, Indexing, indexing}
 
 -- nothing waits while declarations are read, and none at the end
 abbrev pub Empty : List State → Type 0
@@ -34,23 +34,23 @@ Empty (q ∷ K) = ⊥
 
 abbrev pub Sound : List Token → State → List State → List Token → Type 0
 Sound ts start K b = Empty K × Declares ts b
-Sound ts declared K b = Empty K × Declared ts b
+Sound ts declared K b = Empty K × AwaitsDeclared ts b
 Sound ts typeName K b = Empty K × (p : ℕ) × Declares ts (keyword TYPE p ∷ b)
-Sound ts typeEquals K b = Empty K × (p : ℕ) × (w : List ℕ) × (q : ℕ) × Declares ts (keyword TYPE p ∷ name w q ∷ b)
-Sound ts typeBody K b = Empty K × (p : ℕ) × (w : List ℕ) × (q : ℕ) × (s : ℕ) × Declares ts (keyword TYPE p ∷ name w q ∷ symbol equals s ∷ b)
+Sound ts typeEquals K b = Empty K × (p : ℕ) × (w : List ℕ) × (q : ℕ) × Declares ts (keyword TYPE p ∷ nameToken w q ∷ b)
+Sound ts typeBody K b = Empty K × (p : ℕ) × (w : List ℕ) × (q : ℕ) × (s : ℕ) × Declares ts (keyword TYPE p ∷ nameToken w q ∷ symbol equals s ∷ b)
 Sound ts constructorEnd K b = Empty K × Constructs ts b
 Sound ts constructorNext K b = Empty K × (p : ℕ) × Constructs ts (symbol bar p ∷ b)
 Sound ts pairFirstType K b = Empty K × (p : ℕ) × (m : List ℕ) × (q : ℕ) × (s : ℕ) × (t : ℕ)
-    × Declares ts (keyword TYPE p ∷ name m q ∷ symbol equals s ∷ symbol opens t ∷ b)
+    × Declares ts (keyword TYPE p ∷ nameToken m q ∷ symbol equals s ∷ symbol opens t ∷ b)
 Sound ts pairComma K b = Empty K × (p : ℕ) × (m : List ℕ) × (q : ℕ) × (s : ℕ) × (t : ℕ) × (n : List ℕ) × (u : ℕ)
-    × Declares ts (keyword TYPE p ∷ name m q ∷ symbol equals s ∷ symbol opens t ∷ name n u ∷ b)
+    × Declares ts (keyword TYPE p ∷ nameToken m q ∷ symbol equals s ∷ symbol opens t ∷ nameToken n u ∷ b)
 Sound ts pairSecondType K b = Empty K × (p : ℕ) × (m : List ℕ) × (q : ℕ) × (s : ℕ) × (t : ℕ) × (n : List ℕ) × (u : ℕ) × (v : ℕ)
-    × Declares ts (keyword TYPE p ∷ name m q ∷ symbol equals s ∷ symbol opens t ∷ name n u ∷ symbol comma v ∷ b)
+    × Declares ts (keyword TYPE p ∷ nameToken m q ∷ symbol equals s ∷ symbol opens t ∷ nameToken n u ∷ symbol comma v ∷ b)
 Sound ts pairClose K b = Empty K × (p : ℕ) × (m : List ℕ) × (q : ℕ) × (s : ℕ) × (t : ℕ) × (n : List ℕ) × (u : ℕ) × (v : ℕ) × (o : List ℕ) × (x : ℕ)
-    × Declares ts (keyword TYPE p ∷ name m q ∷ symbol equals s ∷ symbol opens t ∷ name n u ∷ symbol comma v ∷ name o x ∷ b)
+    × Declares ts (keyword TYPE p ∷ nameToken m q ∷ symbol equals s ∷ symbol opens t ∷ nameToken n u ∷ symbol comma v ∷ nameToken o x ∷ b)
 Sound ts pairIn K b = Empty K × (p : ℕ) × (m : List ℕ) × (q : ℕ) × (s : ℕ) × (t : ℕ) × (n : List ℕ) × (u : ℕ) × (v : ℕ) × (o : List ℕ) × (x : ℕ) × (y : ℕ)
-    × Declares ts (keyword TYPE p ∷ name m q ∷ symbol equals s ∷ symbol opens t ∷ name n u ∷ symbol comma v ∷ name o x ∷ symbol closes y ∷ b)
-Sound ts inputType K b = Empty K × (p : ℕ) × Declared ts (keyword INPUT p ∷ b)
+    × Declares ts (keyword TYPE p ∷ nameToken m q ∷ symbol equals s ∷ symbol opens t ∷ nameToken n u ∷ symbol comma v ∷ nameToken o x ∷ symbol closes y ∷ b)
+Sound ts inputType K b = Empty K × (p : ℕ) × AwaitsDeclared ts (keyword INPUT p ∷ b)
 Sound ts expression K b = Awaits ts K b
 Sound ts undefinedType K b = ((p : ℕ) × Awaits ts K (symbol query p ∷ b)) ⊎ ((p : ℕ) × AwaitsConstant ts K (symbol query p ∷ b))
 Sound ts bracket K b = (p : ℕ) × Awaits ts K (symbol opens p ∷ b)
@@ -58,7 +58,7 @@ Sound ts done K b = Empty K × Indexing ts K b
 Sound ts inPairFirst K b = After ts inPairFirst K b
 Sound ts inPairSecond K b = After ts inPairSecond K b
 Sound ts letName K b = (p : ℕ) × (q : ℕ) × Awaits ts K (symbol opens p ∷ keyword LET q ∷ b)
-Sound ts letEquals K b = (p : ℕ) × (q : ℕ) × (w : List ℕ) × (s : ℕ) × Awaits ts K (symbol opens p ∷ keyword LET q ∷ name w s ∷ b)
+Sound ts letEquals K b = (p : ℕ) × (q : ℕ) × (w : List ℕ) × (s : ℕ) × Awaits ts K (symbol opens p ∷ keyword LET q ∷ nameToken w s ∷ b)
 Sound ts inLetBound K b = After ts inLetBound K b
 Sound ts inLetBody K b = After ts inLetBody K b
 Sound ts initQuery K b = (p : ℕ) × (q : ℕ) × (s : ℕ)
@@ -66,11 +66,11 @@ Sound ts initQuery K b = (p : ℕ) × (q : ℕ) × (s : ℕ)
 Sound ts initType K b = (p : ℕ) × (q : ℕ) × (s : ℕ) × (t : ℕ)
     × Awaits ts K (symbol opens p ∷ keyword LET q ∷ keyword INIT s ∷ symbol query t ∷ b)
 Sound ts recWord K b = (p : ℕ) × (q : ℕ) × (s : ℕ) × (t : ℕ) × (m : List ℕ) × (u : ℕ)
-    × Awaits ts K (symbol opens p ∷ keyword LET q ∷ keyword INIT s ∷ symbol query t ∷ name m u ∷ b)
+    × Awaits ts K (symbol opens p ∷ keyword LET q ∷ keyword INIT s ∷ symbol query t ∷ nameToken m u ∷ b)
 Sound ts recName K b = (p : ℕ) × (q : ℕ) × (s : ℕ) × (t : ℕ) × (m : List ℕ) × (u : ℕ) × (v : ℕ)
-    × Awaits ts K (symbol opens p ∷ keyword LET q ∷ keyword INIT s ∷ symbol query t ∷ name m u ∷ keyword REC v ∷ b)
+    × Awaits ts K (symbol opens p ∷ keyword LET q ∷ keyword INIT s ∷ symbol query t ∷ nameToken m u ∷ keyword REC v ∷ b)
 Sound ts recEquals K b = (p : ℕ) × (q : ℕ) × (s : ℕ) × (t : ℕ) × (m : List ℕ) × (u : ℕ) × (v : ℕ) × (n : List ℕ) × (x : ℕ)
-    × Awaits ts K (symbol opens p ∷ keyword LET q ∷ keyword INIT s ∷ symbol query t ∷ name m u ∷ keyword REC v ∷ name n x ∷ b)
+    × Awaits ts K (symbol opens p ∷ keyword LET q ∷ keyword INIT s ∷ symbol query t ∷ nameToken m u ∷ keyword REC v ∷ nameToken n x ∷ b)
 Sound ts inRecBound K b = After ts inRecBound K b
 Sound ts inRecBody K b = After ts inRecBody K b
 Sound ts inTested K b = After ts inTested K b
@@ -104,35 +104,35 @@ module _ {ts : List Token} where
   returned : {K : List State} {a b : List Token} {e : Expression}
       → Awaits ts K a → ReadsExpression a e b → SoundAt ts (back K noWord) b
   returned (await-end h) d = (tt, indexing (await-end h) d)
-  returned (await-pair-first w) d = after (await-pair-first w) d
-  returned (await-pair-second w u) d = after (await-pair-second w u) d
-  returned (await-let-bound w) d = after (await-let-bound w) d
-  returned (await-let-body w u) d = after (await-let-body w u) d
-  returned (await-rec-bound w) d = after (await-rec-bound w) d
-  returned (await-rec-body w u) d = after (await-rec-body w u) d
-  returned (await-tested w) d = after (await-tested w) d
-  returned (await-then w u v) d = after (await-then w u v) d
-  returned (await-else w u v x) d = after (await-else w u v x) d
-  returned (await-delayed w u) d = after (await-delayed w u) d
+  returned (await-pair-first w) d = awaits-after (await-pair-first w) d
+  returned (await-pair-second w u) d = awaits-after (await-pair-second w u) d
+  returned (await-let-bound w) d = awaits-after (await-let-bound w) d
+  returned (await-let-body w u) d = awaits-after (await-let-body w u) d
+  returned (await-rec-bound w) d = awaits-after (await-rec-bound w) d
+  returned (await-rec-body w u) d = awaits-after (await-rec-body w u) d
+  returned (await-tested w) d = awaits-after (await-tested w) d
+  returned (await-then w u v) d = awaits-after (await-then w u v) d
+  returned (await-else w u v x) d = awaits-after (await-else w u v x) d
+  returned (await-delayed w u) d = awaits-after (await-delayed w u) d
 
-  alternative-read : {K : List State} {a b : List Token} → AwaitsPattern ts K a → Alternative a b → SoundAt ts (back K noWord) b
+  alternative-read : {K : List State} {a b : List Token} → AwaitsPattern ts K a → AwaitsAlternative a b → SoundAt ts (back K noWord) b
   alternative-read (await-matched w u g) d = after-alternative (await-matched w u g) d
   alternative-read (await-pattern-first w g) d = after-alternative (await-pattern-first w g) d
   alternative-read (await-pattern-second w u g) d = after-alternative (await-pattern-second w u g) d
 
-  constant-read : {K : List State} {a b : List Token} {c : Constant}
+  constant-read : {K : List State} {a b : List Token} {c : SourceConstant}
       → AwaitsConstant ts K a → ReadsConstant a c b → SoundAt ts (back K noWord) b
   constant-read (await-delay-constant w) d = after-constant (await-delay-constant w) d
   constant-read (await-constant-first w) d = after-constant (await-constant-first w) d
   constant-read (await-constant-second w u) d = after-constant (await-constant-second w u) d
 
   undefined-read : {K : List State} {w : List ℕ} {p : ℕ} {b : List Token}
-      → Sound ts undefinedType K (name w p ∷ b) → SoundAt ts (back K noWord) b
+      → Sound ts undefinedType K (nameToken w p ∷ b) → SoundAt ts (back K noWord) b
   undefined-read (inl h) = returned (h .1) reads-undefined-of
   undefined-read (inr h) = constant-read (h .1) reads-undefined
 
   indexed : {q : State} {K : List State} {b : List Token} → After ts q K b → Indexing ts (q ∷ K) b
-  indexed (after w d) = indexing w d
+  indexed (awaits-after w d) = indexing w d
 
   index-first : {K : List State} {b : List Token} {p q s : ℕ}
       → Indexing ts K (symbol indexOpens p ∷ symbol one q ∷ symbol indexCloses s ∷ b) → SoundAt ts (back K noWord) b
@@ -143,25 +143,25 @@ module _ {ts : List Token} where
   index-second (indexing w d) = returned w (reads-second d)
 
   pair-comma : {K : List State} {b : List Token} {p : ℕ} → After ts inPairFirst K (symbol comma p ∷ b) → Awaits ts (inPairSecond ∷ K) b
-  pair-comma (after (await-pair-first w) d) = await-pair-second w d
+  pair-comma (awaits-after (await-pair-first w) d) = await-pair-second w d
 
   pair-closed : {K : List State} {b : List Token} {p : ℕ} → After ts inPairSecond K (symbol closes p ∷ b) → SoundAt ts (back K noWord) b
-  pair-closed (after (await-pair-second w u) d) = returned w (reads-pair u d)
+  pair-closed (awaits-after (await-pair-second w u) d) = returned w (reads-pair u d)
 
   let-in : {K : List State} {b : List Token} {p : ℕ} → After ts inLetBound K (keyword IN p ∷ b) → Awaits ts (inLetBody ∷ K) b
-  let-in (after (await-let-bound w) d) = await-let-body w d
+  let-in (awaits-after (await-let-bound w) d) = await-let-body w d
 
   let-closed : {K : List State} {b : List Token} {p : ℕ} → After ts inLetBody K (symbol closes p ∷ b) → SoundAt ts (back K noWord) b
-  let-closed (after (await-let-body w u) d) = returned w (reads-let u d)
+  let-closed (awaits-after (await-let-body w u) d) = returned w (reads-let u d)
 
   rec-in : {K : List State} {b : List Token} {p : ℕ} → After ts inRecBound K (keyword IN p ∷ b) → Awaits ts (inRecBody ∷ K) b
-  rec-in (after (await-rec-bound w) d) = await-rec-body w d
+  rec-in (awaits-after (await-rec-bound w) d) = await-rec-body w d
 
   rec-closed : {K : List State} {b : List Token} {p : ℕ} → After ts inRecBody K (symbol closes p ∷ b) → SoundAt ts (back K noWord) b
-  rec-closed (after (await-rec-body w u) d) = returned w (reads-let-rec u d)
+  rec-closed (awaits-after (await-rec-body w u) d) = returned w (reads-let-rec u d)
 
   if-matches : {K : List State} {b : List Token} {p : ℕ} → After ts inTested K (keyword MATCHES p ∷ b) → AwaitsPattern ts (inMatched ∷ K) b
-  if-matches (after (await-tested w) d) = await-matched w d (λ m r k. (m, k))
+  if-matches (awaits-after (await-tested w) d) = await-matched w d (λ m r k. (m, k))
 
   matched-bar : {K : List State} {b : List Token} {p : ℕ} → AfterAlternative ts inMatched K (symbol bar p ∷ b) → AwaitsPattern ts (inMatched ∷ K) b
   matched-bar (after-alternative (await-matched w u g) d) = await-matched w u (λ m r k. g _ r (barred d k .1))
@@ -182,10 +182,10 @@ module _ {ts : List Token} where
   second-closed (after-alternative (await-pattern-second w u g) d) = alternative-read w (alternative-parts u (g _ _ (alone d .1) .1))
 
   then-else : {K : List State} {b : List Token} {p : ℕ} → After ts inThen K (keyword ELSE p ∷ b) → Awaits ts (inElse ∷ K) b
-  then-else (after (await-then w u v) d) = await-else w u v d
+  then-else (awaits-after (await-then w u v) d) = await-else w u v d
 
   else-closed : {K : List State} {b : List Token} {p : ℕ} → After ts inElse K (symbol closes p ∷ b) → SoundAt ts (back K noWord) b
-  else-closed (after (await-else w u v x) d) = returned w (reads-if u v x d)
+  else-closed (awaits-after (await-else w u v x) d) = returned w (reads-if u v x d)
 
   delay-comma : {K : List State} {b : List Token} {p : ℕ} → AfterConstant ts inDelayConstant K (symbol comma p ∷ b) → Awaits ts (inDelayed ∷ K) b
   delay-comma (after-constant (await-delay-constant w) d) = await-delayed w d
@@ -198,27 +198,27 @@ module _ {ts : List Token} where
 
   delay-closed : {K : List State} {b : List Token} {p q : ℕ}
       → After ts inDelayed K (symbol closes p ∷ symbol closes q ∷ b) → SoundAt ts (back K noWord) b
-  delay-closed (after (await-delayed w u) d) = returned w (reads-delay u d)
+  delay-closed (awaits-after (await-delayed w u) d) = returned w (reads-delay u d)
 
 -- each row of a state keeps what is known
 abbrev pub Moves : List Token → State → Lead → Action → Type 0
 Moves ts q (aSymbol s) a = (K : List State) (b : List Token) (p : ℕ) → Sound ts q K (symbol s p ∷ b) → SoundAt ts (perform a K noWord) b
 Moves ts q (aKeyword k) a = (K : List State) (b : List Token) (p : ℕ) → Sound ts q K (keyword k p ∷ b) → SoundAt ts (perform a K noWord) b
 Moves ts q aName a =
-    (K : List State) (b : List Token) (w : List ℕ) (p : ℕ) → Sound ts q K (name w p ∷ b) → SoundAt ts (perform a K noWord) b
+    (K : List State) (b : List Token) (w : List ℕ) (p : ℕ) → Sound ts q K (nameToken w p ∷ b) → SoundAt ts (perform a K noWord) b
 
-abbrev pub Each : (Lead → Action → Type 0) → List Row → Type 0
-Each P [] = Unit {0}
-Each P (on l a ∷ more) = P l a × Each P more
+abbrev pub EachTransition : (Lead → Action → Type 0) → List Transition → Type 0
+EachTransition P [] = Unit {0}
+EachTransition P (on l a ∷ more) = P l a × EachTransition P more
 
-pub moves : (ts : List Token) (q : State) → Each (Moves ts q) (rows q)
+pub moves : (ts : List Token) (q : State) → EachTransition (Moves ts q) (transitions q)
 moves ts start = ((λ K b p h. (h .0, p, h .1)), tt)
 moves ts declared = ((λ K b p h. (h .0, p, λ d r k. λ ds w s c l. h .1 (d ∷ ds) w s c (one-more k l))), ((λ K b p h. (h .0, p, h .1)), tt))
 moves ts typeName = ((λ K b w p h. (h .0, h .1, w, p, h .2)), tt)
 moves ts typeEquals = ((λ K b p h. (h .0, h .1, h .2, h .3, p, h .4)), tt)
 moves ts typeBody = ((λ K b w p h. (h .0, λ cs r k. h .5 _ r (reads-constructors k))), ((λ K b p h. (h .0, h .1, h .2, h .3, h .4, p, h .5)), tt))
 moves ts constructorEnd = ((λ K b p h. (h .0, p, h .1)), ((λ K b p h. (h .0, h .1 [] b no-other)), tt))
-moves ts constructorNext = ((λ K b w p h. (h .0, λ cs r k. h .2 (named w p ∷ cs) r (another k))), tt)
+moves ts constructorNext = ((λ K b w p h. (h .0, λ cs r k. h .2 (identifier w p ∷ cs) r (one-other k))), tt)
 moves ts pairFirstType = ((λ K b w p h. (h .0, h .1, h .2, h .3, h .4, h .5, w, p, h .6)), tt)
 moves ts pairComma = ((λ K b p h. (h .0, h .1, h .2, h .3, h .4, h .5, h .6, h .7, p, h .8)), tt)
 moves ts pairSecondType = ((λ K b w p h. (h .0, h .1, h .2, h .3, h .4, h .5, h .6, h .7, h .8, w, p, h .9)), tt)
@@ -227,7 +227,7 @@ moves ts pairIn = ((λ K b p h. (h .0, h .12 _ b reads-pair-of)), tt)
 moves ts inputType = ((λ K b w p h. ended K (h .0) (h .2 [] w p b no-more)), tt)
 moves ts expression = ((λ K b w p h. returned h reads-named), ((λ K b p h. inl (p, h)), ((λ K b p h. (p, h)), tt)))
 moves ts undefinedType = ((λ K b w p h. undefined-read h), tt)
-moves ts bracket = ((λ K b w p h. after (await-pair-first (h .1)) reads-named), ((λ K b p h. inl (p, await-pair-first (h .1))), ((λ K b p h. (p, await-pair-first (h .1))), ((λ K b p h. (h .0, p, h .1)), ((λ K b p h. await-tested (h .1)), ((λ K b p h. (h .0, p, h .1)), tt))))))
+moves ts bracket = ((λ K b w p h. awaits-after (await-pair-first (h .1)) reads-named), ((λ K b p h. inl (p, await-pair-first (h .1))), ((λ K b p h. (p, await-pair-first (h .1))), ((λ K b p h. (h .0, p, h .1)), ((λ K b p h. await-tested (h .1)), ((λ K b p h. (h .0, p, h .1)), tt))))))
 moves ts done = ((λ K b p h. (p, h .1)), tt)
 moves ts inPairFirst = ((λ K b p h. (p, indexed h)), ((λ K b p h. pair-comma h), tt))
 moves ts inPairSecond = ((λ K b p h. (p, indexed h)), ((λ K b p h. pair-closed h), tt))

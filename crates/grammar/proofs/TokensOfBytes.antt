@@ -7,12 +7,12 @@ use mathlib.Core.Bool.{Bool, true, false, cond}
 use mathlib.Core.List.{List, [], _∷_}
 use lib.ListN.{length}
 use lib.Dec.{T, eqb, eqb→eq, ltb, ltb→lt}
-use Rattle.grammar.specs.Tokens.{Token, keyword, symbol, name, Symbol, Keyword, spelling, Tokens, no-token, a-blank, a-symbol, a-word}
-use Rattle.grammar.specs.Tokens.{Kind, isBlank, isLower, isUpper, isOther, isSymbol, kindOf, isLetter}
-use Rattle.grammar.specs.Tokens.{TYPE, IN, INPUT, LET, INIT, REC, IF, MATCHES, THEN, ELSE, DELAY, Run, run-last, run-more, AllLower, all-none, all-more, spells-keyword, spells-name}
-use Rattle.grammar.specs.Rows.{State, Lead, aSymbol, aKeyword, aName, rows}
-use Rattle.grammar.specs.Machine.{dead, live, Word, noWord, naming, spelt, fresh, further, bytes, ends}
-use Rattle.grammar.specs.Machine.{tokens, leadByte, leadWord, firstLetter, afterFirst, alike, leadOf, taken, find}
+use Rattle.grammar.specs.Tokens.{Token, keyword, symbol, nameToken, Symbol, Keyword, spelling, Tokens, no-token, a-blank, a-symbol, a-word}
+use Rattle.grammar.specs.Tokens.{ByteClass, isBlank, isLower, isUpper, isOther, isSymbol, byteClass, isLetter}
+use Rattle.grammar.specs.Tokens.{TYPE, IN, INPUT, LET, INIT, REC, IF, MATCHES, THEN, ELSE, DELAY, Run, run-last, run-more, AllLower, lower-none, lower-more, spells-keyword, spells-name}
+use Rattle.grammar.specs.Rows.{State, Lead, aSymbol, aKeyword, aName, transitions}
+use Rattle.grammar.specs.Machine.{dead, live, Word, noWord, naming, spelt, fresh, further, afterBytes, ends}
+use Rattle.grammar.specs.Machine.{afterTokens, leadByte, leadWord, firstLetter, afterFirst, alike, leadOf, taken, find}
 use Rattle.grammar.proofs.ByteKinds.{found-kind, alike-upper}
 use Rattle.grammar.proofs.Words.{Continued, no-word, name-end, name-more, keyword-end, keyword-more}
 use Rattle.grammar.proofs.RowFound.{performed, ByByte, by-byte, takes-token, dead-bytes}
@@ -24,7 +24,7 @@ pub record Lexed (q : State) (K : List State) (w : Word) (i : ℕ) (bs : List �
   pub later : List Token
   pub continued : Continued w bs letters rest
   pub lexed : Tokens (i + length letters) rest later
-  pub ending : ends (tokens (live q K noWord) later) ≡ true
+  pub ending : ends (afterTokens (live q K noWord) later) ≡ true
 
 -- the letters that end a keyword are those that were left; the letters that end a name are small and few
 keyword-left : {left bs v rest : List ℕ} → Continued (spelt left) bs v rest → v ≡ left
@@ -32,20 +32,20 @@ keyword-left (keyword-end h) = refl
 keyword-left (keyword-more {c} h) = ap (λ l. c ∷ l) (keyword-left h)
 
 name-left : {n : ℕ} {bs v rest : List ℕ} → Continued (naming n) bs v rest → n ≤ 16 → AllLower v × (n + length v ≤ 16)
-name-left (name-end h) l = (all-none, omega arith)
-name-left (name-more e m h) l = let k = name-left h (omega arith) in (all-more e (k .0), omega (arith, k .1))
+name-left (name-end h) l = (lower-none, omega arith)
+name-left (name-more e m h) l = let k = name-left h (omega arith) in (lower-more e (k .0), omega (arith, k .1))
 
 -- a word with its first letter is a run
-name-run : {n b : ℕ} {bs v rest : List ℕ} → isLetter (kindOf b) ≡ true → Continued (naming n) bs v rest → Run (b ∷ bs) (b ∷ v) rest
+name-run : {n b : ℕ} {bs v rest : List ℕ} → isLetter (byteClass b) ≡ true → Continued (naming n) bs v rest → Run (b ∷ bs) (b ∷ v) rest
 name-run h (name-end e) = run-last h e
 name-run h (name-more e m k) = run-more h (name-run (ap isLetter e) k)
 
 data AllLetters : List ℕ → Type 0 where
   none-left : AllLetters []
-  letter-left : {b : ℕ} {bs : List ℕ} → isLetter (kindOf b) ≡ true → AllLetters bs → AllLetters (b ∷ bs)
+  letter-left : {b : ℕ} {bs : List ℕ} → isLetter (byteClass b) ≡ true → AllLetters bs → AllLetters (b ∷ bs)
 
 keyword-run : {b : ℕ} {left bs v rest : List ℕ}
-    → isLetter (kindOf b) ≡ true → AllLetters left → Continued (spelt left) bs v rest → Run (b ∷ bs) (b ∷ v) rest
+    → isLetter (byteClass b) ≡ true → AllLetters left → Continued (spelt left) bs v rest → Run (b ∷ bs) (b ∷ v) rest
 keyword-run h a (keyword-end e) = run-last h e
 keyword-run h (letter-left f a) (keyword-more k) = run-more h (keyword-run f a k)
 
@@ -78,7 +78,7 @@ whole-spelling b v DELAY e f = ap₂ _∷_ e f
 
 module _
     (bs : List ℕ)
-    (again : (i : ℕ) (q : State) (K : List State) (w : Word) → ends (bytes (live q K w) bs) ≡ true → Lexed q K w i bs)
+    (again : (i : ℕ) (q : State) (K : List State) (w : Word) → ends (afterBytes (live q K w) bs) ≡ true → Lexed q K w i bs)
     (b i : ℕ)
     (q : State)
     (K : List State)
@@ -89,7 +89,7 @@ module _
 
     -- a token that begins here
     symbol-read : {v rest : List ℕ} {ts : List Token} (s : Symbol)
-        → kindOf b ≡ isSymbol s → Continued noWord bs v rest → Tokens (suc i + length v) rest ts → Tokens i (b ∷ bs) (symbol s i ∷ ts)
+        → byteClass b ≡ isSymbol s → Continued noWord bs v rest → Tokens (suc i + length v) rest ts → Tokens i (b ∷ bs) (symbol s i ∷ ts)
     symbol-read {ts} s e no-word t = let f : suc i + 0 ≡ suc i = omega arith in a-symbol e (subst (λ j. Tokens j bs ts) f t)
 
     lead-read : {v rest : List ℕ} {ts : List Token} (l : Lead)
@@ -97,7 +97,7 @@ module _
         → (t : Token) × (leadOf t ≡ l) × Tokens i (b ∷ bs) (t ∷ ts)
     lead-read (aSymbol s) e c t = (symbol s i, refl, symbol-read s (found-kind b (aSymbol s) e) c t)
     lead-read {v} (aKeyword k) e c t =
-        let f : kindOf b ≡ isUpper = found-kind b (aKeyword k) e in
+        let f : byteClass b ≡ isUpper = found-kind b (aKeyword k) e in
         let first : b ≡ firstLetter (spelling k) = sym (alike-upper b f) ∙ e in (
           keyword k i,
           refl,
@@ -106,18 +106,18 @@ module _
               (onward (length v) t),
         )
     lead-read {v} aName e c t =
-        let f : kindOf b ≡ isLower = found-kind b aName e in
+        let f : byteClass b ≡ isLower = found-kind b aName e in
         let few = name-left c (omega arith) in (
-          name (b ∷ v) i,
+          nameToken (b ∷ v) i,
           refl,
-          a-word (name-run (ap isLetter f) c) (spells-name (all-more {b = b} f (few .0)) (omega (arith, few .1))) (onward (length v) t),
+          a-word (name-run (ap isLetter f) c) (spells-name (lower-more {b = b} f (few .0)) (omega (arith, few .1))) (onward (length v) t),
         )
 
     token-read : ByByte b q K bs → Lexed q K noWord i (b ∷ bs)
     token-read x =
         let y = performed (x .action) K in
         let z = again (suc i) (y .state) (y .stack) (leadWord (x .lead))
-        (ap (λ c. ends (bytes c bs)) (sym (y .reaches (leadWord (x .lead)))) ∙ x .ending) in
+        (ap (λ c. ends (afterBytes c bs)) (sym (y .reaches (leadWord (x .lead)))) ∙ x .ending) in
         let u = lead-read (x .lead) (x .leads) (z .continued) (z .lexed) in
         record {
           letters = [];
@@ -126,12 +126,12 @@ module _
           continued = no-word;
           lexed = let f : i ≡ i + 0 = omega arith in subst (λ j. Tokens j (b ∷ bs) (u .0 ∷ z .later)) f (u .2);
           ending =
-              ap (λ l. ends (tokens (taken l K (find (leadByte l) (rows q))) (z .later))) (u .1)
-              ∙ ap (λ c. ends (tokens c (z .later))) (takes-token (x .lead) (x .action) q K (x .row) ∙ y .reaches noWord)
+              ap (λ l. ends (afterTokens (taken l K (find (leadByte l) (transitions q))) (z .later))) (u .1)
+              ∙ ap (λ c. ends (afterTokens c (z .later))) (takes-token (x .lead) (x .action) q K (x .row) ∙ y .reaches noWord)
               ∙ z .ending;
         }
 
-    blank-read : kindOf b ≡ isBlank → Lexed q K noWord (suc i) bs → Lexed q K noWord i (b ∷ bs)
+    blank-read : byteClass b ≡ isBlank → Lexed q K noWord (suc i) bs → Lexed q K noWord i (b ∷ bs)
     blank-read e z = record {
       letters = [];
       rest = b ∷ bs;
@@ -145,7 +145,7 @@ module _
         whole-rest {ts} no-word t = let f : suc i + 0 ≡ suc i = omega arith in subst (λ j. Tokens j bs ts) f t
 
     -- a byte where no word is begun
-    fresh-read : (k : Kind) → kindOf b ≡ k → ends (bytes (fresh k b q K) bs) ≡ true → Lexed q K noWord i (b ∷ bs)
+    fresh-read : (k : ByteClass) → byteClass b ≡ k → ends (afterBytes (fresh k b q K) bs) ≡ true → Lexed q K noWord i (b ∷ bs)
     fresh-read isLower e h = token-read (by-byte b q K bs h)
     fresh-read isUpper e h = token-read (by-byte b q K bs h)
     fresh-read (isSymbol s) e h = token-read (by-byte b q K bs h)
@@ -160,11 +160,11 @@ module _
         over-with : {v rest : List ℕ} → Continued noWord (b ∷ bs) v rest → Tokens (i + length v) rest (z .later) → Lexed q K w i (b ∷ bs)
         over-with no-word t = record { letters = []; rest = b ∷ bs; later = z .later; continued = over; lexed = t; ending = z .ending }
 
-    name-read : (n : ℕ) (k : Kind) → kindOf b ≡ k
-        → ends (bytes (further k (cond (ltb n 16) (live q K (naming (n + 1))) dead) b q K) bs) ≡ true → Lexed q K (naming n) i (b ∷ bs)
+    name-read : (n : ℕ) (k : ByteClass) → byteClass b ≡ k
+        → ends (afterBytes (further k (cond (ltb n 16) (live q K (naming (n + 1))) dead) b q K) bs) ≡ true → Lexed q K (naming n) i (b ∷ bs)
     name-read n isLower e h = few (ltb n 16) (ltb→lt n 16) h
       where
-        few : (x : Bool) → (T x → n < 16) → ends (bytes (cond x (live q K (naming (n + 1))) dead) bs) ≡ true → Lexed q K (naming n) i (b ∷ bs)
+        few : (x : Bool) → (T x → n < 16) → ends (afterBytes (cond x (live q K (naming (n + 1))) dead) bs) ≡ true → Lexed q K (naming n) i (b ∷ bs)
         few true l k =
             let z = again (suc i) q K (naming (n + 1)) k in
             record {
@@ -181,7 +181,7 @@ module _
     name-read n isBlank e h = word-over (naming n) (name-end (ap isLetter e)) (fresh-read isBlank e h)
     name-read n isOther e h = absurd (dead-bytes bs h)
 
-    keyword-over : (k : Kind) → kindOf b ≡ k → ends (bytes (further k dead b q K) bs) ≡ true → Lexed q K (spelt []) i (b ∷ bs)
+    keyword-over : (k : ByteClass) → byteClass b ≡ k → ends (afterBytes (further k dead b q K) bs) ≡ true → Lexed q K (spelt []) i (b ∷ bs)
     keyword-over isLower e h = absurd (dead-bytes bs h)
     keyword-over isUpper e h = absurd (dead-bytes bs h)
     keyword-over (isSymbol s) e h = word-over (spelt []) (keyword-end (ap isLetter e)) (fresh-read (isSymbol s) e h)
@@ -189,7 +189,7 @@ module _
     keyword-over isOther e h = absurd (dead-bytes bs h)
 
     keyword-read : (c : ℕ) (left : List ℕ) (x : Bool) → (T x → b ≡ c)
-        → ends (bytes (cond x (live q K (spelt left)) dead) bs) ≡ true → Lexed q K (spelt (c ∷ left)) i (b ∷ bs)
+        → ends (afterBytes (cond x (live q K (spelt left)) dead) bs) ≡ true → Lexed q K (spelt (c ∷ left)) i (b ∷ bs)
     keyword-read c left true e h =
         let z = again (suc i) q K (spelt left) h in
         record {
@@ -209,10 +209,10 @@ end-read i q K (naming n) h = record { letters = []; rest = []; later = []; cont
 end-read i q K (spelt []) h = record { letters = []; rest = []; later = []; continued = keyword-end tt; lexed = no-token; ending = h }
 end-read i q K (spelt (c ∷ left)) h = absurd (let z : _≡_ {A = ℕ} 0 1 = cc in omega arith)
 
-pub tokens-of-bytes : (bs : List ℕ) (i : ℕ) (q : State) (K : List State) (w : Word) → ends (bytes (live q K w) bs) ≡ true → Lexed q K w i bs
+pub tokens-of-bytes : (bs : List ℕ) (i : ℕ) (q : State) (K : List State) (w : Word) → ends (afterBytes (live q K w) bs) ≡ true → Lexed q K w i bs
 tokens-of-bytes [] i q K w h = end-read i q K w h
-tokens-of-bytes (b ∷ bs) i q K noWord h = fresh-read bs (λ j r L v k. tokens-of-bytes bs j r L v k) b i q K (kindOf b) refl h
-tokens-of-bytes (b ∷ bs) i q K (naming n) h = name-read bs (λ j r L v k. tokens-of-bytes bs j r L v k) b i q K n (kindOf b) refl h
-tokens-of-bytes (b ∷ bs) i q K (spelt []) h = keyword-over bs (λ j r L v k. tokens-of-bytes bs j r L v k) b i q K (kindOf b) refl h
+tokens-of-bytes (b ∷ bs) i q K noWord h = fresh-read bs (λ j r L v k. tokens-of-bytes bs j r L v k) b i q K (byteClass b) refl h
+tokens-of-bytes (b ∷ bs) i q K (naming n) h = name-read bs (λ j r L v k. tokens-of-bytes bs j r L v k) b i q K n (byteClass b) refl h
+tokens-of-bytes (b ∷ bs) i q K (spelt []) h = keyword-over bs (λ j r L v k. tokens-of-bytes bs j r L v k) b i q K (byteClass b) refl h
 tokens-of-bytes (b ∷ bs) i q K (spelt (c ∷ left)) h =
     keyword-read bs (λ j r L v k. tokens-of-bytes bs j r L v k) b i q K c left (eqb b c) (eqb→eq b c) h

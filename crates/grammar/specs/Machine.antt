@@ -7,8 +7,8 @@ use mathlib.Core.Option.{Option, none, some}
 use lib.Dec.{eqb, ltb}
 use Rattle.grammar.specs.Tokens.{Keyword, TYPE, IN, INPUT, LET, INIT, REC, IF, MATCHES, THEN, ELSE, DELAY, spelling}
 use Rattle.grammar.specs.Tokens.{Symbol, opens, closes, comma, equals, bar, query, indexOpens, indexCloses, one, two}
-use Rattle.grammar.specs.Tokens.{Kind, isBlank, isLower, isUpper, isOther, isSymbol, between, kindOf, Token, keyword, symbol, name}
-use Rattle.grammar.specs.Rows.{State, start, done, stateNumber, Lead, aSymbol, aKeyword, aName, Action, go, call, return, Row, on, rows}
+use Rattle.grammar.specs.Tokens.{ByteClass, isBlank, isLower, isUpper, isOther, isSymbol, between, byteClass, Token, keyword, symbol, nameToken}
+use Rattle.grammar.specs.Rows.{State, start, done, stateNumber, Lead, aSymbol, aKeyword, aName, Action, go, call, return, Transition, on, transitions}
 
 -- the rest of a word: no word, a name of so many letters so far, the letters of a keyword that are still to come
 pub data Word : Type 0 where
@@ -55,7 +55,7 @@ leadWord aName = naming 1
 abbrev pub alike : ℕ → ℕ
 alike b = cond (between 97 122 b) 97 b
 
-abbrev pub find : ℕ → List Row → Option Row
+abbrev pub find : ℕ → List Transition → Option Transition
 find b [] = none
 find b (on l a ∷ more) = cond (eqb b (leadByte l)) (some (on l a)) (find b more)
 
@@ -69,52 +69,52 @@ perform (go q) K w = live q K w
 perform (call r q) K w = live q (r ∷ K) w
 perform return K w = back K w
 
-abbrev pub enter : Option Row → List State → Config
-enter none K = dead
-enter (some (on l a)) K = perform a K (leadWord l)
+abbrev pub performFound : Option Transition → List State → Config
+performFound none K = dead
+performFound (some (on l a)) K = perform a K (leadWord l)
 
 -- a byte that begins a token
-abbrev pub begin : ℕ → State → List State → Config
-begin b q K = enter (find (alike b) (rows q)) K
+abbrev pub beginToken : ℕ → State → List State → Config
+beginToken b q K = performFound (find (alike b) (transitions q)) K
 
 -- a byte where no word is begun
-abbrev pub fresh : Kind → ℕ → State → List State → Config
-fresh isLower b q K = begin b q K
-fresh isUpper b q K = begin b q K
-fresh (isSymbol s) b q K = begin b q K
+abbrev pub fresh : ByteClass → ℕ → State → List State → Config
+fresh isLower b q K = beginToken b q K
+fresh isUpper b q K = beginToken b q K
+fresh (isSymbol s) b q K = beginToken b q K
 fresh isBlank b q K = live q K noWord
 fresh isOther b q K = dead
 
 -- a byte after a word that can end there, or go on with a small letter
-abbrev pub further : Kind → Config → ℕ → State → List State → Config
+abbrev pub further : ByteClass → Config → ℕ → State → List State → Config
 further isLower c b q K = c
 further isUpper c b q K = dead
-further (isSymbol s) c b q K = begin b q K
+further (isSymbol s) c b q K = beginToken b q K
 further isBlank c b q K = live q K noWord
 further isOther c b q K = dead
 
 abbrev pub onByte : ℕ → State → List State → Word → Config
-onByte b q K noWord = fresh (kindOf b) b q K
-onByte b q K (naming n) = further (kindOf b) (cond (ltb n 16) (live q K (naming (n + 1))) dead) b q K
-onByte b q K (spelt []) = further (kindOf b) dead b q K
+onByte b q K noWord = fresh (byteClass b) b q K
+onByte b q K (naming n) = further (byteClass b) (cond (ltb n 16) (live q K (naming (n + 1))) dead) b q K
+onByte b q K (spelt []) = further (byteClass b) dead b q K
 onByte b q K (spelt (c ∷ left)) = cond (eqb b c) (live q K (spelt left)) dead
 
 -- whether a word can end here
-abbrev pub whole : Word → Bool
-whole noWord = true
-whole (naming n) = true
-whole (spelt []) = true
-whole (spelt (c ∷ left)) = false
+abbrev pub canEnd : Word → Bool
+canEnd noWord = true
+canEnd (naming n) = true
+canEnd (spelt []) = true
+canEnd (spelt (c ∷ left)) = false
 
-abbrev pub bytes : Config → List ℕ → Config
-bytes c [] = c
-bytes dead (b ∷ bs) = dead
-bytes (live q K w) (b ∷ bs) = bytes (onByte b q K w) bs
+abbrev pub afterBytes : Config → List ℕ → Config
+afterBytes c [] = c
+afterBytes dead (b ∷ bs) = dead
+afterBytes (live q K w) (b ∷ bs) = afterBytes (onByte b q K w) bs
 
 -- the machine has read a whole text
 abbrev pub ends : Config → Bool
 ends dead = false
-ends (live q K w) = cond (whole w) (eqb (stateNumber q) 16) false
+ends (live q K w) = cond (canEnd w) (eqb (stateNumber q) 16) false
 
 abbrev pub begins : Config
 begins = live start [] noWord
@@ -123,7 +123,7 @@ begins = live start [] noWord
 abbrev pub leadOf : Token → Lead
 leadOf (keyword k p) = aKeyword k
 leadOf (symbol s p) = aSymbol s
-leadOf (name w p) = aName
+leadOf (nameToken w p) = aName
 
 abbrev pub keywordNumber : Keyword → ℕ
 keywordNumber TYPE = 128
@@ -143,14 +143,14 @@ leadNumber (aSymbol s) = symbolByte s
 leadNumber (aKeyword k) = keywordNumber k
 leadNumber aName = 97
 
-abbrev pub taken : Lead → List State → Option Row → Config
+abbrev pub taken : Lead → List State → Option Transition → Config
 taken t K none = dead
 taken t K (some (on l a)) = cond (eqb (leadNumber t) (leadNumber l)) (perform a K noWord) dead
 
 abbrev pub onToken : Token → State → List State → Config
-onToken t q K = taken (leadOf t) K (find (leadByte (leadOf t)) (rows q))
+onToken t q K = taken (leadOf t) K (find (leadByte (leadOf t)) (transitions q))
 
-abbrev pub tokens : Config → List Token → Config
-tokens c [] = c
-tokens dead (t ∷ ts) = dead
-tokens (live q K w) (t ∷ ts) = tokens (onToken t q K) ts
+abbrev pub afterTokens : Config → List Token → Config
+afterTokens c [] = c
+afterTokens dead (t ∷ ts) = dead
+afterTokens (live q K w) (t ∷ ts) = afterTokens (onToken t q K) ts

@@ -47,7 +47,7 @@ IllegalAfter =
 abbrev pub PlaceWithin : Type 0
 PlaceWithin = (bytes : List ℕ) (i : ℕ) → Leaves bytes i → (i ≤ length bytes) × (i ≤ limit)
 
-pub record Promises : Type 0 where
+pub record GrammarPromises : Type 0 where
   pub one-lexing : OneLexing
   pub one-parsing : OneParsing
   pub one-reading : OneReading

@@ -3,37 +3,37 @@
 use Prim.Native.Nat.{ℕ}
 use mathlib.Core.List.{List}
 
-pub data Name : Type 0 where
-  named : (letters : List ℕ) (place : ℕ) → Name
+pub data Identifier : Type 0 where
+  identifier : (letters : List ℕ) (place : ℕ) → Identifier
 
 -- TYPE a = b | c IN, and TYPE a = (b, c) IN
 pub data Declaration : Type 0 where
-  Constructors : (type : Name) (first : Name) (others : List Name) → Declaration
-  PairOf : (type first second : Name) → Declaration
+  Constructors : (type : Identifier) (first : Identifier) (others : List Identifier) → Declaration
+  PairOf : (type first second : Identifier) → Declaration
 
 -- the constant of a DELAY
-pub data Constant : Type 0 where
-  Constructor : Name → Constant
-  Undefined : (type : Name) → Constant
-  Both : (place : ℕ) → Constant → Constant → Constant
+pub data SourceConstant : Type 0 where
+  OfConstructor : Identifier → SourceConstant
+  Undefined : (type : Identifier) → SourceConstant
+  ConstantPair : (place : ℕ) → SourceConstant → SourceConstant → SourceConstant
 
 -- a name, a pair of patterns, one pattern or another
-pub data Pattern : Type 0 where
-  Alone : Name → Pattern
-  Parts : Pattern → Pattern → Pattern
-  Either : Pattern → Pattern → Pattern
+pub data SourcePattern : Type 0 where
+  Alone : Identifier → SourcePattern
+  PatternPair : SourcePattern → SourcePattern → SourcePattern
+  Either : SourcePattern → SourcePattern → SourcePattern
 
 pub data Expression : Type 0 where
-  Named : Name → Expression
-  UndefinedOf : (type : Name) → Expression
-  Pair : Expression → Expression → Expression
-  First : Expression → Expression
-  Second : Expression → Expression
-  Let : Name → Expression → Expression → Expression
-  LetRec : (type : Name) → Name → Expression → Expression → Expression
-  If : Expression → Pattern → Expression → Expression → Expression
-  Delay : Constant → Expression → Expression
+  NameUse : Identifier → Expression
+  UndefinedOf : (type : Identifier) → Expression
+  PairExpression : Expression → Expression → Expression
+  FirstOf : Expression → Expression
+  SecondOf : Expression → Expression
+  LetExpression : Identifier → Expression → Expression → Expression
+  LetRecExpression : (type : Identifier) → Identifier → Expression → Expression → Expression
+  IfExpression : Expression → SourcePattern → Expression → Expression → Expression
+  DelayExpression : SourceConstant → Expression → Expression
 
 -- the declarations, of which there is a first, the input's type, and the expression
 pub data Text : Type 0 where
-  text : (first : Declaration) (others : List Declaration) (input : Name) → Expression → Text
+  text : (first : Declaration) (others : List Declaration) (input : Identifier) → Expression → Text

@@ -29,16 +29,16 @@ pub data Symbol : Type 0 where
   opens closes comma equals bar query indexOpens indexCloses one two : Symbol
 
 -- what a byte is
-pub data Kind : Type 0 where
-  isBlank isLower isUpper isOther : Kind
-  isSymbol : Symbol → Kind
+pub data ByteClass : Type 0 where
+  isBlank isLower isUpper isOther : ByteClass
+  isSymbol : Symbol → ByteClass
 
 -- a byte from the first to the last of two
 abbrev pub between : ℕ → ℕ → ℕ → Bool
 between first last b = cond (leb first b) (leb b last) false
 
 -- a byte that is no letter
-abbrev pub unlettered : ℕ → Kind
+abbrev pub unlettered : ℕ → ByteClass
 unlettered b =
     cond (eqb b 32) isBlank
     (cond (eqb b 10) isBlank
@@ -54,10 +54,10 @@ unlettered b =
     (cond (eqb b 50) (isSymbol two)
     isOther)))))))))))
 
-abbrev pub kindOf : ℕ → Kind
-kindOf b = cond (between 97 122 b) isLower (cond (between 65 90 b) isUpper (unlettered b))
+abbrev pub byteClass : ℕ → ByteClass
+byteClass b = cond (between 97 122 b) isLower (cond (between 65 90 b) isUpper (unlettered b))
 
-abbrev pub isLetter : Kind → Bool
+abbrev pub isLetter : ByteClass → Bool
 isLetter isLower = true
 isLetter isUpper = true
 isLetter isBlank = false
@@ -67,33 +67,33 @@ isLetter (isSymbol s) = false
 -- the text goes on with no letter
 abbrev pub NoLetter : List ℕ → Type 0
 NoLetter [] = Unit {0}
-NoLetter (b ∷ bs) = isLetter (kindOf b) ≡ false
+NoLetter (b ∷ bs) = isLetter (byteClass b) ≡ false
 
 -- a token, with the place of its first byte
 pub data Token : Type 0 where
   keyword : Keyword → (place : ℕ) → Token
   symbol : Symbol → (place : ℕ) → Token
-  name : (letters : List ℕ) (place : ℕ) → Token
+  nameToken : (letters : List ℕ) (place : ℕ) → Token
 
 -- `Run bs word rest`: bs begins with a run of letters, word, and rest is what follows it
 pub data Run : List ℕ → List ℕ → List ℕ → Type 0 where
-  run-last : {b : ℕ} {rest : List ℕ} → isLetter (kindOf b) ≡ true → NoLetter rest → Run (b ∷ rest) (b ∷ []) rest
-  run-more : {b : ℕ} {bs word rest : List ℕ} → isLetter (kindOf b) ≡ true → Run bs word rest → Run (b ∷ bs) (b ∷ word) rest
+  run-last : {b : ℕ} {rest : List ℕ} → isLetter (byteClass b) ≡ true → NoLetter rest → Run (b ∷ rest) (b ∷ []) rest
+  run-more : {b : ℕ} {bs word rest : List ℕ} → isLetter (byteClass b) ≡ true → Run bs word rest → Run (b ∷ bs) (b ∷ word) rest
 
 pub data AllLower : List ℕ → Type 0 where
-  all-none : AllLower []
-  all-more : {b : ℕ} {bs : List ℕ} → kindOf b ≡ isLower → AllLower bs → AllLower (b ∷ bs)
+  lower-none : AllLower []
+  lower-more : {b : ℕ} {bs : List ℕ} → byteClass b ≡ isLower → AllLower bs → AllLower (b ∷ bs)
 
 -- the token that a run of letters is: a keyword by its spelling, or a name
 pub data Spells : List ℕ → ℕ → Token → Type 0 where
   spells-keyword : {word : List ℕ} {place : ℕ} {k : Keyword} → word ≡ spelling k → Spells word place (keyword k place)
-  spells-name : {word : List ℕ} {place : ℕ} → AllLower word → length word ≤ 16 → Spells word place (name word place)
+  spells-name : {word : List ℕ} {place : ℕ} → AllLower word → length word ≤ 16 → Spells word place (nameToken word place)
 
 -- `Tokens i bs ts`: the bytes bs, of which the first stands at place i, have the tokens ts
 pub data Tokens : ℕ → List ℕ → List Token → Type 0 where
   no-token : {i : ℕ} → Tokens i [] []
-  a-blank : {i b : ℕ} {bs : List ℕ} {ts : List Token} → kindOf b ≡ isBlank → Tokens (suc i) bs ts → Tokens i (b ∷ bs) ts
+  a-blank : {i b : ℕ} {bs : List ℕ} {ts : List Token} → byteClass b ≡ isBlank → Tokens (suc i) bs ts → Tokens i (b ∷ bs) ts
   a-symbol : {i b : ℕ} {bs : List ℕ} {ts : List Token} {s : Symbol}
-      → kindOf b ≡ isSymbol s → Tokens (suc i) bs ts → Tokens i (b ∷ bs) (symbol s i ∷ ts)
+      → byteClass b ≡ isSymbol s → Tokens (suc i) bs ts → Tokens i (b ∷ bs) (symbol s i ∷ ts)
   a-word : {i : ℕ} {bs word rest : List ℕ} {t : Token} {ts : List Token}
       → Run bs word rest → Spells word i t → Tokens (i + length word) rest ts → Tokens i bs (t ∷ ts)

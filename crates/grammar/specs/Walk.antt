@@ -8,20 +8,20 @@ use lib.Dec.{ltb}
 use Rattle.grammar.specs.Legal.{limit}
 use Rattle.grammar.specs.Machine.{Config, dead, live, onByte, ends, begins}
 
-pub data Outcome : Type 0 where
-  stopped : (place : ℕ) → Outcome
-  reached : Config → Outcome
+pub data Walked : Type 0 where
+  stopped : (place : ℕ) → Walked
+  reached : Config → Walked
 
-abbrev pub onward : (Config → Outcome) → Config → ℕ → Outcome
+abbrev pub onward : (Config → Walked) → Config → ℕ → Walked
 onward further dead i = stopped i
 onward further (live q K w) i = further (live q K w)
 
-abbrev pub walk : List ℕ → ℕ → Config → Outcome
+abbrev pub walk : List ℕ → ℕ → Config → Walked
 walk [] i c = reached c
 walk (b ∷ bs) i dead = stopped i
 walk (b ∷ bs) i (live q K w) = onward (walk bs (suc i)) (onByte b q K w) i
 
-abbrev pub concluded : ℕ → Outcome → Option ℕ
+abbrev pub concluded : ℕ → Walked → Option ℕ
 concluded n (stopped i) = some i
 concluded n (reached c) = cond (ltb limit n) (some limit) (cond (ends c) none (some n))
 

@@ -6,26 +6,26 @@ use mathlib.Core.Bool.{Bool, true, false, cond}
 use mathlib.Core.List.{List, [], _∷_}
 use lib.ListN.{length}
 use Rattle.grammar.specs.Tokens.{Token, Tokens, no-token, a-blank, a-symbol, a-word, Run, run-last, run-more}
-use Rattle.grammar.specs.Source.{Name, Declaration, Constructors, PairOf, Constant, Pattern, Expression, Text}
-use Rattle.grammar.specs.Grammar.{ReadsOthers, no-other, another, ReadsDeclaration, reads-constructors, reads-pair-of}
+use Rattle.grammar.specs.Source.{Identifier, Declaration, Constructors, PairOf, SourceConstant, SourcePattern, Expression, Text}
+use Rattle.grammar.specs.Grammar.{ReadsOthers, no-other, one-other, ReadsDeclaration, reads-constructors, reads-pair-of}
 use Rattle.grammar.specs.Grammar.{ReadsMore, no-more, one-more, ReadsConstant, reads-constructor, reads-undefined, reads-both}
 use Rattle.grammar.specs.Grammar.{ReadsPattern, reads-alone, reads-parts, reads-alone-or, reads-parts-or}
 use Rattle.grammar.specs.Grammar.{ReadsExpression, reads-named, reads-undefined-of, reads-pair, reads-first, reads-second, reads-let}
 use Rattle.grammar.specs.Grammar.{reads-let-rec, reads-if, reads-delay, ReadsText, reads-text}
-use Rattle.naming.specs.Declared.{Declared, sameName, isAmong, isDeclared, constructors, atFirst}
+use Rattle.naming.specs.Declared.{DeclaredName, sameName, isAmong, isDeclared, constructorRole, atFirst}
 use Rattle.naming.specs.Constants.{letters}
 use Rattle.naming.specs.Names.{afterAll}
-use Rattle.naming.specs.Records.{LeafCount, leafCount, leavesOf, leafCounts, patternRecords, constantLeaves, nameRecords}
-use Rattle.naming.specs.Records.{expressionRecords, recordsNeeded}
+use Rattle.naming.specs.Records.{LeafCount, leafCount, leafCountOf, leafCounts, patternRecords, constantLeaves, nameRecords}
+use Rattle.naming.specs.Records.{recordsOfExpression, recordsNeeded}
 
 -- no type has more than 64 leaves
 abbrev Few : List LeafCount → Type 0
-Few L = (w : List ℕ) → leavesOf L w ≤ 64
+Few L = (w : List ℕ) → leafCountOf L w ≤ 64
 
 few-more : (L : List LeafCount) (t : List ℕ) (n : ℕ) → Few L → n ≤ 64 → Few (leafCount t n ∷ L)
 few-more L t n f h w = go (sameName w t)
   where
-    go : (x : Bool) → cond x n (leavesOf L w) ≤ 64
+    go : (x : Bool) → cond x n (leafCountOf L w) ≤ 64
     go true = h
     go false = f w
 
@@ -33,31 +33,31 @@ few-counts : (L : List LeafCount) (ds : List Declaration) → Few L → Few (lea
 few-counts L [] f = f
 few-counts L (Constructors t c cs ∷ ds) f = few-counts (leafCount (letters t) 1 ∷ L) ds (few-more L (letters t) 1 f (omega arith))
 few-counts L (PairOf t a b ∷ ds) f =
-    few-counts (leafCount (letters t) (min 64 (leavesOf L (letters a) + leavesOf L (letters b))) ∷ L) ds
-    (few-more L (letters t) (min 64 (leavesOf L (letters a) + leavesOf L (letters b))) f (omega arith))
+    few-counts (leafCount (letters t) (min 64 (leafCountOf L (letters a) + leafCountOf L (letters b))) ∷ L) ds
+    (few-more L (letters t) (min 64 (leafCountOf L (letters a) + leafCountOf L (letters b))) f (omega arith))
 
-name-few : (D : List Declared) (bound : List (List ℕ)) (w : List ℕ) → nameRecords D bound w ≤ 2
-name-few D bound w = go (isAmong w bound) (isDeclared constructors w D)
+name-few : (D : List DeclaredName) (bound : List (List ℕ)) (w : List ℕ) → nameRecords D bound w ≤ 2
+name-few D bound w = go (isAmong w bound) (isDeclared constructorRole w D)
   where
     go : (x y : Bool) → cond x 1 (cond y 2 1) ≤ 2
     go true y = omega arith
     go false true = omega arith
     go false false = omega arith
 
-pattern-few : {a r : List Token} {m : Pattern} → ReadsPattern a m r → patternRecords m + 65 * length r ≤ 65 * length a
+pattern-few : {a r : List Token} {m : SourcePattern} → ReadsPattern a m r → patternRecords m + 65 * length r ≤ 65 * length a
 pattern-few reads-alone = omega arith
 pattern-few (reads-parts h k) = omega (arith, pattern-few h, pattern-few k)
 pattern-few (reads-alone-or h) = omega (arith, pattern-few h)
 pattern-few (reads-parts-or h k l) = omega (arith, pattern-few h, pattern-few k, pattern-few l)
 
 module _ (L : List LeafCount) (f : Few L) where
-  constant-few : {a r : List Token} {c : Constant} → ReadsConstant a c r → constantLeaves L c + 65 * length r ≤ 65 * length a
+  constant-few : {a r : List Token} {c : SourceConstant} → ReadsConstant a c r → constantLeaves L c + 65 * length r ≤ 65 * length a
   constant-few reads-constructor = omega arith
   constant-few (reads-undefined {w} {r}) = omega (arith, f w)
   constant-few (reads-both h k) = omega (arith, constant-few h, constant-few k)
 
-  expression-few : {a r : List Token} {e : Expression} (D : List Declared) (bound : List (List ℕ))
-      → ReadsExpression a e r → expressionRecords L D bound e + 65 * length r ≤ 65 * length a
+  expression-few : {a r : List Token} {e : Expression} (D : List DeclaredName) (bound : List (List ℕ))
+      → ReadsExpression a e r → recordsOfExpression L D bound e + 65 * length r ≤ 65 * length a
   expression-few D bound (reads-named {w}) = omega (arith, name-few D bound w)
   expression-few D bound (reads-undefined-of {w}) = omega (arith, f w)
   expression-few D bound (reads-pair h k) = omega (arith, expression-few D bound h, expression-few D bound k)
@@ -69,9 +69,9 @@ module _ (L : List LeafCount) (f : Few L) where
       omega (arith, expression-few D bound h, pattern-few m, expression-few D bound k, expression-few D bound l)
   expression-few D bound (reads-delay h k) = omega (arith, constant-few h, expression-few D bound k)
 
-others-few : {a r : List Token} {cs : List Name} → ReadsOthers a cs r → length r + 1 ≤ length a
+others-few : {a r : List Token} {cs : List Identifier} → ReadsOthers a cs r → length r + 1 ≤ length a
 others-few no-other = omega arith
-others-few (another h) = omega (arith, others-few h)
+others-few (one-other h) = omega (arith, others-few h)
 
 declaration-few : {a r : List Token} {d : Declaration} → ReadsDeclaration a d r → length r + 2 ≤ length a
 declaration-few (reads-constructors h) = omega (arith, others-few h)

@@ -5,20 +5,20 @@ use mathlib.Core.Path.{_≡_, refl}
 use mathlib.Core.Logic.{_⊎_, inl, inr}
 use mathlib.Core.Bool.{true, false}
 use mathlib.Core.List.{List, [], _∷_}
-use Rattle.naming.specs.Checks.{Check, check, AllHold, none-left, one-holds, FirstFails, fails-here, fails-later}
+use Rattle.naming.specs.Checks.{PlacedCheck, checkAt, AllPass, no-check-left, one-holds, FirstFails, fails-here, fails-later}
 
-further : (p : ℕ) (cs : List Check) → AllHold cs ⊎ ((q : ℕ) × FirstFails cs q) → AllHold (check p true ∷ cs) ⊎ ((q : ℕ) × FirstFails (check p true ∷ cs) q)
+further : (p : ℕ) (cs : List PlacedCheck) → AllPass cs ⊎ ((q : ℕ) × FirstFails cs q) → AllPass (checkAt p true ∷ cs) ⊎ ((q : ℕ) × FirstFails (checkAt p true ∷ cs) q)
 further p cs (inl h) = inl (one-holds h)
 further p cs (inr h) = inr (h .0, fails-later (h .1))
 
-pub hold-or-fail : (cs : List Check) → AllHold cs ⊎ ((p : ℕ) × FirstFails cs p)
-hold-or-fail [] = inl none-left
-hold-or-fail (check p true ∷ cs) = further p cs (hold-or-fail cs)
-hold-or-fail (check p false ∷ cs) = inr (p, fails-here)
+pub hold-or-fail : (cs : List PlacedCheck) → AllPass cs ⊎ ((p : ℕ) × FirstFails cs p)
+hold-or-fail [] = inl no-check-left
+hold-or-fail (checkAt p true ∷ cs) = further p cs (hold-or-fail cs)
+hold-or-fail (checkAt p false ∷ cs) = inr (p, fails-here)
 
-pub not-both : {cs : List Check} {p : ℕ} → FirstFails cs p → AllHold cs → ⊥
-not-both (fails-later f) (one-holds h) = not-both f h
+pub never-pass-and-fail : {cs : List PlacedCheck} {p : ℕ} → FirstFails cs p → AllPass cs → ⊥
+never-pass-and-fail (fails-later f) (one-holds h) = never-pass-and-fail f h
 
-pub one-place : {cs : List Check} {p q : ℕ} → FirstFails cs p → FirstFails cs q → p ≡ q
-one-place fails-here fails-here = refl
-one-place (fails-later f) (fails-later g) = one-place f g
+pub one-bad-place : {cs : List PlacedCheck} {p q : ℕ} → FirstFails cs p → FirstFails cs q → p ≡ q
+one-bad-place fails-here fails-here = refl
+one-bad-place (fails-later f) (fails-later g) = one-bad-place f g

@@ -2,19 +2,19 @@
 -- Assumes nothing.
 use mathlib.Core.Path.{sym, subst}
 use Rattle.naming.specs.Names.{textChecks}
-use Rattle.naming.specs.Promises.{Promises, Increasing}
-use Rattle.naming.proofs.First.{hold-or-fail, not-both, one-place}
+use Rattle.naming.specs.Promises.{NamingPromises, Increasing}
+use Rattle.naming.proofs.First.{hold-or-fail, never-pass-and-fail, one-bad-place}
 use Rattle.naming.proofs.EachOnce.{each-once}
 use Rattle.naming.proofs.Bounded.{records-bounded}
 use Rattle.naming.proofs.SameName.{same-equal, equal-same}
 use Rattle.naming.proofs.TextOrder.{names-increase}
 
-pub kept : Promises
+pub kept : NamingPromises
 kept =
     record {
       hold-or-fail = λ t. hold-or-fail (textChecks t);
-      not-both = λ t p f h. not-both f h;
-      one-bad-place = λ t p q f g. one-place f g;
+      not-both = λ t p f h. never-pass-and-fail f h;
+      one-bad-place = λ t p q f g. one-bad-place f g;
       each-name-once = λ ts t r. each-once r;
       in-text-order = λ bytes ts t r. subst Increasing (sym (each-once (r .parsed))) (names-increase (r .lexed));
       records-bounded = λ bytes ts t r. records-bounded (r .lexed) (r .parsed);

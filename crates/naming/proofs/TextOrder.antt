@@ -6,7 +6,7 @@ use mathlib.Core.List.{List, [], _∷_}
 use lib.ListN.{length}
 use Rattle.grammar.specs.Tokens.{Token, Tokens, no-token, a-blank, a-symbol, a-word, Run, run-last, run-more}
 use Rattle.grammar.specs.Tokens.{spells-keyword, spells-name}
-use Rattle.naming.specs.Promises.{namePlaces, Increasing, no-place, one-place, two-places}
+use Rattle.naming.specs.Promises.{namePlaces, Increasing, increasing-none, increasing-one, increasing-more}
 
 -- places from i on, increasing
 data From : ℕ → List ℕ → Type 0 where
@@ -18,11 +18,11 @@ lower h from-none = from-none
 lower {i} h (from-one {p} l f) = from-one {i = i} {p = p} (omega arith) f
 
 after : {p : ℕ} {ps : List ℕ} → From (suc p) ps → Increasing (p ∷ ps)
-after from-none = one-place
-after {p} (from-one {p = q} h f) = two-places {p = p} {q = q} (omega arith) (after f)
+after from-none = increasing-one
+after {p} (from-one {p = q} h f) = increasing-more {p = p} {q = q} (omega arith) (after f)
 
 increasing : {i : ℕ} {ps : List ℕ} → From i ps → Increasing ps
-increasing from-none = no-place
+increasing from-none = increasing-none
 increasing (from-one h f) = after f
 
 run-long : {bs word rest : List ℕ} → Run bs word rest → 1 ≤ length word

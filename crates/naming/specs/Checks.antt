@@ -4,26 +4,26 @@ use mathlib.Core.Bool.{Bool, true, false}
 use mathlib.Core.List.{List, [], _∷_}
 use mathlib.Core.Option.{Option, none, some}
 
-pub data Check : Type 0 where
-  check : (place : ℕ) (holds : Bool) → Check
+pub data PlacedCheck : Type 0 where
+  checkAt : (place : ℕ) (holds : Bool) → PlacedCheck
 
-pub data AllHold : List Check → Type 0 where
-  none-left : AllHold []
-  one-holds : {p : ℕ} {cs : List Check} → AllHold cs → AllHold (check p true ∷ cs)
+pub data AllPass : List PlacedCheck → Type 0 where
+  no-check-left : AllPass []
+  one-holds : {p : ℕ} {cs : List PlacedCheck} → AllPass cs → AllPass (checkAt p true ∷ cs)
 
-pub data FirstFails : List Check → ℕ → Type 0 where
-  fails-here : {p : ℕ} {cs : List Check} → FirstFails (check p false ∷ cs) p
-  fails-later : {p q : ℕ} {cs : List Check} → FirstFails cs p → FirstFails (check q true ∷ cs) p
+pub data FirstFails : List PlacedCheck → ℕ → Type 0 where
+  fails-here : {p : ℕ} {cs : List PlacedCheck} → FirstFails (checkAt p false ∷ cs) p
+  fails-later : {p q : ℕ} {cs : List PlacedCheck} → FirstFails cs p → FirstFails (checkAt q true ∷ cs) p
 
 -- the place of the first that fails
-abbrev pub orElse : Bool → ℕ → Option ℕ → Option ℕ
-orElse true p rest = rest
-orElse false p rest = some p
+abbrev pub unlessFails : Bool → ℕ → Option ℕ → Option ℕ
+unlessFails true p rest = rest
+unlessFails false p rest = some p
 
-abbrev pub firstFailing : List Check → Option ℕ
-firstFailing [] = none
-firstFailing (check p h ∷ cs) = orElse h p (firstFailing cs)
+abbrev pub firstBadPlace : List PlacedCheck → Option ℕ
+firstBadPlace [] = none
+firstBadPlace (checkAt p h ∷ cs) = unlessFails h p (firstBadPlace cs)
 
-abbrev pub places : List Check → List ℕ
-places [] = []
-places (check p h ∷ cs) = p ∷ places cs
+abbrev pub checkPlaces : List PlacedCheck → List ℕ
+checkPlaces [] = []
+checkPlaces (checkAt p h ∷ cs) = p ∷ checkPlaces cs

@@ -6,11 +6,11 @@ use mathlib.Core.List.{List, [], _∷_}
 use lib.Dec.{eqb}
 
 -- what a declared name stands for
-pub data Sort : Type 0 where
-  aType aConstructor theInput : Sort
+pub data Role : Type 0 where
+  aType aConstructor theInput : Role
 
-pub data Declared : Type 0 where
-  declared : (letters : List ℕ) → Sort → Declared
+pub data DeclaredName : Type 0 where
+  declaredAs : (letters : List ℕ) → Role → DeclaredName
 
 abbrev pub sameName : List ℕ → List ℕ → Bool
 sameName [] [] = true
@@ -26,36 +26,36 @@ isAmong w (v ∷ more) = cond (sameName w v) true (isAmong w more)
 abbrev pub input : List ℕ
 input = 105 ∷ 110 ∷ 112 ∷ 117 ∷ 116 ∷ []
 
-abbrev pub atFirst : List Declared
-atFirst = declared input theInput ∷ []
+abbrev pub atFirst : List DeclaredName
+atFirst = declaredAs input theInput ∷ []
 
-abbrev pub isTaken : List ℕ → List Declared → Bool
+abbrev pub isTaken : List ℕ → List DeclaredName → Bool
 isTaken w [] = false
-isTaken w (declared v s ∷ more) = cond (sameName w v) true (isTaken w more)
+isTaken w (declaredAs v s ∷ more) = cond (sameName w v) true (isTaken w more)
 
 -- declared as one of some sorts
-abbrev pub isDeclared : (Sort → Bool) → List ℕ → List Declared → Bool
-isDeclared sorts w [] = false
-isDeclared sorts w (declared v s ∷ more) = cond (sameName w v) (sorts s) (isDeclared sorts w more)
+abbrev pub isDeclared : (Role → Bool) → List ℕ → List DeclaredName → Bool
+isDeclared roles w [] = false
+isDeclared roles w (declaredAs v s ∷ more) = cond (sameName w v) (roles s) (isDeclared roles w more)
 
-abbrev pub types : Sort → Bool
-types aType = true
-types aConstructor = false
-types theInput = false
+abbrev pub typeRole : Role → Bool
+typeRole aType = true
+typeRole aConstructor = false
+typeRole theInput = false
 
-abbrev pub constructors : Sort → Bool
-constructors aType = false
-constructors aConstructor = true
-constructors theInput = false
+abbrev pub constructorRole : Role → Bool
+constructorRole aType = false
+constructorRole aConstructor = true
+constructorRole theInput = false
 
 -- in a pattern: a type or a constructor
-abbrev pub patternSorts : Sort → Bool
-patternSorts aType = true
-patternSorts aConstructor = true
-patternSorts theInput = false
+abbrev pub patternRoles : Role → Bool
+patternRoles aType = true
+patternRoles aConstructor = true
+patternRoles theInput = false
 
 -- in an expression: a constructor or `input`, beside the names that LETs bind
-abbrev pub valueSorts : Sort → Bool
-valueSorts aType = false
-valueSorts aConstructor = true
-valueSorts theInput = true
+abbrev pub valueRoles : Role → Bool
+valueRoles aType = false
+valueRoles aConstructor = true
+valueRoles theInput = true

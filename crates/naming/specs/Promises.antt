@@ -5,21 +5,21 @@ use mathlib.Core.Logic.{_⊎_, _↔_}
 use mathlib.Core.Bool.{true}
 use mathlib.Core.List.{List, [], _∷_}
 use lib.ListN.{length}
-use Rattle.grammar.specs.Tokens.{Token, keyword, symbol, name}
+use Rattle.grammar.specs.Tokens.{Token, keyword, symbol, nameToken}
 use Rattle.grammar.specs.Source.{Text}
 use Rattle.grammar.specs.Grammar.{ReadsText}
 use Rattle.grammar.specs.Legal.{Reading}
 use Rattle.naming.specs.Declared.{sameName}
-use Rattle.naming.specs.Checks.{AllHold, FirstFails, places}
+use Rattle.naming.specs.Checks.{AllPass, FirstFails, checkPlaces}
 use Rattle.naming.specs.Records.{recordsNeeded}
 use Rattle.naming.specs.Names.{nameChecks, textChecks}
 
 -- 1. All checks of a text hold, or one fails that all before it hold; never both, and at one place.
 abbrev pub HoldOrFail : Type 0
-HoldOrFail = (t : Text) → AllHold (textChecks t) ⊎ ((p : ℕ) × FirstFails (textChecks t) p)
+HoldOrFail = (t : Text) → AllPass (textChecks t) ⊎ ((p : ℕ) × FirstFails (textChecks t) p)
 
 abbrev pub NotBoth : Type 0
-NotBoth = (t : Text) (p : ℕ) → FirstFails (textChecks t) p → AllHold (textChecks t) → ⊥
+NotBoth = (t : Text) (p : ℕ) → FirstFails (textChecks t) p → AllPass (textChecks t) → ⊥
 
 abbrev pub OneBadPlace : Type 0
 OneBadPlace = (t : Text) (p q : ℕ) → FirstFails (textChecks t) p → FirstFails (textChecks t) q → p ≡ q
@@ -29,19 +29,19 @@ abbrev pub namePlaces : List Token → List ℕ
 namePlaces [] = []
 namePlaces (keyword k p ∷ ts) = namePlaces ts
 namePlaces (symbol s p ∷ ts) = namePlaces ts
-namePlaces (name w p ∷ ts) = p ∷ namePlaces ts
+namePlaces (nameToken w p ∷ ts) = p ∷ namePlaces ts
 
 pub data Increasing : List ℕ → Type 0 where
-  no-place : Increasing []
-  one-place : {p : ℕ} → Increasing (p ∷ [])
-  two-places : {p q : ℕ} {ps : List ℕ} → p < q → Increasing (q ∷ ps) → Increasing (p ∷ q ∷ ps)
+  increasing-none : Increasing []
+  increasing-one : {p : ℕ} → Increasing (p ∷ [])
+  increasing-more : {p q : ℕ} {ps : List ℕ} → p < q → Increasing (q ∷ ps) → Increasing (p ∷ q ∷ ps)
 
 -- 2. Each name of a text is checked once, in text order.
 abbrev pub EachNameOnce : Type 0
-EachNameOnce = (ts : List Token) (t : Text) → ReadsText ts t → places (nameChecks t) ≡ namePlaces ts
+EachNameOnce = (ts : List Token) (t : Text) → ReadsText ts t → checkPlaces (nameChecks t) ≡ namePlaces ts
 
 abbrev pub InTextOrder : Type 0
-InTextOrder = (bytes : List ℕ) (ts : List Token) (t : Text) → Reading bytes ts t → Increasing (places (nameChecks t))
+InTextOrder = (bytes : List ℕ) (ts : List Token) (t : Text) → Reading bytes ts t → Increasing (checkPlaces (nameChecks t))
 
 -- 3. A text needs at most 65 records a byte; so within the limit the length needed, 12 bytes a record, is below 2^26.
 abbrev pub RecordsBounded : Type 0
@@ -51,7 +51,7 @@ RecordsBounded = (bytes : List ℕ) (ts : List Token) (t : Text) → Reading byt
 abbrev pub SameLetters : Type 0
 SameLetters = (v w : List ℕ) → (sameName v w ≡ true) ↔ (v ≡ w)
 
-pub record Promises : Type 0 where
+pub record NamingPromises : Type 0 where
   pub hold-or-fail : HoldOrFail
   pub not-both : NotBoth
   pub one-bad-place : OneBadPlace

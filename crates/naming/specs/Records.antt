@@ -4,10 +4,10 @@ use Prim.Native.Nat.{ℕ, _+_, min}
 use mathlib.Core.Bool.{cond}
 use mathlib.Core.List.{List, [], _∷_}
 use lib.ListN.{length}
-use Rattle.grammar.specs.Source.{Declaration, Constructors, PairOf, Constant, Constructor, Undefined, Both}
-use Rattle.grammar.specs.Source.{Pattern, Alone, Parts, Either, Text, text}
-use Rattle.grammar.specs.Source.{Expression, Named, UndefinedOf, Pair, First, Second, Let, LetRec, If, Delay}
-use Rattle.naming.specs.Declared.{Declared, sameName, isAmong, atFirst, isDeclared, constructors}
+use Rattle.grammar.specs.Source.{Declaration, Constructors, PairOf, SourceConstant, OfConstructor, Undefined, ConstantPair}
+use Rattle.grammar.specs.Source.{SourcePattern, Alone, PatternPair, Either, Text, text}
+use Rattle.grammar.specs.Source.{Expression, NameUse, UndefinedOf, PairExpression, FirstOf, SecondOf, LetExpression, LetRecExpression, IfExpression, DelayExpression}
+use Rattle.naming.specs.Declared.{DeclaredName, sameName, isAmong, atFirst, isDeclared, constructorRole}
 use Rattle.naming.specs.Constants.{letters}
 use Rattle.naming.specs.Names.{afterAll, bind}
 
@@ -15,43 +15,43 @@ use Rattle.naming.specs.Names.{afterAll, bind}
 pub data LeafCount : Type 0 where
   leafCount : (type : List ℕ) (count : ℕ) → LeafCount
 
-abbrev pub leavesOf : List LeafCount → List ℕ → ℕ
-leavesOf [] w = 0
-leavesOf (leafCount t n ∷ more) w = cond (sameName w t) n (leavesOf more w)
+abbrev pub leafCountOf : List LeafCount → List ℕ → ℕ
+leafCountOf [] w = 0
+leafCountOf (leafCount t n ∷ more) w = cond (sameName w t) n (leafCountOf more w)
 
 abbrev pub leafCounts : List LeafCount → List Declaration → List LeafCount
 leafCounts L [] = L
 leafCounts L (Constructors t c cs ∷ ds) = leafCounts (leafCount (letters t) 1 ∷ L) ds
-leafCounts L (PairOf t a b ∷ ds) = leafCounts (leafCount (letters t) (min 64 (leavesOf L (letters a) + leavesOf L (letters b))) ∷ L) ds
+leafCounts L (PairOf t a b ∷ ds) = leafCounts (leafCount (letters t) (min 64 (leafCountOf L (letters a) + leafCountOf L (letters b))) ∷ L) ds
 
 -- alternatives are chained by their next words: a bar takes no record
-abbrev pub patternRecords : Pattern → ℕ
+abbrev pub patternRecords : SourcePattern → ℕ
 patternRecords (Alone n) = 1
-patternRecords (Parts m n) = 1 + patternRecords m + patternRecords n
+patternRecords (PatternPair m n) = 1 + patternRecords m + patternRecords n
 patternRecords (Either m n) = patternRecords m + patternRecords n
 
 -- the leaves of a DELAY's constant; an undefined part has the leaves of its own type
-abbrev pub constantLeaves : List LeafCount → Constant → ℕ
-constantLeaves L (Constructor n) = 1
-constantLeaves L (Undefined t) = leavesOf L (letters t)
-constantLeaves L (Both p c d) = constantLeaves L c + constantLeaves L d
+abbrev pub constantLeaves : List LeafCount → SourceConstant → ℕ
+constantLeaves L (OfConstructor n) = 1
+constantLeaves L (Undefined t) = leafCountOf L (letters t)
+constantLeaves L (ConstantPair p c d) = constantLeaves L c + constantLeaves L d
 
 -- a name that no LET binds and that is a constructor is a constant of one leaf; any other is a name's record
-abbrev pub nameRecords : List Declared → List (List ℕ) → List ℕ → ℕ
-nameRecords D bound w = cond (isAmong w bound) 1 (cond (isDeclared constructors w D) 2 1)
+abbrev pub nameRecords : List DeclaredName → List (List ℕ) → List ℕ → ℕ
+nameRecords D bound w = cond (isAmong w bound) 1 (cond (isDeclared constructorRole w D) 2 1)
 
-abbrev pub expressionRecords : List LeafCount → List Declared → List (List ℕ) → Expression → ℕ
-expressionRecords L D bound (Named n) = nameRecords D bound (letters n)
-expressionRecords L D bound (UndefinedOf t) = 1 + leavesOf L (letters t)
-expressionRecords L D bound (Pair e f) = 1 + expressionRecords L D bound e + expressionRecords L D bound f
-expressionRecords L D bound (First e) = 1 + expressionRecords L D bound e
-expressionRecords L D bound (Second e) = 1 + expressionRecords L D bound e
-expressionRecords L D bound (Let n e f) = 1 + expressionRecords L D bound e + expressionRecords L D (bind n bound) f
-expressionRecords L D bound (LetRec t n e f) = 1 + expressionRecords L D (bind n bound) e + expressionRecords L D (bind n bound) f
-expressionRecords L D bound (If e m f g) =
-    1 + expressionRecords L D bound e + patternRecords m + expressionRecords L D bound f + expressionRecords L D bound g
-expressionRecords L D bound (Delay c e) = 1 + constantLeaves L c + expressionRecords L D bound e
+abbrev pub recordsOfExpression : List LeafCount → List DeclaredName → List (List ℕ) → Expression → ℕ
+recordsOfExpression L D bound (NameUse n) = nameRecords D bound (letters n)
+recordsOfExpression L D bound (UndefinedOf t) = 1 + leafCountOf L (letters t)
+recordsOfExpression L D bound (PairExpression e f) = 1 + recordsOfExpression L D bound e + recordsOfExpression L D bound f
+recordsOfExpression L D bound (FirstOf e) = 1 + recordsOfExpression L D bound e
+recordsOfExpression L D bound (SecondOf e) = 1 + recordsOfExpression L D bound e
+recordsOfExpression L D bound (LetExpression n e f) = 1 + recordsOfExpression L D bound e + recordsOfExpression L D (bind n bound) f
+recordsOfExpression L D bound (LetRecExpression t n e f) = 1 + recordsOfExpression L D (bind n bound) e + recordsOfExpression L D (bind n bound) f
+recordsOfExpression L D bound (IfExpression e m f g) =
+    1 + recordsOfExpression L D bound e + patternRecords m + recordsOfExpression L D bound f + recordsOfExpression L D bound g
+recordsOfExpression L D bound (DelayExpression c e) = 1 + constantLeaves L c + recordsOfExpression L D bound e
 
 abbrev pub recordsNeeded : Text → ℕ
 recordsNeeded (text d ds t e) =
-    1 + length (d ∷ ds) + expressionRecords (leafCounts [] (d ∷ ds)) (afterAll atFirst (d ∷ ds)) [] e
+    1 + length (d ∷ ds) + recordsOfExpression (leafCounts [] (d ∷ ds)) (afterAll atFirst (d ∷ ds)) [] e

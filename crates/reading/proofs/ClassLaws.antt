@@ -11,12 +11,12 @@ use lib.Dec.{T, eqb, eqb→eq, ltb}
 use borrow.Author.Tests.{eq-eqb, ne-eqb, le-leb, lt-leb}
 use Rattle.grammar.specs.Tokens.{TYPE, IN, INPUT, LET, INIT, REC, IF, MATCHES, THEN, ELSE, DELAY}
 use Rattle.grammar.specs.Tokens.{Symbol, opens, closes, comma, equals, bar, query, indexOpens, indexCloses, one, two}
-use Rattle.grammar.specs.Tokens.{Kind, isBlank, isLower, isUpper, isOther, isSymbol, kindOf}
-use Rattle.grammar.specs.Rows.{State, Lead, aSymbol, aKeyword, aName, Row, on, rows}
-use Rattle.grammar.specs.Machine.{dead, live, noWord, begin, enter, find, fresh, further, leadByte, alike}
+use Rattle.grammar.specs.Tokens.{ByteClass, isBlank, isLower, isUpper, isOther, isSymbol, byteClass}
+use Rattle.grammar.specs.Rows.{State, Lead, aSymbol, aKeyword, aName, Transition, on, transitions}
+use Rattle.grammar.specs.Machine.{dead, live, noWord, beginToken, performFound, find, fresh, further, leadByte, alike}
 use Rattle.grammar.proofs.ByteKinds.{alike-lower, alike-upper, alike-symbol, found-kind}
 use Rattle.grammar.proofs.RowFound.{found-by}
-use Rattle.reading.specs.Coded.{capitals, position, symbolClass, kindClass, classOf, begun, followed, wordOf}
+use Rattle.reading.specs.Coded.{capitals, position, symbolClass, classNumber, classOf, afterByteClass, followed, wordOf}
 
 -- one of two by a test, with what the test says
 choose : (b n : ℕ) (P : ℕ → Type 0) (x y : ℕ) → (b ≡ n → P x) → ((b ≡ n → ⊥) → P y) → P (cond (eqb b n) x y)
@@ -27,15 +27,15 @@ choose b n P x y h k = go (eqb b n) (eqb→eq b n) refl
     go false e f = k (λ g. let z : true ≡ false = sym (eq-eqb b n g) ∙ f in let o : _≡_ {A = ℕ} 0 1 = cc in omega arith)
 
 -- a byte that begins no token is found in no row
-none-found : (n : ℕ) (rs : List Row) → ((l : Lead) → n ≡ leadByte l → ⊥) → find n rs ≡ none
+none-found : (n : ℕ) (rs : List Transition) → ((l : Lead) → n ≡ leadByte l → ⊥) → find n rs ≡ none
 none-found n rs h = go (find n rs) refl
   where
-    go : (r : Option Row) → find n rs ≡ r → r ≡ none
+    go : (r : Option Transition) → find n rs ≡ r → r ≡ none
     go none e = refl
     go (some (on l a)) e = absurd (h l (found-by n l a rs e))
 
 -- a capital that no keyword begins with
-other-capital : (b : ℕ) (l : Lead) → kindOf b ≡ isUpper → b ≡ leadByte l
+other-capital : (b : ℕ) (l : Lead) → byteClass b ≡ isUpper → b ≡ leadByte l
     → (b ≡ 84 → ⊥) → (b ≡ 73 → ⊥) → (b ≡ 76 → ⊥) → (b ≡ 82 → ⊥) → (b ≡ 77 → ⊥) → (b ≡ 69 → ⊥) → (b ≡ 68 → ⊥) → ⊥
 other-capital b (aSymbol s) h e n84 n73 n76 n82 n77 n69 n68 =
     let f : isUpper ≡ isSymbol s = sym h ∙ found-kind b (aSymbol s) (alike-upper b h ∙ e) in let z : _≡_ {A = ℕ} 0 1 = cc in omega arith
@@ -72,9 +72,9 @@ position-below b (c ∷ l) =
     choose b c (λ x. x ≤ suc (length l)) 0 (suc (position b l)) (λ e. omega arith) (λ e. omega arith)
 
 pub class-below : (b : ℕ) → classOf b < 21
-class-below b = go (kindOf b)
+class-below b = go (byteClass b)
   where
-    go : (k : Kind) → kindClass k b < 21
+    go : (k : ByteClass) → classNumber k b < 21
     go (isSymbol s) = omega (arith, symbol-below s)
     go isOther = omega arith
     go isBlank = omega arith
@@ -83,10 +83,10 @@ class-below b = go (kindOf b)
 
 -- a byte where no word is begun, and one after a word that can end there
 module _ (b : ℕ) (q : State) (K : List State) where
-  by-byte : {n : ℕ} → alike b ≡ n → begin b q K ≡ enter (find n (rows q)) K
-  by-byte e = ap (λ n. enter (find n (rows q)) K) e
+  by-byte : {n : ℕ} → alike b ≡ n → beginToken b q K ≡ performFound (find n (transitions q)) K
+  by-byte e = ap (λ n. performFound (find n (transitions q)) K) e
 
-  symbol-begun : (s : Symbol) → kindOf b ≡ isSymbol s → begin b q K ≡ begun (symbolClass s) q K
+  symbol-begun : (s : Symbol) → byteClass b ≡ isSymbol s → beginToken b q K ≡ afterByteClass (symbolClass s) q K
   symbol-begun opens h = by-byte (alike-symbol b opens h)
   symbol-begun closes h = by-byte (alike-symbol b closes h)
   symbol-begun comma h = by-byte (alike-symbol b comma h)
@@ -98,29 +98,29 @@ module _ (b : ℕ) (q : State) (K : List State) where
   symbol-begun one h = by-byte (alike-symbol b one h)
   symbol-begun two h = by-byte (alike-symbol b two h)
 
-  capital-begun : kindOf b ≡ isUpper → begin b q K ≡ begun (11 + position b capitals) q K
+  capital-begun : byteClass b ≡ isUpper → beginToken b q K ≡ afterByteClass (11 + position b capitals) q K
   capital-begun h =
-      choose b 84 (λ x. begin b q K ≡ begun (11 + x) q K) 0 (suc (position b (73 ∷ 76 ∷ 82 ∷ 77 ∷ 69 ∷ 68 ∷ []))) (λ e. by-byte (alike-upper b h ∙ e))
-      (λ n84. choose b 73 (λ x. begin b q K ≡ begun (11 + suc (x)) q K) 0 (suc (position b (76 ∷ 82 ∷ 77 ∷ 69 ∷ 68 ∷ []))) (λ e. by-byte (alike-upper b h ∙ e))
-      (λ n73. choose b 76 (λ x. begin b q K ≡ begun (11 + suc (suc (x))) q K) 0 (suc (position b (82 ∷ 77 ∷ 69 ∷ 68 ∷ []))) (λ e. by-byte (alike-upper b h ∙ e))
-      (λ n76. choose b 82 (λ x. begin b q K ≡ begun (11 + suc (suc (suc (x)))) q K) 0 (suc (position b (77 ∷ 69 ∷ 68 ∷ []))) (λ e. by-byte (alike-upper b h ∙ e))
-      (λ n82. choose b 77 (λ x. begin b q K ≡ begun (11 + suc (suc (suc (suc (x))))) q K) 0 (suc (position b (69 ∷ 68 ∷ []))) (λ e. by-byte (alike-upper b h ∙ e))
-      (λ n77. choose b 69 (λ x. begin b q K ≡ begun (11 + suc (suc (suc (suc (suc (x)))))) q K) 0 (suc (position b (68 ∷ []))) (λ e. by-byte (alike-upper b h ∙ e))
-      (λ n69. choose b 68 (λ x. begin b q K ≡ begun (11 + suc (suc (suc (suc (suc (suc (x))))))) q K) 0 (suc (0)) (λ e. by-byte (alike-upper b h ∙ e))
-      (λ n68. ap (λ r. enter r K) (ap (λ n. find n (rows q)) (alike-upper b h) ∙ none-found b (rows q) (λ l e. other-capital b l h e n84 n73 n76 n82 n77 n69 n68)))))))))
+      choose b 84 (λ x. beginToken b q K ≡ afterByteClass (11 + x) q K) 0 (suc (position b (73 ∷ 76 ∷ 82 ∷ 77 ∷ 69 ∷ 68 ∷ []))) (λ e. by-byte (alike-upper b h ∙ e))
+      (λ n84. choose b 73 (λ x. beginToken b q K ≡ afterByteClass (11 + suc (x)) q K) 0 (suc (position b (76 ∷ 82 ∷ 77 ∷ 69 ∷ 68 ∷ []))) (λ e. by-byte (alike-upper b h ∙ e))
+      (λ n73. choose b 76 (λ x. beginToken b q K ≡ afterByteClass (11 + suc (suc (x))) q K) 0 (suc (position b (82 ∷ 77 ∷ 69 ∷ 68 ∷ []))) (λ e. by-byte (alike-upper b h ∙ e))
+      (λ n76. choose b 82 (λ x. beginToken b q K ≡ afterByteClass (11 + suc (suc (suc (x)))) q K) 0 (suc (position b (77 ∷ 69 ∷ 68 ∷ []))) (λ e. by-byte (alike-upper b h ∙ e))
+      (λ n82. choose b 77 (λ x. beginToken b q K ≡ afterByteClass (11 + suc (suc (suc (suc (x))))) q K) 0 (suc (position b (69 ∷ 68 ∷ []))) (λ e. by-byte (alike-upper b h ∙ e))
+      (λ n77. choose b 69 (λ x. beginToken b q K ≡ afterByteClass (11 + suc (suc (suc (suc (suc (x)))))) q K) 0 (suc (position b (68 ∷ []))) (λ e. by-byte (alike-upper b h ∙ e))
+      (λ n69. choose b 68 (λ x. beginToken b q K ≡ afterByteClass (11 + suc (suc (suc (suc (suc (suc (x))))))) q K) 0 (suc (0)) (λ e. by-byte (alike-upper b h ∙ e))
+      (λ n68. ap (λ r. performFound r K) (ap (λ n. find n (transitions q)) (alike-upper b h) ∙ none-found b (transitions q) (λ l e. other-capital b l h e n84 n73 n76 n82 n77 n69 n68)))))))))
 
-  pub fresh-class : (k : Kind) → kindOf b ≡ k → fresh k b q K ≡ followed (kindClass k b) q K 0
+  pub fresh-class : (k : ByteClass) → byteClass b ≡ k → fresh k b q K ≡ followed (classNumber k b) q K 0
   fresh-class (isSymbol s) h =
-      symbol-begun s h ∙ sym (ap (λ x. cond x (live q K noWord) (begun (symbolClass s) q K)) (ne-eqb (symbolClass s) 19 (λ e. omega (arith, symbol-below s))))
+      symbol-begun s h ∙ sym (ap (λ x. cond x (live q K noWord) (afterByteClass (symbolClass s) q K)) (ne-eqb (symbolClass s) 19 (λ e. omega (arith, symbol-below s))))
   fresh-class isOther h = refl
   fresh-class isBlank h = refl
   fresh-class isLower h = by-byte (alike-lower b h)
   fresh-class isUpper h =
       capital-begun h
-      ∙ sym (ap (λ x. cond x (live q K noWord) (begun (11 + position b capitals) q K)) (ne-eqb (11 + position b capitals) 19 (λ e. omega (arith, position-below b capitals))))
+      ∙ sym (ap (λ x. cond x (live q K noWord) (afterByteClass (11 + position b capitals) q K)) (ne-eqb (11 + position b capitals) 19 (λ e. omega (arith, position-below b capitals))))
 
-  pub further-class : (w : ℕ) → (w ≡ 0 → ⊥) → (k : Kind) → kindOf b ≡ k
-      → further k (cond (ltb w 16) (live q K (wordOf (w + 1))) dead) b q K ≡ followed (kindClass k b) q K w
+  pub further-class : (w : ℕ) → (w ≡ 0 → ⊥) → (k : ByteClass) → byteClass b ≡ k
+      → further k (cond (ltb w 16) (live q K (wordOf (w + 1))) dead) b q K ≡ followed (classNumber k b) q K w
   further-class w n (isSymbol s) h =
       symbol-begun s h
       ∙ sym (rw (ne-eqb (symbolClass s) 19 (λ e. omega (arith, symbol-below s)), ne-eqb w 0 n, lt-leb 10 (symbolClass s) (symbol-below s)))

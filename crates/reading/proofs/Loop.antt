@@ -13,16 +13,16 @@ use lib.Dec.{eqb, ltb}
 use Rattle.grammar.specs.Legal.{limit, Told, Leaves}
 use Rattle.grammar.specs.Machine.{Config, live, onByte, begins}
 use Rattle.grammar.specs.Walk.{onward, walk, concluded, firstIllegal}
-use Rattle.grammar.proofs.Exact.{exact}
+use Rattle.grammar.proofs.Exact.{first-illegal-exact}
 use Rattle.reading.specs.Coded.{stateOf, stackOf, wordOf, letterTable, configOf, conclusion, Ready, Stepped}
 use Rattle.reading.proofs.WordLaws.{ends-number}
 
-abbrev pub Left : List ℕ → ℕ → (state word depth : ℕ) → List ℕ → Type 0
-Left text i state word depth stack =
-    walk (take limit text) 0 begins ≡ walk (drop i (take limit text)) i (live (stateOf state) (stackOf depth stack) (wordOf word))
+pub record LeftToRead (text : List ℕ) (i state word depth : ℕ) (stack : List ℕ) : Type 0 where
+  pub same-walk :
+      walk (take limit text) 0 begins ≡ walk (drop i (take limit text)) i (live (stateOf state) (stackOf depth stack) (wordOf word))
 
-pub at-first : (text stack : List ℕ) → Left text 0 0 0 0 stack
-at-first text stack = refl
+pub left-at-first : (text stack : List ℕ) → LeftToRead text 0 0 0 0 stack
+left-at-first text stack = record { same-walk = refl }
 
 pub ready-first : (stack : List ℕ) → length stack ≡ 65536 → Ready 0 0 0 stack
 ready-first stack l =
@@ -38,32 +38,31 @@ ready-next i s h l = record {
   waiting = s .waiting;
 }
 
--- the letter that the table gives at a number that is the word
-pub letter-at : (table : List ℕ) (i word : ℕ) → table ≡ letterTable → i ≡ word → getD letterTable word 0 ≡ getD table i 0
-letter-at table i word t e = sym (ap₂ (λ x j. getD x j 0) t e)
+-- what is read of a text
+abbrev readOf : List ℕ → List ℕ
+readOf text = take limit text
 
-module _ (text : List ℕ) (i state word depth : ℕ) (stack : List ℕ) (left : Left text i state word depth stack) where
-  abbrev read : List ℕ
-  read = take limit text
-
+module _ {text : List ℕ} {i state word depth : ℕ} {stack : List ℕ} (left : LeftToRead text i state word depth stack) where
   -- one byte of what is left
   one-byte : (h : i < min 65535 (length text)) (ok : Bool) (state′ word′ depth′ : ℕ) (stack′ : List ℕ)
       → Stepped (onByte (getD text i 0) (stateOf state) (stackOf depth stack) (wordOf word)) depth ok state′ word′ depth′ stack′
-      → walk read 0 begins ≡ onward (walk (drop (suc i) read) (suc i)) (configOf ok state′ word′ depth′ stack′) i
+      → walk (readOf text) 0 begins ≡ onward (walk (drop (suc i) (readOf text)) (suc i)) (configOf ok state′ word′ depth′ stack′) i
   one-byte h ok state′ word′ depth′ stack′ s =
-      let here : i < length read = omega (arith, length-take limit text) in
+      let here : i < length (readOf text) = omega (arith, length-take limit text) in
       let below : i < limit = omega arith in
-      left
-      ∙ ap (λ l. walk l i (live (stateOf state) (stackOf depth stack) (wordOf word))) (drop-cons read i 0 here)
-      ∙ ap (λ b. onward (walk (drop (suc i) read) (suc i)) (onByte b (stateOf state) (stackOf depth stack) (wordOf word)) i) (getD-take limit text i 0 below)
-      ∙ ap (λ c. onward (walk (drop (suc i) read) (suc i)) c i) (s .stepped)
+      left .same-walk
+      ∙ ap (λ l. walk l i (live (stateOf state) (stackOf depth stack) (wordOf word))) (drop-cons (readOf text) i 0 here)
+      ∙ ap (λ b. onward (walk (drop (suc i) (readOf text)) (suc i)) (onByte b (stateOf state) (stackOf depth stack) (wordOf word)) i) (getD-take limit text i 0 below)
+      ∙ ap (λ c. onward (walk (drop (suc i) (readOf text)) (suc i)) c i) (s .stepped)
 
   pub byte-after : i < min 65535 (length text) → (ok : Bool) (state′ word′ depth′ : ℕ) (stack′ : List ℕ)
       → Stepped (onByte (getD text i 0) (stateOf state) (stackOf depth stack) (wordOf word)) depth ok state′ word′ depth′ stack′
-      → not ok ≡ false → Left text (i + 1) state′ word′ depth′ stack′
-  byte-after h true state′ word′ depth′ stack′ s e =
-      one-byte h true state′ word′ depth′ stack′ s
-      ∙ ap (λ n. walk (drop n read) n (live (stateOf state′) (stackOf depth′ stack′) (wordOf word′))) (sym (add-one i))
+      → not ok ≡ false → LeftToRead text (i + 1) state′ word′ depth′ stack′
+  byte-after h true state′ word′ depth′ stack′ s e = record {
+    same-walk =
+        one-byte h true state′ word′ depth′ stack′ s
+        ∙ ap (λ n. walk (drop n (readOf text)) n (live (stateOf state′) (stackOf depth′ stack′) (wordOf word′))) (sym (add-one i));
+  }
   byte-after h false state′ word′ depth′ stack′ s e = absurd (let z : _≡_ {A = ℕ} 0 1 = cc in omega arith)
 
   pub byte-refused : i < min 65535 (length text) → (ok : Bool) (state′ word′ depth′ : ℕ) (stack′ : List ℕ)
@@ -72,18 +71,18 @@ module _ (text : List ℕ) (i state word depth : ℕ) (stack : List ℕ) (left :
   unfolding firstIllegal
   byte-refused h true state′ word′ depth′ stack′ s e = absurd (let z : _≡_ {A = ℕ} 0 1 = cc in omega arith)
   byte-refused h false state′ word′ depth′ stack′ s e =
-      subst (Told text) (ap (concluded (length text)) (one-byte h false state′ word′ depth′ stack′ s)) (exact text)
+      subst (Told text) (ap (concluded (length text)) (one-byte h false state′ word′ depth′ stack′ s)) (first-illegal-exact text)
 
   -- nothing left
   pub all-read : min 65535 (length text) ≤ i → Ready state word depth stack → (letter : ℕ) → getD letterTable word 0 ≡ letter
       → (o : Option ℕ) → o ≡ conclusion (length text) state letter → Told text o
   unfolding firstIllegal
   all-read h r letter l o e =
-      let none-left : drop i read ≡ [] = drop-of-length-le read {i = i} (omega (arith, length-take limit text)) in
+      let none-left : drop i (readOf text) ≡ [] = drop-of-length-le (readOf text) {i = i} (omega (arith, length-take limit text)) in
       subst (Told text)
-      (ap (concluded (length text)) (left ∙ ap (λ k. walk k i (live (stateOf state) (stackOf depth stack) (wordOf word))) none-left)
+      (ap (concluded (length text)) (left .same-walk ∙ ap (λ k. walk k i (live (stateOf state) (stackOf depth stack) (wordOf word))) none-left)
       ∙ ap (λ x. cond (ltb limit (length text)) (some limit) (cond x none (some (length text))))
       (ends-number word (r .few-words) state (stackOf depth stack) (r .few-states)
       ∙ ap (λ n. cond (eqb n 0) (eqb state 16) false) l)
       ∙ sym e)
-      (exact text)
+      (first-illegal-exact text)

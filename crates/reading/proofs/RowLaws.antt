@@ -9,9 +9,9 @@ use lib.ListN.{length, getD, List·getD-map}
 use lib.Dec.{lit<}
 use borrow.Author.Tests.{ne-eqb}
 use Rattle.grammar.specs.Tokens.{Keyword, TYPE, IN, INPUT, LET, INIT, REC, IF, MATCHES, THEN, ELSE, DELAY}
-use Rattle.grammar.specs.Rows.{State, stateNumber, states, Lead, aSymbol, aKeyword, aName, Action, go, call, return, Row, on, rows}
+use Rattle.grammar.specs.Rows.{State, stateNumber, states, Lead, aSymbol, aKeyword, aName, Action, go, call, return, Transition, on, transitions}
 use Rattle.grammar.specs.Rows.{start}
-use Rattle.grammar.specs.Machine.{live, back, enter, find, leadWord, perform}
+use Rattle.grammar.specs.Machine.{live, back, performFound, find, leadWord, perform}
 use Rattle.grammar.proofs.Numbered.{state-found, state-below}
 use Rattle.reading.specs.Coded.{stateOf, wordOf, keywordWord, wordNumber, nextNumber, waitsNumber, rowNext, rowWaits, rowWord, follows}
 use Rattle.reading.specs.Coded.{leadBytes, tableOf}
@@ -89,19 +89,19 @@ waits-below (go q) = omega arith
 waits-below (call r q) = omega (arith, state-below r)
 waits-below return = omega arith
 
-pub row-followed : (r : Option Row) (K : List State) → follows (rowNext r) (rowWaits r) (rowWord r) K ≡ enter r K
+pub row-followed : (r : Option Transition) (K : List State) → follows (rowNext r) (rowWaits r) (rowWord r) K ≡ performFound r K
 row-followed none K = refl
 row-followed (some (on l a)) K = row-follows l a K
 
-pub row-next-below : (r : Option Row) → rowNext r ≤ 48
+pub row-next-below : (r : Option Transition) → rowNext r ≤ 48
 row-next-below none = omega arith
 row-next-below (some (on l a)) = next-below a
 
-pub row-waits-below : (r : Option Row) → rowWaits r ≤ 47
+pub row-waits-below : (r : Option Transition) → rowWaits r ≤ 47
 row-waits-below none = omega arith
 row-waits-below (some (on l a)) = waits-below a
 
-pub row-word-below : (r : Option Row) → rowWord r < 60
+pub row-word-below : (r : Option Transition) → rowWord r < 60
 row-word-below none = omega arith
 row-word-below (some (on l a)) = word-below l
 
@@ -111,8 +111,8 @@ mapped-at f (x ∷ l) zero d e h = refl
 mapped-at f (x ∷ l) (suc c) d e h = mapped-at f l c d e (omega arith)
 
 -- the entry of a state and a class in a table
-pub entry-at : (f : Option Row → ℕ) (s c : ℕ) → s < 47 → c < 18
-    → getD (getD (tableOf f) s []) c 0 ≡ f (find (getD leadBytes c 0) (rows (stateOf s)))
-entry-at f s c h l =
-    ap (λ k. getD k c 0) (mapped-at (λ q. map (λ b. f (find b (rows q))) leadBytes) states s start [] h)
-    ∙ mapped-at (λ b. f (find b (rows (stateOf s)))) leadBytes c 0 0 l
+pub table-entry-at : (f : Option Transition → ℕ) (s c : ℕ) → s < 47 → c < 18
+    → getD (getD (tableOf f) s []) c 0 ≡ f (find (getD leadBytes c 0) (transitions (stateOf s)))
+table-entry-at f s c h l =
+    ap (λ k. getD k c 0) (mapped-at (λ q. map (λ b. f (find b (transitions q))) leadBytes) states s start [] h)
+    ∙ mapped-at (λ b. f (find b (transitions (stateOf s)))) leadBytes c 0 0 l

@@ -12,12 +12,12 @@ use mathlib.Core.Option.{Option, none, some}
 use lib.ListN.{length, getD, set, length-set}
 use lib.Seq.{getD-set-same, getD-set-other}
 use borrow.Author.Tests.{eq-eqb, ne-eqb, lt-ltb, le-ltb, le-leb, lt-leb}
-use Rattle.grammar.specs.Rows.{State, Row, rows}
+use Rattle.grammar.specs.Rows.{State, Transition, transitions}
 use Rattle.grammar.specs.Machine.{Config, dead, live, back, find, onByte}
 use Rattle.reading.specs.Coded.{stateOf, stackOf, wordOf, follows, configOf, Ready, Stepped, Worded, Tables}
-use Rattle.reading.specs.Coded.{tableOf, nextTable, waitsTable, wordTable, rowNext, rowWaits, rowWord, leadBytes, entered, begun}
+use Rattle.reading.specs.Coded.{tableOf, nextTable, waitsTable, wordTable, rowNext, rowWaits, rowWord, leadBytes, afterLead, afterByteClass}
 use Rattle.reading.specs.Coded.{lettered, followed, letterTable, classOf, spelledOut, conclusion}
-use Rattle.reading.proofs.RowLaws.{entry-at, row-followed, row-next-below, row-waits-below, row-word-below}
+use Rattle.reading.proofs.RowLaws.{table-entry-at, row-followed, row-next-below, row-waits-below, row-word-below}
 use Rattle.reading.proofs.ClassLaws.{class-below}
 use Rattle.reading.proofs.WordLaws.{spelled, follows-byte}
 
@@ -52,7 +52,7 @@ unstacked : {state word depth : ℕ} {stack : List ℕ} (c : Config) (ok : Bool)
 unstacked c ok state′ word′ r e h l =
     record { stepped = e; few-states = h; few-words = l; higher = omega arith; long = r .long; waiting = r .waiting }
 
-module _ (word depth : ℕ) (stack : List ℕ) (r : Ready 0 word depth stack) where
+module _ {word depth : ℕ} {stack : List ℕ} (r : Ready 0 word depth stack) where
   pub resumed-end : depth ≡ 0 → Stepped (back (stackOf depth stack) (wordOf word)) depth true 16 word depth stack
   resumed-end e =
       unstacked (back (stackOf depth stack) (wordOf word)) true 16 word r
@@ -71,7 +71,7 @@ module _ (word depth : ℕ) (stack : List ℕ) (r : Ready 0 word depth stack) wh
         waiting = λ k l. r .waiting k (omega arith);
       }
 
-module _ (next waits word state depth : ℕ) (stack : List ℕ) (r : Ready state word depth stack) (few : next ≤ 48) (w : waits ≤ 47) where
+module _ {next waits word state depth : ℕ} {stack : List ℕ} (r : Ready state word depth stack) (few : next ≤ 48) (w : waits ≤ 47) where
   pub taken-dead : next ≡ 0 → Stepped (follows next waits word (stackOf depth stack)) depth false state word depth stack
   taken-dead e =
       unstacked (follows next waits word (stackOf depth stack)) false state word r (rw (eq-eqb next 0 e)) (r .few-states) (r .few-words)
@@ -108,9 +108,9 @@ module _ (next waits word state depth : ℕ) (stack : List ℕ) (r : Ready state
           (omega (arith, w, o))
 
 -- a letter inside a word
-module _ (class word state depth : ℕ) where
-  pub goes-on : class ≡ 10 → word < 16 → Worded (λ q K. lettered class q K word) state depth true state (word + 1) depth
-  goes-on e l =
+module _ {class word state depth : ℕ} where
+  pub word-goes-on : class ≡ 10 → word < 16 → Worded (λ q K. lettered class q K word) state depth true state (word + 1) depth
+  word-goes-on e l =
       record { same = λ q K. rw (eq-eqb class 10 e, lt-ltb word 16 l); same-state = refl; same-depth = refl; few-words = omega arith }
 
   pub too-long : class ≡ 10 → 16 ≤ word → word < 60 → Worded (λ q K. lettered class q K word) state depth false state word depth
@@ -119,7 +119,7 @@ module _ (class word state depth : ℕ) where
   pub stays : (class ≡ 10 → ⊥) → word < 60 → Worded (λ q K. lettered class q K word) state depth false state word depth
   stays n f = record { same = λ q K. rw (ne-eqb class 10 n); same-state = refl; same-depth = refl; few-words = f }
 
-module _ (b letter word state depth : ℕ) (few : word + 1 < 60) where
+module _ {b letter state depth : ℕ} (word : ℕ) (few : word + 1 < 60) where
   pub right-letter : b ≡ letter → Worded (spelledOut b letter word) state depth true state (word + 1) depth
   right-letter e = record { same = λ q K. rw (eq-eqb b letter e); same-state = refl; same-depth = refl; few-words = few }
 
@@ -153,7 +153,7 @@ pub ready-afresh : {state word depth : ℕ} {stack : List ℕ} → Ready state w
 ready-afresh r = record { few-states = r .few-states; few-words = omega arith; room = r .room; long = r .long; waiting = r .waiting }
 
 -- a byte by its class
-module _ (class state word depth : ℕ) (stack : List ℕ) (r : Ready state word depth stack) where
+module _ {class state word depth : ℕ} {stack : List ℕ} (r : Ready state word depth stack) where
   pub blank-follows : class ≡ 19 → Stepped (followed class (stateOf state) (stackOf depth stack) word) depth true state 0 depth stack
   blank-follows e =
       unstacked (followed class (stateOf state) (stackOf depth stack) word) true state 0 r (rw (eq-eqb class 19 e)) (r .few-states) (omega arith)
@@ -163,15 +163,15 @@ module _ (class state word depth : ℕ) (stack : List ℕ) (r : Ready state word
   letter-follows n m l = rw (ne-eqb class 19 n, ne-eqb word 0 m, le-leb 10 class l)
 
   begins-fresh : (class ≡ 19 → ⊥) → word ≡ 0
-      → followed class (stateOf state) (stackOf depth stack) word ≡ begun class (stateOf state) (stackOf depth stack)
+      → followed class (stateOf state) (stackOf depth stack) word ≡ afterByteClass class (stateOf state) (stackOf depth stack)
   begins-fresh n e = rw (ne-eqb class 19 n, eq-eqb word 0 e)
 
   begins-after : (class ≡ 19 → ⊥) → (word ≡ 0 → ⊥) → class < 10
-      → followed class (stateOf state) (stackOf depth stack) word ≡ begun class (stateOf state) (stackOf depth stack)
+      → followed class (stateOf state) (stackOf depth stack) word ≡ afterByteClass class (stateOf state) (stackOf depth stack)
   begins-after n m l = rw (ne-eqb class 19 n, ne-eqb word 0 m, lt-leb 10 class l)
 
   begins-token : (class ≡ 19 → ⊥) → (((word ≡ 0 → ⊥) × (class < 10)) ⊎ (word ≡ 0))
-      → followed class (stateOf state) (stackOf depth stack) word ≡ begun class (stateOf state) (stackOf depth stack)
+      → followed class (stateOf state) (stackOf depth stack) word ≡ afterByteClass class (stateOf state) (stackOf depth stack)
   begins-token n (inl h) = begins-after n (h .0) (h .1)
   begins-token n (inr h) = begins-fresh n h
 
@@ -179,22 +179,22 @@ module _ (class state word depth : ℕ) (stack : List ℕ) (r : Ready state word
       → Stepped (followed class (stateOf state) (stackOf depth stack) word) depth false state word depth stack
   refused n h l =
       unstacked (followed class (stateOf state) (stackOf depth stack) word) false state word r
-      (begins-token n h ∙ ap (λ x. cond x dead (entered class (stateOf state) (stackOf depth stack))) (le-leb 18 class l)) (r .few-states) (r .few-words)
+      (begins-token n h ∙ ap (λ x. cond x dead (afterLead class (stateOf state) (stackOf depth stack))) (le-leb 18 class l)) (r .few-states) (r .few-words)
 
   pub enters : (class ≡ 19 → ⊥) → (((word ≡ 0 → ⊥) × (class < 10)) ⊎ (word ≡ 0)) → class < 18
-      → followed class (stateOf state) (stackOf depth stack) word ≡ entered class (stateOf state) (stackOf depth stack)
-  enters n h l = begins-token n h ∙ ap (λ x. cond x dead (entered class (stateOf state) (stackOf depth stack))) (lt-leb 18 class l)
+      → followed class (stateOf state) (stackOf depth stack) word ≡ afterLead class (stateOf state) (stackOf depth stack)
+  enters n h l = begins-token n h ∙ ap (λ x. cond x dead (afterLead class (stateOf state) (stackOf depth stack))) (lt-leb 18 class l)
 
 -- a row read from the tables, at an index of numbers that are the state and the class
-module _ (class state s c : ℕ) (nexts waits words : List (List ℕ)) (few : state < 47) (low : class < 18) (e : s ≡ state) (f : c ≡ class)
+module _ {class state s c : ℕ} {nexts waits words : List (List ℕ)} (few : state < 47) (low : class < 18) (e : s ≡ state) (f : c ≡ class)
     (t : Tables nexts waits words)
   where
-    abbrev row : Option Row
-    row = find (getD leadBytes class 0) (rows (stateOf state))
+    abbrev row : Option Transition
+    row = find (getD leadBytes class 0) (transitions (stateOf state))
 
-    entry-read : (g : Option Row → ℕ) (table : List (List ℕ)) → table ≡ tableOf g → getD (getD table s []) c 0 ≡ g row
+    entry-read : (g : Option Transition → ℕ) (table : List (List ℕ)) → table ≡ tableOf g → getD (getD table s []) c 0 ≡ g row
     entry-read g table h =
-        ap (λ x. getD (getD x s []) c 0) h ∙ ap₂ (λ x y. getD (getD (tableOf g) x []) y 0) e f ∙ entry-at g state class few low
+        ap (λ x. getD (getD x s []) c 0) h ∙ ap₂ (λ x y. getD (getD (tableOf g) x []) y 0) e f ∙ table-entry-at g state class few low
 
     next-read : getD (getD nexts s []) c 0 ≡ rowNext row
     unfolding nextTable
@@ -223,15 +223,22 @@ module _ (class state s c : ℕ) (nexts waits words : List (List ℕ)) (few : st
     )
 
     pub rows-followed : (K : List State)
-        → entered class (stateOf state) K ≡ follows (getD (getD nexts s []) c 0) (getD (getD waits s []) c 0) (getD (getD words s []) c 0) K
+        → afterLead class (stateOf state) K ≡ follows (getD (getD nexts s []) c 0) (getD (getD waits s []) c 0) (getD (getD words s []) c 0) K
     rows-followed K =
         sym
         (ap (λ x. follows x (getD (getD waits s []) c 0) (getD (getD words s []) c 0) K) next-read
         ∙ ap₂ (λ x y. follows (rowNext row) x y K) waits-read word-read
         ∙ row-followed row K)
 
+-- the letter that the table gives at a number that is the word
+pub letter-read : (table : List ℕ) (i word : ℕ) → table ≡ letterTable → i ≡ word → getD letterTable word 0 ≡ getD table i 0
+letter-read table i word t e = sym (ap₂ (λ x j. getD x j 0) t e)
+
+pub read-below : (b class : ℕ) → class ≡ classOf b → class < 21
+read-below b class e = subst (λ x. x < 21) (sym e) (class-below b)
+
 -- a byte of the text
-module _ (b state word depth : ℕ) (stack : List ℕ) (r : Ready state word depth stack) where
+module _ {state word depth : ℕ} {stack : List ℕ} (r : Ready state word depth stack) (b : ℕ) where
   pub spelled-byte : (c : ℕ) → getD letterTable word 0 ≡ c → (c ≡ 0 → ⊥)
       → onByte b (stateOf state) (stackOf depth stack) (wordOf word) ≡ spelledOut b c word (stateOf state) (stackOf depth stack)
   spelled-byte c e n = spelled word (r .few-words) b c (stateOf state) (stackOf depth stack) e n
@@ -239,13 +246,6 @@ module _ (b state word depth : ℕ) (stack : List ℕ) (r : Ready state word dep
   pub followed-byte : getD letterTable word 0 ≡ 0
       → onByte b (stateOf state) (stackOf depth stack) (wordOf word) ≡ followed (classOf b) (stateOf state) (stackOf depth stack) word
   followed-byte e = follows-byte word (r .few-words) b (stateOf state) (stackOf depth stack) e
-
-  -- the letter that the table gives
-  pub letter-read : (table : List ℕ) (i : ℕ) → table ≡ letterTable → i ≡ word → getD letterTable word 0 ≡ getD table i 0
-  letter-read table i t e = sym (ap₂ (λ x j. getD x j 0) t e)
-
-  pub read-below : (class : ℕ) → class ≡ classOf b → class < 21
-  read-below class e = subst (λ x. x < 21) (sym e) (class-below b)
 
   pub read-followed : (class : ℕ) → class ≡ classOf b → getD letterTable word 0 ≡ 0
       → onByte b (stateOf state) (stackOf depth stack) (wordOf word) ≡ followed class (stateOf state) (stackOf depth stack) word

@@ -11,9 +11,9 @@ use lib.ListN.{getD, drop, replicate, getD-replicate, List·getD-append}
 use lib.Seq.{drop-cons}
 use lib.Dec.{eqb, ltb}
 use borrow.Author.Tests.{eq-eqb, ne-eqb, lt-ltb, le-ltb}
-use Rattle.grammar.specs.Tokens.{kindOf}
+use Rattle.grammar.specs.Tokens.{byteClass}
 use Rattle.grammar.specs.Rows.{State, stateNumber}
-use Rattle.grammar.specs.Machine.{noWord, naming, spelt, dead, live, onByte, further, whole, ends}
+use Rattle.grammar.specs.Machine.{noWord, naming, spelt, dead, live, onByte, further, canEnd, ends}
 use Rattle.reading.specs.Coded.{stateOf, letterTable, keywordLetters, untilZero, wordOf, classOf, followed}
 use Rattle.reading.proofs.ClassLaws.{fresh-class, further-class}
 use Rattle.reading.proofs.RowLaws.{number-of-state}
@@ -65,44 +65,44 @@ module _ (w : ℕ) (few : w < 60) where
 
   -- where none is, the word can end
   name-then : (b : ℕ) (q : State) (K : List State) → (w ≡ 0 → ⊥) → w < 17
-      → onByte b q K (wordOf w) ≡ further (kindOf b) (cond (ltb w 16) (live q K (wordOf (w + 1))) dead) b q K
+      → onByte b q K (wordOf w) ≡ further (byteClass b) (cond (ltb w 16) (live q K (wordOf (w + 1))) dead) b q K
   name-then b q K n h =
-      ap (onByte b q K) (word-name w n h) ∙ ap (λ x. further (kindOf b) x b q K) (same (ltb w 16) refl)
+      ap (onByte b q K) (word-name w n h) ∙ ap (λ x. further (byteClass b) x b q K) (same (ltb w 16) refl)
     where
       same : (t : Bool) → ltb w 16 ≡ t → cond t (live q K (naming (w + 1))) dead ≡ cond t (live q K (wordOf (w + 1))) dead
       same true e = ap (live q K) (sym (word-name (w + 1) (λ z. omega arith) (omega (arith, borrow.Author.Tests.ltb-true w 16 e))))
       same false e = refl
 
   keyword-then : (b : ℕ) (q : State) (K : List State) → getD letterTable w 0 ≡ 0 → 17 ≤ w
-      → onByte b q K (wordOf w) ≡ further (kindOf b) (cond (ltb w 16) (live q K (wordOf (w + 1))) dead) b q K
+      → onByte b q K (wordOf w) ≡ further (byteClass b) (cond (ltb w 16) (live q K (wordOf (w + 1))) dead) b q K
   keyword-then b q K e h =
       ap (onByte b q K)
       (word-spelt w h few ∙ ap (λ x. spelt (cond x [] (getD letterTable w 0 ∷ untilZero (drop (suc w) letterTable)))) (eq-eqb (getD letterTable w 0) 0 e))
-      ∙ ap (λ x. further (kindOf b) (cond x (live q K (wordOf (w + 1))) dead) b q K) (sym (le-ltb w 16 (omega arith)))
+      ∙ ap (λ x. further (byteClass b) (cond x (live q K (wordOf (w + 1))) dead) b q K) (sym (le-ltb w 16 (omega arith)))
 
   pub follows-byte : (b : ℕ) (q : State) (K : List State) → getD letterTable w 0 ≡ 0 → onByte b q K (wordOf w) ≡ followed (classOf b) q K w
   follows-byte b q K e = go (decLt 0 w) (decLt w 17)
     where
       nothing : (w ≡ 0) → onByte b q K (wordOf w) ≡ followed (classOf b) q K w
-      nothing z = subst (λ x. onByte b q K (wordOf x) ≡ followed (classOf b) q K x) (sym z) (fresh-class b q K (kindOf b) refl)
+      nothing z = subst (λ x. onByte b q K (wordOf x) ≡ followed (classOf b) q K x) (sym z) (fresh-class b q K (byteClass b) refl)
 
       go : Dec (0 < w) → Dec (w < 17) → onByte b q K (wordOf w) ≡ followed (classOf b) q K w
       go (no h) d = nothing (omega (arith, h))
-      go (yes h) (yes l) = name-then b q K (λ z. omega arith) l ∙ further-class b q K w (λ z. omega arith) (kindOf b) refl
-      go (yes h) (no l) = keyword-then b q K e (omega (arith, l)) ∙ further-class b q K w (λ z. omega arith) (kindOf b) refl
+      go (yes h) (yes l) = name-then b q K (λ z. omega arith) l ∙ further-class b q K w (λ z. omega arith) (byteClass b) refl
+      go (yes h) (no l) = keyword-then b q K e (omega (arith, l)) ∙ further-class b q K w (λ z. omega arith) (byteClass b) refl
 
   -- whether it can end is whether no letter is awaited
-  pub whole-number : whole (wordOf w) ≡ eqb (getD letterTable w 0) 0
+  pub whole-number : canEnd (wordOf w) ≡ eqb (getD letterTable w 0) 0
   whole-number = go (decLt w 17) (decLt 0 w)
     where
-      spelt-whole : (x : Bool) (c : ℕ) (l : List ℕ) → whole (spelt (cond x [] (c ∷ l))) ≡ x
+      spelt-whole : (x : Bool) (c : ℕ) (l : List ℕ) → canEnd (spelt (cond x [] (c ∷ l))) ≡ x
       spelt-whole true c l = refl
       spelt-whole false c l = refl
 
-      go : Dec (w < 17) → Dec (0 < w) → whole (wordOf w) ≡ eqb (getD letterTable w 0) 0
-      go (yes h) (yes l) = ap whole (word-name w (λ z. omega arith) h) ∙ sym (eq-eqb (getD letterTable w 0) 0 (no-letter w h))
-      go (yes h) (no l) = let z : w ≡ 0 = omega (arith, l) in ap (λ x. whole (wordOf x)) z ∙ sym (eq-eqb (getD letterTable w 0) 0 (no-letter w h))
-      go (no h) d = ap whole (word-spelt w (omega (arith, h)) few) ∙ spelt-whole (eqb (getD letterTable w 0) 0) (getD letterTable w 0) (untilZero (drop (suc w) letterTable))
+      go : Dec (w < 17) → Dec (0 < w) → canEnd (wordOf w) ≡ eqb (getD letterTable w 0) 0
+      go (yes h) (yes l) = ap canEnd (word-name w (λ z. omega arith) h) ∙ sym (eq-eqb (getD letterTable w 0) 0 (no-letter w h))
+      go (yes h) (no l) = let z : w ≡ 0 = omega (arith, l) in ap (λ x. canEnd (wordOf x)) z ∙ sym (eq-eqb (getD letterTable w 0) 0 (no-letter w h))
+      go (no h) d = ap canEnd (word-spelt w (omega (arith, h)) few) ∙ spelt-whole (eqb (getD letterTable w 0) 0) (getD letterTable w 0) (untilZero (drop (suc w) letterTable))
 
   pub ends-number : (s : ℕ) (K : List State) → s < 47 → ends (live (stateOf s) K (wordOf w)) ≡ cond (eqb (getD letterTable w 0) 0) (eqb s 16) false
   ends-number s K h = ap (λ x. cond x (eqb (stateNumber (stateOf s)) 16) false) whole-number ∙ ap (λ n. cond (eqb (getD letterTable w 0) 0) (eqb n 16) false) (number-of-state s h)

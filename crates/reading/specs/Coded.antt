@@ -8,9 +8,9 @@ use lib.ListN.{length, getD, drop, replicate}
 use lib.Dec.{eqb, ltb, leb}
 use Rattle.grammar.specs.Tokens.{Keyword, TYPE, IN, INPUT, LET, INIT, REC, IF, MATCHES, THEN, ELSE, DELAY}
 use Rattle.grammar.specs.Tokens.{Symbol, opens, closes, comma, equals, bar, query, indexOpens, indexCloses, one, two}
-use Rattle.grammar.specs.Tokens.{Kind, isBlank, isLower, isUpper, isOther, isSymbol, kindOf}
-use Rattle.grammar.specs.Rows.{State, start, stateNumber, states, Lead, aSymbol, aKeyword, aName, Action, go, call, return, Row, on, rows}
-use Rattle.grammar.specs.Machine.{Word, noWord, naming, spelt, Config, dead, live, back, enter, find}
+use Rattle.grammar.specs.Tokens.{ByteClass, isBlank, isLower, isUpper, isOther, isSymbol, byteClass}
+use Rattle.grammar.specs.Rows.{State, start, stateNumber, states, Lead, aSymbol, aKeyword, aName, Action, go, call, return, Transition, on, transitions}
+use Rattle.grammar.specs.Machine.{Word, noWord, naming, spelt, Config, dead, live, back, performFound, find}
 use Rattle.grammar.specs.Legal.{limit}
 use Rattle.reading.specs.declared.Illegal.{Illegal}
 use Rattle.reading.specs.declared.Illegal.the-variants.{At, Nowhere}
@@ -83,15 +83,15 @@ waitsNumber (go q) = 0
 waitsNumber (call r q) = stateNumber r + 1
 waitsNumber return = 0
 
-abbrev pub rowNext : Option Row → ℕ
+abbrev pub rowNext : Option Transition → ℕ
 rowNext none = 0
 rowNext (some (on l a)) = nextNumber a
 
-abbrev pub rowWaits : Option Row → ℕ
+abbrev pub rowWaits : Option Transition → ℕ
 rowWaits none = 0
 rowWaits (some (on l a)) = waitsNumber a
 
-abbrev pub rowWord : Option Row → ℕ
+abbrev pub rowWord : Option Transition → ℕ
 rowWord none = 0
 rowWord (some (on l a)) = wordNumber l
 
@@ -125,23 +125,23 @@ symbolClass two = 9
 
 -- the class of a byte: 0 to 9 the symbols, 10 a small letter, 11 to 17 the capitals that keywords begin with, 18 the other ones, 19 a blank,
 -- 20 any other byte
-abbrev pub kindClass : Kind → ℕ → ℕ
-kindClass (isSymbol s) b = symbolClass s
-kindClass isLower b = 10
-kindClass isUpper b = 11 + position b capitals
-kindClass isBlank b = 19
-kindClass isOther b = 20
+abbrev pub classNumber : ByteClass → ℕ → ℕ
+classNumber (isSymbol s) b = symbolClass s
+classNumber isLower b = 10
+classNumber isUpper b = 11 + position b capitals
+classNumber isBlank b = 19
+classNumber isOther b = 20
 
 abbrev pub classOf : ℕ → ℕ
-classOf b = kindClass (kindOf b) b
+classOf b = classNumber (byteClass b) b
 
 -- for each class that a token can begin with a byte of it
 abbrev pub leadBytes : List ℕ
 leadBytes = 40 ∷ 41 ∷ 44 ∷ 61 ∷ 124 ∷ 63 ∷ 91 ∷ 93 ∷ 49 ∷ 50 ∷ 97 ∷ 84 ∷ 73 ∷ 76 ∷ 82 ∷ 77 ∷ 69 ∷ 68 ∷ []
 
 -- a row of a table for each state
-abbrev pub tableOf : (Option Row → ℕ) → List (List ℕ)
-tableOf f = map (λ q. map (λ b. f (find b (rows q))) leadBytes) states
+abbrev pub tableOf : (Option Transition → ℕ) → List (List ℕ)
+tableOf f = map (λ q. map (λ b. f (find b (transitions q))) leadBytes) states
 
 unfoldable pub nextTable : List (List ℕ)
 nextTable = tableOf rowNext
@@ -153,18 +153,18 @@ unfoldable pub wordTable : List (List ℕ)
 wordTable = tableOf rowWord
 
 -- a byte of a class, where the word can end
-abbrev pub entered : ℕ → State → List State → Config
-entered c q K = enter (find (getD leadBytes c 0) (rows q)) K
+abbrev pub afterLead : ℕ → State → List State → Config
+afterLead c q K = performFound (find (getD leadBytes c 0) (transitions q)) K
 
 abbrev pub lettered : ℕ → State → List State → ℕ → Config
 lettered c q K w = cond (eqb c 10) (cond (ltb w 16) (live q K (wordOf (w + 1))) dead) dead
 
-abbrev pub begun : ℕ → State → List State → Config
-begun c q K = cond (leb 18 c) dead (entered c q K)
+abbrev pub afterByteClass : ℕ → State → List State → Config
+afterByteClass c q K = cond (leb 18 c) dead (afterLead c q K)
 
 abbrev pub followed : ℕ → State → List State → ℕ → Config
 followed c q K w =
-    cond (eqb c 19) (live q K noWord) (cond (eqb w 0) (begun c q K) (cond (leb 10 c) (lettered c q K w) (begun c q K)))
+    cond (eqb c 19) (live q K noWord) (cond (eqb w 0) (afterByteClass c q K) (cond (leb 10 c) (lettered c q K w) (afterByteClass c q K)))
 
 abbrev pub configOf : (ok : Bool) (state word depth : ℕ) → List ℕ → Config
 configOf true s w d K = live (stateOf s) (stackOf d K) (wordOf w)

@@ -2,7 +2,7 @@
 ghost use mathlib.Core.Path.{_≡_};
 ghost use Prim.Native.Nat.{_+_};
 ghost use Rattle.grammar.specs.Tokens.{unlettered};
-ghost use Rattle.reading.specs.Coded.{capitals, position, kindClass, classOf};
+ghost use Rattle.reading.specs.Coded.{capitals, position, classNumber, classOf};
 
 // The class of a capital: those that a keyword begins with, and 18 for the others.
 fn capital_class(b: u8) -> u8
@@ -22,7 +22,7 @@ fn capital_class(b: u8) -> u8
 
 // The class of a byte that is no letter: a symbol's, 19 for a blank, 20 for any other.
 fn unlettered_class(b: u8) -> u8
-    ensures { λ r. ⌜ r ≡ kindClass (unlettered b) b ⌝ }
+    ensures { λ r. ⌜ r ≡ classNumber (unlettered b) b ⌝ }
 {
     match b {
         b' ' => 19,

@@ -10,10 +10,11 @@ ghost use Prim.Native.Nat.{_+_, _≤_, _<_, min};
 ghost use lib.ListN.{length};
 ghost use Rattle.grammar.specs.Legal.{Told};
 ghost use Rattle.grammar.specs.Machine.{back, onByte};
-ghost use Rattle.reading.specs.Coded.{illegal, stateOf, stackOf, wordOf, letterTable, follows, entered, followed, lettered};
+ghost use Rattle.reading.specs.Coded.{illegal, stateOf, stackOf, wordOf, letterTable, follows, afterLead, followed, lettered};
 ghost use Rattle.reading.specs.Coded.{spelledOut, conclusion, Ready, Stepped, Worded, Tables};
 use numbers::BACK;
 use numbers::BLANK;
+use numbers::ContextStack;
 use numbers::DONE;
 use numbers::LEADS;
 use numbers::LETTERS;
@@ -36,7 +37,7 @@ pub struct Moved {
 }
 
 // Back to the state that waits.
-fn resume(word: u8, depth: usize, stack: &[u8; 65536]) -> Moved
+fn resume(word: u8, depth: usize, stack: &ContextStack) -> Moved
     requires { ⌜ Ready 0 word depth (now stack) ⌝ }
     ensures { λ r. ⌜ Stepped (back (stackOf depth (now (stack .entry))) (wordOf word)) depth (r .ok) (r .state) (r .word) (r .depth) (now (stack .entry)) ⌝ }
 {
@@ -63,7 +64,7 @@ fn take_row(
     word: u8,
     state: u8,
     depth: usize,
-    stack: &mut [u8; 65536],
+    stack: &mut ContextStack,
 ) -> Moved
     requires { ⌜ Ready state word depth (now stack) × (next ≤ 48) × (waits ≤ 47) ⌝ }
     ensures { λ r. ⌜ Stepped (follows next waits word (stackOf depth (now (stack .entry)))) depth (r .ok) (r .state) (r .word) (r .depth) (now (stack .exit)) ⌝ }
@@ -145,13 +146,13 @@ fn begin(
     class: u8,
     state: u8,
     depth: usize,
-    stack: &mut [u8; 65536],
+    stack: &mut ContextStack,
     nexts: &[[u8; 18]; 47],
     waits: &[[u8; 18]; 47],
     words: &[[u8; 18]; 47],
 ) -> Moved
     requires { ⌜ Ready state 0 depth (now stack) × (class < 18) × Tables (now nexts) (now waits) (now words) ⌝ }
-    ensures { λ r. ⌜ Stepped (entered class (stateOf state) (stackOf depth (now (stack .entry)))) depth (r .ok) (r .state) (r .word) (r .depth) (now (stack .exit)) ⌝ }
+    ensures { λ r. ⌜ Stepped (afterLead class (stateOf state) (stackOf depth (now (stack .entry)))) depth (r .ok) (r .state) (r .word) (r .depth) (now (stack .exit)) ⌝ }
 {
     let row = wide(state);
     let column = wide(class);
@@ -171,7 +172,7 @@ fn follow(
     state: u8,
     word: u8,
     depth: usize,
-    stack: &mut [u8; 65536],
+    stack: &mut ContextStack,
     nexts: &[[u8; 18]; 47],
     waits: &[[u8; 18]; 47],
     words: &[[u8; 18]; 47],
@@ -209,7 +210,7 @@ pub fn step(
     state: u8,
     word: u8,
     depth: usize,
-    stack: &mut [u8; 65536],
+    stack: &mut ContextStack,
     nexts: &[[u8; 18]; 47],
     waits: &[[u8; 18]; 47],
     words: &[[u8; 18]; 47],

@@ -22,6 +22,12 @@ pub const LETTERS: u8 = 16;
 // The most bytes of a text.
 pub const LIMIT: usize = 65535;
 
+// One more than the bytes of a text, and so than the brackets that are open in it.
+pub const CONTEXTS: usize = 65536;
+
+// The states that wait, by their numbers, the last on top.
+pub type ContextStack = [u8; CONTEXTS];
+
 // A byte as an index.
 pub fn wide(b: u8) -> usize
     ensures { λ r. ⌜ r ≡ b ⌝ }

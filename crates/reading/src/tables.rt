@@ -1,5 +1,7 @@
 // The rows of the machine in `grammar`: a line a state, an entry a class of bytes that a token begins with: ( ) , = | ? [ ] 1 2, a small
 // letter, and the capitals T I L R M E D. And the letters of the keywords.
+use crate::numbers::CONTEXTS;
+use crate::numbers::ContextStack;
 ghost use mathlib.Core.Path.{_≡_};
 ghost use lib.ListN.{length};
 ghost use Rattle.reading.specs.Coded.{nextTable, waitsTable, wordTable, letterTable};
@@ -178,8 +180,8 @@ pub fn letter_table() -> [u8; 60]
 }
 
 // An empty stack: no text has more open contexts than bytes.
-pub fn no_stack() -> [u8; 65536]
+pub fn no_stack() -> ContextStack
     ensures { λ r. ⌜ length r ≡ 65536 ⌝ }
 {
-    [0; 65536]
+    [0; CONTEXTS]
 }

@@ -91,7 +91,7 @@ width-leaves s (oneConstructor r t k m) g = width-of-first (Constructor t (wordA
 width-leaves s (pairOfPatterns r a b m) g =
     width-of-first (Parts (patternOf s a) (patternOf s b)) m (patternOf s m) ∙ rw (width-leaves s a (g .0), width-leaves s b (g .1)) refl
 
-module _ (s : List ℕ) (n : ℕ) (widths : List ℕ) (p : ℕ) (value : List ℕ) (m : Matching s n widths p value) where
+module _ {s : List ℕ} {n : ℕ} {widths : List ℕ} {p : ℕ} {value : List ℕ} (m : Matching s n widths p value) where
   w : Written s
   w = written (m .against .passes)
 
@@ -128,8 +128,8 @@ module _ (s : List ℕ) (n : ℕ) (widths : List ℕ) (p : ℕ) (value : List �
           (both-right a (b && rest)
           (both-right (isPair (kindAt s (m .type))) (a && (b && rest)) (rw (alternatives-of w p there (pattern parts) e) at (m .fits))))
 
-  pub next-matched : (x : ℕ) → x ≡ word s p 1 → (x ≡ 0 → ⊥) → (p < x) × Matching s n widths x value
-  next-matched x e f =
+  pub next-matched : {x : ℕ} → x ≡ word s p 1 → (x ≡ 0 → ⊥) → (p < x) × Matching s n widths x value
+  next-matched {x} e f =
       let q = next-matching s n p (m .type) (m .against) x e f in
       (q .0, record { type = m .type; against = q .1; table = m .table; fits = rw (← follows x f, e) rest-fits; long = m .long })
     where
@@ -148,20 +148,20 @@ module _ (s : List ℕ) (n : ℕ) (widths : List ℕ) (p : ℕ) (value : List �
       go parts e = rw (alternatives-of w p there (pattern parts) e) refl
 
   -- one more alternative taken in
-  pub taken-in : (so-far one now : Match) (x : ℕ) → MatchedOne s p value one → decisionOf now ≡ chainDecision (decisionOf so-far) (decisionOf one)
+  pub taken-in : (so-far one now : Match) {x : ℕ} → MatchedOne s p value one → decisionOf now ≡ chainDecision (decisionOf so-far) (decisionOf one)
       → x ≡ word s p 1
       → withRest (decisionOf so-far) s (alternatives s p) value ≡ withRest (decisionOf now) s (follow end (alternatives s) x) value
-  taken-in so-far one now x o e ex =
+  taken-in so-far one now o e ex =
       rest-is (decisionOf so-far) ∙ rw (o, e, ex) (chain-with-rest (decisionOf so-far) (decisionOf one) s (follow end (alternatives s) (nextWord s p)) value)
 
-  module _ (k : ℕ) (ek : k ≡ word s p 0) where
+  module _ {k : ℕ} (ek : k ≡ word s p 0) where
     pub whole-matches : k ≡ 48 → MatchedOne s p value Matched′.Yes
     whole-matches e =
         rw (alternatives-of w p there (pattern whole) (pattern-kind s p k ek whole e)) (one-with-rest s _ (follow end (alternatives s) (nextWord s p)) value)
 
-    pub constructor-matches : (x : ℕ) (r : Match) → k ≡ 49 → x ≡ word s p 3 → decisionOf r ≡ constructorDecision x (getD value 0 0)
+    pub constructor-matches : {x : ℕ} (r : Match) → k ≡ 49 → x ≡ word s p 3 → decisionOf r ≡ constructorDecision x (getD value 0 0)
         → MatchedOne s p value r
-    constructor-matches x r e ex er =
+    constructor-matches r e ex er =
         rw (er, ex, alternatives-of w p there (pattern constructor) (pattern-kind s p k ek constructor e))
         (one-with-rest s _ (follow end (alternatives s) (nextWord s p)) value)
 
@@ -202,7 +202,7 @@ module _ (s : List ℕ) (n : ℕ) (widths : List ℕ) (p : ℕ) (value : List �
       leaves-of-pair : leaves (typeAt s t) ≡ leaves (typeAt s (wordA s t)) + leaves (typeAt s (wordB s t))
       leaves-of-pair = rw (pair-type w t (m .against .typed .there) (is-pair (kindAt s t) pair-type-kind)) refl
 
-      module _ (x : ℕ) (ex : x ≡ word s p 2) where
+      module _ {x : ℕ} (ex : x ≡ word s p 2) where
         first-against : (p < x) × Fitting s n x (wordA s t)
         first-against =
             first-matching s n p t (m .against) k ek fifty (word s t 0) refl seventeen x (wordA s t) ex refl
@@ -218,7 +218,7 @@ module _ (s : List ℕ) (n : ℕ) (widths : List ℕ) (p : ℕ) (value : List �
             fitting-leaves w (alternatives s x) (wordA s t) (first-against .1 .typed)
             (grown-pattern w x first-in (first-against .1 .sort)) first-does-fit
 
-        module _ (c : ℕ) (ec : c ≡ getD widths x 0) where
+        module _ {c : ℕ} (ec : c ≡ getD widths x 0) where
           pub cut : c ≡ leaves (typeAt s (wordA s t))
           cut =
               let e = m .table x first-in (first-against .1 .sort) in
@@ -250,8 +250,8 @@ module _ (s : List ℕ) (n : ℕ) (widths : List ℕ) (p : ℕ) (value : List �
             },
           )
 
-          pub second-matched : (y : ℕ) → y ≡ word s p 3 → (p < y) × Matching s n widths y (drop c value)
-          second-matched y ey =
+          pub second-matched : {y : ℕ} → y ≡ word s p 3 → (p < y) × Matching s n widths y (drop c value)
+          second-matched {y} ey =
               let q = second-matching s n p t (m .against) k ek fifty (word s t 0) refl seventeen y (wordB s t) ey refl in (
                 q .0,
                 record {
@@ -272,12 +272,12 @@ module _ (s : List ℕ) (n : ℕ) (widths : List ℕ) (p : ℕ) (value : List �
           whole-rest : take (length value - c) (drop c value) ≡ drop c value
           whole-rest = let l = length-drop c value in take-all (length value - c) (drop c value) (omega arith)
 
-          pub second-lent : (y : ℕ) → y ≡ word s p 3 → (p < y) × Matching s n widths y (take (length value - c) (drop c value))
-          second-lent y ey = rw whole-rest (second-matched y ey)
+          pub second-lent : {y : ℕ} → y ≡ word s p 3 → (p < y) × Matching s n widths y (take (length value - c) (drop c value))
+          second-lent ey = rw whole-rest (second-matched ey)
 
-          pub pair-matches : (y : ℕ) (a b r : Match) → y ≡ word s p 3 → MatchedAll s x (take (c - 0) value) a → MatchedAll s y (take (length value - c) (drop c value)) b
+          pub pair-matches : {y : ℕ} (a b r : Match) → y ≡ word s p 3 → MatchedAll s x (take (c - 0) value) a → MatchedAll s y (take (length value - c) (drop c value)) b
               → decisionOf r ≡ pairDecision (decisionOf a) (decisionOf b) → MatchedOne s p value r
-          pair-matches y a b r ey ea eb er =
+          pair-matches a b r ey ea eb er =
               rw (two-parts, er, rw from-front at ea, rw whole-rest at eb, ex, ey, ← wide)
               (one-with-rest s (Parts (patternOf s (alternatives s (wordA s p))) (patternOf s (alternatives s (wordB s p)))) (follow end (alternatives s) (nextWord s p)) value)
             where
@@ -291,11 +291,11 @@ Gathered s p v a x = matches (patternOf s (alternatives s p)) v ≡ withRest (de
 pub begun : (s : List ℕ) (p : ℕ) (v : List ℕ) (a : Match) (x : ℕ) → MatchedOne s p v a → x ≡ word s p 1 → Gathered s p v a x
 begun s p v a x o e = rw e o
 
-pub gone-on : (s : List ℕ) (n : ℕ) (widths : List ℕ) (p : ℕ) (v : List ℕ) (at : ℕ) → Matching s n widths at v
-    → (a b c : Match) (x : ℕ) → (at ≡ 0 → ⊥) → Gathered s p v a at → MatchedOne s at v b → decisionOf c ≡ chainDecision (decisionOf a) (decisionOf b)
+pub gone-on : {s : List ℕ} {n : ℕ} {widths : List ℕ} (p : ℕ) {v : List ℕ} {at : ℕ} → Matching s n widths at v
+    → (a b c : Match) {x : ℕ} → (at ≡ 0 → ⊥) → Gathered s p v a at → MatchedOne s at v b → decisionOf c ≡ chainDecision (decisionOf a) (decisionOf b)
     → x ≡ word s at 1 → Gathered s p v c x
-gone-on s n widths p v zero m a b c x f h o e ex = absurd (f refl)
-gone-on s n widths p v (suc at) m a b c x f h o e ex = h ∙ taken-in s n widths (suc at) v m a b c x o e ex
+gone-on p {at = zero} m a b c f h o e ex = absurd (f refl)
+gone-on p {at = suc at} m a b c f h o e ex = h ∙ taken-in m a b c o e ex
 
 pub ended : (s : List ℕ) (p : ℕ) (v : List ℕ) (a : Match) (x : ℕ) → Gathered s p v a x → x ≡ 0 → MatchedAll s p v a
 ended s p v a x h e = sym (rw e at h)

@@ -39,10 +39,10 @@ index-2-take-row-3 : tie.Need-index-2-take-row-3
 index-2-take-row-3 c = search needs
 
 take-row-requires : tie.Need-take-row-requires
-take-row-requires c κs = rows-fit (c .before .before .before .before .before .before .args .class) (c .before .before .before .before .before .before .args .state) (c .before .before .before .before .before .wide .result) (c .before .before .before .before .wide2 .result) (c .before .before .before .before .before .before .args .nexts .now) (c .before .before .before .before .before .before .args .waits .now) (c .before .before .before .before .before .before .args .words .now) (c .before .before .before .before .before .before .pre .0 .few-states) (c .before .before .before .before .before .before .pre .1) (c .before .before .before .before .before .wide .ensures) (c .before .before .before .before .wide2 .ensures) (c .before .before .before .before .before .before .pre .2) (c .before .before .before .before .before .before .pre .0)
+take-row-requires c κs = rows-fit (c .before .before .before .before .before .before .pre .0 .few-states) (c .before .before .before .before .before .before .pre .1) (c .before .before .before .before .before .wide .ensures) (c .before .before .before .before .wide2 .ensures) (c .before .before .before .before .before .before .pre .2) (c .before .before .before .before .before .before .pre .0)
 
 returns : tie.Need-returns
-returns c = restepped _ (rows-followed (c .before .before .before .before .before .before .before .args .class) (c .before .before .before .before .before .before .before .args .state) (c .before .before .before .before .before .before .wide .result) (c .before .before .before .before .before .wide2 .result) (c .before .before .before .before .before .before .before .args .nexts .now) (c .before .before .before .before .before .before .before .args .waits .now) (c .before .before .before .before .before .before .before .args .words .now) (c .before .before .before .before .before .before .before .pre .0 .few-states) (c .before .before .before .before .before .before .before .pre .1) (c .before .before .before .before .before .before .wide .ensures) (c .before .before .before .before .before .wide2 .ensures) (c .before .before .before .before .before .before .before .pre .2) _) (c .take-row .ensures)
+returns c = restepped _ (rows-followed (c .before .before .before .before .before .before .before .pre .0 .few-states) (c .before .before .before .before .before .before .before .pre .1) (c .before .before .before .before .before .before .wide .ensures) (c .before .before .before .before .before .wide2 .ensures) (c .before .before .before .before .before .before .before .pre .2) _) (c .take-row .ensures)
 
 pub begin-spec : {M : Type 1} → statement M
 begin-spec =

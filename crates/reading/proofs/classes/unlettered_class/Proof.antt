@@ -1,7 +1,7 @@
 -- The arms are the tests of the byte's kind, in any order.
 -- Assumes nothing.
 use mathlib.Core.Path.{refl}
-use Rattle.reading.proofs.ByteClasses.{unlettered-at, no-token}
+use Rattle.reading.proofs.ByteClasses.{unlettered-at, no-token-class}
 use Rattle.reading.proofs.classes.unlettered_class.Statement.{statement}
 use Rattle.reading.proofs.classes.unlettered_class.Tie as tie
 
@@ -42,7 +42,7 @@ returns-12 : tie.Need-returns-12
 returns-12 c = unlettered-at _ 50 _ (c .match .keys12) refl
 
 returns-13 : tie.Need-returns-13
-returns-13 c = no-token _ (c .match .rest .0 .0 .0 .0 .0 .0 .0 .0 .0 .0 .0 .1) (c .match .rest .0 .0 .0 .0 .0 .0 .0 .0 .0 .0 .1) (c .match .rest .0 .0 .0 .0 .0 .0 .0 .0 .0 .1) (c .match .rest .0 .0 .0 .0 .0 .0 .0 .0 .1) (c .match .rest .0 .0 .0 .0 .0 .0 .0 .1) (c .match .rest .0 .0 .0 .0 .0 .0 .1) (c .match .rest .0 .0 .0 .0 .0 .1) (c .match .rest .0 .0 .0 .0 .1) (c .match .rest .0 .0 .0 .1) (c .match .rest .0 .0 .1) (c .match .rest .0 .1) (c .match .rest .1)
+returns-13 c = no-token-class _ (c .match .rest .0 .0 .0 .0 .0 .0 .0 .0 .0 .0 .0 .1) (c .match .rest .0 .0 .0 .0 .0 .0 .0 .0 .0 .0 .1) (c .match .rest .0 .0 .0 .0 .0 .0 .0 .0 .0 .1) (c .match .rest .0 .0 .0 .0 .0 .0 .0 .0 .1) (c .match .rest .0 .0 .0 .0 .0 .0 .0 .1) (c .match .rest .0 .0 .0 .0 .0 .0 .1) (c .match .rest .0 .0 .0 .0 .0 .1) (c .match .rest .0 .0 .0 .0 .1) (c .match .rest .0 .0 .0 .1) (c .match .rest .0 .0 .1) (c .match .rest .0 .1) (c .match .rest .1)
 
 pub unlettered-class-spec : {M : Type 1} → statement M
 unlettered-class-spec =
