@@ -128,7 +128,7 @@ module _ (s stim out next : List ℕ) (t : ℕ) (h : WellFormed s stim out next 
     out-length = ap length out-is
         ∙ joined-length (leaves (typeAt s t)) outs (typed-wide outs-typed)
         ∙ ap (λ n. n * leaves (typeAt s t)) (outputs-counted undecidedRule s (cycles s stim) ∙ cycles-counted s stim);
-    again = accepted (cycleCount s stim);
+    again = ap verdict (next-is ∙ sym (sheet-last undecidedRule s (cycles s stim))) ∙ accepted (length (cycles s stim)) ∙ h .accepted;
     typed = λ k b. rw (output-part k b) (all-at outs-typed k (among-outputs k b));
     feedbacks = λ q b e. feedback-at s t (h .accepted) q b (feedback-kind s q e) sheet (cycleCount s stim)
         (λ k c. accepted k ∙ h .accepted)

@@ -7,6 +7,7 @@ use Rattle.behaviour.specs.Promises.{RunPromises}
 use Rattle.stimulus.proofs.Stimulus.{cycles-joined, cycles-counted}
 use Rattle.behaviour.proofs.Run.{run-outputs, run-sheet}
 use Rattle.behaviour.proofs.Reduces.{run-reduces}
+use Rattle.behaviour.proofs.ByRules.{call-by-rules}
 use Rattle.behaviour.proofs.Afterwards.{afterwards}
 use Rattle.behaviour.proofs.ZeroCycles.{zero-cycles}
 use Rattle.behaviour.proofs.Answers.{lowest-first, places-small, refusal-unaltered}
@@ -30,6 +31,7 @@ kept = record {
   run-means = λ undecided law s t v inputs given.
       (run-outputs undecided law s t v inputs given, run-sheet undecided law s t v inputs given);
   run-reduces = run-reduces;
+  call-by-rules = call-by-rules;
   holds-afterwards = afterwards;
   sheet-run-ordered = sheet-run-ordered;
   late-scanner = late-scanner;

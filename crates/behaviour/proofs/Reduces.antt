@@ -34,14 +34,14 @@ flatten-all-typed of-all-none = all-none
 flatten-all-typed (of-all-more h r) = all-more (flatten-typed h) (flatten-all-typed r)
 
 -- an accepted sheet decodes to the erasure of its term
-decodes-to : (s : List ℕ) (t : ℕ) → verdict s ≡ Accepted t → decode s ≡ some (erase (circuitTerm s))
+pub decodes-to : (s : List ℕ) (t : ℕ) → verdict s ≡ Accepted t → decode s ≡ some (erase (circuitTerm s))
 decodes-to s t v = decodes (accepted-written s t v) ∙ ap some (sym (erase-circuit s))
 
 some-same : (e f : Expr) → some e ≡ some f → e ≡ f
 some-same e f p = cc
 
 -- and the sheet after a run to the erasure of the term after it
-decodes-after : (s : List ℕ) (t : ℕ) → verdict s ≡ Accepted t → (is : List (List ℕ)) → AllOf (inputType s) is
+pub decodes-after : (s : List ℕ) (t : ℕ) → verdict s ≡ Accepted t → (is : List (List ℕ)) → AllOf (inputType s) is
     → decode (sheetAfter undecidedRule s is) ≡ some (erase (after undecidedRule [] (circuitTerm s) is))
 decodes-after s t v is given =
     decodes-to (sheetAfter undecidedRule s is) t (run-accepted undecidedRule rule-lawful s t v is given ∙ v)

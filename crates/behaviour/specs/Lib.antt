@@ -7,6 +7,7 @@ pub mod Evaluated
 pub mod Cycle
 pub mod Run
 pub mod Afterwards
+pub mod ByRules
 pub mod Bench
 pub mod SheetOrder
 pub mod Promises
