@@ -2,13 +2,11 @@
 -- Assumes nothing.
 use Prim.Native.Nat.{ℕ, _+_, _*_, _/_, _≤_, _<_}
 use mathlib.Core.Bool.{false}
-use mathlib.Core.List.{List, [], _∷_, _++_}
+use mathlib.Core.List.{List, _++_}
 use mathlib.Core.Option.{none}
 use mathlib.Core.Path.{_≡_, refl, sym, ap, subst, _∙_}
 use native.Mathlib.Omega.{arith}
 use native.Mathlib.Nat.{mul-le-mul-left}
-use denote.Enum.Declared.{tagOf}
-use types.Run.{OneOf, miss}
 use mir.Syntax.{w8}
 use mir.Val.{Fits}
 use lib.ListN.{length, getD, drop}
@@ -23,8 +21,8 @@ use Rattle.verdict.specs.Verdict.{verdictAnswer, verdict}
 use Rattle.verdict.specs.Widths.{Widths, Checked}
 use Rattle.verdict.specs.declared.Verdict.{Verdict}
 use Rattle.verdict.specs.declared.Verdict.the-variants as Verdicts
-use Rattle.verdict.proofs.Verdict as Verdict-type
 use Rattle.accepted.specs.Accepting.{Accepting}
+use Rattle.accepted.proofs.Laws.{Refusing, refusing-answer}
 use Rattle.accepted.proofs.Small.{output-typed, accepted-sized, accepted-few}
 use Rattle.stimulus.specs.Stimulus.{cycleCount, wrongStimulus, wrongByte, stimulusChecks}
 use Rattle.stimulus.specs.Holding.{Held}
@@ -40,6 +38,7 @@ use Rattle.behaviour.proofs.Answers.{
   output-refused,
   next-refused,
 }
+use Rattle.behaviour.proofs.ByRules.{call-by-rules}
 use Rattle.evaluator.proofs.Frames.{put-whole}
 use Rattle.simulator.specs.Running.{RunningCycles, RanCycles, RunningAccepted, Measured, Ran}
 
@@ -131,26 +130,19 @@ module _ {s : List ℕ} {n : ℕ} {W : List ℕ} {t : ℕ} (g : RunningAccepted 
           pub call-done : (next₂ out₂ : List ℕ) → RanCycles s stim next₂ out₂ → Gives s stim out next count out₂ next₂
           call-done next₂ out₂ r = rw (counted, r .outputs, r .next) (gives-done s stim out next t well-formed)
 
--- a verdict that refuses
-refusing-answer : (w : Verdict) → OneOf (1 ∷ 2 ∷ 3 ∷ 4 ∷ 5 ∷ 6 ∷ 7 ∷ []) (tagOf Verdict-type.the-type w)
-    → (c : ℕ) × (p : ℕ) × (verdictAnswer w ≡ Refused c p)
-refusing-answer (Verdicts.Accepted t) o =
-    absurd (miss (1 ∷ 2 ∷ 3 ∷ 4 ∷ 5 ∷ 6 ∷ 7 ∷ []) (tagOf Verdict-type.the-type (Verdicts.Accepted t)) tt o)
-refusing-answer Verdicts.WrongLength o = (1, 0, refl)
-refusing-answer Verdicts.WrongHeader o = (2, 0, refl)
-refusing-answer (Verdicts.WrongRecord r) o = (3, r, refl)
-refusing-answer (Verdicts.WrongNaming r) o = (4, r, refl)
-refusing-answer (Verdicts.WrongType r) o = (5, r, refl)
-refusing-answer (Verdicts.TooDeep r) o = (6, r, refl)
-refusing-answer (Verdicts.IllTyped r) o = (7, r, refl)
-
 pub call-runs : (s stim out next : List ℕ) (result : ℕ) (out′ next′ : List ℕ) → ((i : ℕ) → Fits w8 (getD s i 0))
     → Gives s stim out next result out′ next′ → Ran s stim out next result out′ next′
 call-runs s stim out next result out′ next′ b g =
-    record { gives = g; bytes = λ i. let f = b i in omega arith; afterwards = λ t h. gives-afterwards s stim out next t result out′ next′ g h }
+    record {
+      gives = g;
+      bytes = λ i. let f = b i in omega arith;
+      afterwards = λ t h. gives-afterwards s stim out next t result out′ next′ g h;
+      by-rules = λ t h. call-by-rules s stim out next t result out′ next′ g h;
+    }
 
+-- a verdict that refuses
 pub call-refused : (s stim out next : List ℕ) → ((i : ℕ) → Fits w8 (getD s i 0)) → (w : Verdict) → w ≡ verdict s
-    → OneOf (1 ∷ 2 ∷ 3 ∷ 4 ∷ 5 ∷ 6 ∷ 7 ∷ []) (tagOf Verdict-type.the-type w) → (result : ℕ) → result ≡ packed (verdictAnswer w)
+    → Refusing w → (result : ℕ) → result ≡ packed (verdictAnswer w)
     → Ran s stim out next result out next
 call-refused s stim out next b w e o result q =
     let r = refusing-answer w o in
@@ -166,7 +158,7 @@ accepted-call s n c w before table t l e =
     record { sized = rw c (accepted-sized s t v); accepted = v; table = l .accepted (rw e refl) }
 
 -- the leaves that a host asks for
-pub measured-refused : (s : List ℕ) (w : Verdict) → w ≡ verdict s → OneOf (1 ∷ 2 ∷ 3 ∷ 4 ∷ 5 ∷ 6 ∷ 7 ∷ []) (tagOf Verdict-type.the-type w) → Measured s 0 0
+pub measured-refused : (s : List ℕ) (w : Verdict) → w ≡ verdict s → Refusing w → Measured s 0 0
 measured-refused s w e o =
     let r = refusing-answer w o in
     record {

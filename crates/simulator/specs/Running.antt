@@ -19,6 +19,7 @@ use Rattle.behaviour.specs.Cycle.{output, sheetAfterCycle}
 use Rattle.stimulus.specs.Stimulus.{inputLeaves, cycleCount, endToEnd, cycles, wrongStimulus, wrongByte}
 use Rattle.behaviour.specs.Run.{outputsBy, sheetAfter, Gives}
 use Rattle.behaviour.specs.Afterwards.{WellFormed, Afterwards}
+use Rattle.behaviour.specs.ByRules.{RunsByRules}
 use Rattle.stepper.specs.Cycling.{Cycling}
 
 -- one cycle is lent its parts of the stimulus, from `from`, and of the output, from `at`
@@ -74,8 +75,10 @@ pub record Measured (s : List ℕ) (input output : ℕ) : Type 0 where
   pub few-input : input ≤ 64
   pub few-output : output ≤ 64
 
--- the call: what it gives, and demand 3; the sheet handed in is one of bytes, and so, by demand 3, is each after it
+-- the call: what it gives, and of a well-formed one demand 3, and that it is a run of 000's rules; the sheet handed in is one of bytes, and
+-- so, by demand 3, is each after it
 pub record Ran (sheet stimulus out next : List ℕ) (result : ℕ) (out′ next′ : List ℕ) : Type 0 where
   pub gives : Gives sheet stimulus out next result out′ next′
   pub bytes : Bytes sheet
   pub afterwards : (t : ℕ) → WellFormed sheet stimulus out next t → Afterwards sheet stimulus t result out′ next′
+  pub by-rules : (t : ℕ) → WellFormed sheet stimulus out next t → RunsByRules sheet stimulus t out′ next′
