@@ -40,7 +40,7 @@ module _ {s stim out next : List ℕ} {t : ℕ} (h : WellFormed s stim out next 
   runs-by-rules : RunsByRules s stim t (finalOut s stim out next) (finalNext s stim out next)
   runs-by-rules =
       let (is, i, p) = all-onto (inputType s) inputs-typed in
-      let (os, o, q) = all-onto (typeAt s t) (outputs-typed undecidedRule rule-lawful s t (h .accepted) (cycles s stim) inputs-typed) in
+      let (os, o, q) = all-onto (typeAt s t) (outputs-typed rule-lawful s (h .accepted) inputs-typed) in
       let before = decodes-to s t (h .accepted) in
       let last = decodes-after s t (h .accepted) (cycles s stim) inputs-typed in
       let counted : length is ≡ length (cycles s stim) = sym (length-map is flatten) ∙ ap length p in
@@ -58,8 +58,8 @@ module _ {s stim out next : List ℕ} {t : ℕ} (h : WellFormed s stim out next 
         reduces =
             run-reduces s t (h .accepted) _ _ before is os i .1
             (o, q ∙ ap (outputsBy undecidedRule s) (sym p), rw p last);
-        out-is = Afterwards.out-is s stim out next t h ∙ ap endToEnd (sym q);
-        next-decodes = rw (Afterwards.next-is s stim out next t h) last;
+        out-is = Afterwards.out-is h ∙ ap endToEnd (sym q);
+        next-decodes = rw (Afterwards.next-is h) last;
       }
 
 pub call-by-rules : CallByRules

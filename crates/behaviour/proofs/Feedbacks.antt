@@ -109,7 +109,7 @@ settles D Γ ρ σ whole part body typed env e = record {
   by-iteration = iteration D typed env;
 }
 
-module _ (s : List ℕ) (t : ℕ) (v : verdict s ≡ Accepted t) (q : ℕ) (below : q < count s) (kind : kindAt s q ≡ expression feedback) where
+module _ (s : List ℕ) {t : ℕ} (v : verdict s ≡ Accepted t) {q : ℕ} (below : q < count s) (kind : kindAt s q ≡ expression feedback) where
   passes : Passes s
   passes = accepted-by-types s t .0 v .0
 
@@ -127,7 +127,7 @@ module _ (s : List ℕ) (t : ℕ) (v : verdict s ≡ Accepted t) (q : ℕ) (belo
   own-tree = tree-of (written passes) q below (expression feedback) kind
 
   -- in a sheet that differs in delay leaves alone
-  module _ (s′ : List ℕ) (v′ : verdict s′ ≡ Accepted t) (o : OnlyDelays s s′) where
+  module _ {s′ : List ℕ} (v′ : verdict s′ ≡ Accepted t) (o : OnlyDelays s s′) where
     only : OnlyLeaves s s′
     only = only-leaves (written passes) o
 
@@ -141,7 +141,7 @@ module _ (s : List ℕ) (t : ℕ) (v : verdict s ≡ Accepted t) (q : ℕ) (belo
     types-there = fun-ext (same-type s s′ only)
 
     -- with these names in scope
-    module _ (Γ : List ℕ) (scope : Scope s′ q Γ) where
+    module _ {Γ : List ℕ} (scope : Scope s′ q Γ) where
       passes-there : Passes s′
       passes-there = accepted-by-types s′ t .0 v′ .0
 
@@ -175,11 +175,11 @@ module _ (s : List ℕ) (t : ℕ) (v : verdict s ≡ Accepted t) (q : ℕ) (belo
   feedback-at sheets n accepted only-delays = record {
     defining = defining;
     body = body;
-    reads = λ k h. tree-there (sheets k) (accepted k h) (only-delays k h);
+    reads = λ k h. tree-there (accepted k h) (only-delays k h);
     scope = scoped .0;
-    in-scope = λ k h. scope-there (sheets k) (accepted k h) (only-delays k h);
+    in-scope = λ k h. scope-there (accepted k h) (only-delays k h);
     every-scope = λ k h Γ c. record {
-      decodes = decodes-there (sheets k) (accepted k h) (only-delays k h) Γ c;
-      settles = settles-there (sheets k) (accepted k h) (only-delays k h) Γ c;
+      decodes = decodes-there (accepted k h) (only-delays k h) c;
+      settles = settles-there (accepted k h) (only-delays k h) c;
     };
   }

@@ -23,16 +23,16 @@ kept = record {
   refusal-unaltered = refusal-unaltered;
   write-reads = λ s t v e h. record {
     only-delays = write-only-delays s e (h .frame);
-    reads = write-read s t v e h;
-    again = write-accepted s t v e h;
+    reads = write-read s v h;
+    again = write-accepted s v h;
   };
-  write-own = Sheets.write-own;
+  write-own = λ s t v. Sheets.write-own s v;
   cycles-whole = λ s stim e. (cycles-joined s stim e, cycles-counted s stim);
   run-means = λ undecided law s t v inputs given.
-      (run-outputs undecided law s t v inputs given, run-sheet undecided law s t v inputs given);
+      (run-outputs law s v given, run-sheet law s v given);
   run-reduces = run-reduces;
   call-by-rules = call-by-rules;
-  holds-afterwards = afterwards;
+  holds-afterwards = λ s stim out next t h. afterwards h;
   sheet-run-ordered = sheet-run-ordered;
   late-scanner = late-scanner;
   late-input = late-input;

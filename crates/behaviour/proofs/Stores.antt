@@ -89,7 +89,7 @@ entry-assigned read (l ∷ ls) e (List·Memᴰ·tail m) = let f = entry-assigned
 -- a table of one number a record has room for every delay's leaf
 pub leaves-in-table : (s : List ℕ) (t : ℕ) → verdict s ≡ Accepted t → (l : ℕ) → List·Memᴰ l (delayLeaves (circuit s)) → l < 4096
 leaves-in-table s t v l m =
-    let w = accepted-written s t v in
+    let w = accepted-written s v in
     let few = w .few in
     let there = circuit-leaves w false true l m .there in
     omega arith
@@ -98,11 +98,11 @@ module _ (s : List ℕ) (t : ℕ) (v : verdict s ≡ Accepted t) (e : Term) (h :
   leaves-distinct : Distinct (places e)
   leaves-distinct =
       framed-places s e (h .frame) .distinct
-      (circuit-distinct (accepted-written s t v) (named-once (accepted-by-types s t .0 v .0)) false false true)
+      (circuit-distinct (accepted-written s v) (named-once (accepted-by-types s t .0 v .0)) false false true)
 
   pub written-small : Small (entries e)
   written-small =
-      values-small e (same-placed HasPlaces (circuitTerm s) e (sym (h .frame)) (circuit-has-places s t v)) (typed-valued (h .typed))
+      values-small e (same-placed HasPlaces (circuitTerm s) e (sym (h .frame)) (circuit-has-places s v)) (typed-valued (h .typed))
 
   -- what is written is the table copied at these records: the delays' leaves, and others whose words the table has
   pub write-copied : (table ls : List ℕ) → ((l : ℕ) → List·Memᴰ l (delayLeaves (circuit s)) → l < length table)
@@ -128,10 +128,10 @@ module _ (s : List ℕ) (t : ℕ) (v : verdict s ≡ Accepted t) (e : Term) (h :
           let inTable : getD (store e table) (f .0 .place) 0 ≡ f .0 .value =
           store-reads e table leaves-distinct (λ k o. room k (places-there .back k o)) (f .0) (f .1) in
           let p = f .2 in
-          rw (← p, inTable) (write-reads s t v e h (f .0) (f .1), written-small (f .0) (f .1))
+          rw (← p, inTable) (write-reads s v h (f .0) (f .1), written-small (f .0) (f .1))
       at l m (inr n) =
           let o = others l m (λ k. n (places-there .there l k)) in
-          rw (store-elsewhere e l table n, o .0) (write-stays s t v e h n, o .1)
+          rw (store-elsewhere e l table n, o .0) (write-stays s v h n, o .1)
 
       held : (f : Entry) → List·Memᴰ f (assigned ls (map (entryAt (store e table)) ls))
           → (wordA (write s e) (f .place) ≡ f .value) × (f .value ≤ 255)

@@ -39,7 +39,7 @@ toggle-formed = record { accepted = refl; whole = refl; fitting = refl; room = r
 
 toggle-afterwards
     : Afterwards toggle ones 1 (packed (answer toggle ones room lent)) (finalOut toggle ones room lent) (finalNext toggle ones room lent)
-toggle-afterwards = afterwards toggle ones room lent 1 toggle-formed
+toggle-afterwards = afterwards toggle-formed
 
 toggle-feedback : FeedbackAt toggle (toggle-afterwards .sheets) (cycleCount toggle ones) 2
 unfolding word count
@@ -56,4 +56,4 @@ toggle-none = record { accepted = refl; whole = refl; fitting = refl; room = ref
 
 toggle-none-afterwards
     : Afterwards toggle [] 1 (packed (answer toggle [] [] lent)) (finalOut toggle [] [] lent) (finalNext toggle [] [] lent)
-toggle-none-afterwards = afterwards toggle [] [] lent 1 toggle-none
+toggle-none-afterwards = afterwards toggle-none

@@ -60,7 +60,7 @@ module _ {s : List ℕ} {n : ℕ} {W : List ℕ} {t : ℕ} (g : RunningAccepted 
     -- 8 and 9
     pub refused-stimulus : (c p : ℕ) → a ≡ Refused c p → (result : ℕ) → result ≡ packed a → Gives s stim out next result out next
     refused-stimulus c p e result q =
-        rw (q, e) (gives-refusal s stim out next c p (stimulus-refused s stim out next t (g .accepted) c p (sym (h .answered) ∙ e)))
+        rw (q, e) (gives-refusal (stimulus-refused s stim out next (g .accepted) (sym (h .answered) ∙ e)))
 
     module _ (count : ℕ) (e : a ≡ Done count) where
       says : SaysOf (stimulusChecks s stim) (cycleCount s stim) (Done count)
@@ -95,15 +95,13 @@ module _ {s : List ℕ} {n : ℕ} {W : List ℕ} {t : ℕ} (g : RunningAccepted 
           → Gives s stim out next result out next
       refused-output d result q =
           rw (q, needed)
-          (gives-refusal s stim out next 10 (outputNeeded s t stim)
-          (output-refused s stim out next t (g .accepted) stimulus-done (λ y. d (y ∙ sym needed))))
+          (gives-refusal (output-refused s stim out next (g .accepted) stimulus-done (λ y. d (y ∙ sym needed))))
 
       module _ (y : length out ≡ count * getD W t 0) where
         pub refused-next : (length next ≡ length s → ⊥) → (result : ℕ) → result ≡ inOne 11 (length s) → Gives s stim out next result out next
         refused-next d result q =
             rw q
-            (gives-refusal s stim out next 11 (length s)
-            (next-refused s stim out next t (g .accepted) stimulus-done (y ∙ needed) d))
+            (gives-refusal (next-refused s stim out next (g .accepted) stimulus-done (y ∙ needed) d))
 
         module _ (x : length next ≡ length s) where
           well-formed : WellFormed s stim out next t
@@ -128,7 +126,7 @@ module _ {s : List ℕ} {n : ℕ} {W : List ℕ} {t : ℕ} (g : RunningAccepted 
               }
 
           pub call-done : (next₂ out₂ : List ℕ) → RanCycles s stim next₂ out₂ → Gives s stim out next count out₂ next₂
-          call-done next₂ out₂ r = rw (counted, r .outputs, r .next) (gives-done s stim out next t well-formed)
+          call-done next₂ out₂ r = rw (counted, r .outputs, r .next) (gives-done well-formed)
 
 pub call-runs : (s stim out next : List ℕ) (result : ℕ) (out′ next′ : List ℕ) → ((i : ℕ) → Fits w8 (getD s i 0))
     → Gives s stim out next result out′ next′ → Ran s stim out next result out′ next′
@@ -136,7 +134,7 @@ call-runs s stim out next result out′ next′ b g =
     record {
       gives = g;
       bytes = λ i. let f = b i in omega arith;
-      afterwards = λ t h. gives-afterwards s stim out next t result out′ next′ g h;
+      afterwards = λ t h. gives-afterwards g h;
       by-rules = λ t h. call-by-rules s stim out next t result out′ next′ g h;
     }
 
@@ -148,7 +146,7 @@ call-refused s stim out next b w e o result q =
     let r = refusing-answer w o in
     let f : verdictAnswer (verdict s) ≡ Refused (r .0) (r .1) = ap verdictAnswer (sym e) ∙ r .2 in
     call-runs s stim out next result out next b
-    (rw (q, r .2) (gives-refusal s stim out next (r .0) (r .1) (refused-by-verdict s stim out next (r .0) (r .1) f)))
+    (rw (q, r .2) (gives-refusal (refused-by-verdict s stim out next (r .0) (r .1) f)))
 
 -- and one that does not
 pub accepted-call : (s : List ℕ) (n : ℕ) → n ≡ length s / 12 → (w : Verdict) (before table : List ℕ) (t : ℕ)

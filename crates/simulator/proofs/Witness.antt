@@ -78,10 +78,7 @@ module _ (s stim out next : List ℕ) (t : ℕ) (h : WellFormed s stim out next 
 
   first-lending : Lending s (count s) table names names stim 0 (inputLeaves s) s out 0 (leaves (typeAt s t))
   first-lending =
-      lending s (count s) table stim (inputLeaves s) (leaves (typeAt s t)) (cycleCount s stim) s out running 0 0 0 names names s out
-      (at-first s (count s) table stim (inputLeaves s) (leaves (typeAt s t)) (cycleCount s stim) s out running names names
-      (zeros-long 4096) (zeros-long 4096))
-      some-cycle
+      lending running (at-first running (zeros-long 4096) (zeros-long 4096)) some-cycle
 
   abbrev input : List ℕ
   input = take (inputLeaves s) stim
