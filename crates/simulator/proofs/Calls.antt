@@ -56,13 +56,13 @@ module _ {s : List ℕ} {n : ℕ} {W : List ℕ} {t : ℕ} (g : RunningAccepted 
   pub output-few : getD W t 0 ≤ 64
   output-few = let f = accepted-few s t (g .accepted) in let e = g .table .types t (output-typed s t (g .accepted)) in omega arith
 
-  module _ (stim out next : List ℕ) (a : Answer) (h : Held s stim a) where
+  module _ {stim : List ℕ} {a : Answer} (h : Held s stim a) where
     -- 8 and 9
-    pub refused-stimulus : (c p : ℕ) → a ≡ Refused c p → (result : ℕ) → result ≡ packed a → Gives s stim out next result out next
-    refused-stimulus c p e result q =
+    pub refused-stimulus : {out next : List ℕ} {c p : ℕ} → a ≡ Refused c p → {result : ℕ} → result ≡ packed a → Gives s stim out next result out next
+    refused-stimulus {out} {next} e q =
         rw (q, e) (gives-refusal (stimulus-refused s stim out next (g .accepted) (sym (h .answered) ∙ e)))
 
-    module _ (count : ℕ) (e : a ≡ Done count) where
+    module _ {count : ℕ} (e : a ≡ Done count) where
       says : SaysOf (stimulusChecks s stim) (cycleCount s stim) (Done count)
       says =
           subst (λ (b : Answer). SaysOf (stimulusChecks s stim) (cycleCount s stim) b) (sym (h .answered) ∙ e)
@@ -91,26 +91,26 @@ module _ {s : List ℕ} {n : ℕ} {W : List ℕ} {t : ℕ} (g : RunningAccepted 
       needed = rw (counted, g .table .types t (output-typed s t (g .accepted))) refl
 
       -- 10 and 11
-      pub refused-output : (length out ≡ count * getD W t 0 → ⊥) → (result : ℕ) → result ≡ inOne 10 (count * getD W t 0)
+      pub refused-output : {out next : List ℕ} → (length out ≡ count * getD W t 0 → ⊥) → {result : ℕ} → result ≡ inOne 10 (count * getD W t 0)
           → Gives s stim out next result out next
-      refused-output d result q =
+      refused-output {out} {next} d q =
           rw (q, needed)
           (gives-refusal (output-refused s stim out next (g .accepted) stimulus-done (λ y. d (y ∙ sym needed))))
 
-      module _ (y : length out ≡ count * getD W t 0) where
-        pub refused-next : (length next ≡ length s → ⊥) → (result : ℕ) → result ≡ inOne 11 (length s) → Gives s stim out next result out next
-        refused-next d result q =
+      module _ {out : List ℕ} (y : length out ≡ count * getD W t 0) where
+        pub refused-next : {next : List ℕ} → (length next ≡ length s → ⊥) → {result : ℕ} → result ≡ inOne 11 (length s) → Gives s stim out next result out next
+        refused-next {next} d q =
             rw q
             (gives-refusal (next-refused s stim out next (g .accepted) stimulus-done (y ∙ needed) d))
 
-        module _ (x : length next ≡ length s) where
+        module _ (next : List ℕ) (x : length next ≡ length s) where
           well-formed : WellFormed s stim out next t
           well-formed =
               record { accepted = g .accepted; whole = whole; fitting = fitting; room = y ∙ needed; long = x }
 
-          pub call-running : (b : ℕ) → b ≡ word s 0 2 → (next₁ : List ℕ) → next₁ ≡ s ++ drop (length s) next
+          pub call-running : {b : ℕ} → b ≡ word s 0 2 → {next₁ : List ℕ} → next₁ ≡ s ++ drop (length s) next
               → RunningCycles s n W stim (getD W b 0) (getD W t 0) count next₁ out
-          call-running b eb next₁ c =
+          call-running eb {next₁} c =
               record {
                 sized = g .sized;
                 type = t;
@@ -125,12 +125,12 @@ module _ {s : List ℕ} {n : ℕ} {W : List ℕ} {t : ℕ} (g : RunningAccepted 
                 start = put-whole s next next₁ (sym x) c;
               }
 
-          pub call-done : (next₂ out₂ : List ℕ) → RanCycles s stim next₂ out₂ → Gives s stim out next count out₂ next₂
-          call-done next₂ out₂ r = rw (counted, r .outputs, r .next) (gives-done well-formed)
+          pub call-done : {next₂ out₂ : List ℕ} → RanCycles s stim next₂ out₂ → Gives s stim out next count out₂ next₂
+          call-done r = rw (counted, r .outputs, r .next) (gives-done well-formed)
 
-pub call-runs : (s stim out next : List ℕ) (result : ℕ) (out′ next′ : List ℕ) → ((i : ℕ) → Fits w8 (getD s i 0))
+pub call-runs : {s stim out next : List ℕ} {result : ℕ} {out′ next′ : List ℕ} → ((i : ℕ) → Fits w8 (getD s i 0))
     → Gives s stim out next result out′ next′ → Ran s stim out next result out′ next′
-call-runs s stim out next result out′ next′ b g =
+call-runs {s} {stim} {out} {next} {result} {out′} {next′} b g =
     record {
       gives = g;
       bytes = λ i. let f = b i in omega arith;
@@ -139,13 +139,13 @@ call-runs s stim out next result out′ next′ b g =
     }
 
 -- a verdict that refuses
-pub call-refused : (s stim out next : List ℕ) → ((i : ℕ) → Fits w8 (getD s i 0)) → (w : Verdict) → w ≡ verdict s
-    → Refusing w → (result : ℕ) → result ≡ packed (verdictAnswer w)
+pub call-refused : {s stim out next : List ℕ} → ((i : ℕ) → Fits w8 (getD s i 0)) → (w : Verdict) → w ≡ verdict s
+    → Refusing w → {result : ℕ} → result ≡ packed (verdictAnswer w)
     → Ran s stim out next result out next
-call-refused s stim out next b w e o result q =
+call-refused {s} {stim} {out} {next} b w e o q =
     let r = refusing-answer w o in
     let f : verdictAnswer (verdict s) ≡ Refused (r .0) (r .1) = ap verdictAnswer (sym e) ∙ r .2 in
-    call-runs s stim out next result out next b
+    call-runs b
     (rw (q, r .2) (gives-refusal (refused-by-verdict s stim out next (r .0) (r .1) f)))
 
 -- and one that does not
