@@ -8,9 +8,8 @@ use Rattle.stimulus.proofs.Stimulus.{cycles-joined, cycles-counted}
 use Rattle.behaviour.proofs.Run.{run-outputs, run-sheet}
 use Rattle.behaviour.proofs.Reduces.{run-reduces}
 use Rattle.behaviour.proofs.ByRules.{call-by-rules}
-use Rattle.behaviour.proofs.Afterwards.{afterwards}
 use Rattle.behaviour.proofs.ZeroCycles.{zero-cycles}
-use Rattle.behaviour.proofs.Answers.{lowest-first, places-small, refusal-unaltered}
+use Rattle.behaviour.proofs.Answers.{lowest-first, places-small, refusal-unaltered, gives-afterwards}
 use Rattle.behaviour.proofs.SheetRunOrdered.{sheet-run-ordered, late-scanner}
 use Rattle.behaviour.proofs.LateToggle.{late-input, late-delay}
 use Rattle.behaviour.proofs.EarlierBelow.{earlier-below, earlier-strictly-below}
@@ -32,7 +31,7 @@ kept = record {
       (run-outputs law s v given, run-sheet law s v given);
   run-reduces = run-reduces;
   call-by-rules = call-by-rules;
-  holds-afterwards = λ s stim out next t h. afterwards h;
+  holds-afterwards = λ s stim out next t result out′ next′ g h. gives-afterwards g h;
   sheet-run-ordered = sheet-run-ordered;
   late-scanner = late-scanner;
   late-input = late-input;

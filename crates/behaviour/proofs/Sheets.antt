@@ -185,14 +185,14 @@ module _ (s : List ℕ) {t : ℕ} (v : verdict s ≡ Accepted t) where
     unfolding write
     write-reads =
         let places = framed-places s e (h .frame) in
-        put-read putWord wordA InSheet sheet-cells (entries e) s
+        put-read sheet-cells (entries e) s
         (places .distinct (circuit-distinct accepted-written (named-once passes) false false true))
         (λ l m. leaf-in-sheet s l (circuit-leaves accepted-written false true l (places .back l m) .there))
 
     -- every other record keeps its word a
     pub write-stays : {r : ℕ} → (List·Memᴰ r (places e) → ⊥) → wordA (write s e) r ≡ wordA s r
     unfolding write
-    write-stays {r} n = put-elsewhere putWord wordA InSheet sheet-cells (entries e) r s n
+    write-stays {r} n = put-elsewhere sheet-cells (entries e) r s n
 
     -- the term written is the term read
     pub write-read : circuitTerm (write s e) ≡ e

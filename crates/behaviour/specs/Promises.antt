@@ -10,7 +10,7 @@ use lib.ListN.{length}
 use Rattle.picoella.specs.Expressions.{Expr}
 use Rattle.records.specs.TypeRecords.{typeAt}
 use Rattle.records.specs.Decoding.{decode}
-use Rattle.answers.specs.Answers.{code, place, packed}
+use Rattle.answers.specs.Answers.{code, place}
 use Rattle.answers.specs.Checks.{Refuses}
 use Rattle.answers.specs.declared.Answer.{Answer}
 use Rattle.answers.specs.declared.Answer.the-variants.{Done, Refused}
@@ -108,11 +108,11 @@ CallByRules =
     (s stim out next : List ℕ) (t result : ℕ) (out′ next′ : List ℕ)
     → Gives s stim out next result out′ next′ → WellFormed s stim out next t → RunsByRules s stim t out′ next′
 
--- Demand 3, of what the definition of the run gives.
+-- Demand 3, of whatever a well-formed call gave by the contract.
 abbrev pub HoldsAfterwards : Type 0
 HoldsAfterwards =
-    (s stim out next : List ℕ) (t : ℕ) → WellFormed s stim out next t
-    → Afterwards s stim t (packed (answer s stim out next)) (finalOut s stim out next) (finalNext s stim out next)
+    (s stim out next : List ℕ) (t result : ℕ) (out′ next′ : List ℕ)
+    → Gives s stim out next result out′ next′ → WellFormed s stim out next t → Afterwards s stim t result out′ next′
 
 -- Two accepted sheets that are the same or differ only in delay leaves, each of the first at or below that of the second, run over
 -- two lists of inputs, cycle by cycle the first at or below the second, under two lawful rules for an undecided IF, the first at or
