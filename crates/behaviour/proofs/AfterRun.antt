@@ -20,12 +20,12 @@ use Rattle.behaviour.proofs.Sheets.{write-only-delays, write-read, writ
 use Rattle.behaviour.proofs.Run.{run-sheet}
 
 module _
-    (undecided : List ℕ → List ℕ → List ℕ)
+    {undecided : List ℕ → List ℕ → List ℕ}
     (law : Lawful undecided)
     (s : List ℕ)
-    (t : ℕ)
+    {t : ℕ}
     (v : verdict s ≡ Accepted t)
-    (is : List (List ℕ))
+    {is : List (List ℕ)}
     (given : AllOf (inputType s) is)
   where
     run-writable : Writable s t (after undecided [] (circuitTerm s) is)
@@ -36,13 +36,13 @@ module _
 
     pub run-only-delays : OnlyDelays s (sheetAfter undecided s is)
     run-only-delays =
-        rw (run-sheet undecided law s t v is given)
+        rw (run-sheet law s v given)
         (write-only-delays s (after undecided [] (circuitTerm s) is) (run-writable .frame))
 
     pub run-read : circuitTerm (sheetAfter undecided s is) ≡ after undecided [] (circuitTerm s) is
     run-read =
-        rw (run-sheet undecided law s t v is given) (write-read s t v (after undecided [] (circuitTerm s) is) run-writable)
+        rw (run-sheet law s v given) (write-read s v run-writable)
 
     pub run-accepted : verdict (sheetAfter undecided s is) ≡ verdict s
     run-accepted =
-        rw (run-sheet undecided law s t v is given) (write-accepted s t v (after undecided [] (circuitTerm s) is) run-writable)
+        rw (run-sheet law s v given) (write-accepted s v run-writable)

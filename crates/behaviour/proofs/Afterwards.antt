@@ -52,7 +52,7 @@ all-at all-none k h = absurd (omega arith)
 all-at (all-more h r) zero b = h
 all-at (all-more h r) (suc k) b = all-at r k (omega arith)
 
-module _ (s stim out next : List ℕ) (t : ℕ) (h : WellFormed s stim out next t) where
+module _ {s stim out next : List ℕ} {t : ℕ} (h : WellFormed s stim out next t) where
   pub answer-done : answer s stim out next ≡ Done (cycleCount s stim)
   unfolding answer bySlices
   answer-done =
@@ -71,7 +71,7 @@ module _ (s stim out next : List ℕ) (t : ℕ) (h : WellFormed s stim out next 
   outs = outputsBy undecidedRule s (cycles s stim)
 
   outs-typed : AllOf (typeAt s t) outs
-  outs-typed = outputs-typed undecidedRule rule-lawful s t (h .accepted) (cycles s stim) inputs-typed
+  outs-typed = outputs-typed rule-lawful s (h .accepted) inputs-typed
 
   pub out-is : finalOut s stim out next ≡ endToEnd outs
   unfolding finalOut
@@ -88,7 +88,7 @@ module _ (s stim out next : List ℕ) (t : ℕ) (h : WellFormed s stim out next 
   in-list k b = rw (cycles-counted s stim) b
 
   accepted : (k : ℕ) → verdict (sheet k) ≡ verdict s
-  accepted k = sheet-accepted undecidedRule rule-lawful s t (h .accepted) (cycles s stim) inputs-typed k
+  accepted k = sheet-accepted rule-lawful s (h .accepted) inputs-typed k
 
   each-after : (k : ℕ) → k < cycleCount s stim → sheet (suc k) ≡ sheetAfterCycle (sheet k) (inputOf s stim k)
   each-after k b = rw (← cycle-at s stim k b) (sheet-next undecidedRule s (cycles s stim) k (in-list k b))
@@ -97,7 +97,7 @@ module _ (s stim out next : List ℕ) (t : ℕ) (h : WellFormed s stim out next 
   only-delays k b =
       rw (sheet-next undecidedRule s (cycles s stim) k (in-list k b))
       (after-only-delays undecidedRule rule-lawful (sheet k) t (accepted k ∙ h .accepted) (getD (cycles s stim) k [])
-      (input-at undecidedRule rule-lawful s t (h .accepted) (cycles s stim) inputs-typed k (in-list k b)))
+      (input-at rule-lawful s (h .accepted) inputs-typed k (in-list k b)))
 
   among-outputs : (k : ℕ) → k < cycleCount s stim → k < length outs
   among-outputs k b = rw (outputs-counted undecidedRule s (cycles s stim)) (in-list k b)
@@ -118,19 +118,19 @@ module _ (s stim out next : List ℕ) (t : ℕ) (h : WellFormed s stim out next 
     each-after = each-after;
     only-delays = only-delays;
     bytes = λ b k c.
-        sheet-bytes undecidedRule rule-lawful s t (h .accepted) (cycles s stim) inputs-typed b k;
+        sheet-bytes rule-lawful s (h .accepted) inputs-typed b k;
     last = next-is ∙ sym (sheet-last undecidedRule s (cycles s stim)) ∙ ap sheet (cycles-counted s stim);
     equals-first = rw (next-is, ← sheet-last undecidedRule s (cycles s stim))
-        (sheet-only-delays undecidedRule rule-lawful s t (h .accepted) (cycles s stim) inputs-typed (length (cycles s stim)));
+        (sheet-only-delays rule-lawful s (h .accepted) inputs-typed (length (cycles s stim)));
     outputs = λ k b. output-part k b
         ∙ output-at undecidedRule s (cycles s stim) k (in-list k b)
         ∙ ap (output (sheet k)) (cycle-at s stim k b);
     out-length = ap length out-is
         ∙ joined-length (leaves (typeAt s t)) outs (typed-wide outs-typed)
         ∙ ap (λ n. n * leaves (typeAt s t)) (outputs-counted undecidedRule s (cycles s stim) ∙ cycles-counted s stim);
-    again = accepted (cycleCount s stim);
+    again = ap verdict (next-is ∙ sym (sheet-last undecidedRule s (cycles s stim))) ∙ accepted (length (cycles s stim)) ∙ h .accepted;
     typed = λ k b. rw (output-part k b) (all-at outs-typed k (among-outputs k b));
-    feedbacks = λ q b e. feedback-at s t (h .accepted) q b (feedback-kind s q e) sheet (cycleCount s stim)
+    feedbacks = λ q b e. feedback-at s (h .accepted) b (feedback-kind s q e) sheet (cycleCount s stim)
         (λ k c. accepted k ∙ h .accepted)
-        (λ k c. sheet-only-delays undecidedRule rule-lawful s t (h .accepted) (cycles s stim) inputs-typed k);
+        (λ k c. sheet-only-delays rule-lawful s (h .accepted) inputs-typed k);
   }

@@ -106,7 +106,7 @@ says-of-call s stim out next (Done n) h = (outputType s, well-formed-where s sti
 says-of-call s stim out next (Refused c p) h = h
 
 call-says : (s stim out next : List ℕ) (a : Answer) → SaysOfCall s stim out next a → answer s stim out next ≡ a
-call-says s stim out next (Done n) h = answer-done s stim out next (h .0) (h .1) ∙ ap Done (sym (h .2))
+call-says s stim out next (Done n) h = answer-done (h .1) ∙ ap Done (sym (h .2))
 call-says s stim out next (Refused c p) h =
     answer-first s stim out next ∙ says-first (callChecks s stim out next) (cycleCount s stim) (Refused c p) h
 
@@ -189,35 +189,35 @@ refusal-unaltered s stim out next f = (
 )
 
 -- what a call gives where it refuses
-pub gives-refusal : (s stim out next : List ℕ) (c p : ℕ) → answer s stim out next ≡ Refused c p → Gives s stim out next (inOne c p) out next
+pub gives-refusal : {s stim out next : List ℕ} {c p : ℕ} → answer s stim out next ≡ Refused c p → Gives s stim out next (inOne c p) out next
 unfolding finalOut finalNext
-gives-refusal s stim out next c p e = record { result-is = rw e refl; out-is = rw e refl; next-is = rw e refl }
+gives-refusal e = record { result-is = rw e refl; out-is = rw e refl; next-is = rw e refl }
 
 -- and where it does not
-pub gives-done : (s stim out next : List ℕ) (t : ℕ) → WellFormed s stim out next t
+pub gives-done : {s stim out next : List ℕ} {t : ℕ} → WellFormed s stim out next t
     → Gives s stim out next (cycleCount s stim) (endToEnd (outputsBy undecidedRule s (cycles s stim)))
     (sheetAfter undecidedRule s (cycles s stim))
 unfolding finalOut finalNext
-gives-done s stim out next t h =
-    let e = answer-done s stim out next t h in record { result-is = rw e (omega arith); out-is = rw e; next-is = rw e }
+gives-done h =
+    let e = answer-done h in record { result-is = rw e (omega arith); out-is = rw e; next-is = rw e }
 
 -- so that what a call gives is what demand 3 speaks of
-pub gives-afterwards : (s stim out next : List ℕ) (t result : ℕ) (out′ next′ : List ℕ) → Gives s stim out next result out′ next′
+pub gives-afterwards : {s stim out next : List ℕ} {t result : ℕ} {out′ next′ : List ℕ} → Gives s stim out next result out′ next′
     → WellFormed s stim out next t → Afterwards s stim t result out′ next′
-gives-afterwards s stim out next t result out′ next′ g h =
-    rw (g .result-is, g .out-is, g .next-is) (afterwards s stim out next t h)
+gives-afterwards g h =
+    rw (g .result-is, g .out-is, g .next-is) (afterwards h)
 
 -- the answers that refuse, in their order
 pub refused-by-verdict : (s stim out next : List ℕ) (c p : ℕ) → verdictAnswer (verdict s) ≡ Refused c p → answer s stim out next ≡ Refused c p
 unfolding answer
 refused-by-verdict s stim out next c p e = rw e refl
 
-module _ (s stim out next : List ℕ) (t : ℕ) (v : verdict s ≡ Accepted t) where
+module _ (s stim out next : List ℕ) {t : ℕ} (v : verdict s ≡ Accepted t) where
   -- by the stimulus
-  pub stimulus-refused : (c p : ℕ) → firstApplying (stimulusChecks s stim) (Done (cycleCount s stim)) ≡ Refused c p
+  pub stimulus-refused : {c p : ℕ} → firstApplying (stimulusChecks s stim) (Done (cycleCount s stim)) ≡ Refused c p
       → answer s stim out next ≡ Refused c p
   unfolding answer bySlices
-  stimulus-refused c p e =
+  stimulus-refused e =
       rw v
       (first-both (stimulusChecks s stim) (lengthChecks s t stim out next) (Done (cycleCount s stim))
       ∙ first-then (stimulusChecks s stim) (cycleCount s stim) (λ n. firstApplying (lengthChecks s t stim out next) (Done n))

@@ -49,18 +49,18 @@ module _
 
     pub after-term : circuitTerm (afterBy undecided s i) ≡ next undecided (i ∷ []) (circuitTerm s)
     unfolding afterBy
-    after-term = write-read s t v (next undecided (i ∷ []) (circuitTerm s)) cycle-writable
+    after-term = write-read s v cycle-writable
 
     pub after-accepted : verdict (afterBy undecided s i) ≡ verdict s
     unfolding afterBy
-    after-accepted = write-accepted s t v (next undecided (i ∷ []) (circuitTerm s)) cycle-writable
+    after-accepted = write-accepted s v cycle-writable
 
     -- types are read off the sheet after it as off the sheet
     pub after-types : (r : ℕ) → typeAt (afterBy undecided s i) r ≡ typeAt s r
-    after-types = same-type s (afterBy undecided s i) (only-leaves (accepted-written s t v) after-only-delays)
+    after-types = same-type s (afterBy undecided s i) (only-leaves (accepted-written s v) after-only-delays)
 
     pub after-input : wordA (afterBy undecided s i) 0 ≡ wordA s 0
-    after-input = header-same (accepted-written s t v) after-only-delays 2 (omega arith)
+    after-input = header-same (accepted-written s v) after-only-delays 2 (omega arith)
 
     pub after-bytes : Bytes s → Bytes (afterBy undecided s i)
     unfolding afterBy

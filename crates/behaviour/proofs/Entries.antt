@@ -50,9 +50,9 @@ pub record Cells
     pub commutes : (l m v u : ℕ) (a : List ℕ) → (l ≡ m → ⊥) → put l v (put m u a) ≡ put m u (put l v a)
 
 module _
-    (put : (place value : ℕ) → List ℕ → List ℕ)
-    (read : List ℕ → ℕ → ℕ)
-    (Room : ℕ → List ℕ → Type 0)
+    {put : (place value : ℕ) → List ℕ → List ℕ}
+    {read : List ℕ → ℕ → ℕ}
+    {Room : ℕ → List ℕ → Type 0}
     (cells : Cells put read Room)
   where
     -- a put at a place that is put again does not matter

@@ -7,9 +7,9 @@ use Rattle.behaviour.specs.Promises.{RunPromises}
 use Rattle.stimulus.proofs.Stimulus.{cycles-joined, cycles-counted}
 use Rattle.behaviour.proofs.Run.{run-outputs, run-sheet}
 use Rattle.behaviour.proofs.Reduces.{run-reduces}
-use Rattle.behaviour.proofs.Afterwards.{afterwards}
+use Rattle.behaviour.proofs.ByRules.{call-by-rules}
 use Rattle.behaviour.proofs.ZeroCycles.{zero-cycles}
-use Rattle.behaviour.proofs.Answers.{lowest-first, places-small, refusal-unaltered}
+use Rattle.behaviour.proofs.Answers.{lowest-first, places-small, refusal-unaltered, gives-afterwards}
 use Rattle.behaviour.proofs.SheetRunOrdered.{sheet-run-ordered, late-scanner}
 use Rattle.behaviour.proofs.LateToggle.{late-input, late-delay}
 use Rattle.behaviour.proofs.EarlierBelow.{earlier-below, earlier-strictly-below}
@@ -22,15 +22,16 @@ kept = record {
   refusal-unaltered = refusal-unaltered;
   write-reads = λ s t v e h. record {
     only-delays = write-only-delays s e (h .frame);
-    reads = write-read s t v e h;
-    again = write-accepted s t v e h;
+    reads = write-read s v h;
+    again = write-accepted s v h;
   };
-  write-own = Sheets.write-own;
+  write-own = λ s t v. Sheets.write-own s v;
   cycles-whole = λ s stim e. (cycles-joined s stim e, cycles-counted s stim);
   run-means = λ undecided law s t v inputs given.
-      (run-outputs undecided law s t v inputs given, run-sheet undecided law s t v inputs given);
+      (run-outputs law s v given, run-sheet law s v given);
   run-reduces = run-reduces;
-  holds-afterwards = afterwards;
+  call-by-rules = call-by-rules;
+  holds-afterwards = λ s stim out next t result out′ next′ g h. gives-afterwards g h;
   sheet-run-ordered = sheet-run-ordered;
   late-scanner = late-scanner;
   late-input = late-input;

@@ -51,7 +51,7 @@ formed-call s stim out next t f = record {
   type = t;
   result = packed (answer s stim out next);
   formed = f;
-  gives = record { result-is = refl; out-is = sym (out-is s stim out next t f); next-is = sym (next-is s stim out next t f) };
+  gives = record { result-is = refl; out-is = sym (out-is f); next-is = sym (next-is f) };
 }
 
 pub late-input : LateInput

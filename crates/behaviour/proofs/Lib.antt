@@ -26,6 +26,7 @@ pub mod LateToggle
 pub mod EarlierBelow
 pub mod Answers
 pub mod Reduces
+pub mod ByRules
 pub mod ZeroCycles
 pub mod Kept
 pub mod Bench

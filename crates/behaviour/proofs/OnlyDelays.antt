@@ -14,9 +14,9 @@ use Rattle.behaviour.proofs.Sheets.{only-leaves, accepted-written}
 pub only-delays-same : (s : List ℕ) → OnlyDelays s s
 only-delays-same s = record { length = refl; bytes = λ i other. refl }
 
-module _ (s t : List ℕ) (τ : ℕ) (v : verdict s ≡ Accepted τ) (a : OnlyDelays s t) where
+module _ {s t : List ℕ} {τ : ℕ} (v : verdict s ≡ Accepted τ) (a : OnlyDelays s t) where
   pub only-delays-circuit : circuit t ≡ circuit s
-  only-delays-circuit = same-circuit s t (only-leaves (accepted-written s τ v) a)
+  only-delays-circuit = same-circuit s t (only-leaves (accepted-written s v) a)
 
   pub only-delays-back : OnlyDelays t s
   only-delays-back = record {
@@ -24,8 +24,8 @@ module _ (s t : List ℕ) (τ : ℕ) (v : verdict s ≡ Accepted τ) (a : OnlyDe
     bytes = λ i other. sym (a .bytes i (λ l m. other l (rw only-delays-circuit m)));
   }
 
-  pub only-delays-chain : (u : List ℕ) → OnlyDelays t u → OnlyDelays s u
-  only-delays-chain u b = record {
+  pub only-delays-chain : {u : List ℕ} → OnlyDelays t u → OnlyDelays s u
+  only-delays-chain b = record {
     length = b .length ∙ a .length;
     bytes = λ i other. b .bytes i (λ l m. other l (rw only-delays-circuit at m)) ∙ a .bytes i other;
   }

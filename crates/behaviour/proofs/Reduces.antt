@@ -34,24 +34,24 @@ flatten-all-typed of-all-none = all-none
 flatten-all-typed (of-all-more h r) = all-more (flatten-typed h) (flatten-all-typed r)
 
 -- an accepted sheet decodes to the erasure of its term
-decodes-to : (s : List ℕ) (t : ℕ) → verdict s ≡ Accepted t → decode s ≡ some (erase (circuitTerm s))
-decodes-to s t v = decodes (accepted-written s t v) ∙ ap some (sym (erase-circuit s))
+pub decodes-to : (s : List ℕ) (t : ℕ) → verdict s ≡ Accepted t → decode s ≡ some (erase (circuitTerm s))
+decodes-to s t v = decodes (accepted-written s v) ∙ ap some (sym (erase-circuit s))
 
 some-same : (e f : Expr) → some e ≡ some f → e ≡ f
 some-same e f p = cc
 
 -- and the sheet after a run to the erasure of the term after it
-decodes-after : (s : List ℕ) (t : ℕ) → verdict s ≡ Accepted t → (is : List (List ℕ)) → AllOf (inputType s) is
+pub decodes-after : (s : List ℕ) (t : ℕ) → verdict s ≡ Accepted t → (is : List (List ℕ)) → AllOf (inputType s) is
     → decode (sheetAfter undecidedRule s is) ≡ some (erase (after undecidedRule [] (circuitTerm s) is))
 decodes-after s t v is given =
-    decodes-to (sheetAfter undecidedRule s is) t (run-accepted undecidedRule rule-lawful s t v is given ∙ v)
-    ∙ ap (λ u. some (erase u)) (run-read undecidedRule rule-lawful s t v is given)
+    decodes-to (sheetAfter undecidedRule s is) t (run-accepted rule-lawful s v given ∙ v)
+    ∙ ap (λ u. some (erase u)) (run-read rule-lawful s v given)
 
 pub run-reduces : RunReduces
 run-reduces s t v e f d inputs outs given =
     let all = flatten-all-typed given in
     let same : e ≡ erase (circuitTerm s) = some-same e (erase (circuitTerm s)) (sym d ∙ decodes-to s t v) in
-    let gives = run-outputs undecidedRule rule-lawful s t v (map flatten inputs) all in
+    let gives = run-outputs rule-lawful s v all in
     let leads = decodes-after s t v (map flatten inputs) all in
     let adequate = run-adequate undecidedRule undecidedConstant rule-lawful rule-agreeing (Declared s)
     {cs = outs} {f = f} (circuit-typed s t v) of-none given in (

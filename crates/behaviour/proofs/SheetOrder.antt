@@ -149,18 +149,18 @@ module _ (read : ℕ → ℕ) where
       below-both (entries t) (assigned ls v) (ordered-below a (reads-left read (entries t′) (assigned ls w) h))
       (assigned-below ls r (reads-right read (entries t′) (assigned ls w) h))
 
-module _ (s s′ : List ℕ) (t t′ : ℕ) (v : verdict s ≡ Accepted t) (v′ : verdict s′ ≡ Accepted t′) where
+module _ {s s′ : List ℕ} {t t′ : ℕ} (v : verdict s ≡ Accepted t) (v′ : verdict s′ ≡ Accepted t′) where
   -- sheets in order have terms in order
   pub terms-ordered : SheetBelow s s′
       → Ordered (Declared s) (typeAt s (wordA s 0) ∷ []) (circuitTerm s) (circuitTerm s′) (typeAt s t)
   terms-ordered b =
-      let filled = circuit-filled s t v (b .only-delays) in
-      let values : Valued (fill (map (wordA s′)) (circuitTerm s)) = rw filled at (circuit-valued s′ t′ v′) in
+      let filled = circuit-filled s v (b .only-delays) in
+      let values : Valued (fill (map (wordA s′)) (circuitTerm s)) = rw filled at (circuit-valued s′ v′) in
       rw filled (filled-ordered (wordA s′) (circuit-typed s t v) values below)
     where
       below : Below (wordA s′) (entries (circuitTerm s))
       below e m =
-          let here : wordA s (e .place) ≡ e .value = circuit-reads s t v e m in
+          let here : wordA s (e .place) ≡ e .value = circuit-reads s v e m in
           rw (← here)
           (b .delays-below (e .place)
           (framed-places s (circuitTerm s) refl .back (e .place) (place-of-member e (entries (circuitTerm s)) m)))
@@ -173,8 +173,8 @@ module _ (s s′ : List ℕ) (t t′ : ℕ) (v : verdict s ≡ Accepted t) (v′
       below : (l : ℕ) → List·Memᴰ l (delayLeaves (circuit s)) → LeafBelow (wordA s l) (wordA s′ l)
       below l m =
           let f = entry-at l (entries (circuitTerm s)) (framed-places s (circuitTerm s) refl .there l m) in
-          let here : wordA s (f .0 .place) ≡ f .0 .value = circuit-reads s t v (f .0) (f .1) in
+          let here : wordA s (f .0 .place) ≡ f .0 .value = circuit-reads s v (f .0) (f .1) in
           let there : LeafBelow (f .0 .value) (wordA s′ (f .0 .place)) =
-          ordered-below (wordA s′) r (circuit-reads s′ t′ v′) (f .0) (f .1) in
+          ordered-below (wordA s′) r (circuit-reads s′ v′) (f .0) (f .1) in
           let p = f .2 in
           rw (← p, here) there

@@ -73,52 +73,51 @@ pieces-ordered w (suc n) b (all-more h r) (all-more k s) =
 -- two sheets in order have one input type
 inputs-same : (s s′ : List ℕ) (t : ℕ) → verdict s ≡ Accepted t → SheetBelow s s′ → inputType s′ ≡ inputType s
 inputs-same s s′ t v b =
-    let w = accepted-written s t v in
+    let w = accepted-written s v in
     same-type s s′ (only-leaves w (b .only-delays)) (wordA s′ 0)
     ∙ ap (typeAt s) (header-same w (b .only-delays) 2 (omega arith))
 
 module _
-    (rule other : List ℕ → List ℕ → List ℕ)
+    {rule other : List ℕ → List ℕ → List ℕ}
     (law : Lawful rule)
     (law′ : Lawful other)
     (under : RuleBelow rule other)
-    (s s′ : List ℕ)
-    (t t′ : ℕ)
+    {s s′ : List ℕ}
+    {t t′ : ℕ}
     (v : verdict s ≡ Accepted t)
     (v′ : verdict s′ ≡ Accepted t′)
     (b : SheetBelow s s′)
-    (is is′ : List (List ℕ))
+    {is is′ : List (List ℕ)}
     (given : AllBoth (inputType s) is is′)
   where
     given′ : AllOf (inputType s′) is′
     given′ = rw (inputs-same s s′ t v b) (all-upper given)
 
     terms : Ordered (Declared s) (typeAt s (wordA s 0) ∷ []) (circuitTerm s) (circuitTerm s′) (typeAt s t)
-    terms = terms-ordered s s′ t t′ v v′ b
+    terms = terms-ordered v v′ b
 
     outputs-below : AllBoth (typeAt s t) (outputsBy rule s is) (outputsBy other s′ is′)
     outputs-below =
-        rw (run-outputs rule law s t v is (all-lower given), run-outputs other law′ s′ t′ v′ is′ given′)
+        rw (run-outputs law s v (all-lower given), run-outputs law′ s′ v′ given′)
         (outputs-ordered rule other law under (Declared s) terms both-no-values given)
 
     next-below : SheetBelow (sheetAfter rule s is) (sheetAfter other s′ is′)
     next-below =
         let lower = all-lower given in
-        let mine = run-only-delays rule law s t v is lower in
-        let w = run-accepted rule law s t v is lower ∙ v in
+        let mine = run-only-delays law s v lower in
+        let w = run-accepted law s v lower ∙ v in
         let ordered : Ordered (Declared s) (typeAt s (wordA s 0) ∷ []) (circuitTerm (sheetAfter rule s is))
         (circuitTerm (sheetAfter other s′ is′)) (typeAt s t) =
-        rw (run-read rule law s t v is lower, run-read other law′ s′ t′ v′ is′ given′)
+        rw (run-read law s v lower, run-read law′ s′ v′ given′)
         (after-ordered rule other law under (Declared s) terms both-no-values given) in
-        sheets-below (sheetAfter rule s is) (sheetAfter other s′ is′) t t′ w (run-accepted other law′ s′ t′ v′ is′ given′ ∙ v′)
-        (only-delays-chain (sheetAfter rule s is) s t w (only-delays-back s (sheetAfter rule s is) t v mine) (sheetAfter other s′ is′)
-        (only-delays-chain s s′ t v (b .only-delays) (sheetAfter other s′ is′) (run-only-delays other law′ s′ t′ v′ is′ given′)))
+        sheets-below w (run-accepted law′ s′ v′ given′ ∙ v′)
+        (only-delays-chain w (only-delays-back v mine) (only-delays-chain v (b .only-delays) (run-only-delays law′ s′ v′ given′)))
         ordered
 
 pub sheet-run-ordered : SheetRunOrdered
 sheet-run-ordered rule other law law′ under s s′ t t′ v v′ b is is′ given = (
-  outputs-below rule other law law′ under s s′ t t′ v v′ b is is′ given,
-  next-below rule other law law′ under s s′ t t′ v v′ b is is′ given,
+  outputs-below law law′ under v v′ b given,
+  next-below law law′ under v v′ b given,
 )
 
 -- the cycles of two stimuli in order
@@ -141,14 +140,14 @@ late-scanner s s′ stim stim′ outs outs′ next next′ c c′ b below =
     (cycles-typed s′ stim′ (f′ .whole) (f′ .fitting))) in (
       rw (
         c .gives .out-is,
-        out-is s stim (c .lentOut) (c .lentNext) (c .type) f,
+        out-is f,
         c′ .gives .out-is,
-        out-is s′ stim′ (c′ .lentOut) (c′ .lentNext) (c′ .type) f′,
+        out-is f′,
       ) (joined-below (both .0)),
       rw (
         c .gives .next-is,
-        next-is s stim (c .lentOut) (c .lentNext) (c .type) f,
+        next-is f,
         c′ .gives .next-is,
-        next-is s′ stim′ (c′ .lentOut) (c′ .lentNext) (c′ .type) f′,
+        next-is f′,
       ) (both .1),
     )

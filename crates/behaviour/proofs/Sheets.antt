@@ -132,7 +132,7 @@ put-held s (e ∷ es) reads small =
     let own : putWord (e .place) (e .value) s ≡ s = rw (← here) (put-own (e .place) s (omega arith)) in
     ap (putAll putWord es) own ∙ put-held s es (λ f m. reads f (List·Memᴰ·tail m)) (λ f m. small f (List·Memᴰ·tail m))
 
-module _ (s : List ℕ) (t : ℕ) (v : verdict s ≡ Accepted t) where
+module _ (s : List ℕ) {t : ℕ} (v : verdict s ≡ Accepted t) where
   passes : Passes s
   passes = accepted-by-types s t .0 v .0
 
@@ -172,7 +172,7 @@ module _ (s : List ℕ) (t : ℕ) (v : verdict s ≡ Accepted t) where
       (term-again s s′ only accepted-written (inputs s) (circuit s) (grown-circuit accepted-written) (input-context p)
       (accepted-judged t p v .0) (constants-stay o))
 
-  module _ (e : Term) (h : Writable s t e) where
+  module _ {e : Term} (h : Writable s t e) where
     -- only leaves are rewritten
     pub write-only-leaves : OnlyLeaves s (write s e)
     write-only-leaves = only-leaves accepted-written (write-only-delays s e (h .frame))
@@ -185,14 +185,14 @@ module _ (s : List ℕ) (t : ℕ) (v : verdict s ≡ Accepted t) where
     unfolding write
     write-reads =
         let places = framed-places s e (h .frame) in
-        put-read putWord wordA InSheet sheet-cells (entries e) s
+        put-read sheet-cells (entries e) s
         (places .distinct (circuit-distinct accepted-written (named-once passes) false false true))
         (λ l m. leaf-in-sheet s l (circuit-leaves accepted-written false true l (places .back l m) .there))
 
     -- every other record keeps its word a
     pub write-stays : {r : ℕ} → (List·Memᴰ r (places e) → ⊥) → wordA (write s e) r ≡ wordA s r
     unfolding write
-    write-stays {r} n = put-elsewhere putWord wordA InSheet sheet-cells (entries e) r s n
+    write-stays {r} n = put-elsewhere sheet-cells (entries e) r s n
 
     -- the term written is the term read
     pub write-read : circuitTerm (write s e) ≡ e

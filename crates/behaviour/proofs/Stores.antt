@@ -53,7 +53,7 @@ store-length t h = put-leaves enter length (entries t) (λ l m v a. length-set a
 
 pub store-again : (t u : Term) (h : List ℕ) → frame t ≡ frame u → store t (store u h) ≡ store t h
 store-again t u h e =
-    put-again enter entryAt InTable table-cells (entries t) (entries u) h (λ l m. rw (same-places t u e) m)
+    put-again table-cells (entries t) (entries u) h (λ l m. rw (same-places t u e) m)
 
 -- what a second evaluation in another environment enters replaces what a first one entered
 pub store-next-again : (undecided : List ℕ → List ℕ → List ℕ) (ρ π : List (List ℕ)) (t : Term) (h : List ℕ)
@@ -62,17 +62,17 @@ store-next-again u ρ π t h =
     store-again (next u ρ t) (next u π t) h (next-frame u ρ t ∙ sym (next-frame u π t))
 
 pub store-elsewhere : (t : Term) (l : ℕ) (h : List ℕ) → (List·Memᴰ l (places t) → ⊥) → getD (store t h) l 0 ≡ getD h l 0
-store-elsewhere t l h n = put-elsewhere enter entryAt InTable table-cells (entries t) l h n
+store-elsewhere t l h n = put-elsewhere table-cells (entries t) l h n
 
 pub store-reads : (t : Term) (h : List ℕ) → Distinct (places t) → ((l : ℕ) → List·Memᴰ l (places t) → l < length h)
     → Reads (entryAt (store t h)) (entries t)
-store-reads t h d room = put-read enter entryAt InTable table-cells (entries t) h d room
+store-reads t h d room = put-read table-cells (entries t) h d room
 
 -- and so for a sheet written twice
 pub write-again : (s : List ℕ) (t u : Term) → frame t ≡ frame u → write (write s u) t ≡ write s t
 unfolding write
 write-again s t u e =
-    put-again putWord wordA InSheet sheet-cells (entries t) (entries u) s (λ l m. rw (same-places t u e) m)
+    put-again sheet-cells (entries t) (entries u) s (λ l m. rw (same-places t u e) m)
 
 -- a table copied at these records is its entries put there
 copied-entries : (h ls s : List ℕ) → copied h ls s ≡ putAll putWord (assigned ls (map (entryAt h) ls)) s
@@ -89,7 +89,7 @@ entry-assigned read (l ∷ ls) e (List·Memᴰ·tail m) = let f = entry-assigned
 -- a table of one number a record has room for every delay's leaf
 pub leaves-in-table : (s : List ℕ) (t : ℕ) → verdict s ≡ Accepted t → (l : ℕ) → List·Memᴰ l (delayLeaves (circuit s)) → l < 4096
 leaves-in-table s t v l m =
-    let w = accepted-written s t v in
+    let w = accepted-written s v in
     let few = w .few in
     let there = circuit-leaves w false true l m .there in
     omega arith
@@ -98,11 +98,11 @@ module _ (s : List ℕ) (t : ℕ) (v : verdict s ≡ Accepted t) (e : Term) (h :
   leaves-distinct : Distinct (places e)
   leaves-distinct =
       framed-places s e (h .frame) .distinct
-      (circuit-distinct (accepted-written s t v) (named-once (accepted-by-types s t .0 v .0)) false false true)
+      (circuit-distinct (accepted-written s v) (named-once (accepted-by-types s t .0 v .0)) false false true)
 
   pub written-small : Small (entries e)
   written-small =
-      values-small e (same-placed HasPlaces (circuitTerm s) e (sym (h .frame)) (circuit-has-places s t v)) (typed-valued (h .typed))
+      values-small e (same-placed HasPlaces (circuitTerm s) e (sym (h .frame)) (circuit-has-places s v)) (typed-valued (h .typed))
 
   -- what is written is the table copied at these records: the delays' leaves, and others whose words the table has
   pub write-copied : (table ls : List ℕ) → ((l : ℕ) → List·Memᴰ l (delayLeaves (circuit s)) → l < length table)
@@ -114,7 +114,7 @@ module _ (s : List ℕ) (t : ℕ) (v : verdict s ≡ Accepted t) (e : Term) (h :
   write-copied table ls room all others =
       let fs = assigned ls (map (entryAt (store e table)) ls) in
       sym (put-held (write s e) fs (λ f m. held f m .0) (λ f m. held f m .1))
-      ∙ put-again putWord wordA InSheet sheet-cells fs (entries e) s
+      ∙ put-again sheet-cells fs (entries e) s
       (λ l m. rw (assigned-places ls (map (entryAt (store e table)) ls)) (all l (framed-places s e (h .frame) .back l m)))
       ∙ sym (copied-entries (store e table) ls s)
     where
@@ -128,10 +128,10 @@ module _ (s : List ℕ) (t : ℕ) (v : verdict s ≡ Accepted t) (e : Term) (h :
           let inTable : getD (store e table) (f .0 .place) 0 ≡ f .0 .value =
           store-reads e table leaves-distinct (λ k o. room k (places-there .back k o)) (f .0) (f .1) in
           let p = f .2 in
-          rw (← p, inTable) (write-reads s t v e h (f .0) (f .1), written-small (f .0) (f .1))
+          rw (← p, inTable) (write-reads s v h (f .0) (f .1), written-small (f .0) (f .1))
       at l m (inr n) =
           let o = others l m (λ k. n (places-there .there l k)) in
-          rw (store-elsewhere e l table n, o .0) (write-stays s t v e h n, o .1)
+          rw (store-elsewhere e l table n, o .0) (write-stays s v h n, o .1)
 
       held : (f : Entry) → List·Memᴰ f (assigned ls (map (entryAt (store e table)) ls))
           → (wordA (write s e) (f .place) ≡ f .value) × (f .value ≤ 255)

@@ -1,5 +1,5 @@
 -- The promises speak of some call: the sheet T of docs/SHEETS.md on 1 2 1, with slices of the right lengths, is well formed, by
--- computation; so demand 3 holds of it, and its record 2 is a feedback.
+-- computation; so demand 3 holds of it, its record 2 is a feedback, and it is a run of 000's rules.
 -- Assumes nothing.
 use Prim.Native.Nat.{ℕ}
 use mathlib.Core.List.{List, [], _∷_}
@@ -19,8 +19,10 @@ use Rattle.stimulus.specs.Stimulus.{cycleCount, wrongStimulus, wrongByte}
 use Rattle.answers.specs.Answers.{packed}
 use Rattle.behaviour.specs.Run.{answer, finalOut, finalNext}
 use Rattle.behaviour.specs.Afterwards.{WellFormed, Afterwards, FeedbackAt}
+use Rattle.behaviour.specs.ByRules.{RunsByRules}
 use Rattle.behaviour.specs.Bench.{toggle}
 use Rattle.behaviour.proofs.Afterwards.{afterwards}
+use Rattle.behaviour.proofs.ByRules.{call-by-rules}
 
 abbrev pub ones : List ℕ
 ones = 1 ∷ 2 ∷ 1 ∷ []
@@ -37,11 +39,15 @@ toggle-formed = record { accepted = refl; whole = refl; fitting = refl; room = r
 
 toggle-afterwards
     : Afterwards toggle ones 1 (packed (answer toggle ones room lent)) (finalOut toggle ones room lent) (finalNext toggle ones room lent)
-toggle-afterwards = afterwards toggle ones room lent 1 toggle-formed
+toggle-afterwards = afterwards toggle-formed
 
 toggle-feedback : FeedbackAt toggle (toggle-afterwards .sheets) (cycleCount toggle ones) 2
 unfolding word count
 toggle-feedback = toggle-afterwards .feedbacks 2 (omega arith) refl
+
+toggle-by-rules : RunsByRules toggle ones 1 (finalOut toggle ones room lent) (finalNext toggle ones room lent)
+toggle-by-rules =
+    call-by-rules toggle ones room lent 1 _ _ _ (record { result-is = refl; out-is = refl; next-is = refl }) toggle-formed
 
 -- and of a run of no cycles
 toggle-none : WellFormed toggle [] [] lent 1
@@ -50,4 +56,4 @@ toggle-none = record { accepted = refl; whole = refl; fitting = refl; room = ref
 
 toggle-none-afterwards
     : Afterwards toggle [] 1 (packed (answer toggle [] [] lent)) (finalOut toggle [] [] lent) (finalNext toggle [] [] lent)
-toggle-none-afterwards = afterwards toggle [] [] lent 1 toggle-none
+toggle-none-afterwards = afterwards toggle-none

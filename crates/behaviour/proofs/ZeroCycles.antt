@@ -38,7 +38,7 @@ module _ (s : List ℕ) where
   stimulus-done : firstApplying (stimulusChecks s []) (Done (cycleCount s [])) ≡ Done (cycleCount s [])
   stimulus-done = rw whole refl
 
-  module _ (t : ℕ) (v : verdict s ≡ Accepted t) where
+  module _ {t : ℕ} (v : verdict s ≡ Accepted t) where
     needed : outputNeeded s t [] ≡ 0
     needed = rw no-cycles (zero-mul (leaves (typeAt s t)))
 
@@ -46,7 +46,7 @@ module _ (s : List ℕ) where
     formed next e = record { accepted = v; whole = whole; fitting = refl; room = sym needed; long = e }
 
     answered : (next : List ℕ) → length next ≡ length s → answer s [] [] next ≡ Done 0
-    answered next e = answer-done s [] [] next t (formed next e) ∙ ap Done no-cycles
+    answered next e = answer-done (formed next e) ∙ ap Done no-cycles
 
     runs-none : RunsNone s
     unfolding finalOut finalNext
@@ -54,9 +54,9 @@ module _ (s : List ℕ) where
         record {
           done = λ next e. (answered next e, rw (answered next e, none-cut) refl, rw (answered next e, none-cut) refl);
           some-output = λ out next f.
-              output-refused s [] out next t v stimulus-done (λ e. f (e ∙ needed)) ∙ ap (Refused 10) needed;
-          wrong-next = λ next f. next-refused s [] [] next t v stimulus-done (sym needed) f;
+              output-refused s [] out next v stimulus-done (λ e. f (e ∙ needed)) ∙ ap (Refused 10) needed;
+          wrong-next = λ next f. next-refused s [] [] next v stimulus-done (sym needed) f;
         }
 
 pub zero-cycles : ZeroCycles
-zero-cycles s t v = runs-none s t v
+zero-cycles s t v = runs-none s v

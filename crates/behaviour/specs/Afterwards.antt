@@ -6,20 +6,24 @@ use mathlib.Core.Path.{_≡_}
 use mathlib.Core.Logic.{_≢_}
 use mathlib.Core.Bool.{false}
 use mathlib.Core.List.{List, _∷_, map}
-use mathlib.Core.Option.{none}
+use mathlib.Core.Option.{Option, none, some}
 use lib.ListN.{length, take, drop}
 use Rattle.picoella.specs.Types.{Ty, leaves, OfType}
+use Rattle.picoella.specs.Expressions.{Expr, LetRec}
 use Rattle.records.specs.Words.{count, kindWord, wordA}
 use Rattle.records.specs.TypeRecords.{typeAt}
 use Rattle.records.specs.Trees.{Tree, feedbackOf, treeAt}
+use Rattle.records.specs.Decoding.{expressionOf, allThere, whenThere}
 use Rattle.answers.specs.Lowest.{lowest}
 use Rattle.verdict.specs.Verdict.{verdict}
 use Rattle.verdict.specs.Scopes.{Scope}
 use Rattle.verdict.specs.declared.Verdict.the-variants.{Accepted}
 use Rattle.meaning.specs.Values.{undefined, _⊑_, ValuesOf}
-use Rattle.meaning.specs.Elaboration.{Term}
-use Rattle.meaning.specs.Undecided.{undecidedRule}
-use Rattle.meaning.specs.Evaluation.{iter, eval, application, settled}
+use Rattle.meaning.specs.Elaboration.{Term, erase}
+use Rattle.meaning.specs.Constants.{ConstantTree, ConstantOf, ConstantsOf, flatten, bottomOfType}
+use Rattle.meaning.specs.Undecided.{undecidedRule, undecidedConstant}
+use Rattle.meaning.specs.Evaluation.{iter, eval, application, settled, next}
+use Rattle.meaning.specs.Rules.{Iterates}
 use Rattle.behaviour.specs.Terms.{term}
 use Rattle.behaviour.specs.Sheets.{Bytes, OnlyDelays}
 use Rattle.behaviour.specs.Cycle.{output, sheetAfterCycle}
@@ -51,8 +55,19 @@ apply ρ part v = application undecidedRule ρ part v
 abbrev pub applied : List (List ℕ) → Ty → Term → ℕ → List ℕ
 applied ρ σ part n = iter (apply ρ part) n (undefined σ)
 
--- a feedback of type σ with this defining part and body, where the names around it hold the values ρ
-pub record FeedbackSettles (ρ : List (List ℕ)) (σ : Ty) (whole part body : Term) : Type 0 where
+-- 000's iteration of a defining expression, where the names around it, of the types Γ, hold the values ρ: with the constants that have
+-- those leaves around it, it comes from the undefined constant of σ to the constant of σ with the leaves `value`, and then is `after`
+pub record IteratesTo (Γ : List Ty) (ρ : List (List ℕ)) (σ : Ty) (defining : Expr) (value : List ℕ) (after : Expr) : Type 0 where
+  pub names : List ConstantTree
+  pub names-typed : ConstantsOf Γ names
+  pub names-hold : map flatten names ≡ ρ
+  pub constant : ConstantTree
+  pub constant-typed : ConstantOf σ constant
+  pub constant-is : flatten constant ≡ value
+  pub iterates : Iterates undecidedConstant names defining (bottomOfType σ) constant after
+
+-- a feedback of type σ with this defining part and body, where the names around it, of the types Γ, hold the values ρ
+pub record FeedbackSettles (Γ : List Ty) (ρ : List (List ℕ)) (σ : Ty) (whole part body : Term) : Type 0 where
   -- the value that evaluation gives the body's name
   pub value : List ℕ
   pub given : value ≡ settled undecidedRule ρ σ part
@@ -62,23 +77,37 @@ pub record FeedbackSettles (ρ : List (List ℕ)) (σ : Ty) (whole part body : T
   pub unchanged : apply ρ part value ≡ value
   -- lies at or below every other value of the type so returned,
   pub least : (w : List ℕ) → OfType σ w → apply ρ part w ≡ w → value ⊑ w
-  -- and is reached from undefined in at most as many applications as the type has leaves, and in no fewer than are counted
+  -- and is reached from undefined in at most as many applications as the type has leaves, and in no fewer than are counted;
   pub count : ℕ
   pub at-most : count ≤ leaves σ
   pub reached : applied ρ σ part count ≡ value
   pub none-fewer : (j : ℕ) → j < count → applied ρ σ part j ≢ value
+  -- 000's iteration reaches the same, and leaves the delays of the defining part as its evaluation at this value does
+  pub by-iteration : IteratesTo Γ ρ σ (erase part) value (erase (next undecidedRule (value ∷ ρ) part))
 
--- record q of kind 38, in each of the sheets: there are its scope, defining part and body
+-- the expression that record q says
+abbrev pub decodedAt : (sheet : List ℕ) → ℕ → Option Expr
+decodedAt s q = whenThere (allThere (treeAt s q)) (expressionOf s (treeAt s q))
+
+-- record q of kind 38 in the sheet `current`, with the names of Γ in scope
+pub record FeedbackIn (sheet current : List ℕ) (q : ℕ) (Γ : List ℕ) (defining body : Tree) : Type 0 where
+  -- it decodes to the feedback of the expressions to which defining part and body erase
+  pub decodes : decodedAt current q
+      ≡ some (LetRec (typeAt sheet (wordA sheet q)) (erase (term current (wordA sheet q ∷ Γ) defining))
+      (erase (term current (wordA sheet q ∷ Γ) body)))
+  -- "The names around it may hold any values of their types."
+  pub settles : (ρ : List (List ℕ)) → ValuesOf (map (typeAt sheet) Γ) ρ
+      → FeedbackSettles (map (typeAt sheet) Γ) ρ (typeAt sheet (wordA sheet q)) (term current Γ (treeAt current q))
+      (term current (wordA sheet q ∷ Γ) defining) (term current (wordA sheet q ∷ Γ) body)
+
+-- record q of kind 38, in each of the sheets: there are its defining part and body, and a scope; and so it is in every scope that it has
 pub record FeedbackAt (sheet : List ℕ) (sheets : ℕ → List ℕ) (n q : ℕ) : Type 0 where
-  pub scope : List ℕ
   pub defining : Tree
   pub body : Tree
-  pub in-scope : (k : ℕ) → k ≤ n → Scope (sheets k) q scope
   pub reads : (k : ℕ) → k ≤ n → treeAt (sheets k) q ≡ feedbackOf q (wordA sheet q) defining body
-  -- "The names around it may hold any values of their types."
-  pub settles : (k : ℕ) → k ≤ n → (ρ : List (List ℕ)) → ValuesOf (map (typeAt sheet) scope) ρ
-      → FeedbackSettles ρ (typeAt sheet (wordA sheet q)) (term (sheets k) scope (treeAt (sheets k) q))
-      (term (sheets k) (wordA sheet q ∷ scope) defining) (term (sheets k) (wordA sheet q ∷ scope) body)
+  pub scope : List ℕ
+  pub in-scope : (k : ℕ) → k ≤ n → Scope (sheets k) q scope
+  pub every-scope : (k : ℕ) → k ≤ n → (Γ : List ℕ) → Scope (sheets k) q Γ → FeedbackIn sheet (sheets k) q Γ defining body
 
 -- after the run: t is the output type's record, `result` the number returned, `out` and `next` the final bytes
 pub record Afterwards (sheet stimulus : List ℕ) (t result : ℕ) (out next : List ℕ) : Type 0 where
@@ -98,7 +127,7 @@ pub record Afterwards (sheet stimulus : List ℕ) (t result : ℕ) (out next : L
       → outputIn sheet t out k ≡ output (sheets k) (inputOf sheet stimulus k)
   pub out-length : length out ≡ cycleCount sheet stimulus * leaves (typeAt sheet t)
   -- accepted again with the same type, and outputs of that type, cycle by cycle
-  pub again : verdict (sheets (cycleCount sheet stimulus)) ≡ verdict sheet
+  pub again : verdict next ≡ Accepted t
   pub typed : (k : ℕ) → k < cycleCount sheet stimulus → OfType (typeAt sheet t) (outputIn sheet t out k)
   -- every record of kind 38
   pub feedbacks : (q : ℕ) → q < count sheet → kindWord sheet q ≡ 38

@@ -1,12 +1,17 @@
--- One cycle on bytes: the term of a sheet, the values that its delays hold, and the sheet after the cycle.
-pub mod Terms
-pub mod Delays
+-- One cycle on bytes, the run of a call, and what is promised of it.
+-- To believe:
 pub mod Sheets
-pub mod Copies
-pub mod Evaluated
-pub mod Cycle
 pub mod Run
 pub mod Afterwards
-pub mod Bench
+pub mod ByRules
 pub mod SheetOrder
 pub mod Promises
+-- What the promises pin down, so that it need not be believed:
+pub mod Terms
+pub mod Delays
+pub mod Cycle
+-- The bench cases, by computation:
+pub mod Bench
+-- What functions ask and give, and their proofs need:
+pub mod Copies
+pub mod Evaluated

@@ -10,7 +10,7 @@ use lib.ListN.{length}
 use Rattle.picoella.specs.Expressions.{Expr}
 use Rattle.records.specs.TypeRecords.{typeAt}
 use Rattle.records.specs.Decoding.{decode}
-use Rattle.answers.specs.Answers.{code, place, packed}
+use Rattle.answers.specs.Answers.{code, place}
 use Rattle.answers.specs.Checks.{Refuses}
 use Rattle.answers.specs.declared.Answer.{Answer}
 use Rattle.answers.specs.declared.Answer.the-variants.{Done, Refused}
@@ -26,8 +26,9 @@ use Rattle.meaning.specs.Run as Meaning
 use Rattle.behaviour.specs.Terms.{circuitTerm}
 use Rattle.behaviour.specs.Sheets.{write, Writable, OnlyDelays}
 use Rattle.stimulus.specs.Stimulus.{inputType, endToEnd, cycles, cycleCount, wrongStimulus}
-use Rattle.behaviour.specs.Run.{outputsBy, sheetAfter, callChecks, answer, finalOut, finalNext}
+use Rattle.behaviour.specs.Run.{outputsBy, sheetAfter, callChecks, answer, finalOut, finalNext, Gives}
 use Rattle.behaviour.specs.Afterwards.{WellFormed, Afterwards}
+use Rattle.behaviour.specs.ByRules.{RunsByRules}
 use Rattle.behaviour.specs.SheetOrder.{SheetBelow, FormedCall, StrictlyBelow, holding}
 use Rattle.behaviour.specs.Bench.{toggle, agreeing, agreed}
 
@@ -101,11 +102,17 @@ RunReduces =
     × (map flatten outputs ≡ outputsBy undecidedRule s (map flatten inputs))
     × (decode (sheetAfter undecidedRule s (map flatten inputs)) ≡ some f))
 
--- Demand 3, of what the definition of the run gives.
+-- And from the bytes of a call to those rules in one statement: whatever a well-formed call gave by the contract.
+abbrev pub CallByRules : Type 0
+CallByRules =
+    (s stim out next : List ℕ) (t result : ℕ) (out′ next′ : List ℕ)
+    → Gives s stim out next result out′ next′ → WellFormed s stim out next t → RunsByRules s stim t out′ next′
+
+-- Demand 3, of whatever a well-formed call gave by the contract.
 abbrev pub HoldsAfterwards : Type 0
 HoldsAfterwards =
-    (s stim out next : List ℕ) (t : ℕ) → WellFormed s stim out next t
-    → Afterwards s stim t (packed (answer s stim out next)) (finalOut s stim out next) (finalNext s stim out next)
+    (s stim out next : List ℕ) (t result : ℕ) (out′ next′ : List ℕ)
+    → Gives s stim out next result out′ next′ → WellFormed s stim out next t → Afterwards s stim t result out′ next′
 
 -- Two accepted sheets that are the same or differ only in delay leaves, each of the first at or below that of the second, run over
 -- two lists of inputs, cycle by cycle the first at or below the second, under two lawful rules for an undecided IF, the first at or
@@ -165,6 +172,7 @@ pub record RunPromises : Type 0 where
   pub cycles-whole : CyclesWhole
   pub run-means : RunMeans
   pub run-reduces : RunReduces
+  pub call-by-rules : CallByRules
   pub holds-afterwards : HoldsAfterwards
   pub sheet-run-ordered : SheetRunOrdered
   pub late-scanner : LateScanner

@@ -1,6 +1,9 @@
 -- The text that the program prints, as bytes, and what the functions that write it give.
+-- To believe:
 pub mod Digits
 pub mod Lines
+-- Worked examples, by computation:
+pub mod Examples
+-- What functions ask and give, and their proofs need:
 pub mod Wrote
 pub mod Fills
-pub mod Examples

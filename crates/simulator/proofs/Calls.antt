@@ -2,13 +2,11 @@
 -- Assumes nothing.
 use Prim.Native.Nat.{ℕ, _+_, _*_, _/_, _≤_, _<_}
 use mathlib.Core.Bool.{false}
-use mathlib.Core.List.{List, [], _∷_, _++_}
+use mathlib.Core.List.{List, _++_}
 use mathlib.Core.Option.{none}
 use mathlib.Core.Path.{_≡_, refl, sym, ap, subst, _∙_}
 use native.Mathlib.Omega.{arith}
 use native.Mathlib.Nat.{mul-le-mul-left}
-use denote.Enum.Declared.{tagOf}
-use types.Run.{OneOf, miss}
 use mir.Syntax.{w8}
 use mir.Val.{Fits}
 use lib.ListN.{length, getD, drop}
@@ -23,8 +21,8 @@ use Rattle.verdict.specs.Verdict.{verdictAnswer, verdict}
 use Rattle.verdict.specs.Widths.{Widths, Checked}
 use Rattle.verdict.specs.declared.Verdict.{Verdict}
 use Rattle.verdict.specs.declared.Verdict.the-variants as Verdicts
-use Rattle.verdict.proofs.Verdict as Verdict-type
 use Rattle.accepted.specs.Accepting.{Accepting}
+use Rattle.accepted.proofs.Laws.{Refusing, refusing-answer}
 use Rattle.accepted.proofs.Small.{output-typed, accepted-sized, accepted-few}
 use Rattle.stimulus.specs.Stimulus.{cycleCount, wrongStimulus, wrongByte, stimulusChecks}
 use Rattle.stimulus.specs.Holding.{Held}
@@ -40,6 +38,7 @@ use Rattle.behaviour.proofs.Answers.{
   output-refused,
   next-refused,
 }
+use Rattle.behaviour.proofs.ByRules.{call-by-rules}
 use Rattle.evaluator.proofs.Frames.{put-whole}
 use Rattle.simulator.specs.Running.{RunningCycles, RanCycles, RunningAccepted, Measured, Ran}
 
@@ -57,13 +56,13 @@ module _ {s : List ℕ} {n : ℕ} {W : List ℕ} {t : ℕ} (g : RunningAccepted 
   pub output-few : getD W t 0 ≤ 64
   output-few = let f = accepted-few s t (g .accepted) in let e = g .table .types t (output-typed s t (g .accepted)) in omega arith
 
-  module _ (stim out next : List ℕ) (a : Answer) (h : Held s stim a) where
+  module _ {stim : List ℕ} {a : Answer} (h : Held s stim a) where
     -- 8 and 9
-    pub refused-stimulus : (c p : ℕ) → a ≡ Refused c p → (result : ℕ) → result ≡ packed a → Gives s stim out next result out next
-    refused-stimulus c p e result q =
-        rw (q, e) (gives-refusal s stim out next c p (stimulus-refused s stim out next t (g .accepted) c p (sym (h .answered) ∙ e)))
+    pub refused-stimulus : {out next : List ℕ} {c p : ℕ} → a ≡ Refused c p → {result : ℕ} → result ≡ packed a → Gives s stim out next result out next
+    refused-stimulus {out} {next} e q =
+        rw (q, e) (gives-refusal (stimulus-refused s stim out next (g .accepted) (sym (h .answered) ∙ e)))
 
-    module _ (count : ℕ) (e : a ≡ Done count) where
+    module _ {count : ℕ} (e : a ≡ Done count) where
       says : SaysOf (stimulusChecks s stim) (cycleCount s stim) (Done count)
       says =
           subst (λ (b : Answer). SaysOf (stimulusChecks s stim) (cycleCount s stim) b) (sym (h .answered) ∙ e)
@@ -92,28 +91,26 @@ module _ {s : List ℕ} {n : ℕ} {W : List ℕ} {t : ℕ} (g : RunningAccepted 
       needed = rw (counted, g .table .types t (output-typed s t (g .accepted))) refl
 
       -- 10 and 11
-      pub refused-output : (length out ≡ count * getD W t 0 → ⊥) → (result : ℕ) → result ≡ inOne 10 (count * getD W t 0)
+      pub refused-output : {out next : List ℕ} → (length out ≡ count * getD W t 0 → ⊥) → {result : ℕ} → result ≡ inOne 10 (count * getD W t 0)
           → Gives s stim out next result out next
-      refused-output d result q =
+      refused-output {out} {next} d q =
           rw (q, needed)
-          (gives-refusal s stim out next 10 (outputNeeded s t stim)
-          (output-refused s stim out next t (g .accepted) stimulus-done (λ y. d (y ∙ sym needed))))
+          (gives-refusal (output-refused s stim out next (g .accepted) stimulus-done (λ y. d (y ∙ sym needed))))
 
-      module _ (y : length out ≡ count * getD W t 0) where
-        pub refused-next : (length next ≡ length s → ⊥) → (result : ℕ) → result ≡ inOne 11 (length s) → Gives s stim out next result out next
-        refused-next d result q =
+      module _ {out : List ℕ} (y : length out ≡ count * getD W t 0) where
+        pub refused-next : {next : List ℕ} → (length next ≡ length s → ⊥) → {result : ℕ} → result ≡ inOne 11 (length s) → Gives s stim out next result out next
+        refused-next {next} d q =
             rw q
-            (gives-refusal s stim out next 11 (length s)
-            (next-refused s stim out next t (g .accepted) stimulus-done (y ∙ needed) d))
+            (gives-refusal (next-refused s stim out next (g .accepted) stimulus-done (y ∙ needed) d))
 
-        module _ (x : length next ≡ length s) where
+        module _ (next : List ℕ) (x : length next ≡ length s) where
           well-formed : WellFormed s stim out next t
           well-formed =
               record { accepted = g .accepted; whole = whole; fitting = fitting; room = y ∙ needed; long = x }
 
-          pub call-running : (b : ℕ) → b ≡ word s 0 2 → (next₁ : List ℕ) → next₁ ≡ s ++ drop (length s) next
+          pub call-running : {b : ℕ} → b ≡ word s 0 2 → {next₁ : List ℕ} → next₁ ≡ s ++ drop (length s) next
               → RunningCycles s n W stim (getD W b 0) (getD W t 0) count next₁ out
-          call-running b eb next₁ c =
+          call-running eb {next₁} c =
               record {
                 sized = g .sized;
                 type = t;
@@ -128,35 +125,28 @@ module _ {s : List ℕ} {n : ℕ} {W : List ℕ} {t : ℕ} (g : RunningAccepted 
                 start = put-whole s next next₁ (sym x) c;
               }
 
-          pub call-done : (next₂ out₂ : List ℕ) → RanCycles s stim next₂ out₂ → Gives s stim out next count out₂ next₂
-          call-done next₂ out₂ r = rw (counted, r .outputs, r .next) (gives-done s stim out next t well-formed)
+          pub call-done : {next₂ out₂ : List ℕ} → RanCycles s stim next₂ out₂ → Gives s stim out next count out₂ next₂
+          call-done r = rw (counted, r .outputs, r .next) (gives-done well-formed)
+
+pub call-runs : {s stim out next : List ℕ} {result : ℕ} {out′ next′ : List ℕ} → ((i : ℕ) → Fits w8 (getD s i 0))
+    → Gives s stim out next result out′ next′ → Ran s stim out next result out′ next′
+call-runs {s} {stim} {out} {next} {result} {out′} {next′} b g =
+    record {
+      gives = g;
+      bytes = λ i. let f = b i in omega arith;
+      afterwards = λ t h. gives-afterwards g h;
+      by-rules = λ t h. call-by-rules s stim out next t result out′ next′ g h;
+    }
 
 -- a verdict that refuses
-refusing-answer : (w : Verdict) → OneOf (1 ∷ 2 ∷ 3 ∷ 4 ∷ 5 ∷ 6 ∷ 7 ∷ []) (tagOf Verdict-type.the-type w)
-    → (c : ℕ) × (p : ℕ) × (verdictAnswer w ≡ Refused c p)
-refusing-answer (Verdicts.Accepted t) o =
-    absurd (miss (1 ∷ 2 ∷ 3 ∷ 4 ∷ 5 ∷ 6 ∷ 7 ∷ []) (tagOf Verdict-type.the-type (Verdicts.Accepted t)) tt o)
-refusing-answer Verdicts.WrongLength o = (1, 0, refl)
-refusing-answer Verdicts.WrongHeader o = (2, 0, refl)
-refusing-answer (Verdicts.WrongRecord r) o = (3, r, refl)
-refusing-answer (Verdicts.WrongNaming r) o = (4, r, refl)
-refusing-answer (Verdicts.WrongType r) o = (5, r, refl)
-refusing-answer (Verdicts.TooDeep r) o = (6, r, refl)
-refusing-answer (Verdicts.IllTyped r) o = (7, r, refl)
-
-pub call-runs : (s stim out next : List ℕ) (result : ℕ) (out′ next′ : List ℕ) → ((i : ℕ) → Fits w8 (getD s i 0))
-    → Gives s stim out next result out′ next′ → Ran s stim out next result out′ next′
-call-runs s stim out next result out′ next′ b g =
-    record { gives = g; bytes = λ i. let f = b i in omega arith; afterwards = λ t h. gives-afterwards s stim out next t result out′ next′ g h }
-
-pub call-refused : (s stim out next : List ℕ) → ((i : ℕ) → Fits w8 (getD s i 0)) → (w : Verdict) → w ≡ verdict s
-    → OneOf (1 ∷ 2 ∷ 3 ∷ 4 ∷ 5 ∷ 6 ∷ 7 ∷ []) (tagOf Verdict-type.the-type w) → (result : ℕ) → result ≡ packed (verdictAnswer w)
+pub call-refused : {s stim out next : List ℕ} → ((i : ℕ) → Fits w8 (getD s i 0)) → (w : Verdict) → w ≡ verdict s
+    → Refusing w → {result : ℕ} → result ≡ packed (verdictAnswer w)
     → Ran s stim out next result out next
-call-refused s stim out next b w e o result q =
+call-refused {s} {stim} {out} {next} b w e o q =
     let r = refusing-answer w o in
     let f : verdictAnswer (verdict s) ≡ Refused (r .0) (r .1) = ap verdictAnswer (sym e) ∙ r .2 in
-    call-runs s stim out next result out next b
-    (rw (q, r .2) (gives-refusal s stim out next (r .0) (r .1) (refused-by-verdict s stim out next (r .0) (r .1) f)))
+    call-runs b
+    (rw (q, r .2) (gives-refusal (refused-by-verdict s stim out next (r .0) (r .1) f)))
 
 -- and one that does not
 pub accepted-call : (s : List ℕ) (n : ℕ) → n ≡ length s / 12 → (w : Verdict) (before table : List ℕ) (t : ℕ)
@@ -166,7 +156,7 @@ accepted-call s n c w before table t l e =
     record { sized = rw c (accepted-sized s t v); accepted = v; table = l .accepted (rw e refl) }
 
 -- the leaves that a host asks for
-pub measured-refused : (s : List ℕ) (w : Verdict) → w ≡ verdict s → OneOf (1 ∷ 2 ∷ 3 ∷ 4 ∷ 5 ∷ 6 ∷ 7 ∷ []) (tagOf Verdict-type.the-type w) → Measured s 0 0
+pub measured-refused : (s : List ℕ) (w : Verdict) → w ≡ verdict s → Refusing w → Measured s 0 0
 measured-refused s w e o =
     let r = refusing-answer w o in
     record {

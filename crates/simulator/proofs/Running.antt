@@ -39,17 +39,17 @@ use Rattle.simulator.specs.Running.{Lending, Lent, RunningCycles, RanCyc
 pub from-there : (a b : ℕ) → a + b - a ≡ b
 from-there a b = omega arith
 
-module _ (s : List ℕ) (n : ℕ) (W env held stim : List ℕ) (from wi : ℕ) (current out : List ℕ) (at wo : ℕ)
+module _ {s : List ℕ} {n : ℕ} {W env held stim : List ℕ} {from wi : ℕ} {current out : List ℕ} {at wo : ℕ}
     (l : Lending s n W env held stim from wi current out at wo)
   where
     pub lent-cycling
         : Cycling s n W env held (take (from + wi - from) (drop from stim)) current (take (at + wo - at) (drop at out))
     lent-cycling = rw (from-there from wi, from-there at wo) (l .cycling)
 
-    pub lent-back : (env′ held′ current′ o : List ℕ)
+    pub lent-back : {env′ held′ current′ o : List ℕ}
         → Cycled (take (from + wi - from) (drop from stim)) current env′ held′ current′ o
         → Lent stim from wi current out at wo env′ held′ current′ (take at out ++ (o ++ drop (at + wo - at) (drop at out)))
-    lent-back env′ held′ current′ o c =
+    lent-back {o = o} c =
         let v : o ≡ output current (take wi (drop from stim)) = rw (from-there from wi) at (c .value) in
         record {
           filled = rw (from-there at wo, drop-drop wo at out, v) refl;
@@ -74,7 +74,7 @@ pub record Before (s stim : List ℕ) (wi wo count : ℕ) (out₀ : List ℕ) (k
   pub same : length out ≡ length out₀
   pub outputs : take at out ≡ endToEnd (take k (outputsBy undecidedRule s (cycles s stim)))
 
-module _ (s : List ℕ) (n : ℕ) (W stim : List ℕ) (wi wo count : ℕ) (current₀ out₀ : List ℕ)
+module _ {s : List ℕ} {n : ℕ} {W stim : List ℕ} {wi wo count : ℕ} {current₀ out₀ : List ℕ}
     (r : RunningCycles s n W stim wi wo count current₀ out₀)
   where
     inputs-typed : AllOf (inputType s) (cycles s stim)
@@ -114,9 +114,9 @@ module _ (s : List ℕ) (n : ℕ) (W stim : List ℕ) (wi wo count : ℕ) (curre
         let g = r .gives in
         omega arith
 
-    pub at-first : (env held : List ℕ) → length env ≡ 4096 → length held ≡ 4096
+    pub at-first : {env held : List ℕ} → length env ≡ 4096 → length held ≡ 4096
         → Before s stim wi wo count out₀ 0 0 0 env held current₀ out₀
-    at-first env held w l =
+    at-first w l =
         record {
           few = omega arith;
           read = sym (zero-mul wi);
@@ -128,7 +128,7 @@ module _ (s : List ℕ) (n : ℕ) (W stim : List ℕ) (wi wo count : ℕ) (curre
           outputs = refl;
         }
 
-    module _ (k from at : ℕ) (env held current out : List ℕ) (b : Before s stim wi wo count out₀ k from at env held current out) (h : k < count)
+    module _ {k from at : ℕ} {env held current out : List ℕ} (b : Before s stim wi wo count out₀ k from at env held current out) (h : k < count)
       where
         read-to : from + wi ≡ (k + 1) * wi
         read-to = rw (b .read) (omega arith)
@@ -158,14 +158,14 @@ module _ (s : List ℕ) (n : ℕ) (W stim : List ℕ) (wi wo count : ℕ) (curre
         input-is = cycle-at s stim k (rw (← r .counted) h) ∙ rw (b .read, r .takes) refl
 
         delays : OnlyDelays s begins
-        delays = sheet-only-delays undecidedRule rule-lawful s (r .type) (r .accepted) (cycles s stim) inputs-typed k
+        delays = sheet-only-delays rule-lawful s (r .accepted) inputs-typed k
 
         begins-leaves : OnlyLeaves s begins
-        begins-leaves = only-leaves (accepted-written s (r .type) (r .accepted)) delays
+        begins-leaves = only-leaves (accepted-written s (r .accepted)) delays
 
         begins-accepted : verdict begins ≡ Accepted (r .type)
         begins-accepted =
-            sheet-accepted undecidedRule rule-lawful s (r .type) (r .accepted) (cycles s stim) inputs-typed k ∙ r .accepted
+            sheet-accepted rule-lawful s (r .accepted) inputs-typed k ∙ r .accepted
 
         input-typed : OfType (inputType s) input
         input-typed = rw input-is at (all-at inputs-typed k (in-list k h))
@@ -210,16 +210,16 @@ module _ (s : List ℕ) (n : ℕ) (W stim : List ℕ) (wi wo count : ℕ) (curre
         output-long =
             value-length (typeAt begins (r .type))
             (output-typed undecidedRule rule-lawful begins (r .type) begins-accepted input
-            (rw (header-same (accepted-written s (r .type) (r .accepted)) delays 2 (omega arith), same-type s begins begins-leaves (wordA s 0)) input-typed))
+            (rw (header-same (accepted-written s (r .accepted)) delays 2 (omega arith), same-type s begins begins-leaves (wordA s 0)) input-typed))
             ∙ rw (same-type s begins begins-leaves (r .type)) (sym (r .gives))
 
         next-output : getD outs k [] ≡ output begins input
         next-output = output-at undecidedRule s (cycles s stim) k (in-list k h) ∙ ap (output begins) input-is
 
-        pub gone-on : (from′ at′ : ℕ) (env′ held′ current′ out′ : List ℕ) → from′ ≡ from + wi → at′ ≡ at + wo
+        pub gone-on : {from′ at′ : ℕ} {env′ held′ current′ out′ : List ℕ} → from′ ≡ from + wi → at′ ≡ at + wo
             → Lent stim from wi current out at wo env′ held′ current′ out′
             → Before s stim wi wo count out₀ (k + 1) from′ at′ env′ held′ current′ out′
-        gone-on from′ at′ env′ held′ current′ out′ ef ea l =
+        gone-on {out′ = out′} ef ea l =
             let filled : out′ ≡ take at out ++ (output begins input ++ drop (at + wo) out) = rw (b .sheet) at (l .filled) in
             let c = cycle-room in
             let front : length (take at out) ≡ at = length-take-le at out (omega arith) in
@@ -247,16 +247,16 @@ module _ (s : List ℕ) (n : ℕ) (W stim : List ℕ) (wi wo count : ℕ) (curre
                   ∙ rw (b .outputs, ← next-output) (one-more k (in-outs k h)));
             }
 
-    pub sheet-long : (k from at : ℕ) (env held current out : List ℕ) → Before s stim wi wo count out₀ k from at env held current out
+    pub sheet-long : {k from at : ℕ} {env held current out : List ℕ} → Before s stim wi wo count out₀ k from at env held current out
         → length current ≡ length current₀
-    sheet-long k from at env held current out b =
+    sheet-long {k} b =
         ap length (b .sheet)
-        ∙ sheet-only-delays undecidedRule rule-lawful s (r .type) (r .accepted) (cycles s stim) inputs-typed k .length
+        ∙ sheet-only-delays rule-lawful s (r .accepted) inputs-typed k .length
         ∙ ap length (sym (r .start))
 
-    pub ended : (k from at : ℕ) (env held current out : List ℕ) → Before s stim wi wo count out₀ k from at env held current out → count ≤ k
+    pub ended : {k from at : ℕ} {env held current out : List ℕ} → Before s stim wi wo count out₀ k from at env held current out → count ≤ k
         → RanCycles s stim current out
-    ended k from at env held current out b h =
+    ended {k} {at = at} {out = out} b h =
         let f = b .few in
         let e : k ≡ count = omega arith in
         let c = cycles-counted s stim in

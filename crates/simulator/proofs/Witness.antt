@@ -42,7 +42,7 @@ abbrev names : List ℕ
 names = replicate 4096 0
 
 -- a well-formed call with a first cycle
-module _ (s stim out next : List ℕ) (t : ℕ) (h : WellFormed s stim out next t) (some : 0 < length stim) where
+module _ {s stim out next : List ℕ} {t : ℕ} (h : WellFormed s stim out next t) (some : 0 < length stim) where
   passes : Passes s
   passes = accepted-passes s t (h .accepted)
 
@@ -78,10 +78,7 @@ module _ (s stim out next : List ℕ) (t : ℕ) (h : WellFormed s stim out next 
 
   first-lending : Lending s (count s) table names names stim 0 (inputLeaves s) s out 0 (leaves (typeAt s t))
   first-lending =
-      lending s (count s) table stim (inputLeaves s) (leaves (typeAt s t)) (cycleCount s stim) s out running 0 0 0 names names s out
-      (at-first s (count s) table stim (inputLeaves s) (leaves (typeAt s t)) (cycleCount s stim) s out running names names
-      (zeros-long 4096) (zeros-long 4096))
-      some-cycle
+      lending running (at-first running (zeros-long 4096) (zeros-long 4096)) some-cycle
 
   abbrev input : List ℕ
   input = take (inputLeaves s) stim
@@ -128,42 +125,42 @@ some-input : 0 < length ones
 some-input = omega arith
 
 toggle-running
-    : RunningCycles toggle (count toggle) (table toggle ones room lent 1 toggle-formed some-input) ones (inputLeaves toggle) (leaves (typeAt toggle 1))
+    : RunningCycles toggle (count toggle) (table toggle-formed some-input) ones (inputLeaves toggle) (leaves (typeAt toggle 1))
     (cycleCount toggle ones) toggle room
-toggle-running = running toggle ones room lent 1 toggle-formed some-input
+toggle-running = running toggle-formed some-input
 
 toggle-lending
-    : Lending toggle (count toggle) (table toggle ones room lent 1 toggle-formed some-input) names names ones 0 (inputLeaves toggle) toggle room 0
+    : Lending toggle (count toggle) (table toggle-formed some-input) names names ones 0 (inputLeaves toggle) toggle room 0
     (leaves (typeAt toggle 1))
-toggle-lending = first-lending toggle ones room lent 1 toggle-formed some-input
+toggle-lending = first-lending toggle-formed some-input
 
 toggle-cycling
-    : Cycling toggle (count toggle) (table toggle ones room lent 1 toggle-formed some-input) names names (input toggle ones room lent 1 toggle-formed some-input) toggle
-    (part toggle ones room lent 1 toggle-formed some-input)
-toggle-cycling = first-cycling toggle ones room lent 1 toggle-formed some-input
+    : Cycling toggle (count toggle) (table toggle-formed some-input) names names (input toggle-formed some-input) toggle
+    (part toggle-formed some-input)
+toggle-cycling = first-cycling toggle-formed some-input
 
 toggle-copying : Copying toggle (count toggle) toggle
-toggle-copying = first-copying toggle ones room lent 1 toggle-formed some-input
+toggle-copying = first-copying toggle-formed some-input
 
 toggle-ready
-    : EvaluatingIn toggle (count toggle) (table toggle ones room lent 1 toggle-formed some-input) (entered 0 (input toggle ones room lent 1 toggle-formed some-input) names) 1
-    (wordB toggle 0) (part toggle ones room lent 1 toggle-formed some-input) (inputs toggle)
-toggle-ready = first-ready toggle ones room lent 1 toggle-formed some-input
+    : EvaluatingIn toggle (count toggle) (table toggle-formed some-input) (entered 0 (input toggle-formed some-input) names) 1
+    (wordB toggle 0) (part toggle-formed some-input) (inputs toggle)
+toggle-ready = first-ready toggle-formed some-input
 
 toggle-settling
-    : SettlingIn toggle (count toggle) (table toggle ones room lent 1 toggle-formed some-input) (started toggle ones room lent 1 toggle-formed some-input) 1
+    : SettlingIn toggle (count toggle) (table toggle-formed some-input) (started toggle-formed some-input) 1
     (word toggle (wordB toggle 0) 3)
-    (take (getD (table toggle ones room lent 1 toggle-formed some-input) (word toggle (wordB toggle 0) 3) 0 - 0) (replicate 64 0))
+    (take (getD (table toggle-formed some-input) (word toggle (wordB toggle 0) 3) 0 - 0) (replicate 64 0))
     (wordA toggle (wordB toggle 0)) (inputs toggle)
 unfolding word kindOf rowOf
-toggle-settling = settling toggle ones room lent 1 toggle-formed some-input refl
+toggle-settling = settling toggle-formed some-input refl
 
 toggle-chained : Chained toggle (count toggle) 4 1
 unfolding count word kindOf rowOf chain chainWithin
-toggle-chained = chained toggle ones room lent 1 toggle-formed some-input 4 (omega arith) refl
+toggle-chained = chained toggle-formed some-input 4 (omega arith) refl
 
-toggle-matched : Matching toggle (count toggle) (table toggle ones room lent 1 toggle-formed some-input) 7 (1 ∷ [])
+toggle-matched : Matching toggle (count toggle) (table toggle-formed some-input) 7 (1 ∷ [])
 unfolding count word kindOf rowOf alternatives alternativesWithin typeAt typeWithin
 toggle-matched =
-    matched toggle ones room lent 1 toggle-formed some-input 7 1 (1 ∷ []) (omega arith) refl
+    matched toggle-formed some-input 7 1 (1 ∷ []) (omega arith) refl
     (record { past = omega arith; there = omega arith; sort = refl }) refl refl

@@ -1,5 +1,5 @@
--- The run of an accepted sheet: its stimulus held against the leaves' counts, one cycle lent its parts of the slices, all cycles, and
--- the call as a whole.
+-- The run of an accepted sheet, inside the call: one cycle lent its parts of the slices, all cycles, and the run with the check's table.
+-- What the calls themselves give stands in `Calls`.
 use Prim.Native.Nat.{ℕ, _+_, _*_, _≤_}
 use mathlib.Core.Path.{_≡_}
 use mathlib.Core.Bool.{false}
@@ -14,12 +14,11 @@ use Rattle.verdict.specs.Verdict.{verdict}
 use Rattle.verdict.specs.Widths.{Widths}
 use Rattle.verdict.specs.declared.Verdict.the-variants.{Accepted}
 use Rattle.meaning.specs.Undecided.{undecidedRule}
-use Rattle.behaviour.specs.Sheets.{Bytes}
 use Rattle.behaviour.specs.Cycle.{output, sheetAfterCycle}
 use Rattle.stimulus.specs.Stimulus.{inputLeaves, cycleCount, endToEnd, cycles, wrongStimulus, wrongByte}
-use Rattle.behaviour.specs.Run.{outputsBy, sheetAfter, Gives}
-use Rattle.behaviour.specs.Afterwards.{WellFormed, Afterwards}
+use Rattle.behaviour.specs.Run.{outputsBy, sheetAfter}
 use Rattle.stepper.specs.Cycling.{Cycling}
+pub use Rattle.simulator.specs.Calls.{Measured, Ran}
 
 -- one cycle is lent its parts of the stimulus, from `from`, and of the output, from `at`
 pub record Lending
@@ -67,15 +66,3 @@ pub record RunningAccepted (s : List ℕ) (n : ℕ) (widths : List ℕ) (t : ℕ
   pub sized : Sized s n
   pub accepted : verdict s ≡ Accepted t
   pub table : Widths s widths
-
--- the leaves of a cycle's input and output, for an accepted sheet
-pub record Measured (s : List ℕ) (input output : ℕ) : Type 0 where
-  pub leaves-of : (t : ℕ) → verdict s ≡ Accepted t → (input ≡ inputLeaves s) × (output ≡ leaves (typeAt s t))
-  pub few-input : input ≤ 64
-  pub few-output : output ≤ 64
-
--- the call: what it gives, and demand 3; the sheet handed in is one of bytes, and so, by demand 3, is each after it
-pub record Ran (sheet stimulus out next : List ℕ) (result : ℕ) (out′ next′ : List ℕ) : Type 0 where
-  pub gives : Gives sheet stimulus out next result out′ next′
-  pub bytes : Bytes sheet
-  pub afterwards : (t : ℕ) → WellFormed sheet stimulus out next t → Afterwards sheet stimulus t result out′ next′

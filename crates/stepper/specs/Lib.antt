@@ -1,2 +1,3 @@
 -- What a cycle is run with, and what comes of it.
+-- Nothing here is to be believed: what functions ask and give, and their proofs need.
 pub mod Cycling

@@ -1,4 +1,6 @@
--- The stimulus: its cycles, and the checks 8 and 9. `Tests` and `Checked` are what the functions' proofs need.
+-- The stimulus: its cycles, and the checks 8 and 9.
+-- To believe:
 pub mod Stimulus
+-- What functions ask and give, and their proofs need:
 pub mod Tests
 pub mod Holding

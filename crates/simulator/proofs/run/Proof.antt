@@ -23,7 +23,7 @@ packed-verdict-requires : tie.Need-packed-verdict-requires
 packed-verdict-requires c κs = rw (c .before .check-into .ensures .answered) (let h = verdict-place (now (c .before .before .before .before .before .before .before .before .before .args .sheet)) in omega arith)
 
 returns : tie.Need-returns
-returns c = call-refused _ _ _ _ (c .before .before .before .before .before .before .before .before .before .shared-slice-known .given) (c .before .before .check-into .result) (c .before .before .check-into .ensures .answered) (c .before .match .keys2) _ (c .packed-verdict .ensures)
+returns c = call-refused (c .before .before .before .before .before .before .before .before .before .shared-slice-known .given) (c .before .before .check-into .result) (c .before .before .check-into .ensures .answered) (c .before .match .keys2) (c .packed-verdict .ensures)
 
 run-accepted-requires : tie.Need-run-accepted-requires
 run-accepted-requires c κs = accepted-call _ _ (c .before .before .before .before .before .before .before .before .before .records-in .ensures) _ _ _ _ (c .before .before .before .before .before .before .check-into .ensures) (c .before .before .before .before .verdict .given .1)
@@ -35,7 +35,7 @@ same-length-2 : tie.Need-same-length-2
 same-length-2 c = search needs
 
 returns-2 : tie.Need-returns-2
-returns-2 c = call-runs _ _ _ _ _ _ _ (c .before .before .before .before .before .before .before .before .before .before .before .before .before .before .before .before .before .before .shared-slice-known .given) (c .before .before .before .before .run-accepted .ensures)
+returns-2 c = call-runs (c .before .before .before .before .before .before .before .before .before .before .before .before .before .before .before .before .before .before .shared-slice-known .given) (c .before .before .before .before .run-accepted .ensures)
 
 pub run-spec : {M : Type 1} → statement M
 run-spec =

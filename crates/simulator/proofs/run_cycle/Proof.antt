@@ -30,7 +30,7 @@ part-cycle-end-2 : tie.Need-part-cycle-end-2
 part-cycle-end-2 c = c .before .before .before .before .before .before .before .before .before .pre .room
 
 cycle-requires : tie.Need-cycle-requires
-cycle-requires c κs = lent-cycling _ _ _ _ _ _ _ _ _ _ _ _ (c .before .before .before .before .before .before .before .before .before .before .pre)
+cycle-requires c κs = lent-cycling (c .before .before .before .before .before .before .before .before .before .before .pre)
 
 same-length : tie.Need-same-length
 same-length c = search needs
@@ -42,7 +42,7 @@ same-length-3 : tie.Need-same-length-3
 same-length-3 c = search needs
 
 returns : tie.Need-returns
-returns c = lent-back _ _ _ _ _ _ _ _ _ _ _ _ (c .before .before .before .before .before .before .before .before .before .before .before .before .before .before .before .before .before .pre) _ _ _ _ (c .before .before .before .before .before .before .cycle .ensures)
+returns c = lent-back (c .before .before .before .before .before .before .before .before .before .before .before .before .before .before .before .before .before .pre) (c .before .before .before .before .before .before .cycle .ensures)
 
 pub run-cycle-spec : {M : Type 1} → statement M
 run-cycle-spec =
