@@ -16,7 +16,7 @@ use Rattle.records.proofs.Rewritten.{same-type, same-tree}
 use Rattle.records.proofs.Asked.{past-header}
 use Rattle.records.proofs.Trees.{tree-of}
 use Rattle.structure.specs.Passes.{Passes}
-use Rattle.accepted.proofs.Laws.{written, named-once}
+use Rattle.accepted.proofs.Laws.{written, well-named}
 use Rattle.verdict.specs.Verdict.{verdict}
 use Rattle.verdict.specs.Scopes.{Scope}
 use Rattle.verdict.specs.declared.Verdict.the-variants.{Accepted}
@@ -74,7 +74,7 @@ module _ (s : List ℕ) (t : ℕ) (v : verdict s ≡ Accepted t) (q : ℕ) (belo
   passes = accepted-by-types s t .0 v .0
 
   scoped : Scoped s q
-  scoped = every-expression (written passes) (named-once passes) q (past-header (written passes) q (rw kind)) below (rw kind)
+  scoped = every-expression (written passes) (well-named passes) q (past-header (written passes) q (rw kind)) below (rw kind)
 
   own-tree : treeAt s q ≡ feedbackOf q (wordA s q) (treeAt s (wordB s q)) (treeAt s (wordC s q))
   own-tree = tree-of (written passes) q below (expression feedback) kind
