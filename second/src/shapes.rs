@@ -30,7 +30,7 @@ pub const SMALL: [(&str, Make); 15] = [
 ];
 
 /// Sheets of 4,096 records.
-pub const LARGE: [(&str, Make); 19] = [
+pub const LARGE: [(&str, Make); 21] = [
     ("deep", large::deep),
     ("wide", large::wide),
     ("wide-random", large::wide_random),
@@ -48,6 +48,8 @@ pub const LARGE: [(&str, Make); 19] = [
     ("pattern-chain", large::pattern_chain),
     ("nested-patterns", large::nested_patterns),
     ("deep-pattern", large::deep_pattern),
+    ("shared-pattern", large::shared_pattern),
+    ("shared-nested-pattern", large::shared_nested_pattern),
     ("names", large::names),
     ("doubled-types", large::doubled_types),
 ];
