@@ -117,7 +117,7 @@ static inline const char *sheet_sentence(uint32_t code)
         "The sheet is under 12 bytes long, over 49,152, or no multiple of 12.",
         "The header's kind, count or last word is wrong, or it names no record or one of the wrong sort.",
         "A record has an unknown kind, or a word that its kind, the numbering rule or the sort it asks for does not allow.",
-        "A record is not named exactly once.",
+        "A record is named by no word, or by several that are not all words d of IFs.",
         "A pair type has the same parts as a lower one, or over 64 leaves.",
         "An expression lies over 64 deep, or in the defining parts of over three feedbacks.",
         "A type rule is broken.",

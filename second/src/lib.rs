@@ -44,6 +44,8 @@ mod order_tests;
 #[cfg(test)]
 mod rule_tests;
 #[cfg(test)]
+mod sharing_tests;
+#[cfg(test)]
 mod simulator_tests;
 #[cfg(test)]
 mod text_tests;

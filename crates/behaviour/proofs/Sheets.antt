@@ -26,7 +26,7 @@ use Rattle.records.proofs.Distinct.{circuit-distinct}
 use Rattle.records.proofs.Grown.{grown-circuit}
 use Rattle.records.proofs.Rewritten.{same-circuit}
 use Rattle.structure.specs.Passes.{Passes}
-use Rattle.accepted.proofs.Laws.{written, named-once}
+use Rattle.accepted.proofs.Laws.{written, well-named}
 use Rattle.verdict.specs.Verdict.{inputs, verdict}
 use Rattle.verdict.specs.declared.Verdict.the-variants.{Accepted}
 use Rattle.accepted.proofs.Laws.{accepted-by-types}
@@ -160,7 +160,7 @@ module _ (s : List ℕ) {t : ℕ} (v : verdict s ≡ Accepted t) where
   constants-stay : {s′ : List ℕ} → OnlyDelays s s′ → (x : ℕ) → List·Memᴰ x (held false true false (circuit s)) → wordA s′ x ≡ wordA s x
   constants-stay o x m =
       same-word o x 2 (omega arith)
-      (λ l n e k. constants-apart (circuit s) (circuit-distinct accepted-written (named-once passes) false true true) x m (rw e n))
+      (λ l n e k. constants-apart (circuit s) (circuit-distinct accepted-written (well-named passes) false true true) x m (rw e n))
 
   pub circuit-filled : {s′ : List ℕ} → OnlyDelays s s′ → circuitTerm s′ ≡ fill (leafValues s′) (circuitTerm s)
   unfolding circuitTerm
@@ -186,7 +186,7 @@ module _ (s : List ℕ) {t : ℕ} (v : verdict s ≡ Accepted t) where
     write-reads =
         let places = framed-places s e (h .frame) in
         put-read sheet-cells (entries e) s
-        (places .distinct (circuit-distinct accepted-written (named-once passes) false false true))
+        (places .distinct (circuit-distinct accepted-written (well-named passes) false false true))
         (λ l m. leaf-in-sheet s l (circuit-leaves accepted-written false true l (places .back l m) .there))
 
     -- every other record keeps its word a

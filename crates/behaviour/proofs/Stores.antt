@@ -14,7 +14,7 @@ use Rattle.records.specs.Trees.{circuit}
 use Rattle.records.specs.Held.{delayLeaves, Distinct}
 use Rattle.records.proofs.Leaves.{circuit-leaves}
 use Rattle.records.proofs.Distinct.{circuit-distinct}
-use Rattle.accepted.proofs.Laws.{named-once}
+use Rattle.accepted.proofs.Laws.{well-named}
 use Rattle.verdict.specs.Verdict.{verdict}
 use Rattle.verdict.specs.declared.Verdict.the-variants.{Accepted}
 use Rattle.accepted.proofs.Laws.{accepted-by-types}
@@ -98,7 +98,7 @@ module _ (s : List ℕ) (t : ℕ) (v : verdict s ≡ Accepted t) (e : Term) (h :
   leaves-distinct : Distinct (places e)
   leaves-distinct =
       framed-places s e (h .frame) .distinct
-      (circuit-distinct (accepted-written s v) (named-once (accepted-by-types s t .0 v .0)) false false true)
+      (circuit-distinct (accepted-written s v) (well-named (accepted-by-types s t .0 v .0)) false false true)
 
   pub written-small : Small (entries e)
   written-small =

@@ -33,7 +33,7 @@ use Rattle.records.specs.Kinds.{
 }
 use Rattle.records.specs.Says.{kindAt, askAt, higher, meets, meetsAt, wellSaid}
 use Rattle.records.specs.Rewritten.{OnlyLeaves}
-use Rattle.records.specs.Written.{Written, NamedOnce}
+use Rattle.records.specs.Written.{Written, WellNamed}
 use Rattle.records.proofs.Tests.{both}
 use Rattle.records.proofs.Table.{askOfKind, ask-by-kind, constructor-of-flat}
 use Rattle.records.proofs.Asked.{meets-at, as-asked}
@@ -106,5 +106,5 @@ module _ (s s′ : List ℕ) (w : Written s) (o : OnlyLeaves s s′)
     others = λ r low high. rw (same-kind s s′ o r) (w .others r low (rw (same-count s s′ o) at high));
   }
 
-pub named-again : (s s′ : List ℕ) → OnlyLeaves s s′ → NamedOnce s → NamedOnce s′
-named-again s s′ o once = λ r low high. rw (same-namings s s′ o r) (once r low (rw (same-count s s′ o) at high))
+pub named-again : (s s′ : List ℕ) → OnlyLeaves s s′ → WellNamed s → WellNamed s′
+named-again s s′ o well = λ r low high. rw (same-namings s s′ o r) (well r low (rw (same-count s s′ o) at high))

@@ -28,9 +28,9 @@ use Rattle.records.specs.Namings.{Naming, names}
 use Rattle.records.specs.Trees.{treeAt}
 use Rattle.records.proofs.Table.{askOfKind}
 use Rattle.records.proofs.Asked.{part-of-kind, past-header}
-use Rattle.records.proofs.Namings.{Names, namer-lower, part-names, only-naming}
+use Rattle.records.proofs.Namings.{Names, namer-lower, part-names, part-word-other, only-naming}
 use Rattle.structure.specs.Passes.{Passes}
-use Rattle.structure.proofs.Passes.{written, named-once}
+use Rattle.structure.proofs.Passes.{written, well-named}
 use Rattle.structure.proofs.Depths.{root-names}
 use Rattle.typing.specs.Judgements.{typeRecordOf}
 use Rattle.verdict.specs.Verdict.{inputs}
@@ -113,19 +113,21 @@ came (if-then e c) = through ifMatches 3 e refl (unfold askOfKind in refl) c
 came (if-else e c) = through ifMatches 4 e refl (unfold askOfKind in refl) c
 came (of-delay e c) = through delay 4 e refl (unfold askOfKind in refl) c
 
-one-naming : {s : List ℕ} → Passes s → (r : ℕ) (x y : Naming) → 0 < r → Names s r x → Names s r y → x ≡ y
-one-naming {s} p r x y past n m =
+one-naming : {s : List ℕ} → Passes s → (r : ℕ) (x y : Naming) → 0 < r → x .at < 5 → y .at < 5 → Names s r x → Names s r y → x ≡ y
+one-naming {s} p r x y past d e n m =
     let h = namer-lower (written p) r x past n .1 in
-    let a = only-naming s (named-once p) r x past h n in
-    let b = only-naming s (named-once p) r y past h m in
+    let a = only-naming s (well-named p) r x past h d n in
+    let b = only-naming s (well-named p) r y past h e m in
     cc
 
-part-naming : {s : List ℕ} {r : ℕ} {Γ : List ℕ} → Passes s → (o : OfPart s r Γ) → (0 < r) × Names s r (record { by = o .by; at = o .at })
+part-naming : {s : List ℕ} {r : ℕ} {Γ : List ℕ} → Passes s → (o : OfPart s r Γ)
+    → (0 < r) × (o .at < 5) × Names s r (record { by = o .by; at = o .at })
 part-naming {s} {r} p o =
     let h = scope-noting (written p) (o .scope) .own .there in
     let f = part-of-kind (written p) (o .by) (expression (o .kind)) expressions h (o .is) (o .at) (o .word-number) (o .asked) in
     let e = o .part-is in (
       omega arith,
+      part-word-other (expression (o .kind)) expressions (o .at) (o .asked) (o .word-number) refl,
       rw (o .part-is) at (part-names s (o .by) (expression (o .kind)) expressions h (o .is) (o .at) (o .word-number) (o .asked)),
     )
 
@@ -138,7 +140,7 @@ scope-only {s} p = from-below (λ r. (Γ Δ : List ℕ) → Scope s r Γ → Sco
         let n = part-naming p o in
         let x : Naming = record { by = 0; at = 3 } in
         let y : Naming = record { by = o .by; at = o .at } in
-        let same = one-naming p r x y (n .0) (rw e at (root-names (written p))) (n .1) in
+        let same = one-naming p r x y (n .0) (omega arith) (n .1) (rw e at (root-names (written p))) (n .2) in
         let zero-is : 0 ≡ o .by = ap (λ (m : Naming). m .by) same in
         let past : 0 < o .by = past-header (written p) (o .by) (rw (o .is)) in
         omega arith
@@ -156,11 +158,11 @@ scope-only {s} p = from-below (λ r. (Γ Δ : List ℕ) → Scope s r Γ → Sco
             let m = part-naming p u in
             let x : Naming = record { by = o .by; at = o .at } in
             let y : Naming = record { by = u .by; at = u .at } in
-            let same = one-naming p r x y (n .0) (n .1) (m .1) in
+            let same = one-naming p r x y (n .0) (n .1) (m .1) (n .2) (m .2) in
             let by : o .by ≡ u .by = ap (λ (z : Naming). z .by) same in
             let at : o .at ≡ u .at = ap (λ (z : Naming). z .at) same in
             let kind : o .kind ≡ u .kind = let a = o .is in let b = u .is in cc in
-            let lower = namer-lower (written p) r x (n .0) (n .1) .0 in
+            let lower = namer-lower (written p) r x (n .0) (n .2) .0 in
             let around : o .around ≡ u .around = below (o .by) lower (o .around) (u .around) (o .scope) (rw by (u .scope)) in
             let a = o .names-are in
             let b = u .names-are in

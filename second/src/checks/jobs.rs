@@ -10,6 +10,7 @@ use second::generate::circuits::{circuit, circuit_of_records};
 use second::layout::{layout, sheet};
 use second::random::Random;
 use second::records::{bytes, read, Record, KIND, KINDS};
+use second::structure::choices_on;
 
 use super::compare::{Comparer, Ended};
 use super::fixed_sheets;
@@ -80,8 +81,12 @@ fn share(name: &str) -> u64 {
     quota(name).div_ceil(SHARDS)
 }
 
-/// Counts the kinds in an accepted sheet with over 30 records.
+/// Counts the kinds in an accepted sheet with over 30 records, and patterns
+/// that several IFs name.
 fn count_kinds(to: &mut Comparer, records: &[Record], verdict: Answer) {
+    let most = choices_on(records).into_iter().max().unwrap_or(0);
+    to.tally.add(tally::SHARED, verdict.code == 0 && most == 2);
+    to.tally.add(tally::SHARED_BY_MORE, verdict.code == 0 && most > 2);
     let large = records.len() > 30;
     if !large {
         return;

@@ -47,6 +47,8 @@ const TWO_FAULTS: u64 = 10_000;
 const PERCENT_HIT: u64 = 90;
 
 pub const ACCEPTED: &str = "accepted, over 30 records";
+pub const SHARED: &str = "accepted, a pattern named by two IFs";
+pub const SHARED_BY_MORE: &str = "accepted, a pattern named by three IFs or more";
 pub const HEADERS: &str = "damaged headers";
 pub const LENGTHS: &str = "every length from 0 to 64, and around 49,152";
 pub const PREFIXES: &str = "prefixes of T";
@@ -68,8 +70,10 @@ pub const RANDOM_BYTES: &str = "random bytes";
 
 /// The quotas of the named counts. Where the sheets aim at a code, those that
 /// hit it are counted; elsewhere all are.
-pub const QUOTAS: [(&str, u64); 19] = [
+pub const QUOTAS: [(&str, u64); 21] = [
     (ACCEPTED, 40_000),
+    (SHARED, 4_000),
+    (SHARED_BY_MORE, 4_000),
     (HEADERS, 10_000),
     (LENGTHS, 70 * 20),
     (PREFIXES, 205),
