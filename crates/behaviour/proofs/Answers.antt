@@ -49,7 +49,7 @@ use Rattle.behaviour.specs.Promises.{SaysOfCall, LowestFirst, PlacesSmal
 use Rattle.behaviour.proofs.Afterwards.{answer-done, afterwards}
 
 -- two lists of checks, one after the other
-first-both : (ks js : List Check) (done : Answer) → firstApplying (ks ++ js) done ≡ firstApplying ks (firstApplying js done)
+pub first-both : (ks js : List Check) (done : Answer) → firstApplying (ks ++ js) done ≡ firstApplying ks (firstApplying js done)
 first-both [] js done = refl
 first-both (k ∷ ks) js done = go (k .found) (first-both ks js done)
   where
@@ -59,7 +59,7 @@ first-both (k ∷ ks) js done = go (k .found) (first-both ks js done)
     go (some p) e = refl
 
 -- what comes after a refusal does not matter
-first-then : (ks : List Check) (p : ℕ) (rest : ℕ → Answer) → firstApplying ks (rest p) ≡ onDone (firstApplying ks (Done p)) rest
+pub first-then : (ks : List Check) (p : ℕ) (rest : ℕ → Answer) → firstApplying ks (rest p) ≡ onDone (firstApplying ks (Done p)) rest
 first-then [] p rest = refl
 first-then (k ∷ ks) p rest = go (k .found) (first-then ks p rest)
   where
