@@ -1,0 +1,2 @@
+-- The laws of carrying.
+pub mod Cases

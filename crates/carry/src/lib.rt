@@ -1,0 +1,1 @@
+// Carrying held values from a running sheet into a new one.
