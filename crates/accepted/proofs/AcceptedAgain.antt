@@ -75,7 +75,7 @@ judged-fitting s Γ (ifOf r a p b c) j = (judged-fitting s Γ a (j .0), judged-f
 judged-fitting s Γ (delayOf r t ls a) j = (within-fits (bounds (typeAt s t)) (leafValues s ls) (j .1), judged-fitting s Γ a (j .0))
 
 module _ (s s′ : List ℕ) (o : Rewritten s s′) where
-  pattern-again : (m : Alternatives) (t : ℕ) → patternFits s′ m t ≡ patternFits s m t
+  pub pattern-again : (m : Alternatives) (t : ℕ) → patternFits s′ m t ≡ patternFits s m t
   pattern-again end t = refl
   pattern-again noPattern t = refl
   pattern-again (wholeType r u m) t = rw (pattern-again m t)

@@ -35,15 +35,15 @@ record-passes w zero h = refl
 record-passes w (suc r) h = rw (w .others (suc r) (omega arith) h, w .said (suc r) h) (and-false (ltb 0 (suc r)))
 
 module _ (s s′ : List ℕ) (o : Rewritten s s′) where
-  same-length : wrongLength s′ ≡ wrongLength s
+  pub same-length : wrongLength s′ ≡ wrongLength s
   unfolding wrongLength
   same-length = rw (o .length)
 
-  same-naming-rule : (r : ℕ) → wrongNaming s′ r ≡ wrongNaming s r
+  pub same-naming-rule : (r : ℕ) → wrongNaming s′ r ≡ wrongNaming s r
   unfolding wrongNaming
   same-naming-rule r = rw (same-namings s s′ o r)
 
-  same-type-rule : (r : ℕ) → wrongType s′ r ≡ wrongType s r
+  pub same-type-rule : (r : ℕ) → wrongType s′ r ≡ wrongType s r
   unfolding wrongType
   same-type-rule r = go (leaf-or-same s s′ o r)
     where
@@ -75,7 +75,7 @@ module _ (s s′ : List ℕ) (o : Rewritten s s′) where
   unfolding nesting
   same-nesting r = ap₂ howMany (fun-ext (λ n. ap (λ k. isFeedback k && eqb (n .at) 3) (same-kind s s′ o (n .by)))) (same-ancestry r)
 
-  same-depth-rule : (r : ℕ) → tooDeep s′ r ≡ tooDeep s r
+  pub same-depth-rule : (r : ℕ) → tooDeep s′ r ≡ tooDeep s r
   unfolding tooDeep
   same-depth-rule r = rw (same-kind s s′ o r, same-depth r, same-nesting r)
 
