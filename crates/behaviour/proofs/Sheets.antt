@@ -85,7 +85,7 @@ same-record r k l h e = go (decLt r l) (decLt l r)
     go (no a) (no b) = (omega arith, omega arith)
 
 -- a word of a record that is not the word a of a delay's leaf
-same-word : {s s′ : List ℕ} → OnlyDelays s s′ → (r k : ℕ) → k < 6
+pub same-word : {s s′ : List ℕ} → OnlyDelays s s′ → (r k : ℕ) → k < 6
     → ((l : ℕ) → List·Memᴰ l (delayLeaves (circuit s)) → r ≡ l → k ≡ 2 → ⊥) → word s′ r k ≡ word s r k
 unfolding word
 same-word {s} {s′} o r k h other =
@@ -111,11 +111,11 @@ header-same w o =
     only-leaves w o .others 0 (λ f. let g = w .headed in let z : _≡_ {A = ℕ} 0 1 = cc in omega arith)
 
 -- a leaf record of the sheet: its word a stands in the sheet, and is a byte
-leaf-in-sheet : (s : List ℕ) (l : ℕ) → l < count s → InSheet l s
+pub leaf-in-sheet : (s : List ℕ) (l : ℕ) → l < count s → InSheet l s
 unfolding count
 leaf-in-sheet s l h = omega arith
 
-leaf-small : {s : List ℕ} → Written s → (l : ℕ) → l < count s → kindAt s l ≡ leaf → wordA s l ≤ 255
+pub leaf-small : {s : List ℕ} → Written s → (l : ℕ) → l < count s → kindAt s l ≡ leaf → wordA s l ≤ 255
 leaf-small w l h e = unfold askOfKind in as-kind-asks w l leaf h e 2 refl
 
 -- the entry at a place

@@ -55,7 +55,7 @@ use Rattle.meaning.specs.Elaboration.{Constant, Pair, First, Second, LetIn, Fee
 use Rattle.behaviour.specs.Terms.{term}
 use Rattle.behaviour.proofs.Frames.{fill}
 
-same-values : (s s′ ls : List ℕ) → ((x : ℕ) → List·Memᴰ x ls → wordA s′ x ≡ wordA s x) → leafValues s′ ls ≡ leafValues s ls
+pub same-values : (s s′ ls : List ℕ) → ((x : ℕ) → List·Memᴰ x ls → wordA s′ x ≡ wordA s x) → leafValues s′ ls ≡ leafValues s ls
 same-values s s′ [] same = refl
 same-values s s′ (l ∷ ls) same = ap₂ _∷_ (same l (List·Memᴰ·head refl)) (same-values s s′ ls (λ x m. same x (List·Memᴰ·tail m)))
 

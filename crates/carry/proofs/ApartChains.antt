@@ -1,5 +1,5 @@
--- No leaf stands in the chains of two delays: a leaf of a chain is its first, which the delay names, or another leaf of the chain
--- names it; and it is named once. By induction on the chain, from the highest leaf down, and on the leaf's number.
+-- No leaf stands in the chains of two constants or delays: a leaf of a chain is its first, which the record names, or another leaf of
+-- the chain names it; and it is named once. By induction on the chain, from the highest leaf down, and on the leaf's number.
 -- Assumes nothing.
 use Prim.Native.Nat.{ℕ, zero, suc, _<_}
 use mathlib.Core.List.{List, [], _∷_, List·Memᴰ, List·Memᴰ·head, List·Memᴰ·tail}
@@ -7,7 +7,7 @@ use mathlib.Core.Path.{_≡_, refl, sym, ap, subst, _∙_}
 use mathlib.Core.Logic.{_⊎_, inl, inr}
 use native.Mathlib.Omega.{arith}
 use Rattle.records.specs.Words.{count, nextWord, wordB}
-use Rattle.records.specs.Kinds.{expression, delay, leaf, leafs}
+use Rattle.records.specs.Kinds.{Kind, leaf, leafs, part}
 use Rattle.records.specs.Says.{kindAt, sortAt}
 use Rattle.records.specs.Trees.{chain, follow}
 use Rattle.records.specs.Namings.{Naming}
@@ -76,24 +76,27 @@ module _ {s : List ℕ} (w : Written s) (once : NamedOnce s) where
   one-naming x low high i j p q =
       let e = only-naming s once x i low high p in let f = only-naming s once x j low high q in cc
 
-  module _ (r : ℕ) (hr : r < count s) (dr : kindAt s r ≡ expression delay) (q : ℕ) (hq : q < count s) (dq : kindAt s q ≡ expression delay) where
-    first-named : (p : ℕ) → p < count s → kindAt s p ≡ expression delay → Names s (wordB s p) (record { by = p; at = 3 })
-    first-named p h e = part-names s p (expression delay) leafs h e 3 refl (unfold askOfKind in refl)
+  first-named : (p : ℕ) → p < count s → (k : Kind) → kindAt s p ≡ k → askOfKind k 3 ≡ part leafs → Names s (wordB s p) (record { by = p; at = 3 })
+  first-named p h k e a = part-names s p k leafs h e 3 refl a
 
-    first-leaf : (p : ℕ) → p < count s → kindAt s p ≡ expression delay → (wordB s p < count s) × (sortAt s (wordB s p) ≡ leafs)
-    first-leaf p h e = let f = part-of-kind w p (expression delay) leafs h e 3 refl (unfold askOfKind in refl) in (f .1, f .2)
+  pub first-leaf : (p : ℕ) → p < count s → (k : Kind) → kindAt s p ≡ k → askOfKind k 3 ≡ part leafs
+      → (wordB s p < count s) × (sortAt s (wordB s p) ≡ leafs)
+  first-leaf p h k e a = let f = part-of-kind w p k leafs h e 3 refl a in (f .1, f .2)
 
+  -- two records whose words b begin chains of leaves
+  module _ (r : ℕ) (hr : r < count s) (kr : Kind) (dr : kindAt s r ≡ kr) (ar : askOfKind kr 3 ≡ part leafs)
+      (q : ℕ) (hq : q < count s) (kq : Kind) (dq : kindAt s q ≡ kq) (aq : askOfKind kq 3 ≡ part leafs) where
     leaf-there : (x : ℕ) → List·Memᴰ x (chain s (wordB s r)) → (0 < x) × (x < count s)
     leaf-there x m =
-        let f = first-leaf r hr dr in
+        let f = first-leaf r hr kr dr ar in
         let l = chain-leaves w (wordB s r) (f .0) (f .1) x m in
         (past-header w x (rw (l .sort) refl), l .there)
 
     shared : (fuel x : ℕ) → x < fuel → List·Memᴰ x (chain s (wordB s r)) → List·Memᴰ x (chain s (wordB s q)) → r ≡ q
     shared zero x h m k = absurd (omega arith)
     shared (suc fuel) x h m k =
-        let fr = first-leaf r hr dr in
-        let fq = first-leaf q hq dq in
+        let fr = first-leaf r hr kr dr ar in
+        let fq = first-leaf q hq kq dq aq in
         let t = leaf-there x m in
         go (shared fuel) (t .0) (t .1) (first-or-preceded w (wordB s r) (fr .0) (fr .1) x m)
         (first-or-preceded w (wordB s q) (fq .0) (fq .1) x k)
@@ -102,14 +105,14 @@ module _ {s : List ℕ} (w : Written s) (once : NamedOnce s) where
             → (x ≡ wordB s r) ⊎ Preceded s (wordB s r) x → (x ≡ wordB s q) ⊎ Preceded s (wordB s q) x → r ≡ q
         go lower low high (inl a) (inl b) =
             ap (λ i. i .by)
-            (one-naming x low high (record { by = r; at = 3 }) (record { by = q; at = 3 }) (rw a (first-named r hr dr)) (rw b (first-named q hq dq)))
+            (one-naming x low high (record { by = r; at = 3 }) (record { by = q; at = 3 }) (rw a (first-named r hr kr dr ar)) (rw b (first-named q hq kq dq aq)))
         go lower low high (inl a) (inr b) =
             let z = ap (λ i. i .at)
-            (one-naming x low high (record { by = r; at = 3 }) (record { by = b .by; at = 1 }) (rw a (first-named r hr dr)) (b .names)) in
+            (one-naming x low high (record { by = r; at = 3 }) (record { by = b .by; at = 1 }) (rw a (first-named r hr kr dr ar)) (b .names)) in
             absurd (omega arith)
         go lower low high (inr a) (inl b) =
             let z = ap (λ i. i .at)
-            (one-naming x low high (record { by = a .by; at = 1 }) (record { by = q; at = 3 }) (a .names) (rw b (first-named q hq dq))) in
+            (one-naming x low high (record { by = a .by; at = 1 }) (record { by = q; at = 3 }) (a .names) (rw b (first-named q hq kq dq aq))) in
             absurd (omega arith)
         go lower low high (inr a) (inr b) =
             let z : a .by ≡ b .by = ap (λ i. i .by)

@@ -1,7 +1,7 @@
 -- The label of a record as the code finds it, and the table of delays by their labels: each record entered in its turn. A label that
 -- an entry has is borne by a lower record; one that it has not is entered, and no other entry changes.
 -- Assumes nothing.
-use Prim.Native.Nat.{ℕ, zero, suc, _+_, _<_}
+use Prim.Native.Nat.{ℕ, zero, suc, _+_, _≤_, _<_}
 use mathlib.Core.Bool.{Bool, true, false, cond, _&&_}
 use mathlib.Core.List.{List}
 use mathlib.Core.Option.{Option, none, some}
@@ -21,9 +21,10 @@ use Rattle.records.proofs.Table.{is-delay}
 use Rattle.records.proofs.CodeTable.{delay-number}
 use Rattle.records.proofs.Asked.{past-header}
 use Rattle.answers.specs.Lowest.{lowest, orHere}
-use Rattle.answers.proofs.Lowest.{lowest-none}
+use Rattle.answers.specs.declared.Found.the-variants.{At, Nothing}
+use Rattle.answers.proofs.Lowest.{lowest-none, lowest-is}
 use Rattle.carry.specs.Labels.{label, bears, isSome, labelTwice}
-use Rattle.carry.specs.Bearers.{entryBearer, Bearers, Labelling, Labelled}
+use Rattle.carry.specs.Bearers.{entryBearer, Bearers, Labelling, Labelled, AllLabelled}
 
 -- a record that is no delay has no label
 pub label-none : (s : List ℕ) (r k : ℕ) → k ≡ word s r 0 → (k ≡ 40 → ⊥) → 0 ≡ label s r
@@ -152,3 +153,22 @@ module _ {s : List ℕ} {n rec : ℕ} {table : List ℕ} (g : Labelling s n rec 
         at k h (no p) =
             rw (getD-set-other table l k rec 0 p)
             (g .below .entries k h ∙ sym (lowest-past (bears s k) rec (other-label s k rec (λ y. p (sym y ∙ sym e)))))
+
+-- all records up to one whose label a lower one bears
+pub found-twice : {s : List ℕ} {n rec : ℕ} {twice : Bool} {table : List ℕ} → rec < n → ((q : ℕ) → q < rec → labelTwice s q ≡ false)
+    → Labelled s rec twice table → twice ≡ true → AllLabelled s n (At rec) table
+found-twice {s} {n} {rec} h below g e =
+    record {
+      answered = sym (lowest-is (labelTwice s) n rec h (sym (g .answered) ∙ e) below);
+      entered = λ z. let y : _≡_ {A = ℕ} 0 1 = cc in absurd (omega arith);
+    }
+
+-- or all of them
+pub none-twice : {s : List ℕ} {n rec : ℕ} {table : List ℕ} → rec ≤ n → n ≤ rec → ((q : ℕ) → q < rec → labelTwice s q ≡ false)
+    → Bearers s rec table → AllLabelled s n Nothing table
+none-twice {s} {n} {rec} {table} h f below b =
+    let e : rec ≡ n = omega arith in
+    record {
+      answered = sym (lowest-none (labelTwice s) n (λ q k. below q (omega arith)));
+      entered = λ _. subst (λ k. Bearers s k table) e b;
+    }

@@ -6,3 +6,4 @@ pub mod Taking
 pub mod ApartChains
 pub mod Delays
 pub mod Takes
+pub mod Calls

@@ -2,12 +2,12 @@
 -- types with the same bounds, and each type with itself.
 -- Assumes nothing.
 use Prim.Native.Nat.{ℕ, _<_}
-use mathlib.Core.Bool.{Bool, true, false, _&&_}
+use mathlib.Core.Bool.{Bool, true, false, not, _&&_}
 use mathlib.Core.List.{List, _∷_, [], _++_}
 use mathlib.Core.Path.{_≡_, refl, sym, ap, ap₂, _∙_}
 use mathlib.Core.Logic.{_⊎_, inl, inr}
 use native.Mathlib.Omega.{arith}
-use borrow.Author.Tests.{eqb-true, eq-eqb}
+use borrow.Author.Tests.{eqb-true, eq-eqb, not-true, not-false}
 use lib.Dec.{eqb}
 use Rattle.picoella.specs.Types.{Ty, Flat, TyTuple, bounds}
 use Rattle.records.specs.Words.{count, word, wordA, wordB}
@@ -125,13 +125,13 @@ module _ {old : List ℕ} {n t : ℕ} {new : List ℕ} {m u : ℕ} (g : Comparin
           )
           refl
 
-      pub firsts-unlike : (x : Bool) → x ≡ sameShape (typeAt old a) (typeAt new b) → x ≡ false → false ≡ sameShape (typeAt old t) (typeAt new u)
+      pub firsts-unlike : (x : Bool) → x ≡ sameShape (typeAt old a) (typeAt new b) → not x ≡ true → false ≡ sameShape (typeAt old t) (typeAt new u)
       firsts-unlike x ex z =
-          let first : sameShape (typeAt old (wordA old t)) (typeAt new (wordA new u)) ≡ false = rw (← ea, ← eb) (sym ex ∙ z) in
+          let first : sameShape (typeAt old (wordA old t)) (typeAt new (wordA new u)) ≡ false = rw (← ea, ← eb) (sym ex ∙ not-true x z) in
           sym (both-shapes ∙ rw first refl)
 
-      pub pairs : (x : Bool) → x ≡ sameShape (typeAt old a) (typeAt new b) → x ≡ true → (c d : ℕ) → c ≡ word old t 3 → d ≡ word new u 3
+      pub pairs : (x : Bool) → x ≡ sameShape (typeAt old a) (typeAt new b) → not x ≡ false → (c d : ℕ) → c ≡ word old t 3 → d ≡ word new u 3
           → (y : Bool) → y ≡ sameShape (typeAt old c) (typeAt new d) → y ≡ sameShape (typeAt old t) (typeAt new u)
       pairs x ex z c d ec ed y ey =
-          let first : sameShape (typeAt old (wordA old t)) (typeAt new (wordA new u)) ≡ true = rw (← ea, ← eb) (sym ex ∙ z) in
+          let first : sameShape (typeAt old (wordA old t)) (typeAt new (wordA new u)) ≡ true = rw (← ea, ← eb) (sym ex ∙ not-false x z) in
           ey ∙ rw (ec, ed) (sym (both-shapes ∙ rw first refl))

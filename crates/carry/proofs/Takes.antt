@@ -2,12 +2,13 @@
 -- delay that bears it, and the rest is by the shapes of the two types. And all records, one after the other.
 -- Assumes nothing.
 use Prim.Native.Nat.{ℕ, zero, suc, _+_, _≤_, _<_}
-use mathlib.Core.Bool.{Bool, true, false}
+use mathlib.Core.Bool.{Bool, true, false, not}
 use mathlib.Core.List.{List, []}
 use mathlib.Core.Option.{Option, none, some}
 use mathlib.Core.Path.{_≡_, refl, sym, ap, _∙_}
 use native.Mathlib.Omega.{arith}
 use native.Mathlib.Numerals.{add-one}
+use borrow.Author.Tests.{not-true, not-false}
 use lib.ListN.{length, getD}
 use Rattle.picoella.specs.Types.{leaves, bounds}
 use Rattle.records.specs.Words.{count, word, wordA, wordB}
@@ -59,6 +60,19 @@ module _ {old : List ℕ} {n : ℕ} {new : List ℕ} {m : ℕ} {table next : Lis
       g .labels .entries l small
       ∙ rw (el, g .before .sized .counted) refl
 
+  -- an entry is a record's number
+  pub entry-small : getD table l 0 < 4096
+  entry-small = go (getD table l 0) refl
+    where
+      go : (x : ℕ) → getD table l 0 ≡ x → getD table l 0 < 4096
+      go zero e = omega arith
+      go (suc x) e =
+          let d = bearer-delay old (label new rec) (suc x) (sym by-table ∙ rw e refl) in
+          let i = d .0 in
+          let c = g .before .sized .counted in
+          let f = g .before .sized .few in
+          omega arith
+
   -- no delay of the old sheet bears the label
   pub none-takes : getD table l 0 ≡ 0 → next ≡ putAll putWord (takenFrom old new rec (giver old new rec)) next
   unfolding giver
@@ -94,15 +108,15 @@ module _ {old : List ℕ} {n : ℕ} {new : List ℕ} {m : ℕ} {table next : Lis
         unfolding giver
         giver-is = rw (found, shape-is) refl
 
-        pub other-shape : x ≡ false → next ≡ putAll putWord (takenFrom old new rec (giver old new rec)) next
-        other-shape z = rw (giver-is, z) refl
+        pub other-shape : not x ≡ true → next ≡ putAll putWord (takenFrom old new rec (giver old new rec)) next
+        other-shape z = rw (giver-is, not-true x z) refl
 
-        module _ (z : x ≡ true) {b d : ℕ} (eb : b ≡ word old (getD table l 0) 3) (ed : d ≡ word new rec 3) where
+        module _ (nz : not x ≡ false) {b d : ℕ} (eb : b ≡ word old (getD table l 0) 3) (ed : d ≡ word new rec 3) where
           pub taking : Taking old n b new m d next
           taking =
               let many : length (chain old (wordB old (getD table l 0))) ≡ length (chain new (wordB new rec)) =
               delay-many old (g .before .type) (g .before .accepted) (getD table l 0) (delay-in (g .before) (getD table l 0) giving-in giving-kind) giving-kind
-              ∙ shape-leaves old new (getD table l 0) rec (shape-is ∙ z)
+              ∙ shape-leaves old new (getD table l 0) rec (shape-is ∙ not-false x nz)
               ∙ sym (delay-many new (g .after .type) (g .after .accepted) rec (delay-in (g .after) rec h taking-kind) taking-kind) in
               record {
                 before = delay-leaves (g .before) (getD table l 0) giving-in giving-kind b eb;
@@ -113,7 +127,7 @@ module _ {old : List ℕ} {n : ℕ} {new : List ℕ} {m : ℕ} {table next : Lis
 
           pub takes : (next′ : List ℕ) → next′ ≡ putAll putWord (assigned (chain new d) (leafValues old (chain old b))) next
               → next′ ≡ putAll putWord (takenFrom old new rec (giver old new rec)) next
-          takes next′ e = e ∙ rw (giver-is, z, eb, ed) refl
+          takes next′ e = e ∙ rw (giver-is, not-false x nz, eb, ed) refl
 
 -- the records below rec have taken what they take
 pub record Taken (old new before : List ℕ) (m rec : ℕ) (now : List ℕ) : Type 0 where
@@ -144,5 +158,5 @@ module _ {old : List ℕ} {n : ℕ} {new : List ℕ} {m : ℕ} {table before : L
             ∙ rw (add-one rec) refl;
       }
 
-  pub all-taken : {rec : ℕ} {now : List ℕ} → Taken old new before m rec now → (rec < m → ⊥) → now ≡ putAll putWord (takenBelow old new m) before
+  pub all-taken : {rec : ℕ} {now : List ℕ} → Taken old new before m rec now → m ≤ rec → now ≡ putAll putWord (takenBelow old new m) before
   all-taken {rec} {now} t f = let s = t .so-far in let e : rec ≡ m = omega arith in rw e at (t .taken)
