@@ -2,19 +2,19 @@
 -- an entry has is borne by a lower record; one that it has not is entered, and no other entry changes.
 -- Assumes nothing.
 use Prim.Native.Nat.{ℕ, zero, suc, _+_, _≤_, _<_}
-use mathlib.Core.Bool.{Bool, true, false, cond, _&&_}
+use mathlib.Core.Bool.{Bool, true, false, _&&_}
 use mathlib.Core.List.{List}
 use mathlib.Core.Option.{Option, none, some}
-use mathlib.Core.Path.{_≡_, refl, sym, ap, ap₂, subst, _∙_}
+use mathlib.Core.Path.{_≡_, refl, sym, ap, subst, _∙_}
 use native.Mathlib.Omega.{arith}
 use native.Mathlib.Decide.{ℕ-discrete}
 use native.Mathlib.Numerals.{add-one}
 use borrow.Author.Tests.{eqb-true, eq-eqb, ne-eqb, lt-ltb, ltb-true}
 use lib.Dec.{eqb, ltb}
-use lib.ListN.{length, getD, set, length-set, replicate, length-replicate, getD-replicate}
+use lib.ListN.{getD, set, length-set, replicate, length-replicate, getD-replicate}
 use lib.Seq.{getD-set-same, getD-set-other}
-use Rattle.records.specs.Words.{count, word, wordD, kindWord}
-use Rattle.records.specs.Kinds.{expression, delay, isDelay, isHeader, kindOf}
+use Rattle.records.specs.Words.{count, word}
+use Rattle.records.specs.Kinds.{expression, delay, isDelay}
 use Rattle.records.specs.Says.{kindAt}
 use Rattle.records.proofs.Tests.{both-left, both-right}
 use Rattle.records.proofs.Table.{is-delay}
@@ -59,7 +59,7 @@ unlabelled-bears : (s : List ℕ) (l r : ℕ) → label s r ≡ 0 → bears s l 
 unlabelled-bears s zero r e = refl
 unlabelled-bears s (suc l) r e = other-label s (suc l) r (λ z. let y : 0 ≡ suc l = sym e ∙ z in omega arith)
 
-own-label : (s : List ℕ) (l r : ℕ) → 0 < l → label s r ≡ l → bears s l r ≡ true
+pub own-label : (s : List ℕ) (l r : ℕ) → 0 < l → label s r ≡ l → bears s l r ≡ true
 own-label s l r h e = rw (lt-ltb 0 l h, e, eq-eqb l l refl) refl
 
 -- what a bearer is

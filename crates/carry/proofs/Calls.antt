@@ -1,15 +1,13 @@
 -- The call: what the verdicts and the searches for a label say of it, and what each way out gives.
 -- Assumes nothing.
-use Prim.Native.Nat.{ℕ, _/_, _^_, _≤_, _<_}
-use mathlib.Core.Bool.{Bool, true, false, not}
+use Prim.Native.Nat.{ℕ, _/_, _<_}
 use mathlib.Core.List.{List, _++_, append-nil}
 use mathlib.Core.Option.{Option, none, some}
-use mathlib.Core.Path.{_≡_, refl, sym, ap, subst, _∙_}
+use mathlib.Core.Path.{_≡_, refl, sym, ap, _∙_}
 use native.Mathlib.Omega.{arith}
 use borrow.Author.Tests.{eq-eqb, ne-eqb}
 use lib.ListN.{length, drop}
 use lib.Seq.{drop-length}
-use lib.Dec.{eqb}
 use Rattle.records.specs.Words.{count}
 use Rattle.records.specs.Sized.{Sized}
 use Rattle.records.specs.Written.{Written}
@@ -34,7 +32,7 @@ use Rattle.carry.specs.Labels.{labelTwice}
 use Rattle.carry.specs.Bearers.{AllLabelled}
 use Rattle.carry.specs.Carried.{takenBelow, carried}
 use Rattle.carry.specs.Carrying.{IsAccepted, Carrying, CarryingAll}
-use Rattle.carry.specs.Carry.{refusedBy, newChecks, carryAnswer, finalCarried, CarryGives}
+use Rattle.carry.specs.Carry.{newChecks, carryAnswer, finalCarried, CarryGives}
 use Rattle.carry.proofs.Delays.{is-written}
 
 -- the answer: by the old sheet's verdict, and then by the other checks
@@ -57,7 +55,7 @@ unfolding finalCarried
 gives-carried old new next e = record { result-is = rw e refl; next-is = rw e refl }
 
 -- a verdict whose code is 0 accepts, and one with another refuses
-refuses-by-code : (w : Verdict) → (code (verdictAnswer w) ≡ 0 → ⊥) → (c : ℕ) × (p : ℕ) × (verdictAnswer w ≡ Refused c p)
+pub refuses-by-code : (w : Verdict) → (code (verdictAnswer w) ≡ 0 → ⊥) → (c : ℕ) × (p : ℕ) × (verdictAnswer w ≡ Refused c p)
 refuses-by-code (Verdicts.Accepted t) f = absurd (f refl)
 refuses-by-code Verdicts.WrongLength f = (1, 0, refl)
 refuses-by-code Verdicts.WrongHeader f = (2, 0, refl)
@@ -67,7 +65,7 @@ refuses-by-code (Verdicts.WrongType r) f = (5, r, refl)
 refuses-by-code (Verdicts.TooDeep r) f = (6, r, refl)
 refuses-by-code (Verdicts.IllTyped r) f = (7, r, refl)
 
-accepts-by-code : (w : Verdict) → code (verdictAnswer w) ≡ 0 → (t : ℕ) × (w ≡ Verdicts.Accepted t)
+pub accepts-by-code : (w : Verdict) → code (verdictAnswer w) ≡ 0 → (t : ℕ) × (w ≡ Verdicts.Accepted t)
 accepts-by-code (Verdicts.Accepted t) e = (t, refl)
 accepts-by-code Verdicts.WrongLength e = absurd (omega arith)
 accepts-by-code Verdicts.WrongHeader e = absurd (omega arith)
@@ -101,7 +99,7 @@ old-refused {old} {new} {next} {w} {c} {result} ew ec f er =
     rw (er, r .2) (gives-refused old new next (r .0) (r .1) a)
 
 -- after an accepted one, the other checks
-after-old : (old new next : List ℕ) (t : ℕ) → verdict old ≡ Verdicts.Accepted t
+pub after-old : (old new next : List ℕ) (t : ℕ) → verdict old ≡ Verdicts.Accepted t
     → carryAnswer old new next ≡ firstApplying (newChecks old new next) (Done 0)
 after-old old new next t v =
     carry-answer old new next

@@ -7,3 +7,10 @@ pub mod ApartChains
 pub mod Delays
 pub mod Takes
 pub mod Calls
+pub mod Entered
+pub mod CarriedAgain
+pub mod CarryAnswers
+pub mod CarriedBack
+pub mod LabelsIgnored
+pub mod Kept
+pub mod Witness

@@ -3,31 +3,30 @@
 -- Assumes nothing.
 use Prim.Native.Nat.{ℕ, zero, suc, _+_, _≤_, _<_}
 use mathlib.Core.Bool.{Bool, true, false, not}
-use mathlib.Core.List.{List, []}
-use mathlib.Core.Option.{Option, none, some}
+use mathlib.Core.List.{List}
+use mathlib.Core.Option.{none, some}
 use mathlib.Core.Path.{_≡_, refl, sym, ap, _∙_}
 use native.Mathlib.Omega.{arith}
 use native.Mathlib.Numerals.{add-one}
 use borrow.Author.Tests.{not-true, not-false}
 use lib.ListN.{length, getD}
-use Rattle.picoella.specs.Types.{leaves, bounds}
-use Rattle.records.specs.Words.{count, word, wordA, wordB}
+use Rattle.picoella.specs.Types.{leaves}
+use Rattle.records.specs.Words.{count, word, wordB}
 use Rattle.records.specs.Kinds.{expression, delay}
 use Rattle.records.specs.Says.{kindAt}
 use Rattle.records.specs.TypeRecords.{typeAt}
 use Rattle.records.specs.Trees.{chain}
 use Rattle.records.specs.Decoding.{leafValues}
 use Rattle.records.proofs.Types.{leaves-of-bounds}
-use Rattle.answers.specs.Lowest.{lowest}
 use Rattle.answers.specs.Checks.{when}
 use Rattle.answers.proofs.Lowest.{lowest-some-passes}
-use Rattle.behaviour.specs.Delays.{Entry, assigned, putAll}
+use Rattle.behaviour.specs.Delays.{assigned, putAll}
 use Rattle.behaviour.specs.Sheets.{putWord}
 use Rattle.behaviour.proofs.Entries.{put-append, put-leaves}
 use Rattle.behaviour.proofs.Cells.{put-length}
 use Rattle.carry.specs.Labels.{label, bears, bearer, delayType, sameShape}
 use Rattle.carry.specs.Bearers.{entryBearer}
-use Rattle.carry.specs.Carried.{giver, ofSameShape, takenFrom, takenBelow}
+use Rattle.carry.specs.Carried.{giver, takenFrom, takenBelow}
 use Rattle.carry.specs.Carrying.{Comparing, Taking, Carrying}
 use Rattle.carry.proofs.Bearing.{bears-label, labelled-delay}
 use Rattle.carry.proofs.Shapes.{shape-bounds}

@@ -1,13 +1,11 @@
 -- Small sheets carried into each other: what each delay takes or keeps, and the answers. A sheet is written by its words, six a
 -- record: kind, next, a, b, c, d.
-use Prim.Native.Nat.{ℕ, zero}
+use Prim.Native.Nat.{ℕ}
 use mathlib.Core.Path.{_≡_}
 use mathlib.Core.List.{List, [], _∷_}
 use lib.ListN.{length, replicate}
-use Rattle.records.specs.SheetOf.{Record, words, sheetOf}
-use Rattle.answers.specs.declared.Answer.{Answer}
+use Rattle.records.specs.SheetOf.{words, sheetOf}
 use Rattle.answers.specs.declared.Answer.the-variants.{Done, Refused}
-use Rattle.carry.specs.Carried.{carried}
 use Rattle.carry.specs.Carry.{carryAnswer, finalCarried}
 
 -- a delay of a flat type of so many constructors, with this label and value

@@ -3,5 +3,6 @@ pub mod Labels
 pub mod Carried
 pub mod Carry
 pub mod Cases
+pub mod Promises
 pub mod Bearers
 pub mod Carrying

@@ -5,7 +5,7 @@ use mathlib.Core.Path.{_≡_}
 use mathlib.Core.Logic.{_↔_, _≢_}
 use mathlib.Core.Bool.{true}
 use mathlib.Core.List.{List}
-use mathlib.Core.Option.{none, some}
+use mathlib.Core.Option.{none}
 use lib.ListN.{length}
 use Rattle.records.specs.Words.{count}
 use Rattle.records.specs.Kinds.{expression, delay}
@@ -113,8 +113,7 @@ pub record LabelsIgnored (s s′ : List ℕ) : Type 0 where
       → OnlyLabels (sheetAfter undecided s inputs) (sheetAfter undecided s′ inputs)
   pub same-answer : (stimulus out next : List ℕ) → answer s′ stimulus out next ≡ answer s stimulus out next
   pub same-out : (stimulus out next : List ℕ) → finalOut s′ stimulus out next ≡ finalOut s stimulus out next
-  pub same-next : (stimulus out next : List ℕ) → code (answer s stimulus out next) ≡ 0
-      → OnlyLabels (finalNext s stimulus out next) (finalNext s′ stimulus out next)
+  pub same-next : (stimulus out next : List ℕ) → OnlyLabels (finalNext s stimulus out next) (finalNext s′ stimulus out next)
 
 abbrev pub LabelsAlone : Type 0
 LabelsAlone = (s s′ : List ℕ) → OnlyLabels s s′ → LabelsIgnored s s′

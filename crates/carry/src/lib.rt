@@ -1,7 +1,6 @@
 // Carrying held values from a running sheet into a new one: each labelled delay of the new sheet takes the value of the old
 // sheet's delay with that label.
 ghost use mathlib.Core.Path.{_≡_};
-ghost use mathlib.Core.Option.{none};
 ghost use Prim.Native.Nat.{ℕ, _/_, _<_};
 ghost use mathlib.Core.List.{List};
 ghost use lib.ListN.{length};
@@ -19,11 +18,11 @@ ghost use Rattle.behaviour.specs.Sheets.{putWord};
 ghost use Rattle.carry.specs.Labels.{label, labelTwice, sameShape};
 ghost use Rattle.carry.specs.Bearers.{Bearers, Labelling, Labelled, AllLabelled};
 ghost use Rattle.carry.specs.Carrying.{Comparing, Taking, IsAccepted, Carrying, CarryingAll};
-ghost use Rattle.carry.specs.Carried.{giver, takenFrom, takenBelow, carried};
+ghost use Rattle.carry.specs.Carried.{giver, takenFrom, takenBelow};
 ghost use Rattle.carry.specs.Carry.{CarryGives};
 use answers::Found;
-use answers::LABEL_TWICE;
 use answers::ILL_TYPED;
+use answers::LABEL_TWICE;
 use answers::NEW_SHEET_REFUSED;
 use answers::TOO_DEEP;
 use answers::WRONG_HEADER;
@@ -130,7 +129,14 @@ fn same_shape(old: &[u8], n: usize, t: usize, new: &[u8], m: usize, u: usize) ->
     if !same_shape(old, n, a, new, m, b) {
         return false;
     }
-    same_shape(old, n, word(old, n, t, WORD_B), new, m, word(new, m, u, WORD_B))
+    same_shape(
+        old,
+        n,
+        word(old, n, t, WORD_B),
+        new,
+        m,
+        word(new, m, u, WORD_B),
+    )
 }
 
 // The leaves of the new sheet from `to` take those of the old one from `from`.
@@ -166,21 +172,29 @@ fn take_record(
     if q == 0 {
         return;
     }
-    if !same_shape(old, n, word(old, n, q, WORD_A), new, m, word(new, m, rec, WORD_A)) {
+    if !same_shape(
+        old,
+        n,
+        word(old, n, q, WORD_A),
+        new,
+        m,
+        word(new, m, rec, WORD_A),
+    ) {
         return;
     }
-    take_leaves(old, n, word(old, n, q, WORD_B), new, m, word(new, m, rec, WORD_B), next);
+    take_leaves(
+        old,
+        n,
+        word(old, n, q, WORD_B),
+        new,
+        m,
+        word(new, m, rec, WORD_B),
+        next,
+    );
 }
 
 // All records of the new sheet, by the table of the old sheet's labels.
-fn take_all(
-    old: &[u8],
-    n: usize,
-    new: &[u8],
-    m: usize,
-    table: &LabelTable,
-    next: &mut [u8],
-)
+fn take_all(old: &[u8], n: usize, new: &[u8], m: usize, table: &LabelTable, next: &mut [u8])
     requires { ⌜ Carrying (now old) n (now new) m (now table) (now next) ⌝ }
     ensures { λ _. ⌜ now (next .exit) ≡ putAll putWord (takenBelow (now (old .entry)) (now (new .entry)) m) (now (next .entry)) ⌝ }
 {
