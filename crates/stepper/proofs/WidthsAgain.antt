@@ -1,5 +1,5 @@
--- Where only leaves are rewritten the table of an accepted sheet stays: expressions, patterns and types are where they were, with
--- the same scopes and types.
+-- Where only leaves and labels are rewritten the table of an accepted sheet stays: expressions, patterns and types are where they
+-- were, with the same scopes and types.
 -- Assumes nothing.
 use Prim.Native.Nat.{ℕ}
 use mathlib.Core.List.{List}

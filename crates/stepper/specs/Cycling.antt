@@ -1,5 +1,5 @@
 -- One cycle of a sheet. `first` is the sheet that was checked, `current` the one that the cycle begins from: the two differ in leaves
--- alone, and are accepted with the same type.
+-- alone, or in labels too, and are accepted with the same type.
 use Prim.Native.Nat.{ℕ}
 use mathlib.Core.Path.{_≡_}
 use mathlib.Core.List.{List, [], _∷_}
