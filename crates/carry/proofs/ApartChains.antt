@@ -72,9 +72,9 @@ first-or-preceded {s} w =
 
 module _ {s : List ℕ} (w : Written s) (once : WellNamed s) where
   -- two namings of a record are one
-  one-naming : (x : ℕ) → 0 < x → x < count s → (i j : Naming) → Names s x i → Names s x j → i ≡ j
-  one-naming x low high i j p q =
-      let e = only-naming s once x i low high p in let f = only-naming s once x j low high q in cc
+  one-naming : (x : ℕ) → 0 < x → x < count s → (i j : Naming) → i .at < 5 → j .at < 5 → Names s x i → Names s x j → i ≡ j
+  one-naming x low high i j c d p q =
+      let e = only-naming s once x i low high c p in let f = only-naming s once x j low high d q in cc
 
   first-named : (p : ℕ) → p < count s → (k : Kind) → kindAt s p ≡ k → askOfKind k 3 ≡ part leafs → Names s (wordB s p) (record { by = p; at = 3 })
   first-named p h k e a = part-names s p k leafs h e 3 refl a
@@ -105,18 +105,18 @@ module _ {s : List ℕ} (w : Written s) (once : WellNamed s) where
             → (x ≡ wordB s r) ⊎ Preceded s (wordB s r) x → (x ≡ wordB s q) ⊎ Preceded s (wordB s q) x → r ≡ q
         go lower low high (inl a) (inl b) =
             ap (λ i. i .by)
-            (one-naming x low high (record { by = r; at = 3 }) (record { by = q; at = 3 }) (rw a (first-named r hr kr dr ar)) (rw b (first-named q hq kq dq aq)))
+            (one-naming x low high (record { by = r; at = 3 }) (record { by = q; at = 3 }) (omega arith) (omega arith) (rw a (first-named r hr kr dr ar)) (rw b (first-named q hq kq dq aq)))
         go lower low high (inl a) (inr b) =
             let z = ap (λ i. i .at)
-            (one-naming x low high (record { by = r; at = 3 }) (record { by = b .by; at = 1 }) (rw a (first-named r hr kr dr ar)) (b .names)) in
+            (one-naming x low high (record { by = r; at = 3 }) (record { by = b .by; at = 1 }) (omega arith) (omega arith) (rw a (first-named r hr kr dr ar)) (b .names)) in
             absurd (omega arith)
         go lower low high (inr a) (inl b) =
             let z = ap (λ i. i .at)
-            (one-naming x low high (record { by = a .by; at = 1 }) (record { by = q; at = 3 }) (a .names) (rw b (first-named q hq kq dq aq))) in
+            (one-naming x low high (record { by = a .by; at = 1 }) (record { by = q; at = 3 }) (omega arith) (omega arith) (a .names) (rw b (first-named q hq kq dq aq))) in
             absurd (omega arith)
         go lower low high (inr a) (inr b) =
             let z : a .by ≡ b .by = ap (λ i. i .by)
-            (one-naming x low high (record { by = a .by; at = 1 }) (record { by = b .by; at = 1 }) (a .names) (b .names)) in
+            (one-naming x low high (record { by = a .by; at = 1 }) (record { by = b .by; at = 1 }) (omega arith) (omega arith) (a .names) (b .names)) in
             lower (a .by) (let l = a .lower in omega arith) (a .member) (rw z (b .member))
 
     pub one-chain : (x : ℕ) → List·Memᴰ x (chain s (wordB s r)) → List·Memᴰ x (chain s (wordB s q)) → r ≡ q
