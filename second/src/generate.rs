@@ -3,6 +3,7 @@
 pub mod boundary;
 pub mod circuits;
 pub mod expressions;
+pub mod labels;
 pub mod network;
 pub mod patterns;
 pub mod small;

@@ -1,5 +1,5 @@
-//! A second implementation of the type check and of the run, and generators of
-//! sheets to compare them with another one.
+//! A second implementation of the type check, of the run and of the other calls,
+//! and generators of sheets to compare them with another one.
 
 // The check.
 pub mod answers;
@@ -12,6 +12,7 @@ pub mod verdict;
 // The run.
 pub mod accepted;
 pub mod evaluator;
+pub mod labels;
 pub mod listing;
 pub mod matching;
 pub mod order;
@@ -39,6 +40,8 @@ pub mod survey;
 
 #[cfg(test)]
 mod generate_tests;
+#[cfg(test)]
+mod labels_tests;
 #[cfg(test)]
 mod order_tests;
 #[cfg(test)]
