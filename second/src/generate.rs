@@ -2,6 +2,7 @@
 
 pub mod boundary;
 pub mod circuits;
+pub mod delays;
 pub mod expressions;
 pub mod labels;
 pub mod network;

@@ -24,6 +24,10 @@ pub mod stimulus;
 pub mod values;
 pub mod watch;
 
+// Carrying into a new sheet.
+pub mod carry;
+pub mod carry_mistakes;
+
 // Texts.
 pub mod text;
 
@@ -38,6 +42,8 @@ pub mod samples;
 pub mod shapes;
 pub mod survey;
 
+#[cfg(test)]
+mod carry_tests;
 #[cfg(test)]
 mod generate_tests;
 #[cfg(test)]
