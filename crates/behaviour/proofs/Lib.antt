@@ -29,4 +29,5 @@ pub mod Reduces
 pub mod ZeroCycles
 pub mod Kept
 pub mod Bench
+pub mod FiringBench
 pub mod Witness

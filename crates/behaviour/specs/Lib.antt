@@ -9,5 +9,6 @@ pub mod Cycle
 pub mod Run
 pub mod Afterwards
 pub mod Bench
+pub mod FiringBench
 pub mod SheetOrder
 pub mod Promises
