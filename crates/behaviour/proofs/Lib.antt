@@ -14,6 +14,7 @@ pub mod Bytes
 pub mod Cycle
 pub mod Scoped
 pub mod ScopesAgain
+pub mod Reaching
 pub mod DelayRecords
 pub mod Evaluated
 pub mod Run

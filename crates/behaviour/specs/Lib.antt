@@ -5,6 +5,7 @@ pub mod Sheets
 pub mod Copies
 pub mod Evaluated
 pub mod Firing
+pub mod Reaching
 pub mod Cycle
 pub mod Run
 pub mod Afterwards
