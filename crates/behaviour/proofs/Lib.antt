@@ -16,6 +16,7 @@ pub mod Scoped
 pub mod ScopesAgain
 pub mod Reaching
 pub mod DelayRecords
+pub mod Firing
 pub mod Evaluated
 pub mod Run
 pub mod AfterRun
