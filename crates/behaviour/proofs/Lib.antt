@@ -16,7 +16,8 @@ pub mod Scoped
 pub mod ScopesAgain
 pub mod Reaching
 pub mod DelayRecords
-pub mod Firing
+pub mod FiredWords
+pub mod FirstYes
 pub mod Evaluated
 pub mod Run
 pub mod AfterRun

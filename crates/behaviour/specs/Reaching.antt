@@ -130,7 +130,7 @@ pub record FirstYes (v : List ℕ) (xs : List OneAlternative) (n : ℕ) : Type 0
   pub after : List OneAlternative
   pub whole : xs ≡ before ++ (first ∷ after)
   pub number-is : first .number ≡ n
-  pub yes : SaysYes v first
+  pub first-yes : SaysYes v first
   pub none-before : NoneYes v before
 
 -- What is told of the chain that begins at record d, on a value: 0 exactly where none says yes, else the first that does; and some

@@ -19,7 +19,7 @@ use mathlib.Core.Logic.{_⊎_, inl, inr}
 use mathlib.Core.Path.{_≡_, refl, sym, ap, _∙_}
 use native.Mathlib.Omega.{arith}
 use lib.Dec.{ltb}
-use lib.ListN.{length, getD, take, set, replicate, length-set, length-replicate, getD-replicate}
+use lib.ListN.{length, getD, take, set, replicate, length-set, length-replicate}
 use lib.Seq.{getD-set-same}
 use Rattle.records.specs.Words.{word, count, wordA, wordB, wordC, wordD}
 use Rattle.records.specs.Kinds.{
@@ -209,3 +209,97 @@ module _ (s : List ℕ) (t : ℕ) (v : verdict s ≡ Accepted t) (input : List �
   circuit-fires x m =
       let f = root-is (written passes) in
       tree-fires (written passes) (wordB s 0) (f .1) (f .2) (inputs s) (input ∷ []) evaluates-root m
+
+-- a place of entries is that of one of them
+entry-of-place : (es : List Entry) (l : ℕ) → List·Memᴰ l (placesOf es) → (x : Entry) × List·Memᴰ x es × (x .place ≡ l)
+entry-of-place [] l m = elim m [ ]
+entry-of-place (x ∷ es) l (List·Memᴰ·head p) = (x, List·Memᴰ·head refl, sym p)
+entry-of-place (x ∷ es) l (List·Memᴰ·tail m) =
+    let o = entry-of-place es l m in (o .0, List·Memᴰ·tail (o .1), o .2)
+
+-- where all entries of a place agree, their value is read there
+read-agreed : (es : List Entry) (h : List ℕ) (l n : ℕ) → l < length h → List·Memᴰ l (placesOf es)
+    → ((x : Entry) → List·Memᴰ x es → x .place ≡ l → x .value ≡ n) → getD (putAll enter es h) l 0 ≡ n
+read-agreed [] h l n room m agree = elim m [ ]
+read-agreed (x ∷ es) h l n room m agree =
+    go (member-or-not l (placesOf es)) m
+    (λ later. read-agreed es (set h (x .place) (x .value)) l n (rw (length-set h (x .place) (x .value)) room) later
+    (λ y k. agree y (List·Memᴰ·tail k)))
+  where
+    go : List·Memᴰ l (placesOf es) ⊎ (List·Memᴰ l (placesOf es) → ⊥) → List·Memᴰ l (placesOf (x ∷ es))
+        → (List·Memᴰ l (placesOf es) → getD (putAll enter es (set h (x .place) (x .value))) l 0 ≡ n)
+        → getD (putAll enter es (set h (x .place) (x .value))) l 0 ≡ n
+    go (inl later) m rest = rest later
+    go (inr last) (List·Memᴰ·tail later) rest = absurd (last later)
+    go (inr last) (List·Memᴰ·head p) rest =
+        put-elsewhere enter entryAt InTable table-cells es l (set h (x .place) (x .value)) last
+        ∙ rw p (getD-set-same h (x .place) (x .value) 0 (rw p at room))
+        ∙ agree x (List·Memᴰ·head refl) (sym p)
+
+zeros : (n i : ℕ) → getD {A = ℕ} (replicate n 0) i 0 ≡ 0
+zeros zero i = refl
+zeros (suc n) zero = refl
+zeros (suc n) (suc i) = zeros n i
+
+pub fired-words : (s : List ℕ) (t : ℕ) → verdict s ≡ Accepted t → (input : List ℕ) → FiredWords s input
+unfolding fired
+fired-words s t v input = record { one-a-record = as-many; at-if = at-if; elsewhere = elsewhere }
+  where
+    es : List Entry
+    es = firings undecidedRule s (inputs s) (input ∷ []) (circuit s)
+
+    as-many : length (fired s input) ≡ count s
+    as-many =
+        put-leaves enter length es (λ l m u h. length-set h l u) (replicate (count s) 0) ∙ length-replicate {A = ℕ} (count s) 0
+
+    at-if : (r : ℕ) (Γ : List ℕ) (ρ : List (List ℕ)) → Evaluates s input r Γ ρ → kindAt s r ≡ expression ifMatches
+        → getD (fired s input) r 0 ≡ firstYes s (alternatives s (wordD s r)) (valueAt undecidedRule s Γ ρ (wordA s r))
+    at-if r Γ ρ c e =
+        let own = own-entry s t v input c e in
+        let there = scope-checked t (passes s t v input) v (evaluates-scope c) .there in
+        read-agreed es (replicate (count s) 0) r (ifEntry s r Γ ρ .value) (rw (length-replicate {A = ℕ} (count s) 0) there)
+        (place-of-member (ifEntry s r Γ ρ) es own)
+        (λ x m p. let f = circuit-fires s t v input x m in agree x f p)
+      where
+        agree : (x : Entry) (f : FiresAt s input x) → x .place ≡ r → x .value ≡ ifEntry s r Γ ρ .value
+        agree x f p =
+            let at : f .at ≡ r = ap (λ (y : Entry). y .place) (sym (f .entry-is)) ∙ p in
+            let same = one-evaluation (passes s t v input) r (f .names) Γ (f .values) ρ (rw at at (f .reached)) c in
+            let names : f .names ≡ Γ = same .0 in
+            let values : f .values ≡ ρ = same .1 in
+            let entry = f .entry-is in
+            cc
+
+    elsewhere : (r : ℕ) → (kindAt s r ≡ expression ifMatches → ⊥) → getD (fired s input) r 0 ≡ 0
+    elsewhere r f =
+        put-elsewhere enter entryAt InTable table-cells es r (replicate (count s) 0)
+        (λ m. let x = entry-of-place es r m in
+        let o = circuit-fires s t v input (x .0) (x .1) in
+        let at : o .at ≡ r = ap (λ (y : Entry). y .place) (sym (o .entry-is)) ∙ x .2 in
+        f (rw at at (o .is-if)))
+        ∙ zeros (count s) r
+
+-- the first entries of a table, after entries are put
+take-set : (n : ℕ) (h : List ℕ) (l v : ℕ) → take n (set h l v) ≡ set (take n h) l v
+take-set zero h l v = refl
+take-set (suc n) [] l v = refl
+take-set (suc n) (x ∷ h) zero v = refl
+take-set (suc n) (x ∷ h) (suc l) v = ap (_∷_ x) (take-set n h l v)
+
+take-put : (n : ℕ) (es : List Entry) (h : List ℕ) → take n (putAll enter es h) ≡ putAll enter es (take n h)
+take-put n [] h = refl
+take-put n (x ∷ es) h =
+    take-put n es (set h (x .place) (x .value)) ∙ ap (putAll enter es) (take-set n h (x .place) (x .value))
+
+take-zeros : (n m : ℕ) → n ≤ m → take {A = ℕ} n (replicate m 0) ≡ replicate n 0
+take-zeros zero m h = refl
+take-zeros (suc n) zero h = absurd (omega arith)
+take-zeros (suc n) (suc m) h = ap (λ (h : List ℕ). 0 ∷ h) (take-zeros n m (omega arith))
+
+-- the numbers are the first ones of a table of at least as many
+pub fired-first : (s input : List ℕ) (m : ℕ) → count s ≤ m
+    → take (count s) (firedAt undecidedRule s (inputs s) (input ∷ []) (wordB s 0) (replicate m 0)) ≡ fired s input
+unfolding fired firedAt circuit
+fired-first s input m h =
+    take-put (count s) (firings undecidedRule s (inputs s) (input ∷ []) (circuit s)) (replicate m 0)
+    ∙ ap (putAll enter (firings undecidedRule s (inputs s) (input ∷ []) (circuit s))) (take-zeros (count s) m h)
