@@ -3,3 +3,5 @@ pub mod Pieces
 pub mod Stimulus
 pub mod Tests
 pub mod Holding
+pub mod OneCycle
+pub mod Witness
