@@ -4,4 +4,5 @@ pub mod Stimulus
 pub mod Tests
 pub mod Holding
 pub mod OneCycle
+pub mod OneCycleCalls
 pub mod Witness

@@ -4,3 +4,4 @@ pub mod Stimulus
 pub mod Tests
 pub mod Holding
 pub mod OneCycle
+pub mod OneCycleCalls
