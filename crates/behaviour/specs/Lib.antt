@@ -4,6 +4,7 @@ pub mod Delays
 pub mod Sheets
 pub mod Copies
 pub mod Evaluated
+pub mod Firing
 pub mod Cycle
 pub mod Run
 pub mod Afterwards
