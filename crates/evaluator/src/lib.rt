@@ -138,7 +138,17 @@ fn of_first(
     let a = word(sheet, n, rec, WORD_A);
     let w = widths[a] as usize;
     let mut whole = room();
-    eval(sheet, n, widths, env, names, held, fired, a, &mut whole[0..w]);
+    eval(
+        sheet,
+        n,
+        widths,
+        env,
+        names,
+        held,
+        fired,
+        a,
+        &mut whole[0..w],
+    );
     put(&whole[0..out.len()], out);
 }
 
@@ -159,7 +169,17 @@ fn of_second(
     let a = word(sheet, n, rec, WORD_A);
     let w = widths[a] as usize;
     let mut whole = room();
-    eval(sheet, n, widths, env, names, held, fired, a, &mut whole[0..w]);
+    eval(
+        sheet,
+        n,
+        widths,
+        env,
+        names,
+        held,
+        fired,
+        a,
+        &mut whole[0..w],
+    );
     put(&whole[w - out.len()..w], out);
 }
 
@@ -180,7 +200,17 @@ fn of_let(
     let a = word(sheet, n, rec, WORD_A);
     let w = widths[a] as usize;
     let mut value = room();
-    eval(sheet, n, widths, env, names, held, fired, a, &mut value[0..w]);
+    eval(
+        sheet,
+        n,
+        widths,
+        env,
+        names,
+        held,
+        fired,
+        a,
+        &mut value[0..w],
+    );
     enter_value(env, names, &value[0..w]);
     let b = word(sheet, n, rec, WORD_B);
     eval(sheet, n, widths, env, names + 1, held, fired, b, out);
@@ -204,7 +234,17 @@ fn of_feedback(
     let w = widths[d] as usize;
     let mut settled = room();
     enter_value(env, names, &settled[0..w]);
-    settle(sheet, n, widths, env, names, held, fired, d, &mut settled[0..w]);
+    settle(
+        sheet,
+        n,
+        widths,
+        env,
+        names,
+        held,
+        fired,
+        d,
+        &mut settled[0..w],
+    );
     let b = word(sheet, n, rec, WORD_C);
     eval(sheet, n, widths, env, names + 1, held, fired, b, out);
 }
@@ -249,7 +289,17 @@ fn of_if(
     let a = word(sheet, n, rec, WORD_A);
     let w = widths[a] as usize;
     let mut tested = room();
-    eval(sheet, n, widths, env, names, held, fired, a, &mut tested[0..w]);
+    eval(
+        sheet,
+        n,
+        widths,
+        env,
+        names,
+        held,
+        fired,
+        a,
+        &mut tested[0..w],
+    );
     let b = word(sheet, n, rec, WORD_B);
     eval(sheet, n, widths, env, names, held, fired, b, out);
     let other = word(sheet, n, rec, WORD_C);
