@@ -45,7 +45,7 @@ use Rattle.evaluator.proofs.Readiness.{
 }
 use Rattle.evaluator.proofs.Parts.{fits-room, room-done, room-wide}
 
-module _ (s : List ℕ) (n : ℕ) (W env : List ℕ) (names rec : ℕ) (out Γ : List ℕ) (r : EvaluatingIn s n W env names rec out Γ) where
+module _ {s : List ℕ} {n : ℕ} {W env : List ℕ} {names rec : ℕ} {out Γ : List ℕ} (r : EvaluatingIn s n W env names rec out Γ) where
   abbrev ρ : List (List ℕ)
   ρ = frames s Γ env
 
@@ -53,17 +53,17 @@ module _ (s : List ℕ) (n : ℕ) (W env : List ℕ) (names rec : ℕ) (out Γ :
   val x = valueAt undecidedRule s Γ ρ x
 
   w : Written s
-  w = ready-written s n W env names rec out Γ r
+  w = ready-written r
 
   b : rec < count s
-  b = ready-there s n W env names rec out Γ r
+  b = ready-there r
 
   -- the entry of the record
   own-entry : length out ≡ leaves (typeAt s (typeRecordOf s Γ (treeAt s rec)))
-  own-entry = r .room ∙ entry-is s n W env names rec out Γ r rec Γ (r .scope)
+  own-entry = r .room ∙ entry-is r (r .scope)
 
-  module _ (e : kindAt s rec ≡ expression ifMatches) (x y z p : ℕ) (ex : x ≡ word s rec 2) (ey : y ≡ word s rec 3) (ez : z ≡ word s rec 4)
-      (ep : p ≡ word s rec 5) (c : ℕ) (ec : c ≡ getD W x 0) (R : List ℕ) (eR : R ≡ replicate 64 0) where
+  module _ (e : kindAt s rec ≡ expression ifMatches) {x y z p : ℕ} (ex : x ≡ word s rec 2) (ey : y ≡ word s rec 3) (ez : z ≡ word s rec 4)
+      (ep : p ≡ word s rec 5) {c : ℕ} (ec : c ≡ getD W x 0) {R : List ℕ} (eR : R ≡ replicate 64 0) where
     pub tested-scope : Scope s x Γ
     tested-scope = rw ex (if-tested e (r .scope))
 
@@ -76,69 +76,69 @@ module _ (s : List ℕ) (n : ℕ) (W env : List ℕ) (names rec : ℕ) (out Γ :
     then-entry : length out ≡ getD W y 0
     then-entry =
         own-entry ∙ rw (tree-of w rec b (expression ifMatches) e, ey)
-        (sym (entry-is s n W env names rec out Γ r (word s rec 3) Γ (if-then e (r .scope))))
+        (sym (entry-is r (if-then e (r .scope))))
 
     same-types : typeRecordOf s Γ (treeAt s y) ≡ typeRecordOf s Γ (treeAt s z)
     same-types =
         rw (ey, ez)
         (eqb-true (typeRecordOf s Γ (treeAt s (wordB s rec))) (typeRecordOf s Γ (treeAt s (wordC s rec)))
-        (judged-by-kind (ready-passes s n W env names rec out Γ r) (in-circuit s n W env names rec out Γ r rec Γ (r .scope)) ifMatches e .4))
+        (judged-by-kind (ready-passes r) (in-circuit r (r .scope)) ifMatches e .4))
 
     else-entry : length out ≡ getD W z 0
     else-entry =
-        then-entry ∙ entry-is s n W env names rec out Γ r y Γ then-scope ∙ rw same-types (sym (entry-is s n W env names rec out Γ r z Γ else-scope))
+        then-entry ∙ entry-is r then-scope ∙ rw same-types (sym (entry-is r else-scope))
 
-    module _ (held env₁ held₁ o₁ : List ℕ) (p₁ : Evaluated s n W env names x held (take (c - 0) R) env₁ held₁ o₁) where
+    module _ {held env₁ held₁ o₁ : List ℕ} (p₁ : Evaluated s n W env names x held (take (c - 0) R) env₁ held₁ o₁) where
       d₁ : EvaluatedIn s Γ env names x held env₁ held₁ o₁
-      d₁ = room-done s n W env names rec out Γ r x tested-scope c ec R eR held env₁ held₁ o₁ p₁
+      d₁ = room-done r tested-scope ec eR p₁
 
       pub then-ready : EvaluatingIn s n W env₁ names y out Γ
       then-ready =
-          ready-at s n W env names rec out Γ r y Γ then-scope env₁ names out (r .many) (d₁ .wide) then-entry
-          (same-values s n W env names rec out Γ r env₁ (d₁ .kept))
+          ready-at r then-scope env₁ names out (r .many) (d₁ .wide) then-entry
+          (same-values r env₁ (d₁ .kept))
 
-      module _ (env₂ held₂ o₂ : List ℕ) (p₂ : Evaluated s n W env₁ names y held₁ out env₂ held₂ o₂) where
+      module _ {env₂ held₂ o₂ : List ℕ} (p₂ : Evaluated s n W env₁ names y held₁ out env₂ held₂ o₂) where
         d₂ : EvaluatedIn s Γ env₁ names y held₁ env₂ held₂ o₂
         d₂ = p₂ .done Γ then-ready
 
         f₁ : frames s Γ env₁ ≡ ρ
-        f₁ = same-frames s n W env names rec out Γ r env₁ (d₁ .kept)
+        f₁ = same-frames r env₁ (d₁ .kept)
 
         then-value : o₂ ≡ val y
         then-value = rw f₁ at (d₂ .value)
 
         then-long : length o₂ ≡ length out
-        then-long = ap length then-value ∙ value-long s n W env names rec out Γ r y Γ then-scope ρ (r .values) ∙ sym then-entry
+        then-long = ap length then-value ∙ value-long r then-scope (r .values) ∙ sym then-entry
 
         kept₂ : take (64 * names) env₂ ≡ take (64 * names) env
         kept₂ = d₂ .kept ∙ d₁ .kept
 
-        module _ (Q : List ℕ) (eQ : Q ≡ replicate 64 0) where
+        module _ {Q : List ℕ} (eQ : Q ≡ replicate 64 0) where
           pub else-fits : length o₂ ≤ length Q
           else-fits =
               let l : length Q ≡ 64 = rw eQ (zeros-long 64) in
-              let f = room-few s n W env names rec out Γ r in
+              let f = room-few r in
               let t = then-long in
               omega arith
 
           pub else-ready : EvaluatingIn s n W env₂ names z (take (length o₂ - 0) Q) Γ
           else-ready =
-              ready-at s n W env names rec out Γ r z Γ else-scope env₂ names (take (length o₂ - 0) Q) (r .many) (d₂ .wide)
-              (lent-long (length o₂) Q else-fits ∙ then-long ∙ else-entry) (same-values s n W env names rec out Γ r env₂ kept₂)
+              ready-at r else-scope env₂ names (take (length o₂ - 0) Q) (r .many) (d₂ .wide)
+              (lent-long (length o₂) Q else-fits ∙ then-long ∙ else-entry) (same-values r env₂ kept₂)
 
-          module _ (env₃ held₃ o₃ : List ℕ) (p₃ : Evaluated s n W env₂ names z held₂ (take (length o₂ - 0) Q) env₃ held₃ o₃) where
+          module _ {env₃ held₃ o₃ : List ℕ} (p₃ : Evaluated s n W env₂ names z held₂ (take (length o₂ - 0) Q) env₃ held₃ o₃) where
             d₃ : EvaluatedIn s Γ env₂ names z held₂ env₃ held₃ o₃
             d₃ = p₃ .done Γ else-ready
 
             f₂ : frames s Γ env₂ ≡ ρ
-            f₂ = same-frames s n W env names rec out Γ r env₂ kept₂
+            f₂ = same-frames r env₂ kept₂
 
             else-value : o₃ ≡ val z
             else-value = rw f₂ at (d₃ .value)
 
             else-long : length o₃ ≡ length o₂
             else-long =
-                ap length else-value ∙ value-long s n W env names rec out Γ r z Γ else-scope ρ (r .values) ∙ sym else-entry ∙ sym then-long
+                ap length else-value ∙ value-long r else-scope (r .values) ∙ sym else-entry ∙ sym then-long
 
             abbrev tested : List ℕ
             tested = take (c - 0) (o₁ ++ drop (c - 0) R)
@@ -147,10 +147,10 @@ module _ (s : List ℕ) (n : ℕ) (W env : List ℕ) (names rec : ℕ) (out Γ :
             otherwise = take (length o₂ - 0) (o₃ ++ drop (length o₂ - 0) Q)
 
             fits₁ : c ≤ length R
-            fits₁ = fits-room s n W env names rec out Γ r x tested-scope c ec R eR
+            fits₁ = fits-room r tested-scope ec eR
 
             wide₁ : length o₁ ≡ c
-            wide₁ = room-wide s n W env names rec out Γ r x tested-scope c ec R eR held env₁ held₁ o₁ p₁
+            wide₁ = room-wide r tested-scope ec eR p₁
 
             tested-is : tested ≡ o₁
             tested-is = back-part c R o₁ wide₁ fits₁
@@ -171,26 +171,26 @@ module _ (s : List ℕ) (n : ℕ) (W env : List ℕ) (names rec : ℕ) (out Γ :
             pattern-matched =
                 let q = part-of-kind w rec (expression ifMatches) patterns b e 5 refl (unfold askOfKind in refl) in
                 let counted = r .sized .counted in
-                let j = judged-by-kind (ready-passes s n W env names rec out Γ r) (in-circuit s n W env names rec out Γ r rec Γ (r .scope)) ifMatches e in
+                let j = judged-by-kind (ready-passes r) (in-circuit r (r .scope)) ifMatches e in
                 record {
                   type = typeRecordOf s Γ (treeAt s x);
                   against = record {
                     sized = r .sized;
-                    passes = ready-passes s n W env names rec out Γ r;
+                    passes = ready-passes r;
                     there = omega (arith, q .1, ep);
                     sort = rw ep (q .2);
-                    typed = type-there s n W env names rec out Γ r x Γ tested-scope;
+                    typed = type-there r tested-scope;
                   };
                   table = r .table .patterns;
                   fits = rw (ex, ep) (j .1);
-                  long = ap length tested-is ∙ wide₁ ∙ ec ∙ entry-is s n W env names rec out Γ r x Γ tested-scope;
+                  long = ap length tested-is ∙ wide₁ ∙ ec ∙ entry-is r tested-scope;
                 }
 
             pub if-wide : length env₃ ≡ length env
             if-wide = d₃ .wide ∙ sym (r .wide)
 
-            pub if-done : (out′ : List ℕ) → Chosen s p tested otherwise o₂ out′ → EvaluatedIn s Γ env names rec held env₃ held₃ out′
-            if-done out′ g =
+            pub if-done : {out′ : List ℕ} → Chosen s p tested otherwise o₂ out′ → EvaluatedIn s Γ env names rec held env₃ held₃ out′
+            if-done g =
                 let h₂ : held₂ ≡ storedAt undecidedRule s Γ ρ y held₁ = rw f₁ at (d₂ .stored) in
                 let h₃ : held₃ ≡ storedAt undecidedRule s Γ ρ z held₂ = rw f₂ at (d₃ .stored) in
                 let chosen = rw (tested-is, otherwise-is, d₁ .value, then-value, else-value, ex, ey, ez, ep) at g in
@@ -201,7 +201,7 @@ module _ (s : List ℕ) (n : ℕ) (W env : List ℕ) (names rec : ℕ) (out Γ :
                   kept = d₃ .kept ∙ kept₂;
                 }
 
-  module _ (e : kindAt s rec ≡ expression delay) (x : ℕ) (ex : x ≡ word s rec 4) (l : ℕ) (el : l ≡ word s rec 3) where
+  module _ (e : kindAt s rec ≡ expression delay) {x : ℕ} (ex : x ≡ word s rec 4) {l : ℕ} (el : l ≡ word s rec 3) where
     delayed-scope : Scope s x Γ
     delayed-scope = rw ex (of-delay e (r .scope))
 
@@ -209,19 +209,19 @@ module _ (s : List ℕ) (n : ℕ) (W env : List ℕ) (names rec : ℕ) (out Γ :
     delayed-type =
         rw ex
         (eqb-true (typeRecordOf s Γ (treeAt s (wordC s rec))) (wordA s rec)
-        (judged-by-kind (ready-passes s n W env names rec out Γ r) (in-circuit s n W env names rec out Γ r rec Γ (r .scope)) delay e .2))
+        (judged-by-kind (ready-passes r) (in-circuit r (r .scope)) delay e .2))
 
     delayed-entry : length out ≡ getD W x 0
     delayed-entry =
-        own-entry ∙ rw (tree-of w rec b (expression delay) e, ← delayed-type) (sym (entry-is s n W env names rec out Γ r x Γ delayed-scope))
+        own-entry ∙ rw (tree-of w rec b (expression delay) e, ← delayed-type) (sym (entry-is r delayed-scope))
 
     pub delayed-ready : EvaluatingIn s n W env names x out Γ
     delayed-ready =
-        ready-at s n W env names rec out Γ r x Γ delayed-scope env names out (r .many) (r .wide) delayed-entry (r .values)
+        ready-at r delayed-scope env names out (r .many) (r .wide) delayed-entry (r .values)
 
-    pub delay-chained : (held env₁ held₁ o : List ℕ) → Evaluated s n W env names x held out env₁ held₁ o → Chained s n l (length o)
-    delay-chained held env₁ held₁ o p₁ =
-        let eo = ap length (p₁ .done Γ delayed-ready .value) ∙ value-long s n W env names rec out Γ r x Γ delayed-scope ρ (r .values) ∙ sym delayed-entry in
+    pub delay-chained : {held env₁ held₁ o : List ℕ} → Evaluated s n W env names x held out env₁ held₁ o → Chained s n l (length o)
+    delay-chained p₁ =
+        let eo = ap length (p₁ .done Γ delayed-ready .value) ∙ value-long r delayed-scope (r .values) ∙ sym delayed-entry in
         let q = part-of-kind w rec (expression delay) leafs b e 3 refl (unfold askOfKind in refl) in
         let counted = r .sized .counted in
         record {
@@ -232,13 +232,13 @@ module _ (s : List ℕ) (n : ℕ) (W env : List ℕ) (names rec : ℕ) (out Γ :
           many =
               rw el
               (sym (length-map (chain s (wordB s rec)) (wordA s)) ∙ ap length (sym (delay-value undecidedRule s w Γ ρ rec b e))
-              ∙ ready-value s n W env names rec out Γ r ∙ sym eo);
+              ∙ ready-value r ∙ sym eo);
         }
 
-    pub delay-done : (held env₁ held₁ o₁ held₂ o₂ : List ℕ) → Evaluated s n W env names x held out env₁ held₁ o₁
+    pub delay-done : {held env₁ held₁ o₁ held₂ o₂ : List ℕ} → Evaluated s n W env names x held out env₁ held₁ o₁
         → held₂ ≡ putAll enter (assigned (chain s l) o₁) held₁ → o₂ ≡ leafValues s (chain s l)
         → EvaluatedIn s Γ env names rec held env₁ held₂ o₂
-    delay-done held env₁ held₁ o₁ held₂ o₂ p₁ h g =
+    delay-done {held} p₁ h g =
         let d = p₁ .done Γ delayed-ready in
         record {
           value = g ∙ rw el (sym (delay-value undecidedRule s w Γ ρ rec b e));

@@ -32,9 +32,9 @@ use Rattle.evaluator.specs.Evaluating.{EvaluatingIn, EvaluatedIn, Evalua
 use Rattle.evaluator.proofs.Frames.{front-kept, frames-kept, lent-long, zeros-long, zeros-front}
 use Rattle.evaluator.proofs.Readiness.{ready-passes, ready-written, ready-there, ready-value, ready-at, in-circuit, names-few, names-small, elaborated, entry-is, entry-few, value-long, room-there, name-wide, name-kept, name-slot, name-frames, name-values}
 
-module _ (s : List ℕ) (n : ℕ) (W env : List ℕ) (names rec : ℕ) (out Γ : List ℕ) (r : EvaluatingIn s n W env names rec out Γ)
-    (e : kindAt s rec ≡ expression feedback) (d y : ℕ) (ed : d ≡ word s rec 3) (ey : y ≡ word s rec 4) (c : ℕ) (ec : c ≡ getD W d 0)
-    (R : List ℕ) (eR : R ≡ replicate 64 0)
+module _ {s : List ℕ} {n : ℕ} {W env : List ℕ} {names rec : ℕ} {out Γ : List ℕ} (r : EvaluatingIn s n W env names rec out Γ)
+    (e : kindAt s rec ≡ expression feedback) {d y : ℕ} (ed : d ≡ word s rec 3) (ey : y ≡ word s rec 4) {c : ℕ} (ec : c ≡ getD W d 0)
+    {R : List ℕ} (eR : R ≡ replicate 64 0)
   where
     abbrev t : ℕ
     t = wordA s rec
@@ -49,10 +49,10 @@ module _ (s : List ℕ) (n : ℕ) (W env : List ℕ) (names rec : ℕ) (out Γ :
     body-part = term s (t ∷ Γ) (treeAt s d)
 
     w : Written s
-    w = ready-written s n W env names rec out Γ r
+    w = ready-written r
 
     b : rec < count s
-    b = ready-there s n W env names rec out Γ r
+    b = ready-there r
 
     pub part-scope : Scope s d (t ∷ Γ)
     part-scope = rw ed (feedback-defining e (r .scope))
@@ -64,21 +64,21 @@ module _ (s : List ℕ) (n : ℕ) (W env : List ℕ) (names rec : ℕ) (out Γ :
     same-type =
         rw ed
         (eqb-true (typeRecordOf s (t ∷ Γ) (treeAt s (wordB s rec))) t
-        (judged-by-kind (ready-passes s n W env names rec out Γ r) (in-circuit s n W env names rec out Γ r rec Γ (r .scope)) feedback e .2))
+        (judged-by-kind (ready-passes r) (in-circuit r (r .scope)) feedback e .2))
 
     entry : c ≡ leaves τ
-    entry = ec ∙ entry-is s n W env names rec out Γ r d (t ∷ Γ) part-scope ∙ rw same-type refl
+    entry = ec ∙ entry-is r part-scope ∙ rw same-type refl
 
     pub feedback-small : leaves τ ≤ 64
     feedback-small =
-        let f = entry-few s n W env names rec out Γ r d (t ∷ Γ) part-scope in let i = entry in omega arith
+        let f = entry-few r part-scope in let i = entry in omega arith
 
     pub feedback-fits : c ≤ length R
     feedback-fits =
         let l : length R ≡ 64 = rw eR (zeros-long 64) in let f = feedback-small in let i = entry in omega arith
 
     few-around : length (t ∷ Γ) ≤ 64
-    few-around = names-few s n W env names rec out Γ r d (t ∷ Γ) part-scope
+    few-around = names-few r part-scope
 
     whole : (k : ℕ) → k - 0 ≡ k
     whole k = omega arith
@@ -89,29 +89,29 @@ module _ (s : List ℕ) (n : ℕ) (W env : List ℕ) (names rec : ℕ) (out Γ :
 
     pub start-room : (64 * names + length (take (c - 0) R) ≤ length env) × (length env ≤ 4096)
     start-room =
-        rw start (room-there s n W env names rec out Γ r t few-around (undefined τ) (undefined-typed τ) env (r .wide) refl feedback-small)
+        rw start (room-there r t few-around (undefined τ) (undefined-typed τ) env (r .wide) refl feedback-small)
 
-    module _ (env₁ : List ℕ) (g : env₁ ≡ entered names (take (c - 0) R) env) where
+    module _ {env₁ : List ℕ} (g : env₁ ≡ entered names (take (c - 0) R) env) where
       started : env₁ ≡ entered names (undefined τ) env
       started = rw start at g
 
       slot₁ : slot names (leaves τ) env₁ ≡ undefined τ
       slot₁ =
-          name-slot s n W env names rec out Γ r t few-around (undefined τ) (undefined-typed τ) env (r .wide) refl feedback-small env₁ started
+          name-slot r t few-around (undefined τ) (undefined-typed τ) env (r .wide) refl feedback-small env₁ started
 
       framed₁ : frames s (t ∷ Γ) env₁ ≡ undefined τ ∷ π
       framed₁ =
-          name-frames s n W env names rec out Γ r t few-around (undefined τ) (undefined-typed τ) env (r .wide) refl feedback-small env₁ started
+          name-frames r t few-around (undefined τ) (undefined-typed τ) env (r .wide) refl feedback-small env₁ started
 
       kept₁ : take (64 * names) env₁ ≡ take (64 * names) env
       kept₁ =
-          name-kept s n W env names rec out Γ r t few-around (undefined τ) (undefined-typed τ) env (r .wide) refl feedback-small env₁ started
+          name-kept r t few-around (undefined τ) (undefined-typed τ) env (r .wide) refl feedback-small env₁ started
 
       ρ₁ : frames s Γ env₁ ≡ π
-      ρ₁ = frames-kept s Γ env₁ env (names-small s n W env names rec out Γ r rec Γ (r .scope)) (rw (r .many) kept₁)
+      ρ₁ = frames-kept s Γ env₁ env (names-small r (r .scope)) (rw (r .many) kept₁)
 
       part-typed : Elaborated (Declared s) (τ ∷ map (typeAt s) Γ) body-part τ
-      part-typed = rw same-type at (elaborated s n W env names rec out Γ r d (t ∷ Γ) part-scope)
+      part-typed = rw same-type at (elaborated r part-scope)
 
       applies : valueAt undecidedRule s (t ∷ Γ) (undefined τ ∷ π) d ≡ application undecidedRule π body-part (undefined τ)
       unfolding valueAt
@@ -120,11 +120,11 @@ module _ (s : List ℕ) (n : ℕ) (W env : List ℕ) (names rec : ℕ) (out Γ :
       pub feedback-settling : SettlingIn s n W env₁ names d (take (c - 0) R) t Γ
       feedback-settling =
           record {
-            ready = ready-at s n W env names rec out Γ r d (t ∷ Γ) part-scope env₁ (names + 1) (take (c - 0) R)
+            ready = ready-at r part-scope env₁ (names + 1) (take (c - 0) R)
                 (rw (r .many, add-one names) refl)
-                (name-wide s n W env names rec out Γ r t few-around (undefined τ) (undefined-typed τ) env (r .wide) refl feedback-small env₁ started)
+                (name-wide r t few-around (undefined τ) (undefined-typed τ) env (r .wide) refl feedback-small env₁ started)
                 (lent-long c R feedback-fits ∙ ec)
-                (name-values s n W env names rec out Γ r t few-around (undefined τ) (undefined-typed τ) env (r .wide) refl feedback-small env₁ started);
+                (name-values r t few-around (undefined τ) (undefined-typed τ) env (r .wide) refl feedback-small env₁ started);
             same = same-type;
             rises = rw (slot₁, framed₁, applies)
                 (undefined-rises undecidedRule rule-lawful (Declared s) {ρ = π} {t = body-part} part-typed (r .values));
@@ -141,7 +141,7 @@ module _ (s : List ℕ) (n : ℕ) (W env : List ℕ) (names rec : ℕ) (out Γ :
           let f = feedback-small in
           omega arith
 
-      module _ (held env₂ held₁ : List ℕ) (p : Settled s n W env₁ names d held (take (c - 0) R) env₂ held₁) where
+      module _ {held env₂ held₁ : List ℕ} (p : Settled s n W env₁ names d held (take (c - 0) R) env₂ held₁) where
         f₁ : SettledIn s t Γ env₁ names d held env₂ held₁
         f₁ = p .settled t Γ feedback-settling
 
@@ -160,7 +160,7 @@ module _ (s : List ℕ) (n : ℕ) (W env : List ℕ) (names rec : ℕ) (out Γ :
         framed₂ : frames s (t ∷ Γ) env₂ ≡ u ∷ π
         framed₂ =
             ap₂ _∷_ (rw (r .many) reached)
-            (frames-kept s Γ env₂ env (names-small s n W env names rec out Γ r rec Γ (r .scope)) (rw (r .many) kept₂))
+            (frames-kept s Γ env₂ env (names-small r (r .scope)) (rw (r .many) kept₂))
 
         body-values : ValuesOf (map (typeAt s) (t ∷ Γ)) (frames s (t ∷ Γ) env₂)
         body-values =
@@ -172,14 +172,14 @@ module _ (s : List ℕ) (n : ℕ) (W env : List ℕ) (names rec : ℕ) (out Γ :
 
         pub feedback-body-ready : EvaluatingIn s n W env₂ (names + 1) y out (t ∷ Γ)
         feedback-body-ready =
-            ready-at s n W env names rec out Γ r y (t ∷ Γ) body-scope env₂ (names + 1) out (rw (r .many, add-one names) refl) (f₁ .wide)
-            (sym (ready-value s n W env names rec out Γ r) ∙ ap length body-value
-            ∙ value-long s n W env names rec out Γ r y (t ∷ Γ) body-scope (frames s (t ∷ Γ) env₂) body-values)
+            ready-at r body-scope env₂ (names + 1) out (rw (r .many, add-one names) refl) (f₁ .wide)
+            (sym (ready-value r) ∙ ap length body-value
+            ∙ value-long r body-scope body-values)
             body-values
 
-        pub feedback-done : (env₃ held₂ o : List ℕ) → Evaluated s n W env₂ (names + 1) y held₁ out env₃ held₂ o
+        pub feedback-done : {env₃ held₂ o : List ℕ} → Evaluated s n W env₂ (names + 1) y held₁ out env₃ held₂ o
             → EvaluatedIn s Γ env names rec held env₃ held₂ o
-        feedback-done env₃ held₂ o q =
+        feedback-done {env₃} {held₂} q =
             let d₂ = q .done (t ∷ Γ) feedback-body-ready in
             let h₁ : held₁ ≡ storedAt undecidedRule s (t ∷ Γ) (u ∷ π) d held = rw (leads, ρ₁) at (f₁ .stored) in
             let h₂ : held₂ ≡ storedAt undecidedRule s (t ∷ Γ) (u ∷ π) y held₁ = rw framed₂ at (d₂ .stored) in

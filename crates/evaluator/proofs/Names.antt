@@ -46,28 +46,28 @@ use Rattle.evaluator.proofs.Readiness.{
 }
 use Rattle.evaluator.proofs.Parts.{fits-room, room-done, room-wide}
 
-module _ (s : List ℕ) (n : ℕ) (W env : List ℕ) (names rec : ℕ) (out Γ : List ℕ) (r : EvaluatingIn s n W env names rec out Γ) where
+module _ {s : List ℕ} {n : ℕ} {W env : List ℕ} {names rec : ℕ} {out Γ : List ℕ} (r : EvaluatingIn s n W env names rec out Γ) where
   abbrev ρ : List (List ℕ)
   ρ = frames s Γ env
 
   w : Written s
-  w = ready-written s n W env names rec out Γ r
+  w = ready-written r
 
   b : rec < count s
-  b = ready-there s n W env names rec out Γ r
+  b = ready-there r
 
-  module _ (e : kindAt s rec ≡ expression name) (k : ℕ) (ek : k ≡ word s rec 2) where
+  module _ (e : kindAt s rec ≡ expression name) {k : ℕ} (ek : k ≡ word s rec 2) where
     pub name-in-scope : k < names
     name-in-scope =
-        let j = judged-by-kind (ready-passes s n W env names rec out Γ r) (in-circuit s n W env names rec out Γ r rec Γ (r .scope)) name e in
+        let j = judged-by-kind (ready-passes r) (in-circuit r (r .scope)) name e in
         let h = ltb-true (wordA s rec) (length Γ) j in
         let m = r .many in
         omega (arith, h, ek)
 
     pub name-room : (64 * (names - 1 - k) + length out ≤ length env) × (length env ≤ 4096)
     name-room =
-        let f = names-few s n W env names rec out Γ r rec Γ (r .scope) in
-        let o = room-few s n W env names rec out Γ r in
+        let f = names-few r (r .scope) in
+        let o = room-few r in
         let h = name-in-scope in
         let m = r .many in
         let l = r .wide in
@@ -75,10 +75,10 @@ module _ (s : List ℕ) (n : ℕ) (W env : List ℕ) (names rec : ℕ) (out Γ :
 
     name-leaves : length out ≡ leaves (typeAt s (getD Γ k 0))
     name-leaves =
-        r .room ∙ entry-is s n W env names rec out Γ r rec Γ (r .scope) ∙ rw (tree-of w rec b (expression name) e, ek) refl
+        r .room ∙ entry-is r (r .scope) ∙ rw (tree-of w rec b (expression name) e, ek) refl
 
-    pub name-done : (held out′ : List ℕ) → out′ ≡ slot (names - 1 - k) (length out) env → EvaluatedIn s Γ env names rec held env held out′
-    name-done held out′ g =
+    pub name-done : {held out′ : List ℕ} → out′ ≡ slot (names - 1 - k) (length out) env → EvaluatedIn s Γ env names rec held env held out′
+    name-done {held} g =
         let there : slot (names - 1 - k) (length out) env ≡ getD ρ k [] =
         rw (name-leaves, ← r .many) (sym (frame-at s Γ env k (let h = name-in-scope in let m = r .many in omega arith))) in
         record {
@@ -88,8 +88,8 @@ module _ (s : List ℕ) (n : ℕ) (W env : List ℕ) (names rec : ℕ) (out Γ :
           kept = refl;
         }
 
-  module _ (e : kindAt s rec ≡ expression letIn) (x y : ℕ) (ex : x ≡ word s rec 2) (ey : y ≡ word s rec 3) (c : ℕ) (ec : c ≡ getD W x 0)
-      (R : List ℕ) (eR : R ≡ replicate 64 0) where
+  module _ (e : kindAt s rec ≡ expression letIn) {x y : ℕ} (ex : x ≡ word s rec 2) (ey : y ≡ word s rec 3) {c : ℕ} (ec : c ≡ getD W x 0)
+      {R : List ℕ} (eR : R ≡ replicate 64 0) where
     pub defining-scope : Scope s x Γ
     defining-scope = rw ex (let-defining e (r .scope))
 
@@ -100,67 +100,67 @@ module _ (s : List ℕ) (n : ℕ) (W env : List ℕ) (names rec : ℕ) (out Γ :
     body-scope = rw (ex, ey) (let-body e (r .scope))
 
     few : length (t ∷ Γ) ≤ 64
-    few = names-few s n W env names rec out Γ r y (t ∷ Γ) body-scope
+    few = names-few r body-scope
 
     small : leaves (typeAt s t) ≤ 64
     small =
-        let f = entry-few s n W env names rec out Γ r x Γ defining-scope in
-        let i = entry-is s n W env names rec out Γ r x Γ defining-scope in
+        let f = entry-few r defining-scope in
+        let i = entry-is r defining-scope in
         omega arith
 
-    module _ (held env₁ held₁ o₁ : List ℕ) (p₁ : Evaluated s n W env names x held (take (c - 0) R) env₁ held₁ o₁) where
+    module _ {held env₁ held₁ o₁ : List ℕ} (p₁ : Evaluated s n W env names x held (take (c - 0) R) env₁ held₁ o₁) where
       d₁ : EvaluatedIn s Γ env names x held env₁ held₁ o₁
-      d₁ = room-done s n W env names rec out Γ r x defining-scope c ec R eR held env₁ held₁ o₁ p₁
+      d₁ = room-done r defining-scope ec eR p₁
 
       typed : OfType (typeAt s t) o₁
-      typed = rw (d₁ .value) (value-typed s n W env names rec out Γ r x Γ defining-scope ρ (r .values))
+      typed = rw (d₁ .value) (value-typed r defining-scope (r .values))
 
       abbrev value : List ℕ
       value = take (c - 0) (o₁ ++ drop (c - 0) R)
 
       value-is : value ≡ o₁
       value-is =
-          back-part c R o₁ (room-wide s n W env names rec out Γ r x defining-scope c ec R eR held env₁ held₁ o₁ p₁)
-          (fits-room s n W env names rec out Γ r x defining-scope c ec R eR)
+          back-part c R o₁ (room-wide r defining-scope ec eR p₁)
+          (fits-room r defining-scope ec eR)
 
       pub let-inside : c ≤ length (o₁ ++ drop (c - 0) R)
       let-inside =
-          let l = back-long c R o₁ (room-wide s n W env names rec out Γ r x defining-scope c ec R eR held env₁ held₁ o₁ p₁)
-          (fits-room s n W env names rec out Γ r x defining-scope c ec R eR) in
-          let f = fits-room s n W env names rec out Γ r x defining-scope c ec R eR in
+          let l = back-long c R o₁ (room-wide r defining-scope ec eR p₁)
+          (fits-room r defining-scope ec eR) in
+          let f = fits-room r defining-scope ec eR in
           omega arith
 
       pub let-room : (64 * names + length value ≤ length env₁) × (length env₁ ≤ 4096)
       let-room =
-          rw value-is (room-there s n W env names rec out Γ r t few o₁ typed env₁ (d₁ .wide) (d₁ .kept) small)
+          rw value-is (room-there r t few o₁ typed env₁ (d₁ .wide) (d₁ .kept) small)
 
-      module _ (env₂ : List ℕ) (g : env₂ ≡ entered names value env₁) where
+      module _ {env₂ : List ℕ} (g : env₂ ≡ entered names value env₁) where
         entered-is : env₂ ≡ entered names o₁ env₁
         entered-is = rw value-is at g
 
         framed : frames s (t ∷ Γ) env₂ ≡ valueAt undecidedRule s Γ ρ x ∷ ρ
         framed =
             rw (d₁ .value) at
-            (name-frames s n W env names rec out Γ r t few o₁ typed env₁ (d₁ .wide) (d₁ .kept) small env₂ entered-is)
+            (name-frames r t few o₁ typed env₁ (d₁ .wide) (d₁ .kept) small env₂ entered-is)
 
         body-values : ValuesOf (map (typeAt s) (t ∷ Γ)) (frames s (t ∷ Γ) env₂)
-        body-values = name-values s n W env names rec out Γ r t few o₁ typed env₁ (d₁ .wide) (d₁ .kept) small env₂ entered-is
+        body-values = name-values r t few o₁ typed env₁ (d₁ .wide) (d₁ .kept) small env₂ entered-is
 
         body-value : valueAt undecidedRule s Γ ρ rec ≡ valueAt undecidedRule s (t ∷ Γ) (frames s (t ∷ Γ) env₂) y
         body-value = rw (framed, ex, ey) (let-value undecidedRule s w Γ ρ rec b e)
 
         pub let-body-ready : EvaluatingIn s n W env₂ (names + 1) y out (t ∷ Γ)
         let-body-ready =
-            ready-at s n W env names rec out Γ r y (t ∷ Γ) body-scope env₂ (names + 1) out
+            ready-at r body-scope env₂ (names + 1) out
             (rw (r .many, add-one names) refl)
-            (name-wide s n W env names rec out Γ r t few o₁ typed env₁ (d₁ .wide) (d₁ .kept) small env₂ entered-is)
-            (sym (ready-value s n W env names rec out Γ r) ∙ ap length body-value
-            ∙ value-long s n W env names rec out Γ r y (t ∷ Γ) body-scope (frames s (t ∷ Γ) env₂) body-values)
+            (name-wide r t few o₁ typed env₁ (d₁ .wide) (d₁ .kept) small env₂ entered-is)
+            (sym (ready-value r) ∙ ap length body-value
+            ∙ value-long r body-scope body-values)
             body-values
 
-        pub let-done : (env₃ held₂ o₂ : List ℕ) → Evaluated s n W env₂ (names + 1) y held₁ out env₃ held₂ o₂
+        pub let-done : {env₃ held₂ o₂ : List ℕ} → Evaluated s n W env₂ (names + 1) y held₁ out env₃ held₂ o₂
             → EvaluatedIn s Γ env names rec held env₃ held₂ o₂
-        let-done env₃ held₂ o₂ p₂ =
+        let-done {env₃} {held₂} p₂ =
             let d₂ = p₂ .done (t ∷ Γ) let-body-ready in
             let h₂ : held₂ ≡ storedAt undecidedRule s (t ∷ Γ) (valueAt undecidedRule s Γ ρ x ∷ ρ) y held₁ =
             rw framed at (d₂ .stored) in
@@ -170,5 +170,5 @@ module _ (s : List ℕ) (n : ℕ) (W env : List ℕ) (names rec : ℕ) (out Γ :
               wide = d₂ .wide;
               kept =
                   front-kept (64 * names) (64 * (names + 1)) env₃ env₂ (omega arith) (d₂ .kept)
-                  ∙ name-kept s n W env names rec out Γ r t few o₁ typed env₁ (d₁ .wide) (d₁ .kept) small env₂ entered-is;
+                  ∙ name-kept r t few o₁ typed env₁ (d₁ .wide) (d₁ .kept) small env₂ entered-is;
             }

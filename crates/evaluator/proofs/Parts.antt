@@ -26,7 +26,7 @@ use Rattle.evaluator.specs.Evaluating.{EvaluatingIn, EvaluatedIn, Evalua
 use Rattle.evaluator.proofs.Frames.{back-long, rest-long, both-back, lent-long, zeros-long, front-own, front-few, end-own, end-few, front-of-back, end-of-back, put-whole}
 use Rattle.evaluator.proofs.Readiness.{ready-written, ready-there, ready-value, ready-at, value-long, same-frames, same-values, entry-few}
 
-module _ (s : List ℕ) (n : ℕ) (W env : List ℕ) (names rec : ℕ) (out Γ : List ℕ) (r : EvaluatingIn s n W env names rec out Γ) where
+module _ {s : List ℕ} {n : ℕ} {W env : List ℕ} {names rec : ℕ} {out Γ : List ℕ} (r : EvaluatingIn s n W env names rec out Γ) where
   abbrev ρ : List (List ℕ)
   ρ = frames s Γ env
 
@@ -34,15 +34,15 @@ module _ (s : List ℕ) (n : ℕ) (W env : List ℕ) (names rec : ℕ) (out Γ :
   val x = valueAt undecidedRule s Γ ρ x
 
   sheet-written : Written s
-  sheet-written = ready-written s n W env names rec out Γ r
+  sheet-written = ready-written r
 
   record-there : rec < count s
-  record-there = ready-there s n W env names rec out Γ r
+  record-there = ready-there r
 
   -- a chain of leaves in a word of the record
   module _ (e : kindAt s rec ≡ expression constant) where
-    pub constant-chained : (x : ℕ) → x ≡ word s rec 3 → Chained s n x (length out)
-    constant-chained x ex =
+    pub constant-chained : {x : ℕ} → x ≡ word s rec 3 → Chained s n x (length out)
+    constant-chained ex =
         let p = part-of-kind sheet-written rec (expression constant) leafs record-there e 3 refl
         (unfold askOfKind in refl) in
         let c = r .sized .counted in
@@ -51,15 +51,15 @@ module _ (s : List ℕ) (n : ℕ) (W env : List ℕ) (names rec : ℕ) (out Γ :
           written = sheet-written;
           there = omega (arith, p .1, ex);
           sort = rw ex (p .2);
-          many = rw ex (sym (long (chain s (wordB s rec))) ∙ ap length (sym (constant-value undecidedRule s sheet-written Γ ρ rec record-there e)) ∙ ready-value s n W env names rec out Γ r);
+          many = rw ex (sym (long (chain s (wordB s rec))) ∙ ap length (sym (constant-value undecidedRule s sheet-written Γ ρ rec record-there e)) ∙ ready-value r);
         }
       where
         long : (ls : List ℕ) → length (leafValues s ls) ≡ length ls
         long ls = length-map ls (wordA s)
 
-    pub constant-done : (x : ℕ) → x ≡ word s rec 3 → (held out′ : List ℕ) → out′ ≡ leafValues s (chain s x)
+    pub constant-done : {x : ℕ} → x ≡ word s rec 3 → {held out′ : List ℕ} → out′ ≡ leafValues s (chain s x)
         → EvaluatedIn s Γ env names rec held env held out′
-    constant-done x ex held out′ g =
+    constant-done ex {held} g =
         record {
           value = g ∙ rw ex (sym (constant-value undecidedRule s sheet-written Γ ρ rec record-there e));
           stored = sym (constant-stored undecidedRule s sheet-written Γ ρ rec record-there e held);
@@ -67,7 +67,7 @@ module _ (s : List ℕ) (n : ℕ) (W env : List ℕ) (names rec : ℕ) (out Γ :
           kept = refl;
         }
 
-  module _ (e : kindAt s rec ≡ expression tuple) (x y : ℕ) (ex : x ≡ word s rec 2) (ey : y ≡ word s rec 3) where
+  module _ (e : kindAt s rec ≡ expression tuple) {x y : ℕ} (ex : x ≡ word s rec 2) (ey : y ≡ word s rec 3) where
     scope-a : Scope s x Γ
     scope-a = rw ex (tuple-first e (r .scope))
 
@@ -78,32 +78,32 @@ module _ (s : List ℕ) (n : ℕ) (W env : List ℕ) (names rec : ℕ) (out Γ :
     parts = rw (ex, ey) (tuple-value undecidedRule s sheet-written Γ ρ rec record-there e)
 
     pub pair-small : getD W x 0 ≤ 64
-    pair-small = entry-few s n W env names rec out Γ r x Γ scope-a
+    pair-small = entry-few r scope-a
 
     pub pair-widths : getD W x 0 + getD W y 0 ≡ length out
     pair-widths =
-        let a = value-long s n W env names rec out Γ r x Γ scope-a ρ (r .values) in
-        let b = value-long s n W env names rec out Γ r y Γ scope-b ρ (r .values) in
-        let c = ready-value s n W env names rec out Γ r in
+        let a = value-long r scope-a (r .values) in
+        let b = value-long r scope-b (r .values) in
+        let c = ready-value r in
         let d = length-append (val x) (val y) in
         let f = ap length parts in
         omega arith
 
-    module _ (w : ℕ) (ew : w ≡ getD W x 0) where
+    module _ {w : ℕ} (ew : w ≡ getD W x 0) where
       pub pair-cut : w ≤ length out
       pair-cut = let p = pair-widths in omega arith
 
       pub pair-first-ready : EvaluatingIn s n W env names x (take (w - 0) out) Γ
       pair-first-ready =
-          ready-at s n W env names rec out Γ r x Γ scope-a env names (take (w - 0) out) (r .many) (r .wide)
+          ready-at r scope-a env names (take (w - 0) out) (r .many) (r .wide)
           (lent-long w out pair-cut ∙ ew) (r .values)
 
-      module _ (held env₁ held₁ o₁ : List ℕ) (p₁ : Evaluated s n W env names x held (take (w - 0) out) env₁ held₁ o₁) where
+      module _ {held env₁ held₁ o₁ : List ℕ} (p₁ : Evaluated s n W env names x held (take (w - 0) out) env₁ held₁ o₁) where
         d₁ : EvaluatedIn s Γ env names x held env₁ held₁ o₁
         d₁ = p₁ .done Γ pair-first-ready
 
         first-wide : length o₁ ≡ w
-        first-wide = ap length (d₁ .value) ∙ value-long s n W env names rec out Γ r x Γ scope-a ρ (r .values) ∙ sym ew
+        first-wide = ap length (d₁ .value) ∙ value-long r scope-a (r .values) ∙ sym ew
 
         pub pair-rest : w ≤ length (o₁ ++ drop (w - 0) out)
         pair-rest = let l = back-long w out o₁ first-wide pair-cut in let c = pair-cut in omega arith
@@ -113,17 +113,17 @@ module _ (s : List ℕ) (n : ℕ) (W env : List ℕ) (names rec : ℕ) (out Γ :
 
         pub pair-second-ready : EvaluatingIn s n W env₁ names y rest Γ
         pair-second-ready =
-            ready-at s n W env names rec out Γ r y Γ scope-b env₁ names rest (r .many) (d₁ .wide)
+            ready-at r scope-b env₁ names rest (r .many) (d₁ .wide)
             (let l = rest-long w out o₁ first-wide pair-cut in let p = pair-widths in omega arith)
-            (same-values s n W env names rec out Γ r env₁ (d₁ .kept))
+            (same-values r env₁ (d₁ .kept))
 
-        pub pair-done : (env₂ held₂ o₂ : List ℕ) → Evaluated s n W env₁ names y held₁ rest env₂ held₂ o₂
+        pub pair-done : {env₂ held₂ o₂ : List ℕ} → Evaluated s n W env₁ names y held₁ rest env₂ held₂ o₂
             → EvaluatedIn s Γ env names rec held env₂ held₂
             (take w (o₁ ++ drop (w - 0) out)
             ++ (o₂ ++ drop (length (o₁ ++ drop (w - 0) out) - w) (drop w (o₁ ++ drop (w - 0) out))))
-        pair-done env₂ held₂ o₂ p₂ =
+        pair-done {env₂} {held₂} {o₂} p₂ =
             let d₂ = p₂ .done Γ pair-second-ready in
-            let f = same-frames s n W env names rec out Γ r env₁ (d₁ .kept) in
+            let f = same-frames r env₁ (d₁ .kept) in
             let v₂ : o₂ ≡ val y = rw f at (d₂ .value) in
             let h₂ : held₂ ≡ storedAt undecidedRule s Γ ρ y held₁ = rw f at (d₂ .stored) in
             record {
@@ -134,68 +134,68 @@ module _ (s : List ℕ) (n : ℕ) (W env : List ℕ) (names rec : ℕ) (out Γ :
             }
 
   -- a part of a pair, evaluated into some room
-  module _ (x : ℕ) (c : Scope s x Γ) (w : ℕ) (ew : w ≡ getD W x 0) (R : List ℕ) (eR : R ≡ replicate 64 0) where
+  module _ {x : ℕ} (c : Scope s x Γ) {w : ℕ} (ew : w ≡ getD W x 0) {R : List ℕ} (eR : R ≡ replicate 64 0) where
     pub fits-room : w ≤ length R
     fits-room =
         let l : length R ≡ 64 = rw eR (zeros-long 64) in
-        let f = entry-few s n W env names rec out Γ r x Γ c in
+        let f = entry-few r c in
         omega arith
 
     pub room-ready : EvaluatingIn s n W env names x (take (w - 0) R) Γ
     room-ready =
-        ready-at s n W env names rec out Γ r x Γ c env names (take (w - 0) R) (r .many) (r .wide) (lent-long w R fits-room ∙ ew) (r .values)
+        ready-at r c env names (take (w - 0) R) (r .many) (r .wide) (lent-long w R fits-room ∙ ew) (r .values)
 
-    module _ (held env₁ held₁ o₁ : List ℕ) (p₁ : Evaluated s n W env names x held (take (w - 0) R) env₁ held₁ o₁) where
+    module _ {held env₁ held₁ o₁ : List ℕ} (p₁ : Evaluated s n W env names x held (take (w - 0) R) env₁ held₁ o₁) where
       pub room-done : EvaluatedIn s Γ env names x held env₁ held₁ o₁
       room-done = p₁ .done Γ room-ready
 
       pub room-wide : length o₁ ≡ w
-      room-wide = ap length (room-done .value) ∙ value-long s n W env names rec out Γ r x Γ c ρ (r .values) ∙ sym ew
+      room-wide = ap length (room-done .value) ∙ value-long r c (r .values) ∙ sym ew
 
-  module _ (e : kindAt s rec ≡ expression first) (x : ℕ) (ex : x ≡ word s rec 2) (w : ℕ) (ew : w ≡ getD W x 0) (R : List ℕ)
+  module _ (e : kindAt s rec ≡ expression first) {x : ℕ} (ex : x ≡ word s rec 2) {w : ℕ} (ew : w ≡ getD W x 0) {R : List ℕ}
       (eR : R ≡ replicate 64 0) where
     pub first-scope : Scope s x Γ
     first-scope = rw ex (of-first e (r .scope))
 
-    module _ (held env₁ held₁ o₁ : List ℕ) (p₁ : Evaluated s n W env names x held (take (w - 0) R) env₁ held₁ o₁) where
+    module _ {held env₁ held₁ o₁ : List ℕ} (p₁ : Evaluated s n W env names x held (take (w - 0) R) env₁ held₁ o₁) where
       abbrev cut : ℕ
       cut = leaves (typeAt s (wordA s (typeRecordOf s Γ (treeAt s (wordA s rec)))))
 
       front : val rec ≡ take cut o₁
       front =
           first-value undecidedRule s sheet-written Γ ρ rec record-there e
-          ∙ ap (take cut) (rw ex at (sym (room-done x first-scope w ew R eR held env₁ held₁ o₁ p₁ .value)))
+          ∙ ap (take cut) (rw ex at (sym (room-done first-scope ew eR p₁ .value)))
 
       cut-long : length out ≡ length (take cut o₁)
-      cut-long = sym (ready-value s n W env names rec out Γ r) ∙ ap length front
+      cut-long = sym (ready-value r) ∙ ap length front
 
       pub first-few : length out ≤ w
       first-few =
-          let a = room-wide x first-scope w ew R eR held env₁ held₁ o₁ p₁ in
+          let a = room-wide first-scope ew eR p₁ in
           let b = front-few cut o₁ in
           let c = cut-long in
           omega arith
 
       part-is : take (length out - 0) (o₁ ++ drop (w - 0) R) ≡ take cut o₁
       part-is =
-          front-of-back w R o₁ (room-wide x first-scope w ew R eR held env₁ held₁ o₁ p₁) (length out) first-few
+          front-of-back w R o₁ (room-wide first-scope ew eR p₁) (length out) first-few
           ∙ rw cut-long (front-own cut o₁)
 
       pub first-inside : length out ≤ length (o₁ ++ drop (w - 0) R)
       first-inside =
-          let a = back-long w R o₁ (room-wide x first-scope w ew R eR held env₁ held₁ o₁ p₁) (fits-room x first-scope w ew R eR) in
-          let b = fits-room x first-scope w ew R eR in
+          let a = back-long w R o₁ (room-wide first-scope ew eR p₁) (fits-room first-scope ew eR) in
+          let b = fits-room first-scope ew eR in
           let c = first-few in
           omega arith
 
       pub first-fits : length (take (length out - 0) (o₁ ++ drop (w - 0) R)) ≡ length out
       first-fits = ap length part-is ∙ sym cut-long
 
-      pub first-done : (out′ : List ℕ)
+      pub first-done : {out′ : List ℕ}
           → out′ ≡ take (length out - 0) (o₁ ++ drop (w - 0) R) ++ drop (length (take (length out - 0) (o₁ ++ drop (w - 0) R))) out
           → EvaluatedIn s Γ env names rec held env₁ held₁ out′
-      first-done out′ g =
-          let d = room-done x first-scope w ew R eR held env₁ held₁ o₁ p₁ in
+      first-done {out′} g =
+          let d = room-done first-scope ew eR p₁ in
           record {
             value = put-whole (take (length out - 0) (o₁ ++ drop (w - 0) R)) out out′ first-fits g ∙ part-is ∙ sym front;
             stored = d .stored ∙ rw ex (sym (first-stored undecidedRule s sheet-written Γ ρ rec record-there e held));
@@ -203,26 +203,26 @@ module _ (s : List ℕ) (n : ℕ) (W env : List ℕ) (names rec : ℕ) (out Γ :
             kept = d .kept;
           }
 
-  module _ (e : kindAt s rec ≡ expression second) (x : ℕ) (ex : x ≡ word s rec 2) (w : ℕ) (ew : w ≡ getD W x 0) (R : List ℕ)
+  module _ (e : kindAt s rec ≡ expression second) {x : ℕ} (ex : x ≡ word s rec 2) {w : ℕ} (ew : w ≡ getD W x 0) {R : List ℕ}
       (eR : R ≡ replicate 64 0) where
     pub second-scope : Scope s x Γ
     second-scope = rw ex (of-second e (r .scope))
 
-    module _ (held env₁ held₁ o₁ : List ℕ) (p₁ : Evaluated s n W env names x held (take (w - 0) R) env₁ held₁ o₁) where
+    module _ {held env₁ held₁ o₁ : List ℕ} (p₁ : Evaluated s n W env names x held (take (w - 0) R) env₁ held₁ o₁) where
       abbrev cut′ : ℕ
       cut′ = leaves (typeAt s (wordA s (typeRecordOf s Γ (treeAt s (wordA s rec)))))
 
       end : val rec ≡ drop cut′ o₁
       end =
           second-value undecidedRule s sheet-written Γ ρ rec record-there e
-          ∙ ap (drop cut′) (rw ex at (sym (room-done x second-scope w ew R eR held env₁ held₁ o₁ p₁ .value)))
+          ∙ ap (drop cut′) (rw ex at (sym (room-done second-scope ew eR p₁ .value)))
 
       end-long : length out ≡ length (drop cut′ o₁)
-      end-long = sym (ready-value s n W env names rec out Γ r) ∙ ap length end
+      end-long = sym (ready-value r) ∙ ap length end
 
       pub second-few : length out ≤ w
       second-few =
-          let a = room-wide x second-scope w ew R eR held env₁ held₁ o₁ p₁ in
+          let a = room-wide second-scope ew eR p₁ in
           let b = end-few cut′ o₁ in
           let c = end-long in
           omega arith
@@ -235,21 +235,21 @@ module _ (s : List ℕ) (n : ℕ) (W env : List ℕ) (names rec : ℕ) (out Γ :
 
       piece-is : piece ≡ drop cut′ o₁
       piece-is =
-          let l = room-wide x second-scope w ew R eR held env₁ held₁ o₁ p₁ in
+          let l = room-wide second-scope ew eR p₁ in
           end-of-back w R o₁ l (length out) second-few ∙ rw (← l, end-long) (end-own cut′ o₁)
 
       pub second-inside : w ≤ length (o₁ ++ drop (w - 0) R)
       second-inside =
-          let a = back-long w R o₁ (room-wide x second-scope w ew R eR held env₁ held₁ o₁ p₁) (fits-room x second-scope w ew R eR) in
-          let b = fits-room x second-scope w ew R eR in
+          let a = back-long w R o₁ (room-wide second-scope ew eR p₁) (fits-room second-scope ew eR) in
+          let b = fits-room second-scope ew eR in
           omega arith
 
       pub second-fits : length piece ≡ length out
       second-fits = ap length piece-is ∙ sym end-long
 
-      pub second-done : (out′ : List ℕ) → out′ ≡ piece ++ drop (length piece) out → EvaluatedIn s Γ env names rec held env₁ held₁ out′
-      second-done out′ g =
-          let d = room-done x second-scope w ew R eR held env₁ held₁ o₁ p₁ in
+      pub second-done : {out′ : List ℕ} → out′ ≡ piece ++ drop (length piece) out → EvaluatedIn s Γ env names rec held env₁ held₁ out′
+      second-done {out′} g =
+          let d = room-done second-scope ew eR p₁ in
           record {
             value = put-whole piece out out′ second-fits g ∙ piece-is ∙ sym end;
             stored = d .stored ∙ rw ex (sym (second-stored undecidedRule s sheet-written Γ ρ rec record-there e held));

@@ -39,7 +39,7 @@ use Rattle.values.specs.Slots.{slot, entered, frames}
 use Rattle.evaluator.specs.Evaluating.{EvaluatingIn}
 use Rattle.evaluator.proofs.Frames.{Small, frames-kept, entered-kept, entered-slot, entered-long}
 
-module _ (s : List ℕ) (n : ℕ) (W env : List ℕ) (names rec : ℕ) (out Γ : List ℕ) (r : EvaluatingIn s n W env names rec out Γ) where
+module _ {s : List ℕ} {n : ℕ} {W env : List ℕ} {names rec : ℕ} {out Γ : List ℕ} (r : EvaluatingIn s n W env names rec out Γ) where
   pub ready-passes : Passes s
   ready-passes = exact s (r .type) .0 (r .accepted) .0
 
@@ -47,7 +47,7 @@ module _ (s : List ℕ) (n : ℕ) (W env : List ℕ) (names rec : ℕ) (out Γ :
   ready-written = written ready-passes
 
   -- at an expression of the circuit
-  module _ (x : ℕ) (Δ : List ℕ) (c : Scope s x Δ) where
+  module _ {x : ℕ} {Δ : List ℕ} (c : Scope s x Δ) where
     pub in-circuit : Checked s x Δ
     in-circuit = scope-checked (r .type) ready-passes (r .accepted) c
 
@@ -72,7 +72,7 @@ module _ (s : List ℕ) (n : ℕ) (W env : List ℕ) (names rec : ℕ) (out Γ :
     pub elaborated : Elaborated (Declared s) (map (typeAt s) Δ) (term s Δ (treeAt s x)) (typeAt s (typeRecordOf s Δ (treeAt s x)))
     elaborated = checked-term ready-passes in-circuit
 
-    module _ (ρ : List (List ℕ)) (v : ValuesOf (map (typeAt s) Δ) ρ) where
+    module _ {ρ : List (List ℕ)} (v : ValuesOf (map (typeAt s) Δ) ρ) where
       pub value-typed : OfType (typeAt s (typeRecordOf s Δ (treeAt s x))) (valueAt undecidedRule s Δ ρ x)
       unfolding valueAt
       value-typed = eval-typed undecidedRule rule-lawful (Declared s) elaborated v
@@ -97,24 +97,24 @@ module _ (s : List ℕ) (n : ℕ) (W env : List ℕ) (names rec : ℕ) (out Γ :
 
   -- the record itself
   pub ready-there : rec < count s
-  ready-there = in-circuit rec Γ (r .scope) .there
+  ready-there = in-circuit (r .scope) .there
 
-  pub ready-word : (k : ℕ) → k < 6 → Sized s n × (rec < n) × (k < 6)
-  ready-word k h = let c = r .sized .counted in let t = ready-there in (r .sized, omega arith, h)
+  pub ready-word : {k : ℕ} → k < 6 → Sized s n × (rec < n) × (k < 6)
+  ready-word h = let c = r .sized .counted in let t = ready-there in (r .sized, omega arith, h)
 
   pub ready-value : length (valueAt undecidedRule s Γ (frames s Γ env) rec) ≡ length out
-  ready-value = value-long rec Γ (r .scope) (frames s Γ env) (r .values) ∙ sym (r .room)
+  ready-value = value-long (r .scope) (r .values) ∙ sym (r .room)
 
   pub room-few : length out ≤ 64
-  room-few = let e = entry-few rec Γ (r .scope) in let l = r .room in omega arith
+  room-few = let e = entry-few (r .scope) in let l = r .room in omega arith
 
   pub ready-few : names ≤ 64
-  ready-few = let f = names-few rec Γ (r .scope) in let m = r .many in omega arith
+  ready-few = let f = names-few (r .scope) in let m = r .many in omega arith
 
   -- names that are kept
   module _ (env′ : List ℕ) (kept : take (64 * names) env′ ≡ take (64 * names) env) where
     pub same-frames : frames s Γ env′ ≡ frames s Γ env
-    same-frames = frames-kept s Γ env′ env (names-small rec Γ (r .scope)) (rw (r .many) kept)
+    same-frames = frames-kept s Γ env′ env (names-small (r .scope)) (rw (r .many) kept)
 
     pub same-values : ValuesOf (map (typeAt s) Γ) (frames s Γ env′)
     same-values = rw same-frames (r .values)
@@ -149,7 +149,7 @@ module _ (s : List ℕ) (n : ℕ) (W env : List ℕ) (names rec : ℕ) (out Γ :
 
   -- a part
   module _ (k : ExpressionKind) (e : kindAt s rec ≡ expression k) (j : ℕ) (t : (ltb 0 j && ltb j 6) ≡ true)
-      (a : askOfKind (expression k) j ≡ part expressions) (x : ℕ) (ex : x ≡ word s rec j) where
+      (a : askOfKind (expression k) j ≡ part expressions) {x : ℕ} (ex : x ≡ word s rec j) where
     pub higher : (rec < x) × (x < n)
     higher =
         let p = part-of-kind ready-written rec (expression k) expressions ready-there e j t a in

@@ -34,7 +34,7 @@ values-parts (more-values h r) = (h, r)
 one-less : {m k : ℕ} → suc m ≡ k + 1 → m ≡ k
 one-less e = omega arith
 
-module _ (s : List ℕ) (n : ℕ) (W env : List ℕ) (names d : ℕ) (value : List ℕ) (t : ℕ) (Γ : List ℕ) (g : SettlingIn s n W env names d value t Γ) where
+module _ {s : List ℕ} {n : ℕ} {W env : List ℕ} {names d : ℕ} {value : List ℕ} {t : ℕ} {Γ : List ℕ} (g : SettlingIn s n W env names d value t Γ) where
   abbrev r : EvaluatingIn s n W env (names + 1) d value (t ∷ Γ)
   r = g .ready
 
@@ -60,7 +60,7 @@ module _ (s : List ℕ) (n : ℕ) (W env : List ℕ) (names d : ℕ) (value : Li
   typed-values = values-parts (rw framed at (r .values))
 
   typed : Elaborated (Declared s) (σ ∷ map (typeAt s) Γ) part σ
-  typed = rw (g .same) at (elaborated s n W env (names + 1) d value (t ∷ Γ) r d (t ∷ Γ) (r .scope))
+  typed = rw (g .same) at (elaborated r (r .scope))
 
   -- what the defining part gives for a value
   gives : (u : List ℕ) → valueAt undecidedRule s (t ∷ Γ) (u ∷ ρ) d ≡ application undecidedRule ρ part u
@@ -71,13 +71,13 @@ module _ (s : List ℕ) (n : ℕ) (W env : List ℕ) (names d : ℕ) (value : Li
   rises = rw (framed, gives v) at (g .rises)
 
   wide-leaves : getD W d 0 ≡ leaves σ
-  wide-leaves = entry-is s n W env (names + 1) d value (t ∷ Γ) r d (t ∷ Γ) (r .scope) ∙ rw (g .same) refl
+  wide-leaves = entry-is r (r .scope) ∙ rw (g .same) refl
 
   small : leaves σ ≤ 64
-  small = let e = entry-few s n W env (names + 1) d value (t ∷ Γ) r d (t ∷ Γ) (r .scope) in let l = wide-leaves in omega arith
+  small = let e = entry-few r (r .scope) in let l = wide-leaves in omega arith
 
   few : length (t ∷ Γ) ≤ 64
-  few = names-few s n W env (names + 1) d value (t ∷ Γ) r d (t ∷ Γ) (r .scope)
+  few = names-few r (r .scope)
 
   pub settle-few : names + 1 ≤ 64
   settle-few = let f = few in let a = around in omega arith
@@ -85,7 +85,7 @@ module _ (s : List ℕ) (n : ℕ) (W env : List ℕ) (names d : ℕ) (value : Li
   pub value-wide : length value ≡ leaves σ
   value-wide = r .room ∙ wide-leaves
 
-  module _ (held env₁ held₁ o : List ℕ) (p : Evaluated s n W env (names + 1) d held value env₁ held₁ o) where
+  module _ {held env₁ held₁ o : List ℕ} (p : Evaluated s n W env (names + 1) d held value env₁ held₁ o) where
     d₁ : EvaluatedIn s (t ∷ Γ) env (names + 1) d held env₁ held₁ o
     d₁ = p .done (t ∷ Γ) r
 
@@ -112,7 +112,7 @@ module _ (s : List ℕ) (n : ℕ) (W env : List ℕ) (names d : ℕ) (value : Li
     held-is : held₁ ≡ storedAt undecidedRule s (t ∷ Γ) (v ∷ ρ) d held
     held-is = rw framed at (d₁ .stored)
 
-    module _ (answer : Bool) (a : Agrees o (slot names (length o) env₁) answer) where
+    module _ {answer : Bool} (a : Agrees o (slot names (length o) env₁) answer) where
       standing : slot names (length o) env₁ ≡ v
       standing = rw given-long same-slot
 
@@ -128,7 +128,7 @@ module _ (s : List ℕ) (n : ℕ) (W env : List ℕ) (names d : ℕ) (value : Li
             kept = kept;
           }
 
-      module _ (e : answer ≡ false) (env₂ : List ℕ) (ee : env₂ ≡ entered names o env₁) where
+      module _ (e : answer ≡ false) {env₂ : List ℕ} (ee : env₂ ≡ entered names o env₁) where
         changed : application undecidedRule ρ part v ≢ v
         changed u = a .other e (given ∙ u ∙ sym standing)
 
@@ -146,7 +146,7 @@ module _ (s : List ℕ) (n : ℕ) (W env : List ℕ) (names d : ℕ) (value : Li
 
         ρ₂ : frames s Γ env₂ ≡ ρ
         ρ₂ =
-            frames-kept s Γ env₂ env (λ k h. names-small s n W env (names + 1) d value (t ∷ Γ) r d (t ∷ Γ) (r .scope) (suc k) (omega arith))
+            frames-kept s Γ env₂ env (λ k h. names-small r (r .scope) (suc k) (omega arith))
             (rw around kept₂)
 
         framed₂ : frames s (t ∷ Γ) env₂ ≡ o ∷ ρ
@@ -160,7 +160,7 @@ module _ (s : List ℕ) (n : ℕ) (W env : List ℕ) (names d : ℕ) (value : Li
         pub settling-again : SettlingIn s n W env₂ names d o t Γ
         settling-again =
             record {
-              ready = ready-at s n W env (names + 1) d value (t ∷ Γ) r d (t ∷ Γ) (r .scope) env₂ (names + 1) o (r .many) wide₂
+              ready = ready-at r (r .scope) env₂ (names + 1) o (r .many) wide₂
                   (given-long ∙ sym wide-leaves) (rw framed₂ (more-values given-typed (typed-values .1)));
               same = g .same;
               rises = rw (slot₂, framed₂, gives o) rises₂;
@@ -176,16 +176,16 @@ module _ (s : List ℕ) (n : ℕ) (W env : List ℕ) (names d : ℕ) (value : Li
             rw (ρ₂, slot₂, given)
             (sym (iterate-again undecidedRule rule-lawful (Declared s) {ρ = ρ} {t = part} typed (typed-values .1) rises))
 
-        pub changed-settled : (env₃ held₂ : List ℕ) → Settled s n W env₂ names d held₁ o env₃ held₂
+        pub changed-settled : {env₃ held₂ : List ℕ} → Settled s n W env₂ names d held₁ o env₃ held₂
             → SettledIn s t Γ env names d held env₃ held₂
-        changed-settled env₃ held₂ q =
+        changed-settled {held₂ = held₂} q =
             let f = q .settled t Γ settling-again in
             let h : held₂ ≡ storedAt undecidedRule s (t ∷ Γ) (leadsTo s t Γ d names env ∷ ρ) d held₁ = rw (leads, ρ₂) at (f .stored) in
             record {
               reached = f .reached ∙ leads;
               stored = h ∙ rw held-is
-                  (stored-again undecidedRule s (ready-written s n W env (names + 1) d value (t ∷ Γ) r) (t ∷ Γ)
-                  (leadsTo s t Γ d names env ∷ ρ) d (ready-there s n W env (names + 1) d value (t ∷ Γ) r) (v ∷ ρ) held);
+                  (stored-again undecidedRule s (ready-written r) (t ∷ Γ)
+                  (leadsTo s t Γ d names env ∷ ρ) d (ready-there r) (v ∷ ρ) held);
               wide = f .wide;
               kept = f .kept ∙ kept₂;
             }

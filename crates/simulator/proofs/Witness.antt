@@ -93,10 +93,10 @@ module _ (s stim out next : List ℕ) (t : ℕ) (h : WellFormed s stim out next 
   first-cycling = first-lending .cycling
 
   first-copying : Copying s (count s) s
-  first-copying = copying s (count s) table names names input s part first-cycling
+  first-copying = copying first-cycling
 
   first-ready : EvaluatingIn s (count s) table (entered 0 input names) 1 (wordB s 0) part (inputs s)
-  first-ready = root-ready s (count s) table names names input s part first-cycling (wordB s 0) refl (entered 0 input names) refl
+  first-ready = root-ready first-cycling refl refl
 
   -- where the root is a feedback
   abbrev started : List ℕ
@@ -105,9 +105,7 @@ module _ (s stim out next : List ℕ) (t : ℕ) (h : WellFormed s stim out next 
   settling : kindAt s (wordB s 0) ≡ expression feedback
       → SettlingIn s (count s) table started 1 (word s (wordB s 0) 3) (take (getD table (word s (wordB s 0) 3) 0 - 0) (replicate 64 0))
       (wordA s (wordB s 0)) (inputs s)
-  settling e =
-      feedback-settling s (count s) table (entered 0 input names) 1 (wordB s 0) part (inputs s) first-ready e (word s (wordB s 0) 3)
-      (word s (wordB s 0) 4) refl refl (getD table (word s (wordB s 0) 3) 0) refl (replicate 64 0) refl started refl
+  settling e = feedback-settling first-ready e refl refl refl refl refl
 
   -- a chain of leaves, and a pattern
   chained : (l : ℕ) → l < count s → sortAt s l ≡ leafs → Chained s (count s) l (length (chain s l))

@@ -72,23 +72,23 @@ pub record Left (first : List ℕ) (h : List ℕ) (all : List ℕ) (before : Lis
   pub sort : (l ≡ 0 → ⊥) → sortAt first l ≡ leafs
   pub rest : copied h (follow [] (chain first) l) now ≡ copied h all before
 
-module _ (s : List ℕ) (n : ℕ) (before h : List ℕ) (g : Copying s n before) where
+module _ {s : List ℕ} {n : ℕ} {before : List ℕ} (h : List ℕ) (g : Copying s n before) where
   follows : (x : ℕ) → (x ≡ 0 → ⊥) → follow [] (chain s) x ≡ chain s x
   follows zero f = absurd (f refl)
   follows (suc x) f = refl
 
-  pub in-count : (x : ℕ) → x < n → x < count s
-  in-count x k = let c = g .sized .counted in omega arith
+  pub in-count : {x : ℕ} → x < n → x < count s
+  in-count k = let c = g .sized .counted in omega arith
 
   -- no leaf is the header
   not-header : (x : ℕ) → sortAt s x ≡ leafs → x ≡ 0 → ⊥
   not-header x e z = let h = past-header (g .written) x (rw e) in omega arith
 
-  pub all-left : (x : ℕ) → x < n → sortAt s x ≡ leafs → Left s h (chain s x) before x before
-  all-left x k e =
-      record { long = refl; there = in-count x k; sort = λ _. e; rest = ap (λ ls. copied h ls before) (follows x (not-header x e)) }
+  pub all-left : {x : ℕ} → x < n → sortAt s x ≡ leafs → Left s h (chain s x) before x before
+  all-left {x} k e =
+      record { long = refl; there = in-count k; sort = λ _. e; rest = ap (λ ls. copied h ls before) (follows x (not-header x e)) }
 
-  module _ (all : List ℕ) (l : ℕ) (now : List ℕ) (r : Left s h all before l now) (f : l ≡ 0 → ⊥) where
+  module _ {all : List ℕ} {l : ℕ} {now : List ℕ} (r : Left s h all before l now) (f : l ≡ 0 → ⊥) where
     pub leaf-there : l < n
     leaf-there = let t = r .there in let c = g .sized .counted in omega arith
 
@@ -103,9 +103,9 @@ module _ (s : List ℕ) (n : ℕ) (before h : List ℕ) (g : Copying s n before)
     pub high-byte : 12 * l + 4 + 1 < length (set now (12 * l + 4) (getD h l 0))
     high-byte = lt-length-set now (12 * l + 4) (getD h l 0) leaf-bytes
 
-    pub next-left : (x : ℕ) → x ≡ nextWord s l
+    pub next-left : {x : ℕ} → x ≡ nextWord s l
         → Left s h all before x (set (set now (12 * l + 4) (getD h l 0)) (12 * l + 4 + 1) 0)
-    next-left x ex =
+    next-left ex =
         record {
           long = length-set (set now (12 * l + 4) (getD h l 0)) (12 * l + 4 + 1) 0 ∙ length-set now (12 * l + 4) (getD h l 0) ∙ r .long;
           there = rw ex (go (nextWord s l) refl .0);
@@ -122,8 +122,8 @@ module _ (s : List ℕ) (n : ℕ) (before h : List ℕ) (g : Copying s n before)
         go zero e = (let t = r .there in omega arith, λ z. absurd (z (sym e)))
         go (suc y) e = let p = next-leaf (g .written) l (r .there) (r .sort f) (omega arith) in (p .1, λ _. p .2)
 
-    pub next-falls : (x : ℕ) → x ≡ nextWord s l → left n x < left n l
-    next-falls x ex = left-falls n l x f leaf-there (λ z. higher (λ y. z (ex ∙ y)))
+    pub next-falls : {x : ℕ} → x ≡ nextWord s l → left n x < left n l
+    next-falls {x} ex = left-falls n l x f leaf-there (λ z. higher (λ y. z (ex ∙ y)))
       where
         higher : (nextWord s l ≡ 0 → ⊥) → (l < x) × (x < n)
         higher z =
@@ -134,12 +134,12 @@ module _ (s : List ℕ) (n : ℕ) (before h : List ℕ) (g : Copying s n before)
             positive : (y : ℕ) → (y ≡ 0 → ⊥) → 0 < y
             positive y k = omega arith
 
-  pub none-left : (all now : List ℕ) (l : ℕ) → Left s h all before l now → l ≡ 0 → now ≡ copied h all before
-  none-left all now l r e = rw e at (r .rest)
+  pub none-left : {all now : List ℕ} {l : ℕ} → Left s h all before l now → l ≡ 0 → now ≡ copied h all before
+  none-left r e = rw e at (r .rest)
 
   -- a record that is no delay has no leaves to copy to
-  pub no-delay : (r k : ℕ) → k ≡ word s r 0 → (k ≡ 40 → ⊥) → before ≡ copied h (leavesOf (kindAt s r) (chain s (wordB s r))) before
-  no-delay r k ek f = ap (λ ls. copied h ls before) (sym (none (kindAt s r) refl))
+  pub no-delay : (r : ℕ) {k : ℕ} → k ≡ word s r 0 → (k ≡ 40 → ⊥) → before ≡ copied h (leavesOf (kindAt s r) (chain s (wordB s r))) before
+  no-delay r ek f = ap (λ ls. copied h ls before) (sym (none (kindAt s r) refl))
     where
       none : (q : Kind) → kindAt s r ≡ q → leavesOf q (chain s (wordB s r)) ≡ []
       none header e = refl
@@ -158,13 +158,13 @@ module _ (s : List ℕ) (n : ℕ) (before h : List ℕ) (g : Copying s n before)
       none unknown e = refl
 
   -- and a delay's are those of its chain
-  pub delay-copied : (r : ℕ) → kindAt s r ≡ expression delay → (x : ℕ) → x ≡ word s r 3 → (now : List ℕ) → now ≡ copied h (chain s x) before
+  pub delay-copied : (r : ℕ) → kindAt s r ≡ expression delay → {x : ℕ} → x ≡ word s r 3 → {now : List ℕ} → now ≡ copied h (chain s x) before
       → now ≡ copied h (leavesOf (kindAt s r) (chain s (wordB s r))) before
-  delay-copied r e x ex now c = c ∙ rw (e, ex) refl
+  delay-copied r e ex c = c ∙ rw (e, ex) refl
 
-module _ (s : List ℕ) (n : ℕ) (before : List ℕ) (g : Copying s n before) where
-  pub delay-leaves : (r : ℕ) → r < n → kindAt s r ≡ expression delay → (x : ℕ) → x ≡ word s r 3 → (x < n) × (sortAt s x ≡ leafs)
-  delay-leaves r k e x ex =
+module _ {s : List ℕ} {n : ℕ} {before : List ℕ} (g : Copying s n before) where
+  pub delay-leaves : (r : ℕ) → r < n → kindAt s r ≡ expression delay → {x : ℕ} → x ≡ word s r 3 → (x < n) × (sortAt s x ≡ leafs)
+  delay-leaves r k e ex =
       let c = g .sized .counted in
       let p = part-of-kind (g .written) r (expression delay) leafs (omega arith) e 3 refl (unfold askOfKind in refl) in
       (omega (arith, p .1, ex), rw ex (p .2))
@@ -183,20 +183,20 @@ pub record Below (first h before : List ℕ) (n r : ℕ) (now : List ℕ) : Type
   pub few : r ≤ n
   pub so-far : now ≡ copied h (delayChains first r) before
 
-module _ (s h before : List ℕ) (n : ℕ) where
+module _ {s h before : List ℕ} {n : ℕ} where
   pub none-below : Below s h before n 0 before
   none-below = record { few = omega arith; so-far = refl }
 
-  module _ (r : ℕ) (now : List ℕ) (b : Below s h before n r now) where
+  module _ {r : ℕ} {now : List ℕ} (b : Below s h before n r now) where
     pub below-long : length now ≡ length before
     below-long = rw (b .so-far) (copied-long h (delayChains s r) before)
 
     pub below-copying : Copying s n before → Copying s n now
     below-copying g = record { sized = g .sized; written = g .written; long = below-long ∙ g .long }
 
-    pub below-next : r < n → (now′ : List ℕ) → now′ ≡ copied h (leavesOf (kindAt s r) (chain s (wordB s r))) now
+    pub below-next : r < n → {now′ : List ℕ} → now′ ≡ copied h (leavesOf (kindAt s r) (chain s (wordB s r))) now
         → Below s h before n (r + 1) now′
-    below-next k now′ e =
+    below-next k e =
         record {
           few = omega arith;
           so-far =

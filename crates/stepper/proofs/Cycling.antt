@@ -44,7 +44,7 @@ use Rattle.evaluator.proofs.Frames.{entered-slot, entered-long}
 use Rattle.stepper.specs.Cycling.{Copying, Cycling, Looked, Cycled}
 use Rattle.stepper.proofs.WidthsAgain.{sized-again, widths-again}
 
-module _ (s : List ℕ) (n : ℕ) (W env held input current out : List ℕ) (g : Cycling s n W env held input current out) where
+module _ {s : List ℕ} {n : ℕ} {W env held input current out : List ℕ} (g : Cycling s n W env held input current out) where
   abbrev o : OnlyLeaves s current
   o = g .leaves-alone
 
@@ -77,7 +77,7 @@ module _ (s : List ℕ) (n : ℕ) (W env held input current out : List ℕ) (g :
   pub input-room : (64 * 0 + length input ≤ length env) × (length env ≤ 4096)
   input-room = let f = input-few in let w = g .wide in (omega arith, omega arith)
 
-  module _ (x : ℕ) (ex : x ≡ word s 0 3) (env₁ : List ℕ) (e : env₁ ≡ entered 0 input env) where
+  module _ {x : ℕ} (ex : x ≡ word s 0 3) {env₁ : List ℕ} (e : env₁ ≡ entered 0 input env) where
     at-root : x ≡ wordB current 0
     at-root = ex ∙ sym (header-word 3 (omega arith))
 
@@ -87,7 +87,7 @@ module _ (s : List ℕ) (n : ℕ) (W env held input current out : List ℕ) (g :
         ap (λ v. v ∷ []) (rw (e, ← l) (entered-slot 0 input env (omega arith)))
 
     table : Widths current W
-    table = widths-again s current o (g .type) (g .accepted) (g .again) W (g .table)
+    table = widths-again o (g .accepted) (g .again) (g .table)
 
     root-entry : length out ≡ getD W (wordB current 0) 0
     unfolding circuit
@@ -98,7 +98,7 @@ module _ (s : List ℕ) (n : ℕ) (W env held input current out : List ℕ) (g :
     pub root-ready : EvaluatingIn current n W env₁ 1 x out (inputs current)
     root-ready =
         record {
-          sized = sized-again s current o n (g .sized);
+          sized = sized-again o (g .sized);
           type = g .type;
           accepted = g .again;
           table = table;
@@ -109,9 +109,9 @@ module _ (s : List ℕ) (n : ℕ) (W env held input current out : List ℕ) (g :
           values = rw framed (more-values input-typed no-values);
         }
 
-    pub look-done : (env₂ held₁ o₁ : List ℕ) → Evaluated current n W env₁ 1 x held out env₂ held₁ o₁
+    pub look-done : {env₂ held₁ o₁ : List ℕ} → Evaluated current n W env₁ 1 x held out env₂ held₁ o₁
         → Looked input current held env₂ held₁ o₁
-    look-done env₂ held₁ o₁ p =
+    look-done {held₁ = held₁} {o₁} p =
         let d = p .done (inputs current) root-ready in
         let v : o₁ ≡ valueAt undecidedRule current (inputs current) (input ∷ []) (wordB current 0) = rw (framed, at-root) at (d .value) in
         let h : held₁ ≡ store (next undecidedRule (input ∷ []) (circuitTerm current)) held =
@@ -144,10 +144,10 @@ module _ (s : List ℕ) (n : ℕ) (W env held input current out : List ℕ) (g :
       write-copied-chains current (g .type) (g .again) (next undecidedRule (input ∷ []) (circuitTerm current))
       (cycle-writable undecidedRule rule-lawful current (g .type) (g .again) input input-typed) held room
 
-  pub cycle-done : (env₂ held₁ o₁ : List ℕ) → Looked input current held env₂ held₁ o₁
-      → (current′ : List ℕ) → current′ ≡ copied held₁ (delayChains s n) current → Cycled input current env₂ held₁ current′ o₁
-  cycle-done env₂ held₁ o₁ l current′ c =
-      let counted : n ≡ count current = sized-again s current o n (g .sized) .counted in
+  pub cycle-done : {env₂ held₁ o₁ : List ℕ} → Looked input current held env₂ held₁ o₁
+      → {current′ : List ℕ} → current′ ≡ copied held₁ (delayChains s n) current → Cycled input current env₂ held₁ current′ o₁
+  cycle-done l c =
+      let counted : n ≡ count current = sized-again o (g .sized) .counted in
       record {
         wide = l .wide;
         long = l .long;

@@ -37,17 +37,17 @@ use Rattle.behaviour.proofs.TermsAgain.{type-of-same}
 use Rattle.behaviour.proofs.ScopesAgain.{scope-again}
 
 -- and back
-pub leaves-back : (s s′ : List ℕ) → OnlyLeaves s s′ → OnlyLeaves s′ s
-leaves-back s s′ o =
+pub leaves-back : {s s′ : List ℕ} → OnlyLeaves s s′ → OnlyLeaves s′ s
+leaves-back {s} {s′} o =
     record {
       length = sym (o .length);
       others = λ r f k h. sym (o .others r (λ e. f (same-kind s s′ o r ∙ e)) k h);
       leaves = λ r k h f. sym (o .leaves r k h f);
     }
 
-module _ (s s′ : List ℕ) (o : OnlyLeaves s s′) where
-  pub sized-again : (n : ℕ) → Sized s n → Sized s′ n
-  sized-again n z =
+module _ {s s′ : List ℕ} (o : OnlyLeaves s s′) where
+  pub sized-again : {n : ℕ} → Sized s n → Sized s′ n
+  sized-again z =
       record { counted = z .counted ∙ sym (same-count s s′ o); whole = o .length ∙ z .whole; some = z .some; few = z .few }
 
   same-sort : (r : ℕ) → sortAt s′ r ≡ sortAt s r
@@ -68,7 +68,7 @@ module _ (s s′ : List ℕ) (o : OnlyLeaves s s′) where
   same-entry : (p : ℕ) → patternEntry s′ p ≡ patternEntry s p
   same-entry p = rw (same-alternatives s s′ o p, same-pattern (alternatives s p)) refl
 
-  module _ (t : ℕ) (v : verdict s ≡ Accepted t) (v′ : verdict s′ ≡ Accepted t) where
+  module _ {t : ℕ} (v : verdict s ≡ Accepted t) (v′ : verdict s′ ≡ Accepted t) where
     same-width : {q : ℕ} {Γ : List ℕ} → Scope s q Γ → width s′ Γ (treeAt s′ q) ≡ width s Γ (treeAt s q)
     same-width {q} {Γ} c =
         let p = exact s t .0 v .0 in
@@ -77,13 +77,13 @@ module _ (s s′ : List ℕ) (o : OnlyLeaves s s′) where
         let e = type-of-same s s′ o w Γ (treeAt s q) (grown-tree w q (k .there) (k .sort)) (k .context) (k .judged) in
         rw (same-tree s s′ o q, e, same-type s s′ o (typeRecordOf s Γ (treeAt s q))) refl
 
-    pub widths-again : (table : List ℕ) → Widths s table → Widths s′ table
-    widths-again table w =
+    pub widths-again : {table : List ℕ} → Widths s table → Widths s′ table
+    widths-again w =
         let c = same-count s s′ o in
         record {
           long = w .long;
           types = λ u k. w .types u (type-back u k) ∙ ap leaves (sym (same-type s s′ o u));
-          expressions = λ k. let b = scope-again s′ s (leaves-back s s′ o) t v′ k in w .expressions b ∙ sym (same-width b);
+          expressions = λ k. let b = scope-again s′ s (leaves-back o) t v′ k in w .expressions b ∙ sym (same-width b);
           patterns = λ p h e. w .patterns p (omega arith) (sym (same-sort p) ∙ e) ∙ sym (same-entry p);
           elsewhere = λ r h f. w .elsewhere r h (λ k. rw (← same-sort r) (f (omega arith)));
         }

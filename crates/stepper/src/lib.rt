@@ -18,6 +18,7 @@ use records::WORD_NEXT;
 use records::Widths;
 use records::offset;
 use records::word;
+use values::Fired;
 use values::NextValues;
 use values::enter_value;
 
@@ -65,24 +66,25 @@ fn copy_all(sheet: &[u8], n: usize, held: &NextValues, current: &mut [u8])
     }
 }
 
-// The evaluating half of a cycle from the sheet in `current`: the output goes to `out`, and the delays' next values to `held`. The
-// sheet that was checked is read for its records alone; `env` is room.
+// The evaluating half of a cycle from the sheet in `current`: the output goes to `out`, the delays' next values to `held`, and the
+// numbers of the IFs to `fired`. The sheet that was checked is read for its records alone; `env` is room.
 pub fn look(
     sheet: &[u8],
     n: usize,
     widths: &Widths,
     env: &mut [u8],
     held: &mut NextValues,
+    fired: &mut Fired,
     input: &[u8],
     current: &[u8],
     out: &mut [u8],
 )
     requires { ⌜ Cycling (now sheet) n (now widths) (now env) (now held) (now input) (now current) (now out) ⌝ }
-    ensures { λ _. ⌜ Looked (now (input .entry)) (now (current .entry)) (now (held .entry)) (now (env .exit)) (now (held .exit)) (now (out .exit)) ⌝ }
+    ensures { λ _. ⌜ Looked (now (input .entry)) (now (current .entry)) (now (held .entry)) (now (fired .entry)) (now (env .exit)) (now (held .exit)) (now (fired .exit)) (now (out .exit)) ⌝ }
 {
     enter_value(env, 0, input);
     let root = word(sheet, n, 0, WORD_B);
-    eval(current, n, widths, env, 1, held, root, out);
+    eval(current, n, widths, env, 1, held, fired, root, out);
 }
 
 // One cycle from the sheet in `current`: the output goes to `out`, and the sheet after the cycle to `current`.
@@ -92,6 +94,7 @@ pub fn cycle(
     widths: &Widths,
     env: &mut [u8],
     held: &mut NextValues,
+    fired: &mut Fired,
     input: &[u8],
     current: &mut [u8],
     out: &mut [u8],
@@ -99,6 +102,6 @@ pub fn cycle(
     requires { ⌜ Cycling (now sheet) n (now widths) (now env) (now held) (now input) (now current) (now out) ⌝ }
     ensures { λ _. ⌜ Cycled (now (input .entry)) (now (current .entry)) (now (env .exit)) (now (held .exit)) (now (current .exit)) (now (out .exit)) ⌝ }
 {
-    look(sheet, n, widths, env, held, input, current, out);
+    look(sheet, n, widths, env, held, fired, input, current, out);
     copy_all(sheet, n, held, current);
 }

@@ -19,10 +19,10 @@ use Rattle.records.proofs.Asked.{as-kind-asks}
 use Rattle.records.proofs.Trees.{chain-of, next-leaf}
 use Rattle.behaviour.specs.Delays.{assigned, putAll, enter}
 
-module _ (s : List ℕ) (w : Written s) where
+module _ {s : List ℕ} (w : Written s) where
   -- a leaf record's word a is a byte
-  pub leaf-byte : (l : ℕ) → l < count s → sortAt s l ≡ leafs → wordA s l ≤ 255
-  leaf-byte l h e = (unfold askOfKind in as-kind-asks w l leaf h (kind-of-sort leafs (kindAt s l) e) 2 refl)
+  pub leaf-byte : {l : ℕ} → l < count s → sortAt s l ≡ leafs → wordA s l ≤ 255
+  leaf-byte {l} h e = (unfold askOfKind in as-kind-asks w l leaf h (kind-of-sort leafs (kindAt s l) e) 2 refl)
 
   module _ (first : ℕ) where
     -- record l is leaf i of the chain, if there are so many
@@ -34,7 +34,7 @@ module _ (s : List ℕ) (w : Written s) where
     pub from-first : first < count s → sortAt s first ≡ leafs → Along 0 first
     from-first h e = record { there = λ _. h; sort = λ _. e; rest = λ _. refl }
 
-    module _ (i l : ℕ) (a : Along i l) (h : i < length (chain s first)) where
+    module _ {i l : ℕ} (a : Along i l) (h : i < length (chain s first)) where
       after : drop i (chain s first) ≡ l ∷ follow [] (chain s) (nextWord s l)
       after = a .rest h ∙ chain-of w l (a .there h) (a .sort h)
 
@@ -48,8 +48,8 @@ module _ (s : List ℕ) (w : Written s) where
       pub here : drop i (chain s first) ≡ l ∷ drop (suc i) (chain s first)
       here = after ∙ ap (λ ls. l ∷ ls) (sym rest-after)
 
-      pub along-next : (x : ℕ) → x ≡ nextWord s l → Along (i + 1) x
-      along-next x e = rw (e, add-one i) (go (nextWord s l) refl)
+      pub along-next : {x : ℕ} → x ≡ nextWord s l → Along (i + 1) x
+      along-next e = rw (e, add-one i) (go (nextWord s l) refl)
         where
           go : (y : ℕ) → y ≡ nextWord s l → Along (suc i) y
           go zero z =
@@ -70,15 +70,15 @@ module _ (s : List ℕ) (w : Written s) where
     pub none-read : (out : List ℕ) → length (chain s first) ≡ length out → Read 0 out
     none-read out e = record { long = sym e; so-far = refl }
 
-    module _ (i l : ℕ) (a : Along i l) (h : i < length (chain s first)) where
-      pub read-next : (out : List ℕ) (x : ℕ) → x ≡ wordA s l → Read i out → Read (i + 1) (set out i x)
-      read-next out x e r =
+    module _ {i l : ℕ} (a : Along i l) (h : i < length (chain s first)) where
+      pub read-next : (out : List ℕ) {x : ℕ} → x ≡ wordA s l → Read i out → Read (i + 1) (set out i x)
+      read-next out {x} e r =
           record {
             long = ListN.length-set out i x ∙ r .long;
             so-far =
                 rw (add-one i, take-suc-set out i x (let m = r .long in omega arith))
                 (append-snoc (take i out) x (leafValues s (drop (suc i) (chain s first)))
-                ∙ rw e (rw (here i l a h) at (r .so-far)));
+                ∙ rw e (rw (here a h) at (r .so-far)));
           }
 
     pub all-read : (i : ℕ) (out : List ℕ) → length out ≤ i → i ≤ length out → Read i out → out ≡ leafValues s (chain s first)
@@ -94,7 +94,7 @@ module _ (s : List ℕ) (w : Written s) where
     pub held-next : (value held₀ : List ℕ) (i l : ℕ) → Along i l → length (chain s first) ≡ length value
         → i < length value → (held : List ℕ) → Held value held₀ i held → Held value held₀ (i + 1) (set held l (getD value i 0))
     held-next value held₀ i l a e h held r =
-        rw (add-one i) (rw (here i l a (omega arith), drop-cons value i 0 h) at r)
+        rw (add-one i) (rw (here a (omega arith), drop-cons value i 0 h) at r)
 
     pub all-held : (value held₀ : List ℕ) (i : ℕ) → length (chain s first) ≡ length value → i ≤ length value → length value ≤ i
         → (held : List ℕ) → Held value held₀ i held → held ≡ putAll enter (assigned (chain s first) value) held₀

@@ -179,19 +179,19 @@ abbrev settle-claims : ℕ → settle-lts.Claims
 settle-claims t = (eval-below t, eval.Post, stands-at-reads.Asked, stands-at-reads.Learnt, enter-value-reads.Asked, enter-value-reads.Learnt, settle-below t, settle.Post)
 
 eval-word-requires : (t : ℕ) → eval-lts.Need-word-requires (eval-claims t) (eval-at t) eval.Post
-eval-word-requires t c κs = ready-word _ _ _ _ _ _ _ _ (c .before .before .before .pre .1 .1) _ (omega arith)
+eval-word-requires t c κs = ready-word (c .before .before .before .pre .1 .1) (omega arith)
 
 eval-word-requires-2 : (t : ℕ) → eval-lts.Need-word-requires-2 (eval-claims t) (eval-at t) eval.Post
-eval-word-requires-2 t c κs = ready-word _ _ _ _ _ _ _ _ (c .before .before .before .before .before .pre .1 .1) _ (omega arith)
+eval-word-requires-2 t c κs = ready-word (c .before .before .before .before .before .pre .1 .1) (omega arith)
 
 eval-read-leaves-requires : (t : ℕ) → eval-lts.Need-read-leaves-requires (eval-claims t) (eval-at t) eval.Post
-eval-read-leaves-requires t c κs = constant-chained _ _ _ _ _ _ _ _ (c .before .before .before .before .before .before .before .pre .1 .1) (numbered _ _ _ 32 (expression constant) (c .before .before .before .word .ensures .0) (c .before .before .if1 .taken) (unfold kindOf in refl)) _ (c .before .word2 .ensures .0)
+eval-read-leaves-requires t c κs = constant-chained (c .before .before .before .before .before .before .before .pre .1 .1) (numbered _ _ _ 32 (expression constant) (c .before .before .before .word .ensures .0) (c .before .before .if1 .taken) (unfold kindOf in refl)) (c .before .word2 .ensures .0)
 
 eval-same-length : (t : ℕ) → eval-lts.Need-same-length (eval-claims t) (eval-at t) eval.Post
 eval-same-length t c = search needs
 
 eval-returns : (t : ℕ) → eval-lts.Need-returns (eval-claims t) (eval-at t) eval.Post
-eval-returns t c = record { done = λ Γ r. constant-done _ _ _ _ _ _ _ Γ r (numbered _ _ _ 32 (expression constant) (c .before .before .before .before .before .before .word .ensures .0) (c .before .before .before .before .before .if1 .taken) (unfold kindOf in refl)) _ (c .before .before .before .before .word2 .ensures .0) _ _ (c .before .before .read-leaves .ensures) }
+eval-returns t c = record { done = λ Γ r. constant-done r (numbered _ _ _ 32 (expression constant) (c .before .before .before .before .before .before .word .ensures .0) (c .before .before .before .before .before .if1 .taken) (unfold kindOf in refl)) (c .before .before .before .before .word2 .ensures .0) (c .before .before .read-leaves .ensures) }
 
 eval-of-name-requires : (t : ℕ) → eval-lts.Need-of-name-requires (eval-claims t) (eval-at t) eval.Post
 eval-of-name-requires t c κs = (c .before .before .before .before .before .before .before .before .pre .1, (numbered _ _ _ 33 (expression name) (c .before .before .before .before .word .ensures .0) (c .before .before .if2 .taken) (unfold kindOf in refl)))
@@ -278,7 +278,7 @@ eval-returns-8 : (t : ℕ) → eval-lts.Need-returns-8 (eval-claims t) (eval-at 
 eval-returns-8 t c = c .before .before .before .before .of-if .ensures
 
 eval-of-delay-requires : (t : ℕ) → eval-lts.Need-of-delay-requires (eval-claims t) (eval-at t) eval.Post
-eval-of-delay-requires t c κs = (omega (arith, c .before .before .before .before .before .before .before .before .before .before .before .before .before .before .before .pre .0), (c .before .before .before .before .before .before .before .before .before .before .before .before .before .before .before .pre .1, last-kind _ _ _ (in-circuit _ _ _ _ _ _ _ _ (c .before .before .before .before .before .before .before .before .before .before .before .before .before .before .before .pre .1 .1) _ _ (c .before .before .before .before .before .before .before .before .before .before .before .before .before .before .before .pre .1 .1 .scope) .sort) (c .before .before .before .before .before .before .before .before .before .before .before .word .ensures .0) (c .before .before .before .before .before .before .before .before .before .before .if1 .left) (c .before .before .before .before .before .before .before .before .before .if2 .left) (c .before .before .before .before .before .before .before .before .if3 .left) (c .before .before .before .before .before .before .before .if4 .left) (c .before .before .before .before .before .before .if5 .left) (c .before .before .before .before .before .if6 .left) (c .before .before .before .before .if7 .left) (c .before .before .before .if8 .left)))
+eval-of-delay-requires t c κs = (omega (arith, c .before .before .before .before .before .before .before .before .before .before .before .before .before .before .before .pre .0), (c .before .before .before .before .before .before .before .before .before .before .before .before .before .before .before .pre .1, last-kind _ _ _ (in-circuit (c .before .before .before .before .before .before .before .before .before .before .before .before .before .before .before .pre .1 .1) (c .before .before .before .before .before .before .before .before .before .before .before .before .before .before .before .pre .1 .1 .scope) .sort) (c .before .before .before .before .before .before .before .before .before .before .before .word .ensures .0) (c .before .before .before .before .before .before .before .before .before .before .if1 .left) (c .before .before .before .before .before .before .before .before .before .if2 .left) (c .before .before .before .before .before .before .before .before .if3 .left) (c .before .before .before .before .before .before .before .if4 .left) (c .before .before .before .before .before .before .if5 .left) (c .before .before .before .before .before .if6 .left) (c .before .before .before .before .if7 .left) (c .before .before .before .if8 .left)))
 
 eval-same-length-16 : (t : ℕ) → eval-lts.Need-same-length-16 (eval-claims t) (eval-at t) eval.Post
 eval-same-length-16 t c = search needs
@@ -290,19 +290,19 @@ eval-returns-9 : (t : ℕ) → eval-lts.Need-returns-9 (eval-claims t) (eval-at 
 eval-returns-9 t c = c .before .before .before .before .of-delay .ensures
 
 of-delay-word-requires : (t : ℕ) → of-delay-lts.Need-word-requires (of-delay-claims t) (of-delay-at t) of-delay.Post
-of-delay-word-requires t c κs = ready-word _ _ _ _ _ _ _ _ (c .before .before .before .pre .1 .0 .1) _ (omega arith)
+of-delay-word-requires t c κs = ready-word (c .before .before .before .pre .1 .0 .1) (omega arith)
 
 of-delay-eval-requires : (t : ℕ) → of-delay-lts.Need-eval-requires (of-delay-claims t) (of-delay-at t) of-delay.Post
-of-delay-eval-requires t c κs = let h = (higher _ _ _ _ _ _ _ _ (c .before .before .before .before .before .before .before .pre .1 .0 .1) delay (c .before .before .before .before .before .before .before .pre .1 .1) 4 refl (unfold askOfKind in refl) _ (c .before .before .before .word .ensures .0)) in (omega (arith, c .before .before .before .before .before .before .before .pre .0, h .0, h .1), (c .before .before .before .before .before .before .before .pre .1 .0 .0, delayed-ready _ _ _ _ _ _ _ _ (c .before .before .before .before .before .before .before .pre .1 .0 .1) (c .before .before .before .before .before .before .before .pre .1 .1) _ (c .before .before .before .word .ensures .0) _ refl))
+of-delay-eval-requires t c κs = let h = (higher (c .before .before .before .before .before .before .before .pre .1 .0 .1) delay (c .before .before .before .before .before .before .before .pre .1 .1) 4 refl (unfold askOfKind in refl) (c .before .before .before .word .ensures .0)) in (omega (arith, c .before .before .before .before .before .before .before .pre .0, h .0, h .1), (c .before .before .before .before .before .before .before .pre .1 .0 .0, delayed-ready (c .before .before .before .before .before .before .before .pre .1 .0 .1) (c .before .before .before .before .before .before .before .pre .1 .1) (c .before .before .before .word .ensures .0) refl))
 
 of-delay-word-requires-2 : (t : ℕ) → of-delay-lts.Need-word-requires-2 (of-delay-claims t) (of-delay-at t) of-delay.Post
-of-delay-word-requires-2 t c κs = ready-word _ _ _ _ _ _ _ _ (c .before .before .before .before .before .before .before .before .before .before .before .before .pre .1 .0 .1) _ (omega arith)
+of-delay-word-requires-2 t c κs = ready-word (c .before .before .before .before .before .before .before .before .before .before .before .before .pre .1 .0 .1) (omega arith)
 
 of-delay-hold-leaves-requires : (t : ℕ) → of-delay-lts.Need-hold-leaves-requires (of-delay-claims t) (of-delay-at t) of-delay.Post
-of-delay-hold-leaves-requires t c κs = delay-chained _ _ _ _ _ _ _ _ (c .before .before .before .before .before .before .before .before .before .before .before .before .before .before .before .pre .1 .0 .1) (c .before .before .before .before .before .before .before .before .before .before .before .before .before .before .before .pre .1 .1) _ (c .before .before .before .before .before .before .before .before .before .before .before .word .ensures .0) _ (c .before .before .word2 .ensures .0) _ _ _ _ (c .before .before .before .before .before .before .before .eval .ensures)
+of-delay-hold-leaves-requires t c κs = delay-chained (c .before .before .before .before .before .before .before .before .before .before .before .before .before .before .before .pre .1 .0 .1) (c .before .before .before .before .before .before .before .before .before .before .before .before .before .before .before .pre .1 .1) (c .before .before .before .before .before .before .before .before .before .before .before .word .ensures .0) (c .before .before .word2 .ensures .0) (c .before .before .before .before .before .before .before .eval .ensures)
 
 of-delay-read-leaves-requires : (t : ℕ) → of-delay-lts.Need-read-leaves-requires (of-delay-claims t) (of-delay-at t) of-delay.Post
-of-delay-read-leaves-requires t c κs = delay-chained _ _ _ _ _ _ _ _ (c .before .before .before .before .before .before .before .before .before .before .before .before .before .before .before .before .before .pre .1 .0 .1) (c .before .before .before .before .before .before .before .before .before .before .before .before .before .before .before .before .before .pre .1 .1) _ (c .before .before .before .before .before .before .before .before .before .before .before .before .before .word .ensures .0) _ (c .before .before .before .before .word2 .ensures .0) _ _ _ _ (c .before .before .before .before .before .before .before .before .before .eval .ensures)
+of-delay-read-leaves-requires t c κs = delay-chained (c .before .before .before .before .before .before .before .before .before .before .before .before .before .before .before .before .before .pre .1 .0 .1) (c .before .before .before .before .before .before .before .before .before .before .before .before .before .before .before .before .before .pre .1 .1) (c .before .before .before .before .before .before .before .before .before .before .before .before .before .word .ensures .0) (c .before .before .before .before .word2 .ensures .0) (c .before .before .before .before .before .before .before .before .before .eval .ensures)
 
 of-delay-same-length : (t : ℕ) → of-delay-lts.Need-same-length (of-delay-claims t) (of-delay-at t) of-delay.Post
 of-delay-same-length t c = search needs
@@ -311,16 +311,16 @@ of-delay-same-length-2 : (t : ℕ) → of-delay-lts.Need-same-length-2 (of-delay
 of-delay-same-length-2 t c = search needs
 
 of-delay-returns : (t : ℕ) → of-delay-lts.Need-returns (of-delay-claims t) (of-delay-at t) of-delay.Post
-of-delay-returns t c = record { done = λ Γ r. delay-done _ _ _ _ _ _ _ Γ r (c .before .before .before .before .before .before .before .before .before .before .before .before .before .before .before .before .before .before .before .before .pre .1 .1) _ (c .before .before .before .before .before .before .before .before .before .before .before .before .before .before .before .before .word .ensures .0) _ (c .before .before .before .before .before .before .before .word2 .ensures .0) _ _ _ _ _ _ (c .before .before .before .before .before .before .before .before .before .before .before .before .eval .ensures) (c .before .before .before .before .hold-leaves .ensures) (c .before .before .read-leaves .ensures) }
+of-delay-returns t c = record { done = λ Γ r. delay-done r (c .before .before .before .before .before .before .before .before .before .before .before .before .before .before .before .before .before .before .before .before .pre .1 .1) (c .before .before .before .before .before .before .before .before .before .before .before .before .before .before .before .before .word .ensures .0) (c .before .before .before .before .before .before .before .word2 .ensures .0) (c .before .before .before .before .before .before .before .before .before .before .before .before .eval .ensures) (c .before .before .before .before .hold-leaves .ensures) (c .before .before .read-leaves .ensures) }
 
 of-feedback-word-requires : (t : ℕ) → of-feedback-lts.Need-word-requires (of-feedback-claims t) (of-feedback-at t) of-feedback.Post
-of-feedback-word-requires t c κs = ready-word _ _ _ _ _ _ _ _ (c .before .before .before .pre .1 .0 .1) _ (omega arith)
+of-feedback-word-requires t c κs = ready-word (c .before .before .before .pre .1 .0 .1) (omega arith)
 
 of-feedback-element-copy-out-w : (t : ℕ) → of-feedback-lts.Need-element-copy-out-w (of-feedback-claims t) (of-feedback-at t) of-feedback.Post
-of-feedback-element-copy-out-w t c = entry-there _ _ _ _ _ _ _ _ (c .before .before .before .before .pre .1 .0 .1) feedback (c .before .before .before .before .pre .1 .1) 3 refl (unfold askOfKind in refl) _ (c .word .ensures .0)
+of-feedback-element-copy-out-w t c = entry-there (c .before .before .before .before .pre .1 .0 .1) feedback (c .before .before .before .before .pre .1 .1) 3 refl (unfold askOfKind in refl) (c .word .ensures .0)
 
 of-feedback-cast-w : (t : ℕ) → of-feedback-lts.Need-cast-w (of-feedback-claims t) (of-feedback-at t) of-feedback.Post
-of-feedback-cast-w t c = let f = entry-few _ _ _ _ _ _ _ _ (c .before .before .before .before .before .pre .1 .0 .1) _ _ (part-scope _ _ _ _ _ _ _ _ (c .before .before .before .before .before .pre .1 .0 .1) (c .before .before .before .before .before .pre .1 .1) _ _ (c .before .word .ensures .0) refl _ refl _ refl) in omega arith
+of-feedback-cast-w t c = let f = entry-few (c .before .before .before .before .before .pre .1 .0 .1) (part-scope (c .before .before .before .before .before .pre .1 .0 .1) (c .before .before .before .before .before .pre .1 .1) (c .before .word .ensures .0) refl refl refl) in omega arith
 
 of-feedback-room-requires : (t : ℕ) → of-feedback-lts.Need-room-requires (of-feedback-claims t) (of-feedback-at t) of-feedback.Post
 of-feedback-room-requires t c κs = tt
@@ -332,10 +332,10 @@ of-feedback-part-enter-value-start : (t : ℕ) → of-feedback-lts.Need-part-ent
 of-feedback-part-enter-value-start t c = from-none _
 
 of-feedback-part-enter-value-end : (t : ℕ) → of-feedback-lts.Need-part-enter-value-end (of-feedback-claims t) (of-feedback-at t) of-feedback.Post
-of-feedback-part-enter-value-end t c = feedback-fits _ _ _ _ _ _ _ _ (c .before .before .before .before .before .before .before .before .pre .1 .0 .1) (c .before .before .before .before .before .before .before .before .pre .1 .1) _ _ (c .before .before .before .before .word .ensures .0) refl _ refl _ (c .before .before .room .ensures)
+of-feedback-part-enter-value-end t c = feedback-fits (c .before .before .before .before .before .before .before .before .pre .1 .0 .1) (c .before .before .before .before .before .before .before .before .pre .1 .1) (c .before .before .before .before .word .ensures .0) refl refl (c .before .before .room .ensures)
 
 of-feedback-enter-value-requires : (t : ℕ) → of-feedback-lts.Need-enter-value-requires (of-feedback-claims t) (of-feedback-at t) of-feedback.Post
-of-feedback-enter-value-requires t c κs = start-room _ _ _ _ _ _ _ _ (c .before .before .before .before .before .before .before .before .before .pre .1 .0 .1) (c .before .before .before .before .before .before .before .before .before .pre .1 .1) _ _ (c .before .before .before .before .before .word .ensures .0) refl _ refl _ (c .before .before .before .room .ensures)
+of-feedback-enter-value-requires t c κs = start-room (c .before .before .before .before .before .before .before .before .before .pre .1 .0 .1) (c .before .before .before .before .before .before .before .before .before .pre .1 .1) (c .before .before .before .before .before .word .ensures .0) refl refl (c .before .before .before .room .ensures)
 
 of-feedback-sub-settle : (t : ℕ) → of-feedback-lts.Need-sub-settle (of-feedback-claims t) (of-feedback-at t) of-feedback.Post
 of-feedback-sub-settle t c = from-none _
@@ -344,19 +344,19 @@ of-feedback-part-settled-start : (t : ℕ) → of-feedback-lts.Need-part-settled
 of-feedback-part-settled-start t c = from-none _
 
 of-feedback-part-settled-end : (t : ℕ) → of-feedback-lts.Need-part-settled-end (of-feedback-claims t) (of-feedback-at t) of-feedback.Post
-of-feedback-part-settled-end t c = feedback-fits _ _ _ _ _ _ _ _ (c .before .before .before .before .before .before .before .before .before .before .before .before .before .before .pre .1 .0 .1) (c .before .before .before .before .before .before .before .before .before .before .before .before .before .before .pre .1 .1) _ _ (c .before .before .before .before .before .before .before .before .before .before .word .ensures .0) refl _ refl _ (c .before .before .before .before .before .before .before .before .room .ensures)
+of-feedback-part-settled-end t c = feedback-fits (c .before .before .before .before .before .before .before .before .before .before .before .before .before .before .pre .1 .0 .1) (c .before .before .before .before .before .before .before .before .before .before .before .before .before .before .pre .1 .1) (c .before .before .before .before .before .before .before .before .before .before .word .ensures .0) refl refl (c .before .before .before .before .before .before .before .before .room .ensures)
 
 of-feedback-settle-requires : (t : ℕ) → of-feedback-lts.Need-settle-requires (of-feedback-claims t) (of-feedback-at t) of-feedback.Post
-of-feedback-settle-requires t c κs = let h = (higher _ _ _ _ _ _ _ _ (c .before .before .before .before .before .before .before .before .before .before .before .before .before .before .before .pre .1 .0 .1) feedback (c .before .before .before .before .before .before .before .before .before .before .before .before .before .before .before .pre .1 .1) 3 refl (unfold askOfKind in refl) _ (c .before .before .before .before .before .before .before .before .before .before .before .word .ensures .0)) in let z = few-undefined _ _ _ _ _ _ _ _ (c .before .before .before .before .before .before .before .before .before .before .before .before .before .before .before .pre .1 .0 .1) (c .before .before .before .before .before .before .before .before .before .before .before .before .before .before .before .pre .1 .1) _ _ (c .before .before .before .before .before .before .before .before .before .before .before .word .ensures .0) refl _ refl _ (c .before .before .before .before .before .before .before .before .before .room .ensures) _ (c .before .before .before .before .before .enter-value .ensures) in (omega (arith, c .before .before .before .before .before .before .before .before .before .before .before .before .before .before .before .pre .0, h .0, h .1), (_, _, feedback-settling _ _ _ _ _ _ _ _ (c .before .before .before .before .before .before .before .before .before .before .before .before .before .before .before .pre .1 .0 .1) (c .before .before .before .before .before .before .before .before .before .before .before .before .before .before .before .pre .1 .1) _ _ (c .before .before .before .before .before .before .before .before .before .before .before .word .ensures .0) refl _ refl _ (c .before .before .before .before .before .before .before .before .before .room .ensures) _ (c .before .before .before .before .before .enter-value .ensures)))
+of-feedback-settle-requires t c κs = let h = (higher (c .before .before .before .before .before .before .before .before .before .before .before .before .before .before .before .pre .1 .0 .1) feedback (c .before .before .before .before .before .before .before .before .before .before .before .before .before .before .before .pre .1 .1) 3 refl (unfold askOfKind in refl) (c .before .before .before .before .before .before .before .before .before .before .before .word .ensures .0)) in let z = few-undefined (c .before .before .before .before .before .before .before .before .before .before .before .before .before .before .before .pre .1 .0 .1) (c .before .before .before .before .before .before .before .before .before .before .before .before .before .before .before .pre .1 .1) (c .before .before .before .before .before .before .before .before .before .before .before .word .ensures .0) refl refl (c .before .before .before .before .before .before .before .before .before .room .ensures) (c .before .before .before .before .before .enter-value .ensures) in (omega (arith, c .before .before .before .before .before .before .before .before .before .before .before .before .before .before .before .pre .0, h .0, h .1), (_, _, feedback-settling (c .before .before .before .before .before .before .before .before .before .before .before .before .before .before .before .pre .1 .0 .1) (c .before .before .before .before .before .before .before .before .before .before .before .before .before .before .before .pre .1 .1) (c .before .before .before .before .before .before .before .before .before .before .before .word .ensures .0) refl refl (c .before .before .before .before .before .before .before .before .before .room .ensures) (c .before .before .before .before .before .enter-value .ensures)))
 
 of-feedback-word-requires-2 : (t : ℕ) → of-feedback-lts.Need-word-requires-2 (of-feedback-claims t) (of-feedback-at t) of-feedback.Post
-of-feedback-word-requires-2 t c κs = ready-word _ _ _ _ _ _ _ _ (c .before .before .before .before .before .before .before .before .before .before .before .before .before .before .before .before .before .before .before .pre .1 .0 .1) _ (omega arith)
+of-feedback-word-requires-2 t c κs = ready-word (c .before .before .before .before .before .before .before .before .before .before .before .before .before .before .before .before .before .before .before .pre .1 .0 .1) (omega arith)
 
 of-feedback-add-eval : (t : ℕ) → of-feedback-lts.Need-add-eval (of-feedback-claims t) (of-feedback-at t) of-feedback.Post
-of-feedback-add-eval t c = let f = ready-few _ _ _ _ _ _ _ _ (c .before .before .before .before .before .before .before .before .before .before .before .before .before .before .before .before .before .before .before .before .before .pre .1 .0 .1) in omega arith
+of-feedback-add-eval t c = let f = ready-few (c .before .before .before .before .before .before .before .before .before .before .before .before .before .before .before .before .before .before .before .before .before .pre .1 .0 .1) in omega arith
 
 of-feedback-eval-requires : (t : ℕ) → of-feedback-lts.Need-eval-requires (of-feedback-claims t) (of-feedback-at t) of-feedback.Post
-of-feedback-eval-requires t c κs = let h = (higher _ _ _ _ _ _ _ _ (c .before .before .before .before .before .before .before .before .before .before .before .before .before .before .before .before .before .before .before .before .before .before .before .pre .1 .0 .1) feedback (c .before .before .before .before .before .before .before .before .before .before .before .before .before .before .before .before .before .before .before .before .before .before .before .pre .1 .1) 4 refl (unfold askOfKind in refl) _ (c .before .before .before .word2 .ensures .0)) in (omega (arith, c .before .before .before .before .before .before .before .before .before .before .before .before .before .before .before .before .before .before .before .before .before .before .before .pre .0, h .0, h .1), (_, feedback-body-ready _ _ _ _ _ _ _ _ (c .before .before .before .before .before .before .before .before .before .before .before .before .before .before .before .before .before .before .before .before .before .before .before .pre .1 .0 .1) (c .before .before .before .before .before .before .before .before .before .before .before .before .before .before .before .before .before .before .before .before .before .before .before .pre .1 .1) _ _ (c .before .before .before .before .before .before .before .before .before .before .before .before .before .before .before .before .before .before .before .word .ensures .0) (c .before .before .before .word2 .ensures .0) _ refl _ (c .before .before .before .before .before .before .before .before .before .before .before .before .before .before .before .before .before .room .ensures) _ (c .before .before .before .before .before .before .before .before .before .before .before .before .before .enter-value .ensures) _ _ _ (c .before .before .before .before .before .before .before .settle .ensures)))
+of-feedback-eval-requires t c κs = let h = (higher (c .before .before .before .before .before .before .before .before .before .before .before .before .before .before .before .before .before .before .before .before .before .before .before .pre .1 .0 .1) feedback (c .before .before .before .before .before .before .before .before .before .before .before .before .before .before .before .before .before .before .before .before .before .before .before .pre .1 .1) 4 refl (unfold askOfKind in refl) (c .before .before .before .word2 .ensures .0)) in (omega (arith, c .before .before .before .before .before .before .before .before .before .before .before .before .before .before .before .before .before .before .before .before .before .before .before .pre .0, h .0, h .1), (_, feedback-body-ready (c .before .before .before .before .before .before .before .before .before .before .before .before .before .before .before .before .before .before .before .before .before .before .before .pre .1 .0 .1) (c .before .before .before .before .before .before .before .before .before .before .before .before .before .before .before .before .before .before .before .before .before .before .before .pre .1 .1) (c .before .before .before .before .before .before .before .before .before .before .before .before .before .before .before .before .before .before .before .word .ensures .0) (c .before .before .before .word2 .ensures .0) refl (c .before .before .before .before .before .before .before .before .before .before .before .before .before .before .before .before .before .room .ensures) (c .before .before .before .before .before .before .before .before .before .before .before .before .before .enter-value .ensures) (c .before .before .before .before .before .before .before .settle .ensures)))
 
 of-feedback-same-length : (t : ℕ) → of-feedback-lts.Need-same-length (of-feedback-claims t) (of-feedback-at t) of-feedback.Post
 of-feedback-same-length t c = search needs
@@ -365,16 +365,16 @@ of-feedback-same-length-2 : (t : ℕ) → of-feedback-lts.Need-same-length-2 (of
 of-feedback-same-length-2 t c = search needs
 
 of-feedback-returns : (t : ℕ) → of-feedback-lts.Need-returns (of-feedback-claims t) (of-feedback-at t) of-feedback.Post
-of-feedback-returns t c = record { done = λ Γ r. feedback-done _ _ _ _ _ _ _ Γ r (c .before .before .before .before .before .before .before .before .before .before .before .before .before .before .before .before .before .before .before .before .before .before .before .before .before .before .before .before .pre .1 .1) _ _ (c .before .before .before .before .before .before .before .before .before .before .before .before .before .before .before .before .before .before .before .before .before .before .before .before .word .ensures .0) (c .before .before .before .before .before .before .before .before .word2 .ensures .0) _ refl _ (c .before .before .before .before .before .before .before .before .before .before .before .before .before .before .before .before .before .before .before .before .before .before .room .ensures) _ (c .before .before .before .before .before .before .before .before .before .before .before .before .before .before .before .before .before .before .enter-value .ensures) _ _ _ (c .before .before .before .before .before .before .before .before .before .before .before .before .settle .ensures) _ _ _ (c .before .before .before .before .eval .ensures) }
+of-feedback-returns t c = record { done = λ Γ r. feedback-done r (c .before .before .before .before .before .before .before .before .before .before .before .before .before .before .before .before .before .before .before .before .before .before .before .before .before .before .before .before .pre .1 .1) (c .before .before .before .before .before .before .before .before .before .before .before .before .before .before .before .before .before .before .before .before .before .before .before .before .word .ensures .0) (c .before .before .before .before .before .before .before .before .word2 .ensures .0) refl (c .before .before .before .before .before .before .before .before .before .before .before .before .before .before .before .before .before .before .before .before .before .before .room .ensures) (c .before .before .before .before .before .before .before .before .before .before .before .before .before .before .before .before .before .before .enter-value .ensures) (c .before .before .before .before .before .before .before .before .before .before .before .before .settle .ensures) (c .before .before .before .before .eval .ensures) }
 
 of-first-word-requires : (t : ℕ) → of-first-lts.Need-word-requires (of-first-claims t) (of-first-at t) of-first.Post
-of-first-word-requires t c κs = ready-word _ _ _ _ _ _ _ _ (c .before .before .before .pre .1 .0 .1) _ (omega arith)
+of-first-word-requires t c κs = ready-word (c .before .before .before .pre .1 .0 .1) (omega arith)
 
 of-first-element-copy-out-w : (t : ℕ) → of-first-lts.Need-element-copy-out-w (of-first-claims t) (of-first-at t) of-first.Post
-of-first-element-copy-out-w t c = entry-there _ _ _ _ _ _ _ _ (c .before .before .before .before .pre .1 .0 .1) first (c .before .before .before .before .pre .1 .1) 2 refl (unfold askOfKind in refl) _ (c .word .ensures .0)
+of-first-element-copy-out-w t c = entry-there (c .before .before .before .before .pre .1 .0 .1) first (c .before .before .before .before .pre .1 .1) 2 refl (unfold askOfKind in refl) (c .word .ensures .0)
 
 of-first-cast-w : (t : ℕ) → of-first-lts.Need-cast-w (of-first-claims t) (of-first-at t) of-first.Post
-of-first-cast-w t c = let f = entry-few _ _ _ _ _ _ _ _ (c .before .before .before .before .before .pre .1 .0 .1) _ _ (first-scope _ _ _ _ _ _ _ _ (c .before .before .before .before .before .pre .1 .0 .1) (c .before .before .before .before .before .pre .1 .1) _ (c .before .word .ensures .0) _ refl _ refl) in omega arith
+of-first-cast-w t c = let f = entry-few (c .before .before .before .before .before .pre .1 .0 .1) (first-scope (c .before .before .before .before .before .pre .1 .0 .1) (c .before .before .before .before .before .pre .1 .1) (c .before .word .ensures .0) refl refl) in omega arith
 
 of-first-room-requires : (t : ℕ) → of-first-lts.Need-room-requires (of-first-claims t) (of-first-at t) of-first.Post
 of-first-room-requires t c κs = tt
@@ -386,10 +386,10 @@ of-first-part-whole-start : (t : ℕ) → of-first-lts.Need-part-whole-start (of
 of-first-part-whole-start t c = from-none _
 
 of-first-part-whole-end : (t : ℕ) → of-first-lts.Need-part-whole-end (of-first-claims t) (of-first-at t) of-first.Post
-of-first-part-whole-end t c = fits-room _ _ _ _ _ _ _ _ (c .before .before .before .before .before .before .before .before .pre .1 .0 .1) _ (first-scope _ _ _ _ _ _ _ _ (c .before .before .before .before .before .before .before .before .pre .1 .0 .1) (c .before .before .before .before .before .before .before .before .pre .1 .1) _ (c .before .before .before .before .word .ensures .0) _ refl _ refl) _ refl _ (c .before .before .room .ensures)
+of-first-part-whole-end t c = fits-room (c .before .before .before .before .before .before .before .before .pre .1 .0 .1) (first-scope (c .before .before .before .before .before .before .before .before .pre .1 .0 .1) (c .before .before .before .before .before .before .before .before .pre .1 .1) (c .before .before .before .before .word .ensures .0) refl refl) refl (c .before .before .room .ensures)
 
 of-first-eval-requires : (t : ℕ) → of-first-lts.Need-eval-requires (of-first-claims t) (of-first-at t) of-first.Post
-of-first-eval-requires t c κs = let h = (higher _ _ _ _ _ _ _ _ (c .before .before .before .before .before .before .before .before .before .pre .1 .0 .1) first (c .before .before .before .before .before .before .before .before .before .pre .1 .1) 2 refl (unfold askOfKind in refl) _ (c .before .before .before .before .before .word .ensures .0)) in (omega (arith, c .before .before .before .before .before .before .before .before .before .pre .0, h .0, h .1), (c .before .before .before .before .before .before .before .before .before .pre .1 .0 .0, room-ready _ _ _ _ _ _ _ _ (c .before .before .before .before .before .before .before .before .before .pre .1 .0 .1) _ (first-scope _ _ _ _ _ _ _ _ (c .before .before .before .before .before .before .before .before .before .pre .1 .0 .1) (c .before .before .before .before .before .before .before .before .before .pre .1 .1) _ (c .before .before .before .before .before .word .ensures .0) _ refl _ refl) _ refl _ (c .before .before .before .room .ensures)))
+of-first-eval-requires t c κs = let h = (higher (c .before .before .before .before .before .before .before .before .before .pre .1 .0 .1) first (c .before .before .before .before .before .before .before .before .before .pre .1 .1) 2 refl (unfold askOfKind in refl) (c .before .before .before .before .before .word .ensures .0)) in (omega (arith, c .before .before .before .before .before .before .before .before .before .pre .0, h .0, h .1), (c .before .before .before .before .before .before .before .before .before .pre .1 .0 .0, room-ready (c .before .before .before .before .before .before .before .before .before .pre .1 .0 .1) (first-scope (c .before .before .before .before .before .before .before .before .before .pre .1 .0 .1) (c .before .before .before .before .before .before .before .before .before .pre .1 .1) (c .before .before .before .before .before .word .ensures .0) refl refl) refl (c .before .before .before .room .ensures)))
 
 of-first-sub-put : (t : ℕ) → of-first-lts.Need-sub-put (of-first-claims t) (of-first-at t) of-first.Post
 of-first-sub-put t c = from-none _
@@ -398,10 +398,10 @@ of-first-part-put-start : (t : ℕ) → of-first-lts.Need-part-put-start (of-fir
 of-first-part-put-start t c = from-none _
 
 of-first-part-put-end : (t : ℕ) → of-first-lts.Need-part-put-end (of-first-claims t) (of-first-at t) of-first.Post
-of-first-part-put-end t c = first-inside _ _ _ _ _ _ _ _ (c .before .before .before .before .before .before .before .before .before .before .before .before .before .before .pre .1 .0 .1) (c .before .before .before .before .before .before .before .before .before .before .before .before .before .before .pre .1 .1) _ (c .before .before .before .before .before .before .before .before .before .before .word .ensures .0) _ refl _ (c .before .before .before .before .before .before .before .before .room .ensures) _ _ _ _ (c .before .before .before .before .eval .ensures)
+of-first-part-put-end t c = first-inside (c .before .before .before .before .before .before .before .before .before .before .before .before .before .before .pre .1 .0 .1) (c .before .before .before .before .before .before .before .before .before .before .before .before .before .before .pre .1 .1) (c .before .before .before .before .before .before .before .before .before .before .word .ensures .0) refl (c .before .before .before .before .before .before .before .before .room .ensures) (c .before .before .before .before .eval .ensures)
 
 of-first-put-requires : (t : ℕ) → of-first-lts.Need-put-requires (of-first-claims t) (of-first-at t) of-first.Post
-of-first-put-requires t c κs = let l = first-fits _ _ _ _ _ _ _ _ (c .before .before .before .before .before .before .before .before .before .before .before .before .before .before .before .before .pre .1 .0 .1) (c .before .before .before .before .before .before .before .before .before .before .before .before .before .before .before .before .pre .1 .1) _ (c .before .before .before .before .before .before .before .before .before .before .before .before .word .ensures .0) _ refl _ (c .before .before .before .before .before .before .before .before .before .before .room .ensures) _ _ _ _ (c .before .before .before .before .before .before .eval .ensures) in omega arith
+of-first-put-requires t c κs = let l = first-fits (c .before .before .before .before .before .before .before .before .before .before .before .before .before .before .before .before .pre .1 .0 .1) (c .before .before .before .before .before .before .before .before .before .before .before .before .before .before .before .before .pre .1 .1) (c .before .before .before .before .before .before .before .before .before .before .before .before .word .ensures .0) refl (c .before .before .before .before .before .before .before .before .before .before .room .ensures) (c .before .before .before .before .before .before .eval .ensures) in omega arith
 
 of-first-same-length : (t : ℕ) → of-first-lts.Need-same-length (of-first-claims t) (of-first-at t) of-first.Post
 of-first-same-length t c = search needs
@@ -410,16 +410,16 @@ of-first-same-length-2 : (t : ℕ) → of-first-lts.Need-same-length-2 (of-first
 of-first-same-length-2 t c = search needs
 
 of-first-returns : (t : ℕ) → of-first-lts.Need-returns (of-first-claims t) (of-first-at t) of-first.Post
-of-first-returns t c = record { done = λ Γ r. first-done _ _ _ _ _ _ _ Γ r (c .before .before .before .before .before .before .before .before .before .before .before .before .before .before .before .before .before .before .before .pre .1 .1) _ (c .before .before .before .before .before .before .before .before .before .before .before .before .before .before .before .word .ensures .0) _ refl _ (c .before .before .before .before .before .before .before .before .before .before .before .before .before .room .ensures) _ _ _ _ (c .before .before .before .before .before .before .before .before .before .eval .ensures) _ (c .before .before .put .ensures) }
+of-first-returns t c = record { done = λ Γ r. first-done r (c .before .before .before .before .before .before .before .before .before .before .before .before .before .before .before .before .before .before .before .pre .1 .1) (c .before .before .before .before .before .before .before .before .before .before .before .before .before .before .before .word .ensures .0) refl (c .before .before .before .before .before .before .before .before .before .before .before .before .before .room .ensures) (c .before .before .before .before .before .before .before .before .before .eval .ensures) (c .before .before .put .ensures) }
 
 of-if-word-requires : (t : ℕ) → of-if-lts.Need-word-requires (of-if-claims t) (of-if-at t) of-if.Post
-of-if-word-requires t c κs = ready-word _ _ _ _ _ _ _ _ (c .before .before .before .pre .1 .0 .1) _ (omega arith)
+of-if-word-requires t c κs = ready-word (c .before .before .before .pre .1 .0 .1) (omega arith)
 
 of-if-element-copy-out-w : (t : ℕ) → of-if-lts.Need-element-copy-out-w (of-if-claims t) (of-if-at t) of-if.Post
-of-if-element-copy-out-w t c = entry-there _ _ _ _ _ _ _ _ (c .before .before .before .before .pre .1 .0 .1) ifMatches (c .before .before .before .before .pre .1 .1) 2 refl (unfold askOfKind in refl) _ (c .word .ensures .0)
+of-if-element-copy-out-w t c = entry-there (c .before .before .before .before .pre .1 .0 .1) ifMatches (c .before .before .before .before .pre .1 .1) 2 refl (unfold askOfKind in refl) (c .word .ensures .0)
 
 of-if-cast-w : (t : ℕ) → of-if-lts.Need-cast-w (of-if-claims t) (of-if-at t) of-if.Post
-of-if-cast-w t c = let f = entry-few _ _ _ _ _ _ _ _ (c .before .before .before .before .before .pre .1 .0 .1) _ _ (tested-scope _ _ _ _ _ _ _ _ (c .before .before .before .before .before .pre .1 .0 .1) (c .before .before .before .before .before .pre .1 .1) _ _ _ _ (c .before .word .ensures .0) refl refl refl _ refl _ refl) in omega arith
+of-if-cast-w t c = let f = entry-few (c .before .before .before .before .before .pre .1 .0 .1) (tested-scope (c .before .before .before .before .before .pre .1 .0 .1) (c .before .before .before .before .before .pre .1 .1) (c .before .word .ensures .0) refl refl refl refl refl) in omega arith
 
 of-if-room-requires : (t : ℕ) → of-if-lts.Need-room-requires (of-if-claims t) (of-if-at t) of-if.Post
 of-if-room-requires t c κs = tt
@@ -431,19 +431,19 @@ of-if-part-tested-start : (t : ℕ) → of-if-lts.Need-part-tested-start (of-if-
 of-if-part-tested-start t c = from-none _
 
 of-if-part-tested-end : (t : ℕ) → of-if-lts.Need-part-tested-end (of-if-claims t) (of-if-at t) of-if.Post
-of-if-part-tested-end t c = fits-room _ _ _ _ _ _ _ _ (c .before .before .before .before .before .before .before .before .pre .1 .0 .1) _ (tested-scope _ _ _ _ _ _ _ _ (c .before .before .before .before .before .before .before .before .pre .1 .0 .1) (c .before .before .before .before .before .before .before .before .pre .1 .1) _ _ _ _ (c .before .before .before .before .word .ensures .0) refl refl refl _ refl _ refl) _ refl _ (c .before .before .room .ensures)
+of-if-part-tested-end t c = fits-room (c .before .before .before .before .before .before .before .before .pre .1 .0 .1) (tested-scope (c .before .before .before .before .before .before .before .before .pre .1 .0 .1) (c .before .before .before .before .before .before .before .before .pre .1 .1) (c .before .before .before .before .word .ensures .0) refl refl refl refl refl) refl (c .before .before .room .ensures)
 
 of-if-eval-requires : (t : ℕ) → of-if-lts.Need-eval-requires (of-if-claims t) (of-if-at t) of-if.Post
-of-if-eval-requires t c κs = let h = (higher _ _ _ _ _ _ _ _ (c .before .before .before .before .before .before .before .before .before .pre .1 .0 .1) ifMatches (c .before .before .before .before .before .before .before .before .before .pre .1 .1) 2 refl (unfold askOfKind in refl) _ (c .before .before .before .before .before .word .ensures .0)) in (omega (arith, c .before .before .before .before .before .before .before .before .before .pre .0, h .0, h .1), (c .before .before .before .before .before .before .before .before .before .pre .1 .0 .0, room-ready _ _ _ _ _ _ _ _ (c .before .before .before .before .before .before .before .before .before .pre .1 .0 .1) _ (tested-scope _ _ _ _ _ _ _ _ (c .before .before .before .before .before .before .before .before .before .pre .1 .0 .1) (c .before .before .before .before .before .before .before .before .before .pre .1 .1) _ _ _ _ (c .before .before .before .before .before .word .ensures .0) refl refl refl _ refl _ refl) _ refl _ (c .before .before .before .room .ensures)))
+of-if-eval-requires t c κs = let h = (higher (c .before .before .before .before .before .before .before .before .before .pre .1 .0 .1) ifMatches (c .before .before .before .before .before .before .before .before .before .pre .1 .1) 2 refl (unfold askOfKind in refl) (c .before .before .before .before .before .word .ensures .0)) in (omega (arith, c .before .before .before .before .before .before .before .before .before .pre .0, h .0, h .1), (c .before .before .before .before .before .before .before .before .before .pre .1 .0 .0, room-ready (c .before .before .before .before .before .before .before .before .before .pre .1 .0 .1) (tested-scope (c .before .before .before .before .before .before .before .before .before .pre .1 .0 .1) (c .before .before .before .before .before .before .before .before .before .pre .1 .1) (c .before .before .before .before .before .word .ensures .0) refl refl refl refl refl) refl (c .before .before .before .room .ensures)))
 
 of-if-word-requires-2 : (t : ℕ) → of-if-lts.Need-word-requires-2 (of-if-claims t) (of-if-at t) of-if.Post
-of-if-word-requires-2 t c κs = ready-word _ _ _ _ _ _ _ _ (c .before .before .before .before .before .before .before .before .before .before .before .before .before .pre .1 .0 .1) _ (omega arith)
+of-if-word-requires-2 t c κs = ready-word (c .before .before .before .before .before .before .before .before .before .before .before .before .before .pre .1 .0 .1) (omega arith)
 
 of-if-eval-requires-2 : (t : ℕ) → of-if-lts.Need-eval-requires-2 (of-if-claims t) (of-if-at t) of-if.Post
-of-if-eval-requires-2 t c κs = let h = (higher _ _ _ _ _ _ _ _ (c .before .before .before .before .before .before .before .before .before .before .before .before .before .before .before .before .before .pre .1 .0 .1) ifMatches (c .before .before .before .before .before .before .before .before .before .before .before .before .before .before .before .before .before .pre .1 .1) 3 refl (unfold askOfKind in refl) _ (c .before .before .before .word2 .ensures .0)) in (omega (arith, c .before .before .before .before .before .before .before .before .before .before .before .before .before .before .before .before .before .pre .0, h .0, h .1), (c .before .before .before .before .before .before .before .before .before .before .before .before .before .before .before .before .before .pre .1 .0 .0, then-ready _ _ _ _ _ _ _ _ (c .before .before .before .before .before .before .before .before .before .before .before .before .before .before .before .before .before .pre .1 .0 .1) (c .before .before .before .before .before .before .before .before .before .before .before .before .before .before .before .before .before .pre .1 .1) _ _ _ _ (c .before .before .before .before .before .before .before .before .before .before .before .before .before .word .ensures .0) (c .before .before .before .word2 .ensures .0) refl refl _ refl _ (c .before .before .before .before .before .before .before .before .before .before .before .room .ensures) _ _ _ _ (c .before .before .before .before .before .before .before .eval .ensures)))
+of-if-eval-requires-2 t c κs = let h = (higher (c .before .before .before .before .before .before .before .before .before .before .before .before .before .before .before .before .before .pre .1 .0 .1) ifMatches (c .before .before .before .before .before .before .before .before .before .before .before .before .before .before .before .before .before .pre .1 .1) 3 refl (unfold askOfKind in refl) (c .before .before .before .word2 .ensures .0)) in (omega (arith, c .before .before .before .before .before .before .before .before .before .before .before .before .before .before .before .before .before .pre .0, h .0, h .1), (c .before .before .before .before .before .before .before .before .before .before .before .before .before .before .before .before .before .pre .1 .0 .0, then-ready (c .before .before .before .before .before .before .before .before .before .before .before .before .before .before .before .before .before .pre .1 .0 .1) (c .before .before .before .before .before .before .before .before .before .before .before .before .before .before .before .before .before .pre .1 .1) (c .before .before .before .before .before .before .before .before .before .before .before .before .before .word .ensures .0) (c .before .before .before .word2 .ensures .0) refl refl refl (c .before .before .before .before .before .before .before .before .before .before .before .room .ensures) (c .before .before .before .before .before .before .before .eval .ensures)))
 
 of-if-word-requires-3 : (t : ℕ) → of-if-lts.Need-word-requires-3 (of-if-claims t) (of-if-at t) of-if.Post
-of-if-word-requires-3 t c κs = ready-word _ _ _ _ _ _ _ _ (c .before .before .before .before .before .before .before .before .before .before .before .before .before .before .before .before .before .before .before .before .before .before .pre .1 .0 .1) _ (omega arith)
+of-if-word-requires-3 t c κs = ready-word (c .before .before .before .before .before .before .before .before .before .before .before .before .before .before .before .before .before .before .before .before .before .before .pre .1 .0 .1) (omega arith)
 
 of-if-room-requires-2 : (t : ℕ) → of-if-lts.Need-room-requires-2 (of-if-claims t) (of-if-at t) of-if.Post
 of-if-room-requires-2 t c κs = tt
@@ -455,13 +455,13 @@ of-if-part-otherwise-start : (t : ℕ) → of-if-lts.Need-part-otherwise-start (
 of-if-part-otherwise-start t c = from-none _
 
 of-if-part-otherwise-end : (t : ℕ) → of-if-lts.Need-part-otherwise-end (of-if-claims t) (of-if-at t) of-if.Post
-of-if-part-otherwise-end t c = else-fits _ _ _ _ _ _ _ _ (c .before .before .before .before .before .before .before .before .before .before .before .before .before .before .before .before .before .before .before .before .before .before .before .before .before .before .pre .1 .0 .1) (c .before .before .before .before .before .before .before .before .before .before .before .before .before .before .before .before .before .before .before .before .before .before .before .before .before .before .pre .1 .1) _ _ _ _ (c .before .before .before .before .before .before .before .before .before .before .before .before .before .before .before .before .before .before .before .before .before .before .word .ensures .0) (c .before .before .before .before .before .before .before .before .before .before .before .before .word2 .ensures .0) (c .before .before .before .word3 .ensures .0) refl _ refl _ (c .before .before .before .before .before .before .before .before .before .before .before .before .before .before .before .before .before .before .before .before .room .ensures) _ _ _ _ (c .before .before .before .before .before .before .before .before .before .before .before .before .before .before .before .before .eval .ensures) _ _ _ (c .before .before .before .before .before .before .before .before .eval2 .ensures) _ (c .before .before .room2 .ensures)
+of-if-part-otherwise-end t c = else-fits (c .before .before .before .before .before .before .before .before .before .before .before .before .before .before .before .before .before .before .before .before .before .before .before .before .before .before .pre .1 .0 .1) (c .before .before .before .before .before .before .before .before .before .before .before .before .before .before .before .before .before .before .before .before .before .before .before .before .before .before .pre .1 .1) (c .before .before .before .before .before .before .before .before .before .before .before .before .before .before .before .before .before .before .before .before .before .before .word .ensures .0) (c .before .before .before .before .before .before .before .before .before .before .before .before .word2 .ensures .0) (c .before .before .before .word3 .ensures .0) refl refl (c .before .before .before .before .before .before .before .before .before .before .before .before .before .before .before .before .before .before .before .before .room .ensures) (c .before .before .before .before .before .before .before .before .before .before .before .before .before .before .before .before .eval .ensures) (c .before .before .before .before .before .before .before .before .eval2 .ensures) (c .before .before .room2 .ensures)
 
 of-if-eval-requires-3 : (t : ℕ) → of-if-lts.Need-eval-requires-3 (of-if-claims t) (of-if-at t) of-if.Post
-of-if-eval-requires-3 t c κs = let h = (higher _ _ _ _ _ _ _ _ (c .before .before .before .before .before .before .before .before .before .before .before .before .before .before .before .before .before .before .before .before .before .before .before .before .before .before .before .pre .1 .0 .1) ifMatches (c .before .before .before .before .before .before .before .before .before .before .before .before .before .before .before .before .before .before .before .before .before .before .before .before .before .before .before .pre .1 .1) 4 refl (unfold askOfKind in refl) _ (c .before .before .before .before .word3 .ensures .0)) in (omega (arith, c .before .before .before .before .before .before .before .before .before .before .before .before .before .before .before .before .before .before .before .before .before .before .before .before .before .before .before .pre .0, h .0, h .1), (c .before .before .before .before .before .before .before .before .before .before .before .before .before .before .before .before .before .before .before .before .before .before .before .before .before .before .before .pre .1 .0 .0, else-ready _ _ _ _ _ _ _ _ (c .before .before .before .before .before .before .before .before .before .before .before .before .before .before .before .before .before .before .before .before .before .before .before .before .before .before .before .pre .1 .0 .1) (c .before .before .before .before .before .before .before .before .before .before .before .before .before .before .before .before .before .before .before .before .before .before .before .before .before .before .before .pre .1 .1) _ _ _ _ (c .before .before .before .before .before .before .before .before .before .before .before .before .before .before .before .before .before .before .before .before .before .before .before .word .ensures .0) (c .before .before .before .before .before .before .before .before .before .before .before .before .before .word2 .ensures .0) (c .before .before .before .before .word3 .ensures .0) refl _ refl _ (c .before .before .before .before .before .before .before .before .before .before .before .before .before .before .before .before .before .before .before .before .before .room .ensures) _ _ _ _ (c .before .before .before .before .before .before .before .before .before .before .before .before .before .before .before .before .before .eval .ensures) _ _ _ (c .before .before .before .before .before .before .before .before .before .eval2 .ensures) _ (c .before .before .before .room2 .ensures)))
+of-if-eval-requires-3 t c κs = let h = (higher (c .before .before .before .before .before .before .before .before .before .before .before .before .before .before .before .before .before .before .before .before .before .before .before .before .before .before .before .pre .1 .0 .1) ifMatches (c .before .before .before .before .before .before .before .before .before .before .before .before .before .before .before .before .before .before .before .before .before .before .before .before .before .before .before .pre .1 .1) 4 refl (unfold askOfKind in refl) (c .before .before .before .before .word3 .ensures .0)) in (omega (arith, c .before .before .before .before .before .before .before .before .before .before .before .before .before .before .before .before .before .before .before .before .before .before .before .before .before .before .before .pre .0, h .0, h .1), (c .before .before .before .before .before .before .before .before .before .before .before .before .before .before .before .before .before .before .before .before .before .before .before .before .before .before .before .pre .1 .0 .0, else-ready (c .before .before .before .before .before .before .before .before .before .before .before .before .before .before .before .before .before .before .before .before .before .before .before .before .before .before .before .pre .1 .0 .1) (c .before .before .before .before .before .before .before .before .before .before .before .before .before .before .before .before .before .before .before .before .before .before .before .before .before .before .before .pre .1 .1) (c .before .before .before .before .before .before .before .before .before .before .before .before .before .before .before .before .before .before .before .before .before .before .before .word .ensures .0) (c .before .before .before .before .before .before .before .before .before .before .before .before .before .word2 .ensures .0) (c .before .before .before .before .word3 .ensures .0) refl refl (c .before .before .before .before .before .before .before .before .before .before .before .before .before .before .before .before .before .before .before .before .before .room .ensures) (c .before .before .before .before .before .before .before .before .before .before .before .before .before .before .before .before .before .eval .ensures) (c .before .before .before .before .before .before .before .before .before .eval2 .ensures) (c .before .before .before .room2 .ensures)))
 
 of-if-word-requires-4 : (t : ℕ) → of-if-lts.Need-word-requires-4 (of-if-claims t) (of-if-at t) of-if.Post
-of-if-word-requires-4 t c κs = ready-word _ _ _ _ _ _ _ _ (c .before .before .before .before .before .before .before .before .before .before .before .before .before .before .before .before .before .before .before .before .before .before .before .before .before .before .before .before .before .before .before .pre .1 .0 .1) _ (omega arith)
+of-if-word-requires-4 t c κs = ready-word (c .before .before .before .before .before .before .before .before .before .before .before .before .before .before .before .before .before .before .before .before .before .before .before .before .before .before .before .before .before .before .before .pre .1 .0 .1) (omega arith)
 
 of-if-sub-choose-value : (t : ℕ) → of-if-lts.Need-sub-choose-value (of-if-claims t) (of-if-at t) of-if.Post
 of-if-sub-choose-value t c = from-none _
@@ -470,7 +470,7 @@ of-if-part-choose-value-start : (t : ℕ) → of-if-lts.Need-part-choose-value-s
 of-if-part-choose-value-start t c = from-none _
 
 of-if-part-choose-value-end : (t : ℕ) → of-if-lts.Need-part-choose-value-end (of-if-claims t) (of-if-at t) of-if.Post
-of-if-part-choose-value-end t c = tested-inside _ _ _ _ _ _ _ _ (c .before .before .before .before .before .before .before .before .before .before .before .before .before .before .before .before .before .before .before .before .before .before .before .before .before .before .before .before .before .before .before .before .before .pre .1 .0 .1) (c .before .before .before .before .before .before .before .before .before .before .before .before .before .before .before .before .before .before .before .before .before .before .before .before .before .before .before .before .before .before .before .before .before .pre .1 .1) _ _ _ _ (c .before .before .before .before .before .before .before .before .before .before .before .before .before .before .before .before .before .before .before .before .before .before .before .before .before .before .before .before .before .word .ensures .0) (c .before .before .before .before .before .before .before .before .before .before .before .before .before .before .before .before .before .before .before .word2 .ensures .0) (c .before .before .before .before .before .before .before .before .before .before .word3 .ensures .0) (c .before .word4 .ensures .0) _ refl _ (c .before .before .before .before .before .before .before .before .before .before .before .before .before .before .before .before .before .before .before .before .before .before .before .before .before .before .before .room .ensures) _ _ _ _ (c .before .before .before .before .before .before .before .before .before .before .before .before .before .before .before .before .before .before .before .before .before .before .before .eval .ensures) _ _ _ (c .before .before .before .before .before .before .before .before .before .before .before .before .before .before .before .eval2 .ensures) _ (c .before .before .before .before .before .before .before .before .before .room2 .ensures) _ _ _ (c .before .before .before .before .before .eval3 .ensures)
+of-if-part-choose-value-end t c = tested-inside (c .before .before .before .before .before .before .before .before .before .before .before .before .before .before .before .before .before .before .before .before .before .before .before .before .before .before .before .before .before .before .before .before .before .pre .1 .0 .1) (c .before .before .before .before .before .before .before .before .before .before .before .before .before .before .before .before .before .before .before .before .before .before .before .before .before .before .before .before .before .before .before .before .before .pre .1 .1) (c .before .before .before .before .before .before .before .before .before .before .before .before .before .before .before .before .before .before .before .before .before .before .before .before .before .before .before .before .before .word .ensures .0) (c .before .before .before .before .before .before .before .before .before .before .before .before .before .before .before .before .before .before .before .word2 .ensures .0) (c .before .before .before .before .before .before .before .before .before .before .word3 .ensures .0) (c .before .word4 .ensures .0) refl (c .before .before .before .before .before .before .before .before .before .before .before .before .before .before .before .before .before .before .before .before .before .before .before .before .before .before .before .room .ensures) (c .before .before .before .before .before .before .before .before .before .before .before .before .before .before .before .before .before .before .before .before .before .before .before .eval .ensures) (c .before .before .before .before .before .before .before .before .before .before .before .before .before .before .before .eval2 .ensures) (c .before .before .before .before .before .before .before .before .before .room2 .ensures) (c .before .before .before .before .before .eval3 .ensures)
 
 of-if-sub-choose-value-2 : (t : ℕ) → of-if-lts.Need-sub-choose-value-2 (of-if-claims t) (of-if-at t) of-if.Post
 of-if-sub-choose-value-2 t c = from-none _
@@ -479,28 +479,28 @@ of-if-part-choose-value-start-2 : (t : ℕ) → of-if-lts.Need-part-choose-value
 of-if-part-choose-value-start-2 t c = from-none _
 
 of-if-part-choose-value-end-2 : (t : ℕ) → of-if-lts.Need-part-choose-value-end-2 (of-if-claims t) (of-if-at t) of-if.Post
-of-if-part-choose-value-end-2 t c = otherwise-inside _ _ _ _ _ _ _ _ (c .before .before .before .before .before .before .before .before .before .before .before .before .before .before .before .before .before .before .before .before .before .before .before .before .before .before .before .before .before .before .before .before .before .before .before .pre .1 .0 .1) (c .before .before .before .before .before .before .before .before .before .before .before .before .before .before .before .before .before .before .before .before .before .before .before .before .before .before .before .before .before .before .before .before .before .before .before .pre .1 .1) _ _ _ _ (c .before .before .before .before .before .before .before .before .before .before .before .before .before .before .before .before .before .before .before .before .before .before .before .before .before .before .before .before .before .before .before .word .ensures .0) (c .before .before .before .before .before .before .before .before .before .before .before .before .before .before .before .before .before .before .before .before .before .word2 .ensures .0) (c .before .before .before .before .before .before .before .before .before .before .before .before .word3 .ensures .0) (c .before .before .before .word4 .ensures .0) _ refl _ (c .before .before .before .before .before .before .before .before .before .before .before .before .before .before .before .before .before .before .before .before .before .before .before .before .before .before .before .before .before .room .ensures) _ _ _ _ (c .before .before .before .before .before .before .before .before .before .before .before .before .before .before .before .before .before .before .before .before .before .before .before .before .before .eval .ensures) _ _ _ (c .before .before .before .before .before .before .before .before .before .before .before .before .before .before .before .before .before .eval2 .ensures) _ (c .before .before .before .before .before .before .before .before .before .before .before .room2 .ensures) _ _ _ (c .before .before .before .before .before .before .before .eval3 .ensures)
+of-if-part-choose-value-end-2 t c = otherwise-inside (c .before .before .before .before .before .before .before .before .before .before .before .before .before .before .before .before .before .before .before .before .before .before .before .before .before .before .before .before .before .before .before .before .before .before .before .pre .1 .0 .1) (c .before .before .before .before .before .before .before .before .before .before .before .before .before .before .before .before .before .before .before .before .before .before .before .before .before .before .before .before .before .before .before .before .before .before .before .pre .1 .1) (c .before .before .before .before .before .before .before .before .before .before .before .before .before .before .before .before .before .before .before .before .before .before .before .before .before .before .before .before .before .before .before .word .ensures .0) (c .before .before .before .before .before .before .before .before .before .before .before .before .before .before .before .before .before .before .before .before .before .word2 .ensures .0) (c .before .before .before .before .before .before .before .before .before .before .before .before .word3 .ensures .0) (c .before .before .before .word4 .ensures .0) refl (c .before .before .before .before .before .before .before .before .before .before .before .before .before .before .before .before .before .before .before .before .before .before .before .before .before .before .before .before .before .room .ensures) (c .before .before .before .before .before .before .before .before .before .before .before .before .before .before .before .before .before .before .before .before .before .before .before .before .before .eval .ensures) (c .before .before .before .before .before .before .before .before .before .before .before .before .before .before .before .before .before .eval2 .ensures) (c .before .before .before .before .before .before .before .before .before .before .before .room2 .ensures) (c .before .before .before .before .before .before .before .eval3 .ensures)
 
 of-if-choose-value-requires : (t : ℕ) → of-if-lts.Need-choose-value-requires (of-if-claims t) (of-if-at t) of-if.Post
-of-if-choose-value-requires t c κs = (pattern-matched _ _ _ _ _ _ _ _ (c .before .before .before .before .before .before .before .before .before .before .before .before .before .before .before .before .before .before .before .before .before .before .before .before .before .before .before .before .before .before .before .before .before .before .before .before .before .pre .1 .0 .1) (c .before .before .before .before .before .before .before .before .before .before .before .before .before .before .before .before .before .before .before .before .before .before .before .before .before .before .before .before .before .before .before .before .before .before .before .before .before .pre .1 .1) _ _ _ _ (c .before .before .before .before .before .before .before .before .before .before .before .before .before .before .before .before .before .before .before .before .before .before .before .before .before .before .before .before .before .before .before .before .before .word .ensures .0) (c .before .before .before .before .before .before .before .before .before .before .before .before .before .before .before .before .before .before .before .before .before .before .before .word2 .ensures .0) (c .before .before .before .before .before .before .before .before .before .before .before .before .before .before .word3 .ensures .0) (c .before .before .before .before .before .word4 .ensures .0) _ refl _ (c .before .before .before .before .before .before .before .before .before .before .before .before .before .before .before .before .before .before .before .before .before .before .before .before .before .before .before .before .before .before .before .room .ensures) _ _ _ _ (c .before .before .before .before .before .before .before .before .before .before .before .before .before .before .before .before .before .before .before .before .before .before .before .before .before .before .before .eval .ensures) _ _ _ (c .before .before .before .before .before .before .before .before .before .before .before .before .before .before .before .before .before .before .before .eval2 .ensures) _ (c .before .before .before .before .before .before .before .before .before .before .before .before .before .room2 .ensures) _ _ _ (c .before .before .before .before .before .before .before .before .before .eval3 .ensures), as-long _ _ _ _ _ _ _ _ (c .before .before .before .before .before .before .before .before .before .before .before .before .before .before .before .before .before .before .before .before .before .before .before .before .before .before .before .before .before .before .before .before .before .before .before .before .before .pre .1 .0 .1) (c .before .before .before .before .before .before .before .before .before .before .before .before .before .before .before .before .before .before .before .before .before .before .before .before .before .before .before .before .before .before .before .before .before .before .before .before .before .pre .1 .1) _ _ _ _ (c .before .before .before .before .before .before .before .before .before .before .before .before .before .before .before .before .before .before .before .before .before .before .before .before .before .before .before .before .before .before .before .before .before .word .ensures .0) (c .before .before .before .before .before .before .before .before .before .before .before .before .before .before .before .before .before .before .before .before .before .before .before .word2 .ensures .0) (c .before .before .before .before .before .before .before .before .before .before .before .before .before .before .word3 .ensures .0) (c .before .before .before .before .before .word4 .ensures .0) _ refl _ (c .before .before .before .before .before .before .before .before .before .before .before .before .before .before .before .before .before .before .before .before .before .before .before .before .before .before .before .before .before .before .before .room .ensures) _ _ _ _ (c .before .before .before .before .before .before .before .before .before .before .before .before .before .before .before .before .before .before .before .before .before .before .before .before .before .before .before .eval .ensures) _ _ _ (c .before .before .before .before .before .before .before .before .before .before .before .before .before .before .before .before .before .before .before .eval2 .ensures) _ (c .before .before .before .before .before .before .before .before .before .before .before .before .before .room2 .ensures) _ _ _ (c .before .before .before .before .before .before .before .before .before .eval3 .ensures))
+of-if-choose-value-requires t c κs = (pattern-matched (c .before .before .before .before .before .before .before .before .before .before .before .before .before .before .before .before .before .before .before .before .before .before .before .before .before .before .before .before .before .before .before .before .before .before .before .before .before .pre .1 .0 .1) (c .before .before .before .before .before .before .before .before .before .before .before .before .before .before .before .before .before .before .before .before .before .before .before .before .before .before .before .before .before .before .before .before .before .before .before .before .before .pre .1 .1) (c .before .before .before .before .before .before .before .before .before .before .before .before .before .before .before .before .before .before .before .before .before .before .before .before .before .before .before .before .before .before .before .before .before .word .ensures .0) (c .before .before .before .before .before .before .before .before .before .before .before .before .before .before .before .before .before .before .before .before .before .before .before .word2 .ensures .0) (c .before .before .before .before .before .before .before .before .before .before .before .before .before .before .word3 .ensures .0) (c .before .before .before .before .before .word4 .ensures .0) refl (c .before .before .before .before .before .before .before .before .before .before .before .before .before .before .before .before .before .before .before .before .before .before .before .before .before .before .before .before .before .before .before .room .ensures) (c .before .before .before .before .before .before .before .before .before .before .before .before .before .before .before .before .before .before .before .before .before .before .before .before .before .before .before .eval .ensures) (c .before .before .before .before .before .before .before .before .before .before .before .before .before .before .before .before .before .before .before .eval2 .ensures) (c .before .before .before .before .before .before .before .before .before .before .before .before .before .room2 .ensures) (c .before .before .before .before .before .before .before .before .before .eval3 .ensures), as-long (c .before .before .before .before .before .before .before .before .before .before .before .before .before .before .before .before .before .before .before .before .before .before .before .before .before .before .before .before .before .before .before .before .before .before .before .before .before .pre .1 .0 .1) (c .before .before .before .before .before .before .before .before .before .before .before .before .before .before .before .before .before .before .before .before .before .before .before .before .before .before .before .before .before .before .before .before .before .before .before .before .before .pre .1 .1) (c .before .before .before .before .before .before .before .before .before .before .before .before .before .before .before .before .before .before .before .before .before .before .before .before .before .before .before .before .before .before .before .before .before .word .ensures .0) (c .before .before .before .before .before .before .before .before .before .before .before .before .before .before .before .before .before .before .before .before .before .before .before .word2 .ensures .0) (c .before .before .before .before .before .before .before .before .before .before .before .before .before .before .word3 .ensures .0) (c .before .before .before .before .before .word4 .ensures .0) refl (c .before .before .before .before .before .before .before .before .before .before .before .before .before .before .before .before .before .before .before .before .before .before .before .before .before .before .before .before .before .before .before .room .ensures) (c .before .before .before .before .before .before .before .before .before .before .before .before .before .before .before .before .before .before .before .before .before .before .before .before .before .before .before .eval .ensures) (c .before .before .before .before .before .before .before .before .before .before .before .before .before .before .before .before .before .before .before .eval2 .ensures) (c .before .before .before .before .before .before .before .before .before .before .before .before .before .room2 .ensures) (c .before .before .before .before .before .before .before .before .before .eval3 .ensures))
 
 of-if-same-length : (t : ℕ) → of-if-lts.Need-same-length (of-if-claims t) (of-if-at t) of-if.Post
-of-if-same-length t c = if-wide _ _ _ _ _ _ _ _ (c .before .before .before .before .before .before .before .before .before .before .before .before .before .before .before .before .before .before .before .before .before .before .before .before .before .before .before .before .before .before .before .before .before .before .before .before .before .before .before .before .pre .1 .0 .1) (c .before .before .before .before .before .before .before .before .before .before .before .before .before .before .before .before .before .before .before .before .before .before .before .before .before .before .before .before .before .before .before .before .before .before .before .before .before .before .before .before .pre .1 .1) _ _ _ _ (c .before .before .before .before .before .before .before .before .before .before .before .before .before .before .before .before .before .before .before .before .before .before .before .before .before .before .before .before .before .before .before .before .before .before .before .before .word .ensures .0) (c .before .before .before .before .before .before .before .before .before .before .before .before .before .before .before .before .before .before .before .before .before .before .before .before .before .before .word2 .ensures .0) (c .before .before .before .before .before .before .before .before .before .before .before .before .before .before .before .before .before .word3 .ensures .0) (c .before .before .before .before .before .before .before .before .word4 .ensures .0) _ refl _ (c .before .before .before .before .before .before .before .before .before .before .before .before .before .before .before .before .before .before .before .before .before .before .before .before .before .before .before .before .before .before .before .before .before .before .room .ensures) _ _ _ _ (c .before .before .before .before .before .before .before .before .before .before .before .before .before .before .before .before .before .before .before .before .before .before .before .before .before .before .before .before .before .before .eval .ensures) _ _ _ (c .before .before .before .before .before .before .before .before .before .before .before .before .before .before .before .before .before .before .before .before .before .before .eval2 .ensures) _ (c .before .before .before .before .before .before .before .before .before .before .before .before .before .before .before .before .room2 .ensures) _ _ _ (c .before .before .before .before .before .before .before .before .before .before .before .before .eval3 .ensures)
+of-if-same-length t c = if-wide (c .before .before .before .before .before .before .before .before .before .before .before .before .before .before .before .before .before .before .before .before .before .before .before .before .before .before .before .before .before .before .before .before .before .before .before .before .before .before .before .before .pre .1 .0 .1) (c .before .before .before .before .before .before .before .before .before .before .before .before .before .before .before .before .before .before .before .before .before .before .before .before .before .before .before .before .before .before .before .before .before .before .before .before .before .before .before .before .pre .1 .1) (c .before .before .before .before .before .before .before .before .before .before .before .before .before .before .before .before .before .before .before .before .before .before .before .before .before .before .before .before .before .before .before .before .before .before .before .before .word .ensures .0) (c .before .before .before .before .before .before .before .before .before .before .before .before .before .before .before .before .before .before .before .before .before .before .before .before .before .before .word2 .ensures .0) (c .before .before .before .before .before .before .before .before .before .before .before .before .before .before .before .before .before .word3 .ensures .0) (c .before .before .before .before .before .before .before .before .word4 .ensures .0) refl (c .before .before .before .before .before .before .before .before .before .before .before .before .before .before .before .before .before .before .before .before .before .before .before .before .before .before .before .before .before .before .before .before .before .before .room .ensures) (c .before .before .before .before .before .before .before .before .before .before .before .before .before .before .before .before .before .before .before .before .before .before .before .before .before .before .before .before .before .before .eval .ensures) (c .before .before .before .before .before .before .before .before .before .before .before .before .before .before .before .before .before .before .before .before .before .before .eval2 .ensures) (c .before .before .before .before .before .before .before .before .before .before .before .before .before .before .before .before .room2 .ensures) (c .before .before .before .before .before .before .before .before .before .before .before .before .eval3 .ensures)
 
 of-if-same-length-2 : (t : ℕ) → of-if-lts.Need-same-length-2 (of-if-claims t) (of-if-at t) of-if.Post
 of-if-same-length-2 t c = search needs
 
 of-if-returns : (t : ℕ) → of-if-lts.Need-returns (of-if-claims t) (of-if-at t) of-if.Post
-of-if-returns t c = record { done = λ Γ r. if-done _ _ _ _ _ _ _ Γ r (c .before .before .before .before .before .before .before .before .before .before .before .before .before .before .before .before .before .before .before .before .before .before .before .before .before .before .before .before .before .before .before .before .before .before .before .before .before .before .before .before .pre .1 .1) _ _ _ _ (c .before .before .before .before .before .before .before .before .before .before .before .before .before .before .before .before .before .before .before .before .before .before .before .before .before .before .before .before .before .before .before .before .before .before .before .before .word .ensures .0) (c .before .before .before .before .before .before .before .before .before .before .before .before .before .before .before .before .before .before .before .before .before .before .before .before .before .before .word2 .ensures .0) (c .before .before .before .before .before .before .before .before .before .before .before .before .before .before .before .before .before .word3 .ensures .0) (c .before .before .before .before .before .before .before .before .word4 .ensures .0) _ refl _ (c .before .before .before .before .before .before .before .before .before .before .before .before .before .before .before .before .before .before .before .before .before .before .before .before .before .before .before .before .before .before .before .before .before .before .room .ensures) _ _ _ _ (c .before .before .before .before .before .before .before .before .before .before .before .before .before .before .before .before .before .before .before .before .before .before .before .before .before .before .before .before .before .before .eval .ensures) _ _ _ (c .before .before .before .before .before .before .before .before .before .before .before .before .before .before .before .before .before .before .before .before .before .before .eval2 .ensures) _ (c .before .before .before .before .before .before .before .before .before .before .before .before .before .before .before .before .room2 .ensures) _ _ _ (c .before .before .before .before .before .before .before .before .before .before .before .before .eval3 .ensures) _ (c .before .before .choose-value .ensures) }
+of-if-returns t c = record { done = λ Γ r. if-done r (c .before .before .before .before .before .before .before .before .before .before .before .before .before .before .before .before .before .before .before .before .before .before .before .before .before .before .before .before .before .before .before .before .before .before .before .before .before .before .before .before .pre .1 .1) (c .before .before .before .before .before .before .before .before .before .before .before .before .before .before .before .before .before .before .before .before .before .before .before .before .before .before .before .before .before .before .before .before .before .before .before .before .word .ensures .0) (c .before .before .before .before .before .before .before .before .before .before .before .before .before .before .before .before .before .before .before .before .before .before .before .before .before .before .word2 .ensures .0) (c .before .before .before .before .before .before .before .before .before .before .before .before .before .before .before .before .before .word3 .ensures .0) (c .before .before .before .before .before .before .before .before .word4 .ensures .0) refl (c .before .before .before .before .before .before .before .before .before .before .before .before .before .before .before .before .before .before .before .before .before .before .before .before .before .before .before .before .before .before .before .before .before .before .room .ensures) (c .before .before .before .before .before .before .before .before .before .before .before .before .before .before .before .before .before .before .before .before .before .before .before .before .before .before .before .before .before .before .eval .ensures) (c .before .before .before .before .before .before .before .before .before .before .before .before .before .before .before .before .before .before .before .before .before .before .eval2 .ensures) (c .before .before .before .before .before .before .before .before .before .before .before .before .before .before .before .before .room2 .ensures) (c .before .before .before .before .before .before .before .before .before .before .before .before .eval3 .ensures) (c .before .before .choose-value .ensures) }
 
 of-let-word-requires : (t : ℕ) → of-let-lts.Need-word-requires (of-let-claims t) (of-let-at t) of-let.Post
-of-let-word-requires t c κs = ready-word _ _ _ _ _ _ _ _ (c .before .before .before .pre .1 .0 .1) _ (omega arith)
+of-let-word-requires t c κs = ready-word (c .before .before .before .pre .1 .0 .1) (omega arith)
 
 of-let-element-copy-out-w : (t : ℕ) → of-let-lts.Need-element-copy-out-w (of-let-claims t) (of-let-at t) of-let.Post
-of-let-element-copy-out-w t c = entry-there _ _ _ _ _ _ _ _ (c .before .before .before .before .pre .1 .0 .1) letIn (c .before .before .before .before .pre .1 .1) 2 refl (unfold askOfKind in refl) _ (c .word .ensures .0)
+of-let-element-copy-out-w t c = entry-there (c .before .before .before .before .pre .1 .0 .1) letIn (c .before .before .before .before .pre .1 .1) 2 refl (unfold askOfKind in refl) (c .word .ensures .0)
 
 of-let-cast-w : (t : ℕ) → of-let-lts.Need-cast-w (of-let-claims t) (of-let-at t) of-let.Post
-of-let-cast-w t c = let f = entry-few _ _ _ _ _ _ _ _ (c .before .before .before .before .before .pre .1 .0 .1) _ _ (defining-scope _ _ _ _ _ _ _ _ (c .before .before .before .before .before .pre .1 .0 .1) (c .before .before .before .before .before .pre .1 .1) _ _ (c .before .word .ensures .0) refl _ refl _ refl) in omega arith
+of-let-cast-w t c = let f = entry-few (c .before .before .before .before .before .pre .1 .0 .1) (defining-scope (c .before .before .before .before .before .pre .1 .0 .1) (c .before .before .before .before .before .pre .1 .1) (c .before .word .ensures .0) refl refl refl) in omega arith
 
 of-let-room-requires : (t : ℕ) → of-let-lts.Need-room-requires (of-let-claims t) (of-let-at t) of-let.Post
 of-let-room-requires t c κs = tt
@@ -512,10 +512,10 @@ of-let-part-value-start : (t : ℕ) → of-let-lts.Need-part-value-start (of-let
 of-let-part-value-start t c = from-none _
 
 of-let-part-value-end : (t : ℕ) → of-let-lts.Need-part-value-end (of-let-claims t) (of-let-at t) of-let.Post
-of-let-part-value-end t c = fits-room _ _ _ _ _ _ _ _ (c .before .before .before .before .before .before .before .before .pre .1 .0 .1) _ (defining-scope _ _ _ _ _ _ _ _ (c .before .before .before .before .before .before .before .before .pre .1 .0 .1) (c .before .before .before .before .before .before .before .before .pre .1 .1) _ _ (c .before .before .before .before .word .ensures .0) refl _ refl _ refl) _ refl _ (c .before .before .room .ensures)
+of-let-part-value-end t c = fits-room (c .before .before .before .before .before .before .before .before .pre .1 .0 .1) (defining-scope (c .before .before .before .before .before .before .before .before .pre .1 .0 .1) (c .before .before .before .before .before .before .before .before .pre .1 .1) (c .before .before .before .before .word .ensures .0) refl refl refl) refl (c .before .before .room .ensures)
 
 of-let-eval-requires : (t : ℕ) → of-let-lts.Need-eval-requires (of-let-claims t) (of-let-at t) of-let.Post
-of-let-eval-requires t c κs = let h = (higher _ _ _ _ _ _ _ _ (c .before .before .before .before .before .before .before .before .before .pre .1 .0 .1) letIn (c .before .before .before .before .before .before .before .before .before .pre .1 .1) 2 refl (unfold askOfKind in refl) _ (c .before .before .before .before .before .word .ensures .0)) in (omega (arith, c .before .before .before .before .before .before .before .before .before .pre .0, h .0, h .1), (c .before .before .before .before .before .before .before .before .before .pre .1 .0 .0, room-ready _ _ _ _ _ _ _ _ (c .before .before .before .before .before .before .before .before .before .pre .1 .0 .1) _ (defining-scope _ _ _ _ _ _ _ _ (c .before .before .before .before .before .before .before .before .before .pre .1 .0 .1) (c .before .before .before .before .before .before .before .before .before .pre .1 .1) _ _ (c .before .before .before .before .before .word .ensures .0) refl _ refl _ refl) _ refl _ (c .before .before .before .room .ensures)))
+of-let-eval-requires t c κs = let h = (higher (c .before .before .before .before .before .before .before .before .before .pre .1 .0 .1) letIn (c .before .before .before .before .before .before .before .before .before .pre .1 .1) 2 refl (unfold askOfKind in refl) (c .before .before .before .before .before .word .ensures .0)) in (omega (arith, c .before .before .before .before .before .before .before .before .before .pre .0, h .0, h .1), (c .before .before .before .before .before .before .before .before .before .pre .1 .0 .0, room-ready (c .before .before .before .before .before .before .before .before .before .pre .1 .0 .1) (defining-scope (c .before .before .before .before .before .before .before .before .before .pre .1 .0 .1) (c .before .before .before .before .before .before .before .before .before .pre .1 .1) (c .before .before .before .before .before .word .ensures .0) refl refl refl) refl (c .before .before .before .room .ensures)))
 
 of-let-sub-enter-value : (t : ℕ) → of-let-lts.Need-sub-enter-value (of-let-claims t) (of-let-at t) of-let.Post
 of-let-sub-enter-value t c = from-none _
@@ -524,19 +524,19 @@ of-let-part-enter-value-start : (t : ℕ) → of-let-lts.Need-part-enter-value-s
 of-let-part-enter-value-start t c = from-none _
 
 of-let-part-enter-value-end : (t : ℕ) → of-let-lts.Need-part-enter-value-end (of-let-claims t) (of-let-at t) of-let.Post
-of-let-part-enter-value-end t c = let-inside _ _ _ _ _ _ _ _ (c .before .before .before .before .before .before .before .before .before .before .before .before .before .before .before .pre .1 .0 .1) (c .before .before .before .before .before .before .before .before .before .before .before .before .before .before .before .pre .1 .1) _ _ (c .before .before .before .before .before .before .before .before .before .before .before .word .ensures .0) refl _ refl _ (c .before .before .before .before .before .before .before .before .before .room .ensures) _ _ _ _ (c .before .before .before .before .before .eval .ensures)
+of-let-part-enter-value-end t c = let-inside (c .before .before .before .before .before .before .before .before .before .before .before .before .before .before .before .pre .1 .0 .1) (c .before .before .before .before .before .before .before .before .before .before .before .before .before .before .before .pre .1 .1) (c .before .before .before .before .before .before .before .before .before .before .before .word .ensures .0) refl refl (c .before .before .before .before .before .before .before .before .before .room .ensures) (c .before .before .before .before .before .eval .ensures)
 
 of-let-enter-value-requires : (t : ℕ) → of-let-lts.Need-enter-value-requires (of-let-claims t) (of-let-at t) of-let.Post
-of-let-enter-value-requires t c κs = let-room _ _ _ _ _ _ _ _ (c .before .before .before .before .before .before .before .before .before .before .before .before .before .before .before .before .pre .1 .0 .1) (c .before .before .before .before .before .before .before .before .before .before .before .before .before .before .before .before .pre .1 .1) _ _ (c .before .before .before .before .before .before .before .before .before .before .before .before .word .ensures .0) refl _ refl _ (c .before .before .before .before .before .before .before .before .before .before .room .ensures) _ _ _ _ (c .before .before .before .before .before .before .eval .ensures)
+of-let-enter-value-requires t c κs = let-room (c .before .before .before .before .before .before .before .before .before .before .before .before .before .before .before .before .pre .1 .0 .1) (c .before .before .before .before .before .before .before .before .before .before .before .before .before .before .before .before .pre .1 .1) (c .before .before .before .before .before .before .before .before .before .before .before .before .word .ensures .0) refl refl (c .before .before .before .before .before .before .before .before .before .before .room .ensures) (c .before .before .before .before .before .before .eval .ensures)
 
 of-let-word-requires-2 : (t : ℕ) → of-let-lts.Need-word-requires-2 (of-let-claims t) (of-let-at t) of-let.Post
-of-let-word-requires-2 t c κs = ready-word _ _ _ _ _ _ _ _ (c .before .before .before .before .before .before .before .before .before .before .before .before .before .before .before .before .before .before .before .pre .1 .0 .1) _ (omega arith)
+of-let-word-requires-2 t c κs = ready-word (c .before .before .before .before .before .before .before .before .before .before .before .before .before .before .before .before .before .before .before .pre .1 .0 .1) (omega arith)
 
 of-let-add-eval : (t : ℕ) → of-let-lts.Need-add-eval (of-let-claims t) (of-let-at t) of-let.Post
-of-let-add-eval t c = let f = ready-few _ _ _ _ _ _ _ _ (c .before .before .before .before .before .before .before .before .before .before .before .before .before .before .before .before .before .before .before .before .before .pre .1 .0 .1) in omega arith
+of-let-add-eval t c = let f = ready-few (c .before .before .before .before .before .before .before .before .before .before .before .before .before .before .before .before .before .before .before .before .before .pre .1 .0 .1) in omega arith
 
 of-let-eval-requires-2 : (t : ℕ) → of-let-lts.Need-eval-requires-2 (of-let-claims t) (of-let-at t) of-let.Post
-of-let-eval-requires-2 t c κs = let h = (higher _ _ _ _ _ _ _ _ (c .before .before .before .before .before .before .before .before .before .before .before .before .before .before .before .before .before .before .before .before .before .before .before .pre .1 .0 .1) letIn (c .before .before .before .before .before .before .before .before .before .before .before .before .before .before .before .before .before .before .before .before .before .before .before .pre .1 .1) 3 refl (unfold askOfKind in refl) _ (c .before .before .before .word2 .ensures .0)) in (omega (arith, c .before .before .before .before .before .before .before .before .before .before .before .before .before .before .before .before .before .before .before .before .before .before .before .pre .0, h .0, h .1), (_, let-body-ready _ _ _ _ _ _ _ _ (c .before .before .before .before .before .before .before .before .before .before .before .before .before .before .before .before .before .before .before .before .before .before .before .pre .1 .0 .1) (c .before .before .before .before .before .before .before .before .before .before .before .before .before .before .before .before .before .before .before .before .before .before .before .pre .1 .1) _ _ (c .before .before .before .before .before .before .before .before .before .before .before .before .before .before .before .before .before .before .before .word .ensures .0) (c .before .before .before .word2 .ensures .0) _ refl _ (c .before .before .before .before .before .before .before .before .before .before .before .before .before .before .before .before .before .room .ensures) _ _ _ _ (c .before .before .before .before .before .before .before .before .before .before .before .before .before .eval .ensures) _ (c .before .before .before .before .before .before .enter-value .ensures)))
+of-let-eval-requires-2 t c κs = let h = (higher (c .before .before .before .before .before .before .before .before .before .before .before .before .before .before .before .before .before .before .before .before .before .before .before .pre .1 .0 .1) letIn (c .before .before .before .before .before .before .before .before .before .before .before .before .before .before .before .before .before .before .before .before .before .before .before .pre .1 .1) 3 refl (unfold askOfKind in refl) (c .before .before .before .word2 .ensures .0)) in (omega (arith, c .before .before .before .before .before .before .before .before .before .before .before .before .before .before .before .before .before .before .before .before .before .before .before .pre .0, h .0, h .1), (_, let-body-ready (c .before .before .before .before .before .before .before .before .before .before .before .before .before .before .before .before .before .before .before .before .before .before .before .pre .1 .0 .1) (c .before .before .before .before .before .before .before .before .before .before .before .before .before .before .before .before .before .before .before .before .before .before .before .pre .1 .1) (c .before .before .before .before .before .before .before .before .before .before .before .before .before .before .before .before .before .before .before .word .ensures .0) (c .before .before .before .word2 .ensures .0) refl (c .before .before .before .before .before .before .before .before .before .before .before .before .before .before .before .before .before .room .ensures) (c .before .before .before .before .before .before .before .before .before .before .before .before .before .eval .ensures) (c .before .before .before .before .before .before .enter-value .ensures)))
 
 of-let-same-length : (t : ℕ) → of-let-lts.Need-same-length (of-let-claims t) (of-let-at t) of-let.Post
 of-let-same-length t c = search needs
@@ -545,16 +545,16 @@ of-let-same-length-2 : (t : ℕ) → of-let-lts.Need-same-length-2 (of-let-claim
 of-let-same-length-2 t c = search needs
 
 of-let-returns : (t : ℕ) → of-let-lts.Need-returns (of-let-claims t) (of-let-at t) of-let.Post
-of-let-returns t c = record { done = λ Γ r. let-done _ _ _ _ _ _ _ Γ r (c .before .before .before .before .before .before .before .before .before .before .before .before .before .before .before .before .before .before .before .before .before .before .before .before .before .before .before .before .pre .1 .1) _ _ (c .before .before .before .before .before .before .before .before .before .before .before .before .before .before .before .before .before .before .before .before .before .before .before .before .word .ensures .0) (c .before .before .before .before .before .before .before .before .word2 .ensures .0) _ refl _ (c .before .before .before .before .before .before .before .before .before .before .before .before .before .before .before .before .before .before .before .before .before .before .room .ensures) _ _ _ _ (c .before .before .before .before .before .before .before .before .before .before .before .before .before .before .before .before .before .before .eval .ensures) _ (c .before .before .before .before .before .before .before .before .before .before .before .enter-value .ensures) _ _ _ (c .before .before .before .before .eval2 .ensures) }
+of-let-returns t c = record { done = λ Γ r. let-done r (c .before .before .before .before .before .before .before .before .before .before .before .before .before .before .before .before .before .before .before .before .before .before .before .before .before .before .before .before .pre .1 .1) (c .before .before .before .before .before .before .before .before .before .before .before .before .before .before .before .before .before .before .before .before .before .before .before .before .word .ensures .0) (c .before .before .before .before .before .before .before .before .word2 .ensures .0) refl (c .before .before .before .before .before .before .before .before .before .before .before .before .before .before .before .before .before .before .before .before .before .before .room .ensures) (c .before .before .before .before .before .before .before .before .before .before .before .before .before .before .before .before .before .before .eval .ensures) (c .before .before .before .before .before .before .before .before .before .before .before .enter-value .ensures) (c .before .before .before .before .eval2 .ensures) }
 
 of-pair-word-requires : (t : ℕ) → of-pair-lts.Need-word-requires (of-pair-claims t) (of-pair-at t) of-pair.Post
-of-pair-word-requires t c κs = ready-word _ _ _ _ _ _ _ _ (c .before .before .before .pre .1 .0 .1) _ (omega arith)
+of-pair-word-requires t c κs = ready-word (c .before .before .before .pre .1 .0 .1) (omega arith)
 
 of-pair-element-copy-out-w : (t : ℕ) → of-pair-lts.Need-element-copy-out-w (of-pair-claims t) (of-pair-at t) of-pair.Post
-of-pair-element-copy-out-w t c = entry-there _ _ _ _ _ _ _ _ (c .before .before .before .before .pre .1 .0 .1) tuple (c .before .before .before .before .pre .1 .1) 2 refl (unfold askOfKind in refl) _ (c .word .ensures .0)
+of-pair-element-copy-out-w t c = entry-there (c .before .before .before .before .pre .1 .0 .1) tuple (c .before .before .before .before .pre .1 .1) 2 refl (unfold askOfKind in refl) (c .word .ensures .0)
 
 of-pair-cast-w : (t : ℕ) → of-pair-lts.Need-cast-w (of-pair-claims t) (of-pair-at t) of-pair.Post
-of-pair-cast-w t c = let f = pair-small _ _ _ _ _ _ _ _ (c .before .before .before .before .before .pre .1 .0 .1) (c .before .before .before .before .before .pre .1 .1) _ _ (c .before .word .ensures .0) refl in omega arith
+of-pair-cast-w t c = let f = pair-small (c .before .before .before .before .before .pre .1 .0 .1) (c .before .before .before .before .before .pre .1 .1) (c .before .word .ensures .0) refl in omega arith
 
 of-pair-sub-eval : (t : ℕ) → of-pair-lts.Need-sub-eval (of-pair-claims t) (of-pair-at t) of-pair.Post
 of-pair-sub-eval t c = from-none _
@@ -563,25 +563,25 @@ of-pair-part-eval-start : (t : ℕ) → of-pair-lts.Need-part-eval-start (of-pai
 of-pair-part-eval-start t c = from-none _
 
 of-pair-part-eval-end : (t : ℕ) → of-pair-lts.Need-part-eval-end (of-pair-claims t) (of-pair-at t) of-pair.Post
-of-pair-part-eval-end t c = pair-cut _ _ _ _ _ _ _ _ (c .before .before .before .before .before .before .before .pre .1 .0 .1) (c .before .before .before .before .before .before .before .pre .1 .1) _ _ (c .before .before .before .word .ensures .0) refl _ refl
+of-pair-part-eval-end t c = pair-cut (c .before .before .before .before .before .before .before .pre .1 .0 .1) (c .before .before .before .before .before .before .before .pre .1 .1) (c .before .before .before .word .ensures .0) refl refl
 
 of-pair-eval-requires : (t : ℕ) → of-pair-lts.Need-eval-requires (of-pair-claims t) (of-pair-at t) of-pair.Post
-of-pair-eval-requires t c κs = let h = (higher _ _ _ _ _ _ _ _ (c .before .before .before .before .before .before .before .before .pre .1 .0 .1) tuple (c .before .before .before .before .before .before .before .before .pre .1 .1) 2 refl (unfold askOfKind in refl) _ (c .before .before .before .before .word .ensures .0)) in (omega (arith, c .before .before .before .before .before .before .before .before .pre .0, h .0, h .1), (c .before .before .before .before .before .before .before .before .pre .1 .0 .0, pair-first-ready _ _ _ _ _ _ _ _ (c .before .before .before .before .before .before .before .before .pre .1 .0 .1) (c .before .before .before .before .before .before .before .before .pre .1 .1) _ _ (c .before .before .before .before .word .ensures .0) refl _ refl))
+of-pair-eval-requires t c κs = let h = (higher (c .before .before .before .before .before .before .before .before .pre .1 .0 .1) tuple (c .before .before .before .before .before .before .before .before .pre .1 .1) 2 refl (unfold askOfKind in refl) (c .before .before .before .before .word .ensures .0)) in (omega (arith, c .before .before .before .before .before .before .before .before .pre .0, h .0, h .1), (c .before .before .before .before .before .before .before .before .pre .1 .0 .0, pair-first-ready (c .before .before .before .before .before .before .before .before .pre .1 .0 .1) (c .before .before .before .before .before .before .before .before .pre .1 .1) (c .before .before .before .before .word .ensures .0) refl refl))
 
 of-pair-word-requires-2 : (t : ℕ) → of-pair-lts.Need-word-requires-2 (of-pair-claims t) (of-pair-at t) of-pair.Post
-of-pair-word-requires-2 t c κs = ready-word _ _ _ _ _ _ _ _ (c .before .before .before .before .before .before .before .before .before .before .before .before .before .pre .1 .0 .1) _ (omega arith)
+of-pair-word-requires-2 t c κs = ready-word (c .before .before .before .before .before .before .before .before .before .before .before .before .before .pre .1 .0 .1) (omega arith)
 
 of-pair-sub-eval-2 : (t : ℕ) → of-pair-lts.Need-sub-eval-2 (of-pair-claims t) (of-pair-at t) of-pair.Post
-of-pair-sub-eval-2 t c = pair-rest _ _ _ _ _ _ _ _ (c .before .before .before .before .before .before .before .before .before .before .before .before .before .before .before .before .pre .1 .0 .1) (c .before .before .before .before .before .before .before .before .before .before .before .before .before .before .before .before .pre .1 .1) _ _ (c .before .before .before .before .before .before .before .before .before .before .before .before .word .ensures .0) refl _ refl _ _ _ _ (c .before .before .before .before .before .before .before .eval .ensures)
+of-pair-sub-eval-2 t c = pair-rest (c .before .before .before .before .before .before .before .before .before .before .before .before .before .before .before .before .pre .1 .0 .1) (c .before .before .before .before .before .before .before .before .before .before .before .before .before .before .before .before .pre .1 .1) (c .before .before .before .before .before .before .before .before .before .before .before .before .word .ensures .0) refl refl (c .before .before .before .before .before .before .before .eval .ensures)
 
 of-pair-part-eval-start-2 : (t : ℕ) → of-pair-lts.Need-part-eval-start-2 (of-pair-claims t) (of-pair-at t) of-pair.Post
-of-pair-part-eval-start-2 t c = pair-rest _ _ _ _ _ _ _ _ (c .before .before .before .before .before .before .before .before .before .before .before .before .before .before .before .before .pre .1 .0 .1) (c .before .before .before .before .before .before .before .before .before .before .before .before .before .before .before .before .pre .1 .1) _ _ (c .before .before .before .before .before .before .before .before .before .before .before .before .word .ensures .0) refl _ refl _ _ _ _ (c .before .before .before .before .before .before .before .eval .ensures)
+of-pair-part-eval-start-2 t c = pair-rest (c .before .before .before .before .before .before .before .before .before .before .before .before .before .before .before .before .pre .1 .0 .1) (c .before .before .before .before .before .before .before .before .before .before .before .before .before .before .before .before .pre .1 .1) (c .before .before .before .before .before .before .before .before .before .before .before .before .word .ensures .0) refl refl (c .before .before .before .before .before .before .before .eval .ensures)
 
 of-pair-part-eval-end-2 : (t : ℕ) → of-pair-lts.Need-part-eval-end-2 (of-pair-claims t) (of-pair-at t) of-pair.Post
 of-pair-part-eval-end-2 t c = to-the-end _
 
 of-pair-eval-requires-2 : (t : ℕ) → of-pair-lts.Need-eval-requires-2 (of-pair-claims t) (of-pair-at t) of-pair.Post
-of-pair-eval-requires-2 t c κs = let h = (higher _ _ _ _ _ _ _ _ (c .before .before .before .before .before .before .before .before .before .before .before .before .before .before .before .before .before .pre .1 .0 .1) tuple (c .before .before .before .before .before .before .before .before .before .before .before .before .before .before .before .before .before .pre .1 .1) 3 refl (unfold askOfKind in refl) _ (c .before .before .before .word2 .ensures .0)) in (omega (arith, c .before .before .before .before .before .before .before .before .before .before .before .before .before .before .before .before .before .pre .0, h .0, h .1), (c .before .before .before .before .before .before .before .before .before .before .before .before .before .before .before .before .before .pre .1 .0 .0, pair-second-ready _ _ _ _ _ _ _ _ (c .before .before .before .before .before .before .before .before .before .before .before .before .before .before .before .before .before .pre .1 .0 .1) (c .before .before .before .before .before .before .before .before .before .before .before .before .before .before .before .before .before .pre .1 .1) _ _ (c .before .before .before .before .before .before .before .before .before .before .before .before .before .word .ensures .0) (c .before .before .before .word2 .ensures .0) _ refl _ _ _ _ (c .before .before .before .before .before .before .before .before .eval .ensures)))
+of-pair-eval-requires-2 t c κs = let h = (higher (c .before .before .before .before .before .before .before .before .before .before .before .before .before .before .before .before .before .pre .1 .0 .1) tuple (c .before .before .before .before .before .before .before .before .before .before .before .before .before .before .before .before .before .pre .1 .1) 3 refl (unfold askOfKind in refl) (c .before .before .before .word2 .ensures .0)) in (omega (arith, c .before .before .before .before .before .before .before .before .before .before .before .before .before .before .before .before .before .pre .0, h .0, h .1), (c .before .before .before .before .before .before .before .before .before .before .before .before .before .before .before .before .before .pre .1 .0 .0, pair-second-ready (c .before .before .before .before .before .before .before .before .before .before .before .before .before .before .before .before .before .pre .1 .0 .1) (c .before .before .before .before .before .before .before .before .before .before .before .before .before .before .before .before .before .pre .1 .1) (c .before .before .before .before .before .before .before .before .before .before .before .before .before .word .ensures .0) (c .before .before .before .word2 .ensures .0) refl (c .before .before .before .before .before .before .before .before .eval .ensures)))
 
 of-pair-same-length : (t : ℕ) → of-pair-lts.Need-same-length (of-pair-claims t) (of-pair-at t) of-pair.Post
 of-pair-same-length t c = search needs
@@ -590,16 +590,16 @@ of-pair-same-length-2 : (t : ℕ) → of-pair-lts.Need-same-length-2 (of-pair-cl
 of-pair-same-length-2 t c = search needs
 
 of-pair-returns : (t : ℕ) → of-pair-lts.Need-returns (of-pair-claims t) (of-pair-at t) of-pair.Post
-of-pair-returns t c = record { done = λ Γ r. pair-done _ _ _ _ _ _ _ Γ r (c .before .before .before .before .before .before .before .before .before .before .before .before .before .before .before .before .before .before .before .before .before .before .pre .1 .1) _ _ (c .before .before .before .before .before .before .before .before .before .before .before .before .before .before .before .before .before .before .word .ensures .0) (c .before .before .before .before .before .before .before .before .word2 .ensures .0) _ refl _ _ _ _ (c .before .before .before .before .before .before .before .before .before .before .before .before .before .eval .ensures) _ _ _ (c .before .before .before .before .eval2 .ensures) }
+of-pair-returns t c = record { done = λ Γ r. pair-done r (c .before .before .before .before .before .before .before .before .before .before .before .before .before .before .before .before .before .before .before .before .before .before .pre .1 .1) (c .before .before .before .before .before .before .before .before .before .before .before .before .before .before .before .before .before .before .word .ensures .0) (c .before .before .before .before .before .before .before .before .word2 .ensures .0) refl (c .before .before .before .before .before .before .before .before .before .before .before .before .before .eval .ensures) (c .before .before .before .before .eval2 .ensures) }
 
 of-second-word-requires : (t : ℕ) → of-second-lts.Need-word-requires (of-second-claims t) (of-second-at t) of-second.Post
-of-second-word-requires t c κs = ready-word _ _ _ _ _ _ _ _ (c .before .before .before .pre .1 .0 .1) _ (omega arith)
+of-second-word-requires t c κs = ready-word (c .before .before .before .pre .1 .0 .1) (omega arith)
 
 of-second-element-copy-out-w : (t : ℕ) → of-second-lts.Need-element-copy-out-w (of-second-claims t) (of-second-at t) of-second.Post
-of-second-element-copy-out-w t c = entry-there _ _ _ _ _ _ _ _ (c .before .before .before .before .pre .1 .0 .1) second (c .before .before .before .before .pre .1 .1) 2 refl (unfold askOfKind in refl) _ (c .word .ensures .0)
+of-second-element-copy-out-w t c = entry-there (c .before .before .before .before .pre .1 .0 .1) second (c .before .before .before .before .pre .1 .1) 2 refl (unfold askOfKind in refl) (c .word .ensures .0)
 
 of-second-cast-w : (t : ℕ) → of-second-lts.Need-cast-w (of-second-claims t) (of-second-at t) of-second.Post
-of-second-cast-w t c = let f = entry-few _ _ _ _ _ _ _ _ (c .before .before .before .before .before .pre .1 .0 .1) _ _ (second-scope _ _ _ _ _ _ _ _ (c .before .before .before .before .before .pre .1 .0 .1) (c .before .before .before .before .before .pre .1 .1) _ (c .before .word .ensures .0) _ refl _ refl) in omega arith
+of-second-cast-w t c = let f = entry-few (c .before .before .before .before .before .pre .1 .0 .1) (second-scope (c .before .before .before .before .before .pre .1 .0 .1) (c .before .before .before .before .before .pre .1 .1) (c .before .word .ensures .0) refl refl) in omega arith
 
 of-second-room-requires : (t : ℕ) → of-second-lts.Need-room-requires (of-second-claims t) (of-second-at t) of-second.Post
 of-second-room-requires t c κs = tt
@@ -611,25 +611,25 @@ of-second-part-whole-start : (t : ℕ) → of-second-lts.Need-part-whole-start (
 of-second-part-whole-start t c = from-none _
 
 of-second-part-whole-end : (t : ℕ) → of-second-lts.Need-part-whole-end (of-second-claims t) (of-second-at t) of-second.Post
-of-second-part-whole-end t c = fits-room _ _ _ _ _ _ _ _ (c .before .before .before .before .before .before .before .before .pre .1 .0 .1) _ (second-scope _ _ _ _ _ _ _ _ (c .before .before .before .before .before .before .before .before .pre .1 .0 .1) (c .before .before .before .before .before .before .before .before .pre .1 .1) _ (c .before .before .before .before .word .ensures .0) _ refl _ refl) _ refl _ (c .before .before .room .ensures)
+of-second-part-whole-end t c = fits-room (c .before .before .before .before .before .before .before .before .pre .1 .0 .1) (second-scope (c .before .before .before .before .before .before .before .before .pre .1 .0 .1) (c .before .before .before .before .before .before .before .before .pre .1 .1) (c .before .before .before .before .word .ensures .0) refl refl) refl (c .before .before .room .ensures)
 
 of-second-eval-requires : (t : ℕ) → of-second-lts.Need-eval-requires (of-second-claims t) (of-second-at t) of-second.Post
-of-second-eval-requires t c κs = let h = (higher _ _ _ _ _ _ _ _ (c .before .before .before .before .before .before .before .before .before .pre .1 .0 .1) second (c .before .before .before .before .before .before .before .before .before .pre .1 .1) 2 refl (unfold askOfKind in refl) _ (c .before .before .before .before .before .word .ensures .0)) in (omega (arith, c .before .before .before .before .before .before .before .before .before .pre .0, h .0, h .1), (c .before .before .before .before .before .before .before .before .before .pre .1 .0 .0, room-ready _ _ _ _ _ _ _ _ (c .before .before .before .before .before .before .before .before .before .pre .1 .0 .1) _ (second-scope _ _ _ _ _ _ _ _ (c .before .before .before .before .before .before .before .before .before .pre .1 .0 .1) (c .before .before .before .before .before .before .before .before .before .pre .1 .1) _ (c .before .before .before .before .before .word .ensures .0) _ refl _ refl) _ refl _ (c .before .before .before .room .ensures)))
+of-second-eval-requires t c κs = let h = (higher (c .before .before .before .before .before .before .before .before .before .pre .1 .0 .1) second (c .before .before .before .before .before .before .before .before .before .pre .1 .1) 2 refl (unfold askOfKind in refl) (c .before .before .before .before .before .word .ensures .0)) in (omega (arith, c .before .before .before .before .before .before .before .before .before .pre .0, h .0, h .1), (c .before .before .before .before .before .before .before .before .before .pre .1 .0 .0, room-ready (c .before .before .before .before .before .before .before .before .before .pre .1 .0 .1) (second-scope (c .before .before .before .before .before .before .before .before .before .pre .1 .0 .1) (c .before .before .before .before .before .before .before .before .before .pre .1 .1) (c .before .before .before .before .before .word .ensures .0) refl refl) refl (c .before .before .before .room .ensures)))
 
 of-second-sub-put : (t : ℕ) → of-second-lts.Need-sub-put (of-second-claims t) (of-second-at t) of-second.Post
-of-second-sub-put t c = second-few _ _ _ _ _ _ _ _ (c .before .before .before .before .before .before .before .before .before .before .before .before .before .pre .1 .0 .1) (c .before .before .before .before .before .before .before .before .before .before .before .before .before .pre .1 .1) _ (c .before .before .before .before .before .before .before .before .before .word .ensures .0) _ refl _ (c .before .before .before .before .before .before .before .room .ensures) _ _ _ _ (c .before .before .before .eval .ensures)
+of-second-sub-put t c = second-few (c .before .before .before .before .before .before .before .before .before .before .before .before .before .pre .1 .0 .1) (c .before .before .before .before .before .before .before .before .before .before .before .before .before .pre .1 .1) (c .before .before .before .before .before .before .before .before .before .word .ensures .0) refl (c .before .before .before .before .before .before .before .room .ensures) (c .before .before .before .eval .ensures)
 
 of-second-sub-put-2 : (t : ℕ) → of-second-lts.Need-sub-put-2 (of-second-claims t) (of-second-at t) of-second.Post
-of-second-sub-put-2 t c = second-from _ _ _ _ _ _ _ _ (c .before .before .before .before .before .before .before .before .before .before .before .before .before .pre .1 .0 .1) (c .before .before .before .before .before .before .before .before .before .before .before .before .before .pre .1 .1) _ (c .before .before .before .before .before .before .before .before .before .word .ensures .0) _ refl _ (c .before .before .before .before .before .before .before .room .ensures) _ _ _ _ (c .before .before .before .eval .ensures)
+of-second-sub-put-2 t c = second-from (c .before .before .before .before .before .before .before .before .before .before .before .before .before .pre .1 .0 .1) (c .before .before .before .before .before .before .before .before .before .before .before .before .before .pre .1 .1) (c .before .before .before .before .before .before .before .before .before .word .ensures .0) refl (c .before .before .before .before .before .before .before .room .ensures) (c .before .before .before .eval .ensures)
 
 of-second-part-put-start : (t : ℕ) → of-second-lts.Need-part-put-start (of-second-claims t) (of-second-at t) of-second.Post
-of-second-part-put-start t c = second-from _ _ _ _ _ _ _ _ (c .before .before .before .before .before .before .before .before .before .before .before .before .before .before .pre .1 .0 .1) (c .before .before .before .before .before .before .before .before .before .before .before .before .before .before .pre .1 .1) _ (c .before .before .before .before .before .before .before .before .before .before .word .ensures .0) _ refl _ (c .before .before .before .before .before .before .before .before .room .ensures) _ _ _ _ (c .before .before .before .before .eval .ensures)
+of-second-part-put-start t c = second-from (c .before .before .before .before .before .before .before .before .before .before .before .before .before .before .pre .1 .0 .1) (c .before .before .before .before .before .before .before .before .before .before .before .before .before .before .pre .1 .1) (c .before .before .before .before .before .before .before .before .before .before .word .ensures .0) refl (c .before .before .before .before .before .before .before .before .room .ensures) (c .before .before .before .before .eval .ensures)
 
 of-second-part-put-end : (t : ℕ) → of-second-lts.Need-part-put-end (of-second-claims t) (of-second-at t) of-second.Post
-of-second-part-put-end t c = second-inside _ _ _ _ _ _ _ _ (c .before .before .before .before .before .before .before .before .before .before .before .before .before .before .pre .1 .0 .1) (c .before .before .before .before .before .before .before .before .before .before .before .before .before .before .pre .1 .1) _ (c .before .before .before .before .before .before .before .before .before .before .word .ensures .0) _ refl _ (c .before .before .before .before .before .before .before .before .room .ensures) _ _ _ _ (c .before .before .before .before .eval .ensures)
+of-second-part-put-end t c = second-inside (c .before .before .before .before .before .before .before .before .before .before .before .before .before .before .pre .1 .0 .1) (c .before .before .before .before .before .before .before .before .before .before .before .before .before .before .pre .1 .1) (c .before .before .before .before .before .before .before .before .before .before .word .ensures .0) refl (c .before .before .before .before .before .before .before .before .room .ensures) (c .before .before .before .before .eval .ensures)
 
 of-second-put-requires : (t : ℕ) → of-second-lts.Need-put-requires (of-second-claims t) (of-second-at t) of-second.Post
-of-second-put-requires t c κs = let l = second-fits _ _ _ _ _ _ _ _ (c .before .before .before .before .before .before .before .before .before .before .before .before .before .before .before .before .pre .1 .0 .1) (c .before .before .before .before .before .before .before .before .before .before .before .before .before .before .before .before .pre .1 .1) _ (c .before .before .before .before .before .before .before .before .before .before .before .before .word .ensures .0) _ refl _ (c .before .before .before .before .before .before .before .before .before .before .room .ensures) _ _ _ _ (c .before .before .before .before .before .before .eval .ensures) in omega arith
+of-second-put-requires t c κs = let l = second-fits (c .before .before .before .before .before .before .before .before .before .before .before .before .before .before .before .before .pre .1 .0 .1) (c .before .before .before .before .before .before .before .before .before .before .before .before .before .before .before .before .pre .1 .1) (c .before .before .before .before .before .before .before .before .before .before .before .before .word .ensures .0) refl (c .before .before .before .before .before .before .before .before .before .before .room .ensures) (c .before .before .before .before .before .before .eval .ensures) in omega arith
 
 of-second-same-length : (t : ℕ) → of-second-lts.Need-same-length (of-second-claims t) (of-second-at t) of-second.Post
 of-second-same-length t c = search needs
@@ -638,16 +638,16 @@ of-second-same-length-2 : (t : ℕ) → of-second-lts.Need-same-length-2 (of-sec
 of-second-same-length-2 t c = search needs
 
 of-second-returns : (t : ℕ) → of-second-lts.Need-returns (of-second-claims t) (of-second-at t) of-second.Post
-of-second-returns t c = record { done = λ Γ r. second-done _ _ _ _ _ _ _ Γ r (c .before .before .before .before .before .before .before .before .before .before .before .before .before .before .before .before .before .before .before .pre .1 .1) _ (c .before .before .before .before .before .before .before .before .before .before .before .before .before .before .before .word .ensures .0) _ refl _ (c .before .before .before .before .before .before .before .before .before .before .before .before .before .room .ensures) _ _ _ _ (c .before .before .before .before .before .before .before .before .before .eval .ensures) _ (c .before .before .put .ensures) }
+of-second-returns t c = record { done = λ Γ r. second-done r (c .before .before .before .before .before .before .before .before .before .before .before .before .before .before .before .before .before .before .before .pre .1 .1) (c .before .before .before .before .before .before .before .before .before .before .before .before .before .before .before .word .ensures .0) refl (c .before .before .before .before .before .before .before .before .before .before .before .before .before .room .ensures) (c .before .before .before .before .before .before .before .before .before .eval .ensures) (c .before .before .put .ensures) }
 
 settle-add-eval : (t : ℕ) → settle-lts.Need-add-eval (settle-claims t) (settle-at t) settle.Post
-settle-add-eval t c = let f = settle-few _ _ _ _ _ _ _ _ _ (c .before .before .before .before .pre .1 .2) in omega arith
+settle-add-eval t c = let f = settle-few (c .before .before .before .before .pre .1 .2) in omega arith
 
 settle-eval-requires : (t : ℕ) → settle-lts.Need-eval-requires (settle-claims t) (settle-at t) settle.Post
 settle-eval-requires t c κs = (omega (arith, c .before .before .before .before .before .before .pre .0), (_, c .before .before .before .before .before .before .pre .1 .2 .ready))
 
 settle-stands-at-requires : (t : ℕ) → settle-lts.Need-stands-at-requires (settle-claims t) (settle-at t) settle.Post
-settle-stands-at-requires t c κs = settle-room _ _ _ _ _ _ _ _ _ (c .before .before .before .before .before .before .before .before .before .before .before .before .before .pre .1 .2) _ _ _ _ (c .before .before .before .before .before .before .eval .ensures)
+settle-stands-at-requires t c κs = settle-room (c .before .before .before .before .before .before .before .before .before .before .before .before .before .pre .1 .2) (c .before .before .before .before .before .before .eval .ensures)
 
 settle-same-length : (t : ℕ) → settle-lts.Need-same-length (settle-claims t) (settle-at t) settle.Post
 settle-same-length t c = search needs
@@ -656,13 +656,13 @@ settle-same-length-2 : (t : ℕ) → settle-lts.Need-same-length-2 (settle-claim
 settle-same-length-2 t c = search needs
 
 settle-returns : (t : ℕ) → settle-lts.Need-returns (settle-claims t) (settle-at t) settle.Post
-settle-returns t c = record { settled = λ t Γ g. unchanged-settled _ _ _ _ _ _ _ t Γ g _ _ _ _ (c .before .before .before .before .before .before .before .before .eval .ensures) _ (c .before .stands-at .ensures) (c .if1 .taken) }
+settle-returns t c = record { settled = λ t Γ g. unchanged-settled g (c .before .before .before .before .before .before .before .before .eval .ensures) (c .before .stands-at .ensures) (c .if1 .taken) }
 
 settle-enter-value-requires : (t : ℕ) → settle-lts.Need-enter-value-requires (settle-claims t) (settle-at t) settle.Post
-settle-enter-value-requires t c κs = settle-room _ _ _ _ _ _ _ _ _ (c .before .before .before .before .before .before .before .before .before .before .before .before .before .before .before .before .before .pre .1 .2) _ _ _ _ (c .before .before .before .before .before .before .before .before .before .before .eval .ensures)
+settle-enter-value-requires t c κs = settle-room (c .before .before .before .before .before .before .before .before .before .before .before .before .before .before .before .before .before .pre .1 .2) (c .before .before .before .before .before .before .before .before .before .before .eval .ensures)
 
 settle-settle-requires : (t : ℕ) → settle-lts.Need-settle-requires (settle-claims t) (settle-at t) settle.Post
-settle-settle-requires t c κs = let h = fewer-undefined _ _ _ _ _ _ _ _ _ (c .before .before .before .before .before .before .before .before .before .before .before .before .before .before .before .before .before .before .before .before .before .before .before .pre .1 .2) _ _ _ _ (c .before .before .before .before .before .before .before .before .before .before .before .before .before .before .before .before .eval .ensures) _ (c .before .before .before .before .before .before .before .before .before .stands-at .ensures) (c .before .before .before .before .before .before .before .before .if1 .left) _ (c .before .before .before .before .before .enter-value .ensures) in (omega (arith, c .before .before .before .before .before .before .before .before .before .before .before .before .before .before .before .before .before .before .before .before .before .before .before .pre .0, h), (_, _, settling-again _ _ _ _ _ _ _ _ _ (c .before .before .before .before .before .before .before .before .before .before .before .before .before .before .before .before .before .before .before .before .before .before .before .pre .1 .2) _ _ _ _ (c .before .before .before .before .before .before .before .before .before .before .before .before .before .before .before .before .eval .ensures) _ (c .before .before .before .before .before .before .before .before .before .stands-at .ensures) (c .before .before .before .before .before .before .before .before .if1 .left) _ (c .before .before .before .before .before .enter-value .ensures)))
+settle-settle-requires t c κs = let h = fewer-undefined (c .before .before .before .before .before .before .before .before .before .before .before .before .before .before .before .before .before .before .before .before .before .before .before .pre .1 .2) (c .before .before .before .before .before .before .before .before .before .before .before .before .before .before .before .before .eval .ensures) (c .before .before .before .before .before .before .before .before .before .stands-at .ensures) (c .before .before .before .before .before .before .before .before .if1 .left) (c .before .before .before .before .before .enter-value .ensures) in (omega (arith, c .before .before .before .before .before .before .before .before .before .before .before .before .before .before .before .before .before .before .before .before .before .before .before .pre .0, h), (_, _, settling-again (c .before .before .before .before .before .before .before .before .before .before .before .before .before .before .before .before .before .before .before .before .before .before .before .pre .1 .2) (c .before .before .before .before .before .before .before .before .before .before .before .before .before .before .before .before .eval .ensures) (c .before .before .before .before .before .before .before .before .before .stands-at .ensures) (c .before .before .before .before .before .before .before .before .if1 .left) (c .before .before .before .before .before .enter-value .ensures)))
 
 settle-same-length-3 : (t : ℕ) → settle-lts.Need-same-length-3 (settle-claims t) (settle-at t) settle.Post
 settle-same-length-3 t c = search needs
@@ -671,7 +671,7 @@ settle-same-length-4 : (t : ℕ) → settle-lts.Need-same-length-4 (settle-claim
 settle-same-length-4 t c = search needs
 
 settle-returns-2 : (t : ℕ) → settle-lts.Need-returns-2 (settle-claims t) (settle-at t) settle.Post
-settle-returns-2 t c = record { settled = λ t Γ g. changed-settled _ _ _ _ _ _ _ t Γ g _ _ _ _ (c .before .before .before .before .before .before .before .before .before .before .before .before .before .before .before .before .before .before .before .before .before .eval .ensures) _ (c .before .before .before .before .before .before .before .before .before .before .before .before .before .before .stands-at .ensures) (c .before .before .before .before .before .before .before .before .before .before .before .before .before .if1 .left) _ (c .before .before .before .before .before .before .before .before .before .before .enter-value .ensures) _ _ (c .before .before .before .before .settle .ensures) }
+settle-returns-2 t c = record { settled = λ t Γ g. changed-settled g (c .before .before .before .before .before .before .before .before .before .before .before .before .before .before .before .before .before .before .before .before .before .eval .ensures) (c .before .before .before .before .before .before .before .before .before .before .before .before .before .before .stands-at .ensures) (c .before .before .before .before .before .before .before .before .before .before .before .before .before .if1 .left) (c .before .before .before .before .before .before .before .before .before .before .enter-value .ensures) (c .before .before .before .before .settle .ensures) }
 
 pub +eval+of-delay+of-feedback+of-first+of-if+of-let+of-pair+of-second+settle-spec :
     {M : Type 1} → statement M

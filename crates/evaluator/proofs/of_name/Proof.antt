@@ -7,22 +7,22 @@ use Rattle.evaluator.proofs.of_name.Statement.{statement}
 use Rattle.evaluator.proofs.of_name.Tie as tie
 
 word-requires : tie.Need-word-requires
-word-requires c κs = ready-word _ _ _ _ _ _ _ _ (c .before .before .before .pre .0 .1) 2 (omega arith)
+word-requires c κs = ready-word (c .before .before .before .pre .0 .1) (omega arith)
 
 sub-copy-value : tie.Need-sub-copy-value
-sub-copy-value c = let h = name-in-scope _ _ _ _ _ _ _ _ (c .before .before .before .before .pre .0 .1) (c .before .before .before .before .pre .1) _ (c .word .ensures .0) in omega arith
+sub-copy-value c = let h = name-in-scope (c .before .before .before .before .pre .0 .1) (c .before .before .before .before .pre .1) (c .word .ensures .0) in omega arith
 
 sub-copy-value-2 : tie.Need-sub-copy-value-2
-sub-copy-value-2 c = let h = name-in-scope _ _ _ _ _ _ _ _ (c .before .before .before .before .pre .0 .1) (c .before .before .before .before .pre .1) _ (c .word .ensures .0) in omega arith
+sub-copy-value-2 c = let h = name-in-scope (c .before .before .before .before .pre .0 .1) (c .before .before .before .before .pre .1) (c .word .ensures .0) in omega arith
 
 copy-value-requires : tie.Need-copy-value-requires
-copy-value-requires c κs = name-room _ _ _ _ _ _ _ _ (c .before .before .before .before .before .pre .0 .1) (c .before .before .before .before .before .pre .1) _ (c .before .word .ensures .0)
+copy-value-requires c κs = name-room (c .before .before .before .before .before .pre .0 .1) (c .before .before .before .before .before .pre .1) (c .before .word .ensures .0)
 
 same-length : tie.Need-same-length
 same-length c = search needs
 
 returns : tie.Need-returns
-returns c = λ held. record { done = λ Γ r. name-done _ _ _ _ _ _ _ Γ r (c .before .before .before .before .before .before .before .before .pre .1) _ (c .before .before .before .before .word .ensures .0) _ _ (c .before .before .copy-value .ensures) }
+returns c = λ held. record { done = λ Γ r. name-done r (c .before .before .before .before .before .before .before .before .pre .1) (c .before .before .before .before .word .ensures .0) (c .before .before .copy-value .ensures) }
 
 pub of-name-spec : {M : Type 1} → statement M
 of-name-spec =

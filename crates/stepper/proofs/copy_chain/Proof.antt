@@ -14,37 +14,37 @@ abbrev μ-loop : tie.MeasureT-loop
 μ-loop sheet n first held current₀ leaf₀ current leaf = left n leaf
 
 loop-holds : tie.Need-loop-holds Inv-loop μ-loop
-loop-holds c = λ g. all-left _ _ _ _ g _ (c .before .before .pre .1) (c .before .before .pre .2)
+loop-holds c = λ g. all-left _ g (c .before .before .pre .1) (c .before .before .pre .2)
 
 offset-requires : tie.Need-offset-requires Inv-loop μ-loop
-offset-requires c κs = let h = leaf-there _ _ _ _ (c .before .before .before .before .pre .0) _ _ _ (c .before .loop .inv (c .before .before .before .before .pre .0)) (c .loop-test .taken) in let f = c .before .before .before .before .pre .0 .sized .few in (omega arith, omega arith)
+offset-requires c κs = let h = leaf-there _ (c .before .before .before .before .pre .0) (c .before .loop .inv (c .before .before .before .before .pre .0)) (c .loop-test .taken) in let f = c .before .before .before .before .pre .0 .sized .few in (omega arith, omega arith)
 
 element-copy-out-current : tie.Need-element-copy-out-current Inv-loop μ-loop
-element-copy-out-current c = let h = leaf-there _ _ _ _ (c .before .before .before .before .before .pre .0) _ _ _ (c .before .before .loop .inv (c .before .before .before .before .before .pre .0)) (c .before .loop-test .taken) in let f = c .before .before .before .before .before .pre .0 .sized .few in omega arith
+element-copy-out-current c = let h = leaf-there _ (c .before .before .before .before .before .pre .0) (c .before .before .loop .inv (c .before .before .before .before .before .pre .0)) (c .before .loop-test .taken) in let f = c .before .before .before .before .before .pre .0 .sized .few in omega arith
 
 slice-write-current : tie.Need-slice-write-current Inv-loop μ-loop
-slice-write-current c = let h = leaf-bytes _ _ _ _ (c .before .before .before .before .before .before .pre .0) _ _ _ (c .before .before .before .loop .inv (c .before .before .before .before .before .before .pre .0)) (c .before .before .loop-test .taken) in omega (arith, c .before .offset .ensures)
+slice-write-current c = let h = leaf-bytes _ (c .before .before .before .before .before .before .pre .0) (c .before .before .before .loop .inv (c .before .before .before .before .before .before .pre .0)) (c .before .before .loop-test .taken) in omega (arith, c .before .offset .ensures)
 
 add-current : tie.Need-add-current Inv-loop μ-loop
-add-current c = let h = leaf-there _ _ _ _ (c .before .before .before .before .before .before .pre .0) _ _ _ (c .before .before .before .loop .inv (c .before .before .before .before .before .before .pre .0)) (c .before .before .loop-test .taken) in let f = c .before .before .before .before .before .before .pre .0 .sized .few in omega (arith, c .before .offset .ensures)
+add-current c = let h = leaf-there _ (c .before .before .before .before .before .before .pre .0) (c .before .before .before .loop .inv (c .before .before .before .before .before .before .pre .0)) (c .before .before .loop-test .taken) in let f = c .before .before .before .before .before .before .pre .0 .sized .few in omega (arith, c .before .offset .ensures)
 
 slice-write-current-2 : tie.Need-slice-write-current-2 Inv-loop μ-loop
-slice-write-current-2 c = rw (c .before .offset .ensures) (high-byte _ _ _ _ (c .before .before .before .before .before .before .pre .0) _ _ _ (c .before .before .before .loop .inv (c .before .before .before .before .before .before .pre .0)) (c .before .before .loop-test .taken))
+slice-write-current-2 c = rw (c .before .offset .ensures) (high-byte _ (c .before .before .before .before .before .before .pre .0) (c .before .before .before .loop .inv (c .before .before .before .before .before .before .pre .0)) (c .before .before .loop-test .taken))
 
 word-requires : tie.Need-word-requires Inv-loop μ-loop
-word-requires c κs = (c .before .before .before .before .before .before .pre .0 .sized, leaf-there _ _ _ _ (c .before .before .before .before .before .before .pre .0) _ _ _ (c .before .before .before .loop .inv (c .before .before .before .before .before .before .pre .0)) (c .before .before .loop-test .taken), omega arith)
+word-requires c κs = (c .before .before .before .before .before .before .pre .0 .sized, leaf-there _ (c .before .before .before .before .before .before .pre .0) (c .before .before .before .loop .inv (c .before .before .before .before .before .before .pre .0)) (c .before .before .loop-test .taken), omega arith)
 
 loop-less : tie.Need-loop-less Inv-loop μ-loop
-loop-less c = next-falls _ _ _ _ (c .before .before .before .before .before .before .before .pre .0) _ _ _ (c .before .before .before .before .loop .inv (c .before .before .before .before .before .before .before .pre .0)) (c .before .before .before .loop-test .taken) _ (c .word .ensures .0)
+loop-less c = next-falls _ (c .before .before .before .before .before .before .before .pre .0) (c .before .before .before .before .loop .inv (c .before .before .before .before .before .before .before .pre .0)) (c .before .before .before .loop-test .taken) (c .word .ensures .0)
 
 loop-again : tie.Need-loop-again Inv-loop μ-loop
-loop-again c = λ g. rw (c .before .before .offset .ensures) (next-left _ _ _ _ g _ _ _ (c .before .before .before .before .loop .inv g) (c .before .before .before .loop-test .taken) _ (c .word .ensures .0))
+loop-again c = λ g. rw (c .before .before .offset .ensures) (next-left _ g (c .before .before .before .before .loop .inv g) (c .before .before .before .loop-test .taken) (c .word .ensures .0))
 
 same-length : tie.Need-same-length Inv-loop μ-loop
 same-length c = c .before .loop .inv (c .before .before .before .before .pre .0) .long
 
 returns : tie.Need-returns Inv-loop μ-loop
-returns c = none-left _ _ _ _ (c .before .before .before .before .pre .0) _ _ _ (c .before .loop .inv (c .before .before .before .before .pre .0)) (c .loop-test .left)
+returns c = none-left _ (c .before .before .before .before .pre .0) (c .before .loop .inv (c .before .before .before .before .pre .0)) (c .loop-test .left)
 
 pub copy-chain-spec : {M : Type 1} → statement M
 copy-chain-spec =

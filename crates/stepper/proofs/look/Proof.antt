@@ -5,13 +5,13 @@ use Rattle.stepper.proofs.look.Statement.{statement}
 use Rattle.stepper.proofs.look.Tie as tie
 
 enter-value-requires : tie.Need-enter-value-requires
-enter-value-requires c κs = input-room _ _ _ _ _ _ _ _ (c .before .before .before .before .before .before .pre)
+enter-value-requires c κs = input-room (c .before .before .before .before .before .before .pre)
 
 word-requires : tie.Need-word-requires
-word-requires c κs = first-sized _ _ _ _ _ _ _ _ (c .before .before .before .before .before .before .before .before .before .pre)
+word-requires c κs = first-sized (c .before .before .before .before .before .before .before .before .before .pre)
 
 eval-requires : tie.Need-eval-requires
-eval-requires c κs = (_, root-ready _ _ _ _ _ _ _ _ (c .before .before .before .before .before .before .before .before .before .before .before .before .before .pre) _ (c .before .before .before .word .ensures .0) _ (c .before .before .before .before .before .before .enter-value .ensures))
+eval-requires c κs = (_, root-ready (c .before .before .before .before .before .before .before .before .before .before .before .before .before .pre) (c .before .before .before .word .ensures .0) (c .before .before .before .before .before .before .enter-value .ensures))
 
 same-length : tie.Need-same-length
 same-length c = search needs
@@ -20,7 +20,7 @@ same-length-2 : tie.Need-same-length-2
 same-length-2 c = search needs
 
 returns : tie.Need-returns
-returns c = look-done _ _ _ _ _ _ _ _ (c .before .before .before .before .before .before .before .before .before .before .before .before .before .before .before .before .before .before .pre) _ (c .before .before .before .before .before .before .before .before .word .ensures .0) _ (c .before .before .before .before .before .before .before .before .before .before .before .enter-value .ensures) _ _ _ (c .before .before .before .before .eval .ensures)
+returns c = look-done (c .before .before .before .before .before .before .before .before .before .before .before .before .before .before .before .before .before .before .pre) (c .before .before .before .before .before .before .before .before .word .ensures .0) (c .before .before .before .before .before .before .before .before .before .before .before .enter-value .ensures) (c .before .before .before .before .eval .ensures)
 
 pub look-spec : {M : Type 1} → statement M
 look-spec =

@@ -42,6 +42,13 @@ abbrev match-one-below : ℕ → In 3 match-one-kinds.ps
 match-one-below t =
     and 3 match-one-kinds.ps (falls 3 match-one-kinds.ps _<_ μ-match-one t) match-one.Pre
 
+abbrev match-all-claims : ℕ → match-all-lts.Claims
+match-all-claims t = (match-one-below t, match-one.Post, word-reads.Asked, word-reads.Learnt, either-reads.Asked, either-reads.Learnt)
+
+abbrev match-one-claims : ℕ → match-one-lts.Claims
+match-one-claims t =
+    (word-reads.Asked, word-reads.Learnt, on-leaf-reads.Asked, on-leaf-reads.Learnt, match-all-below t, match-all.Post, both-reads.Asked, both-reads.Learnt)
+
 abbrev match-all-Inv-loop : match-all-lts.InvT-loop
 match-all-Inv-loop sheet n widths p value answer₀ at₀ answer at =
     Gathered sheet p value answer at × ((at ≡ 0 → ⊥) → (p < at) × Matching sheet n widths at value)
@@ -49,360 +56,110 @@ match-all-Inv-loop sheet n widths p value answer₀ at₀ answer at =
 abbrev match-all-μ-loop : match-all-lts.MeasureT-loop
 match-all-μ-loop sheet n widths p value answer₀ at₀ answer at = left n at
 
-match-all-match-one-requires : (t : ℕ) → match-all-lts.Need-match-one-requires (
-  match-one-below t,
-  match-one.Post,
-  word-reads.Asked,
-  word-reads.Learnt,
-  either-reads.Asked,
-  either-reads.Learnt,
-) (match-all-at t) match-all.Post match-all-Inv-loop match-all-μ-loop
+match-all-match-one-requires : (t : ℕ) → match-all-lts.Need-match-one-requires (match-all-claims t) (match-all-at t) match-all.Post match-all-Inv-loop match-all-μ-loop
 match-all-match-one-requires t c κs =
     let h = c .before .before .pre .1 .against .there in (omega (arith, c .before .before .pre .0), c .before .before .pre .1)
 
-match-all-word-requires : (t : ℕ) → match-all-lts.Need-word-requires (
-  match-one-below t,
-  match-one.Post,
-  word-reads.Asked,
-  word-reads.Learnt,
-  either-reads.Asked,
-  either-reads.Learnt,
-) (match-all-at t) match-all.Post match-all-Inv-loop match-all-μ-loop
+match-all-word-requires : (t : ℕ) → match-all-lts.Need-word-requires (match-all-claims t) (match-all-at t) match-all.Post match-all-Inv-loop match-all-μ-loop
 match-all-word-requires t c κs = (c .before .before .before .pre .1 .against .sized, c .before .before .before .pre .1 .against .there, search needs)
 
-match-all-loop-holds : (t : ℕ) → match-all-lts.Need-loop-holds (
-  match-one-below t,
-  match-one.Post,
-  word-reads.Asked,
-  word-reads.Learnt,
-  either-reads.Asked,
-  either-reads.Learnt,
-) (match-all-at t) match-all.Post match-all-Inv-loop match-all-μ-loop
+match-all-loop-holds : (t : ℕ) → match-all-lts.Need-loop-holds (match-all-claims t) (match-all-at t) match-all.Post match-all-Inv-loop match-all-μ-loop
 match-all-loop-holds t c =
-    (begun _ _ _ (c .before .match-one .result) _ (c .before .match-one .ensures) (c .word .ensures .0), λ f. next-matched _ _ _ _ _ (c .before .before .before .before .pre .1) _ (c .word .ensures .0) f)
+    (begun (c .before .match-one .ensures) (c .word .ensures .0), λ f. next-matched (c .before .before .before .before .pre .1) (c .word .ensures .0) f)
 
-match-all-match-one-requires-2 : (t : ℕ) → match-all-lts.Need-match-one-requires-2 (
-  match-one-below t,
-  match-one.Post,
-  word-reads.Asked,
-  word-reads.Learnt,
-  either-reads.Asked,
-  either-reads.Learnt,
-) (match-all-at t) match-all.Post match-all-Inv-loop match-all-μ-loop
+match-all-match-one-requires-2 : (t : ℕ) → match-all-lts.Need-match-one-requires-2 (match-all-claims t) (match-all-at t) match-all.Post match-all-Inv-loop match-all-μ-loop
 match-all-match-one-requires-2 t c κs =
     let v = c .before .loop .inv .1 (search needs) in let h = v .1 .against .there in (omega (arith, c .before .before .before .before .before .before .pre .0, v .0), v .1)
 
-match-all-either-requires : (t : ℕ) → match-all-lts.Need-either-requires (
-  match-one-below t,
-  match-one.Post,
-  word-reads.Asked,
-  word-reads.Learnt,
-  either-reads.Asked,
-  either-reads.Learnt,
-) (match-all-at t) match-all.Post match-all-Inv-loop match-all-μ-loop
+match-all-either-requires : (t : ℕ) → match-all-lts.Need-either-requires (match-all-claims t) (match-all-at t) match-all.Post match-all-Inv-loop match-all-μ-loop
 match-all-either-requires t c κs = tt
 
-match-all-word-requires-2 : (t : ℕ) → match-all-lts.Need-word-requires-2 (
-  match-one-below t,
-  match-one.Post,
-  word-reads.Asked,
-  word-reads.Learnt,
-  either-reads.Asked,
-  either-reads.Learnt,
-) (match-all-at t) match-all.Post match-all-Inv-loop match-all-μ-loop
+match-all-word-requires-2 : (t : ℕ) → match-all-lts.Need-word-requires-2 (match-all-claims t) (match-all-at t) match-all.Post match-all-Inv-loop match-all-μ-loop
 match-all-word-requires-2 t c κs =
     let v = c .before .before .before .loop .inv .1 (search needs) in (v .1 .against .sized, v .1 .against .there, search needs)
 
-match-all-loop-less : (t : ℕ) → match-all-lts.Need-loop-less (
-  match-one-below t,
-  match-one.Post,
-  word-reads.Asked,
-  word-reads.Learnt,
-  either-reads.Asked,
-  either-reads.Learnt,
-) (match-all-at t) match-all.Post match-all-Inv-loop match-all-μ-loop
+match-all-loop-less : (t : ℕ) → match-all-lts.Need-loop-less (match-all-claims t) (match-all-at t) match-all.Post match-all-Inv-loop match-all-μ-loop
 match-all-loop-less t c =
     let v = c .before .before .before .before .loop .inv .1 (search needs) in
-    left-falls _ _ _ (search needs) (v .1 .against .there) (λ f. let q = next-matched _ _ _ _ _ (v .1) _ (c .word2 .ensures .0) f in (q .0, q .1 .against .there))
+    left-falls _ _ _ (search needs) (v .1 .against .there) (λ f. let q = next-matched (v .1) (c .word2 .ensures .0) f in (q .0, q .1 .against .there))
 
-match-all-loop-again : (t : ℕ) → match-all-lts.Need-loop-again (
-  match-one-below t,
-  match-one.Post,
-  word-reads.Asked,
-  word-reads.Learnt,
-  either-reads.Asked,
-  either-reads.Learnt,
-) (match-all-at t) match-all.Post match-all-Inv-loop match-all-μ-loop
+match-all-loop-again : (t : ℕ) → match-all-lts.Need-loop-again (match-all-claims t) (match-all-at t) match-all.Post match-all-Inv-loop match-all-μ-loop
 match-all-loop-again t c =
     let v = c .before .before .before .before .loop .inv .1 (search needs) in (
-      gone-on _ _ _ _ _ _ (v .1) (c .before .before .before .before .loop .answer) (c .before .before .match-one2 .result) (c .before .either .result) _ (search needs) (c .before .before .before .before .loop .inv .0) (c .before .before .match-one2 .ensures) (c .before .either .ensures) (c .word2 .ensures .0),
-      λ f. let q = next-matched _ _ _ _ _ (v .1) _ (c .word2 .ensures .0) f in (omega (arith, v .0, q .0), q .1),
+      gone-on (v .1) (c .before .before .before .before .loop .answer) (c .before .before .match-one2 .result) (c .before .either .result) (search needs) (c .before .before .before .before .loop .inv .0) (c .before .before .match-one2 .ensures) (c .before .either .ensures) (c .word2 .ensures .0),
+      λ f. let q = next-matched (v .1) (c .word2 .ensures .0) f in (omega (arith, v .0, q .0), q .1),
     )
 
-match-all-returns : (t : ℕ) → match-all-lts.Need-returns (
-  match-one-below t,
-  match-one.Post,
-  word-reads.Asked,
-  word-reads.Learnt,
-  either-reads.Asked,
-  either-reads.Learnt,
-) (match-all-at t) match-all.Post match-all-Inv-loop match-all-μ-loop
-match-all-returns t c = ended _ _ _ (c .before .loop .answer) (c .before .loop .at) (c .before .loop .inv .0) (search needs)
+match-all-returns : (t : ℕ) → match-all-lts.Need-returns (match-all-claims t) (match-all-at t) match-all.Post match-all-Inv-loop match-all-μ-loop
+match-all-returns t c = ended (c .before .loop .answer) (c .before .loop .inv .0) (search needs)
 
-match-one-word-requires : (t : ℕ) → match-one-lts.Need-word-requires (
-  word-reads.Asked,
-  word-reads.Learnt,
-  on-leaf-reads.Asked,
-  on-leaf-reads.Learnt,
-  match-all-below t,
-  match-all.Post,
-  both-reads.Asked,
-  both-reads.Learnt,
-) (match-one-at t) match-one.Post
+match-one-word-requires : (t : ℕ) → match-one-lts.Need-word-requires (match-one-claims t) (match-one-at t) match-one.Post
 match-one-word-requires t c κs = (c .before .before .pre .1 .against .sized, c .before .before .pre .1 .against .there, search needs)
 
-match-one-returns : (t : ℕ) → match-one-lts.Need-returns (
-  word-reads.Asked,
-  word-reads.Learnt,
-  on-leaf-reads.Asked,
-  on-leaf-reads.Learnt,
-  match-all-below t,
-  match-all.Post,
-  both-reads.Asked,
-  both-reads.Learnt,
-) (match-one-at t) match-one.Post
-match-one-returns t c = whole-matches _ _ _ _ _ (c .before .before .before .before .pre .1) _ (c .before .word .ensures .0) (c .if1 .taken)
+match-one-returns : (t : ℕ) → match-one-lts.Need-returns (match-one-claims t) (match-one-at t) match-one.Post
+match-one-returns t c = whole-matches (c .before .before .before .before .pre .1) (c .before .word .ensures .0) (c .if1 .taken)
 
-match-one-word-requires-2 : (t : ℕ) → match-one-lts.Need-word-requires-2 (
-  word-reads.Asked,
-  word-reads.Learnt,
-  on-leaf-reads.Asked,
-  on-leaf-reads.Learnt,
-  match-all-below t,
-  match-all.Post,
-  both-reads.Asked,
-  both-reads.Learnt,
-) (match-one-at t) match-one.Post
+match-one-word-requires-2 : (t : ℕ) → match-one-lts.Need-word-requires-2 (match-one-claims t) (match-one-at t) match-one.Post
 match-one-word-requires-2 t c κs = (c .before .before .before .before .before .pre .1 .against .sized, c .before .before .before .before .before .pre .1 .against .there, search needs)
 
-match-one-shared-slice-read-on-leaf : (t : ℕ) → match-one-lts.Need-shared-slice-read-on-leaf (
-  word-reads.Asked,
-  word-reads.Learnt,
-  on-leaf-reads.Asked,
-  on-leaf-reads.Learnt,
-  match-all-below t,
-  match-all.Post,
-  both-reads.Asked,
-  both-reads.Learnt,
-) (match-one-at t) match-one.Post
-match-one-shared-slice-read-on-leaf t c = some-leaf _ _ _ _ _ (c .before .before .before .before .before .before .before .pre .1)
+match-one-shared-slice-read-on-leaf : (t : ℕ) → match-one-lts.Need-shared-slice-read-on-leaf (match-one-claims t) (match-one-at t) match-one.Post
+match-one-shared-slice-read-on-leaf t c = some-leaf (c .before .before .before .before .before .before .before .pre .1)
 
-match-one-on-leaf-requires : (t : ℕ) → match-one-lts.Need-on-leaf-requires (
-  word-reads.Asked,
-  word-reads.Learnt,
-  on-leaf-reads.Asked,
-  on-leaf-reads.Learnt,
-  match-all-below t,
-  match-all.Post,
-  both-reads.Asked,
-  both-reads.Learnt,
-) (match-one-at t) match-one.Post
+match-one-on-leaf-requires : (t : ℕ) → match-one-lts.Need-on-leaf-requires (match-one-claims t) (match-one-at t) match-one.Post
 match-one-on-leaf-requires t c κs = tt
 
-match-one-returns-2 : (t : ℕ) → match-one-lts.Need-returns-2 (
-  word-reads.Asked,
-  word-reads.Learnt,
-  on-leaf-reads.Asked,
-  on-leaf-reads.Learnt,
-  match-all-below t,
-  match-all.Post,
-  both-reads.Asked,
-  both-reads.Learnt,
-) (match-one-at t) match-one.Post
-match-one-returns-2 t c = constructor-matches _ _ _ _ _ (c .before .before .before .before .before .before .before .before .pre .1) _ (c .before .before .before .before .before .word .ensures .0) _ (c .on-leaf .result) (c .before .before .before .if2 .taken) (c .before .before .word2 .ensures .0) (c .on-leaf .ensures)
+match-one-returns-2 : (t : ℕ) → match-one-lts.Need-returns-2 (match-one-claims t) (match-one-at t) match-one.Post
+match-one-returns-2 t c = constructor-matches (c .before .before .before .before .before .before .before .before .pre .1) (c .before .before .before .before .before .word .ensures .0) (c .on-leaf .result) (c .before .before .before .if2 .taken) (c .before .before .word2 .ensures .0) (c .on-leaf .ensures)
 
-match-one-word-requires-3 : (t : ℕ) → match-one-lts.Need-word-requires-3 (
-  word-reads.Asked,
-  word-reads.Learnt,
-  on-leaf-reads.Asked,
-  on-leaf-reads.Learnt,
-  match-all-below t,
-  match-all.Post,
-  both-reads.Asked,
-  both-reads.Learnt,
-) (match-one-at t) match-one.Post
+match-one-word-requires-3 : (t : ℕ) → match-one-lts.Need-word-requires-3 (match-one-claims t) (match-one-at t) match-one.Post
 match-one-word-requires-3 t c κs = (c .before .before .before .before .before .pre .1 .against .sized, c .before .before .before .before .before .pre .1 .against .there, search needs)
 
-match-one-element-copy-out-w : (t : ℕ) → match-one-lts.Need-element-copy-out-w (
-  word-reads.Asked,
-  word-reads.Learnt,
-  on-leaf-reads.Asked,
-  on-leaf-reads.Learnt,
-  match-all-below t,
-  match-all.Post,
-  both-reads.Asked,
-  both-reads.Learnt,
-) (match-one-at t) match-one.Post
+match-one-element-copy-out-w : (t : ℕ) → match-one-lts.Need-element-copy-out-w (match-one-claims t) (match-one-at t) match-one.Post
 match-one-element-copy-out-w t c =
-    let h = first-in _ _ _ _ _ (c .before .before .before .before .before .before .pre .1) _ (c .before .before .before .word .ensures .0) (c .before .before .if1 .left) (c .before .if2 .left) _ (c .word3 .ensures .0) in let e = c .before .before .before .before .before .before .pre .1 .against .sized .counted in let f = c .before .before .before .before .before .before .pre .1 .against .sized .few in omega arith
+    let h = first-in (c .before .before .before .before .before .before .pre .1) (c .before .before .before .word .ensures .0) (c .before .before .if1 .left) (c .before .if2 .left) (c .word3 .ensures .0) in let e = c .before .before .before .before .before .before .pre .1 .against .sized .counted in let f = c .before .before .before .before .before .before .pre .1 .against .sized .few in omega arith
 
-match-one-cast-w : (t : ℕ) → match-one-lts.Need-cast-w (
-  word-reads.Asked,
-  word-reads.Learnt,
-  on-leaf-reads.Asked,
-  on-leaf-reads.Learnt,
-  match-all-below t,
-  match-all.Post,
-  both-reads.Asked,
-  both-reads.Learnt,
-) (match-one-at t) match-one.Post
+match-one-cast-w : (t : ℕ) → match-one-lts.Need-cast-w (match-one-claims t) (match-one-at t) match-one.Post
 match-one-cast-w t c =
-    let h = cut-small _ _ _ _ _ (c .before .before .before .before .before .before .before .pre .1) _ (c .before .before .before .before .word .ensures .0) (c .before .before .before .if1 .left) (c .before .before .if2 .left) _ (c .before .word3 .ensures .0) _ refl in omega arith
+    let h = cut-small (c .before .before .before .before .before .before .before .pre .1) (c .before .before .before .before .word .ensures .0) (c .before .before .before .if1 .left) (c .before .before .if2 .left) (c .before .word3 .ensures .0) refl in omega arith
 
-match-one-sub-match-all : (t : ℕ) → match-one-lts.Need-sub-match-all (
-  word-reads.Asked,
-  word-reads.Learnt,
-  on-leaf-reads.Asked,
-  on-leaf-reads.Learnt,
-  match-all-below t,
-  match-all.Post,
-  both-reads.Asked,
-  both-reads.Learnt,
-) (match-one-at t) match-one.Post
+match-one-sub-match-all : (t : ℕ) → match-one-lts.Need-sub-match-all (match-one-claims t) (match-one-at t) match-one.Post
 match-one-sub-match-all t c = omega arith
 
-match-one-part-match-all-start : (t : ℕ) → match-one-lts.Need-part-match-all-start (
-  word-reads.Asked,
-  word-reads.Learnt,
-  on-leaf-reads.Asked,
-  on-leaf-reads.Learnt,
-  match-all-below t,
-  match-all.Post,
-  both-reads.Asked,
-  both-reads.Learnt,
-) (match-one-at t) match-one.Post
-match-one-part-match-all-start t c = from-none _ _ _ _ _ (c .before .before .before .before .before .before .before .pre .1) _ (c .before .before .before .before .word .ensures .0) (c .before .before .before .if1 .left) (c .before .before .if2 .left) _ (c .before .word3 .ensures .0) _ refl
+match-one-part-match-all-start : (t : ℕ) → match-one-lts.Need-part-match-all-start (match-one-claims t) (match-one-at t) match-one.Post
+match-one-part-match-all-start t c = from-none (c .before .before .before .before .before .before .before .pre .1) (c .before .before .before .before .word .ensures .0) (c .before .before .before .if1 .left) (c .before .before .if2 .left) (c .before .word3 .ensures .0) refl
 
-match-one-part-match-all-end : (t : ℕ) → match-one-lts.Need-part-match-all-end (
-  word-reads.Asked,
-  word-reads.Learnt,
-  on-leaf-reads.Asked,
-  on-leaf-reads.Learnt,
-  match-all-below t,
-  match-all.Post,
-  both-reads.Asked,
-  both-reads.Learnt,
-) (match-one-at t) match-one.Post
-match-one-part-match-all-end t c = cut-inside _ _ _ _ _ (c .before .before .before .before .before .before .before .pre .1) _ (c .before .before .before .before .word .ensures .0) (c .before .before .before .if1 .left) (c .before .before .if2 .left) _ (c .before .word3 .ensures .0) _ refl
+match-one-part-match-all-end : (t : ℕ) → match-one-lts.Need-part-match-all-end (match-one-claims t) (match-one-at t) match-one.Post
+match-one-part-match-all-end t c = cut-inside (c .before .before .before .before .before .before .before .pre .1) (c .before .before .before .before .word .ensures .0) (c .before .before .before .if1 .left) (c .before .before .if2 .left) (c .before .word3 .ensures .0) refl
 
-match-one-match-all-requires : (t : ℕ) → match-one-lts.Need-match-all-requires (
-  word-reads.Asked,
-  word-reads.Learnt,
-  on-leaf-reads.Asked,
-  on-leaf-reads.Learnt,
-  match-all-below t,
-  match-all.Post,
-  both-reads.Asked,
-  both-reads.Learnt,
-) (match-one-at t) match-one.Post
+match-one-match-all-requires : (t : ℕ) → match-one-lts.Need-match-all-requires (match-one-claims t) (match-one-at t) match-one.Post
 match-one-match-all-requires t c κs =
-    let q = first-lent _ _ _ _ _ (c .before .before .before .before .before .before .before .before .pre .1) _ (c .before .before .before .before .before .word .ensures .0) (c .before .before .before .before .if1 .left) (c .before .before .before .if2 .left) _ (c .before .before .word3 .ensures .0) _ refl in let h = q .1 .against .there in (omega (arith, c .before .before .before .before .before .before .before .before .pre .0, q .0), q .1)
+    let q = first-lent (c .before .before .before .before .before .before .before .before .pre .1) (c .before .before .before .before .before .word .ensures .0) (c .before .before .before .before .if1 .left) (c .before .before .before .if2 .left) (c .before .before .word3 .ensures .0) refl in let h = q .1 .against .there in (omega (arith, c .before .before .before .before .before .before .before .before .pre .0, q .0), q .1)
 
-match-one-word-requires-4 : (t : ℕ) → match-one-lts.Need-word-requires-4 (
-  word-reads.Asked,
-  word-reads.Learnt,
-  on-leaf-reads.Asked,
-  on-leaf-reads.Learnt,
-  match-all-below t,
-  match-all.Post,
-  both-reads.Asked,
-  both-reads.Learnt,
-) (match-one-at t) match-one.Post
+match-one-word-requires-4 : (t : ℕ) → match-one-lts.Need-word-requires-4 (match-one-claims t) (match-one-at t) match-one.Post
 match-one-word-requires-4 t c κs = (c .before .before .before .before .before .before .before .before .before .pre .1 .against .sized, c .before .before .before .before .before .before .before .before .before .pre .1 .against .there, search needs)
 
-match-one-sub-match-all-2 : (t : ℕ) → match-one-lts.Need-sub-match-all-2 (
-  word-reads.Asked,
-  word-reads.Learnt,
-  on-leaf-reads.Asked,
-  on-leaf-reads.Learnt,
-  match-all-below t,
-  match-all.Post,
-  both-reads.Asked,
-  both-reads.Learnt,
-) (match-one-at t) match-one.Post
-match-one-sub-match-all-2 t c = cut-inside _ _ _ _ _ (c .before .before .before .before .before .before .before .before .before .before .pre .1) _ (c .before .before .before .before .before .before .before .word .ensures .0) (c .before .before .before .before .before .before .if1 .left) (c .before .before .before .before .before .if2 .left) _ (c .before .before .before .before .word3 .ensures .0) _ refl
+match-one-sub-match-all-2 : (t : ℕ) → match-one-lts.Need-sub-match-all-2 (match-one-claims t) (match-one-at t) match-one.Post
+match-one-sub-match-all-2 t c = cut-inside (c .before .before .before .before .before .before .before .before .before .before .pre .1) (c .before .before .before .before .before .before .before .word .ensures .0) (c .before .before .before .before .before .before .if1 .left) (c .before .before .before .before .before .if2 .left) (c .before .before .before .before .word3 .ensures .0) refl
 
-match-one-part-match-all-start-2 : (t : ℕ) → match-one-lts.Need-part-match-all-start-2 (
-  word-reads.Asked,
-  word-reads.Learnt,
-  on-leaf-reads.Asked,
-  on-leaf-reads.Learnt,
-  match-all-below t,
-  match-all.Post,
-  both-reads.Asked,
-  both-reads.Learnt,
-) (match-one-at t) match-one.Post
-match-one-part-match-all-start-2 t c = cut-inside _ _ _ _ _ (c .before .before .before .before .before .before .before .before .before .before .pre .1) _ (c .before .before .before .before .before .before .before .word .ensures .0) (c .before .before .before .before .before .before .if1 .left) (c .before .before .before .before .before .if2 .left) _ (c .before .before .before .before .word3 .ensures .0) _ refl
+match-one-part-match-all-start-2 : (t : ℕ) → match-one-lts.Need-part-match-all-start-2 (match-one-claims t) (match-one-at t) match-one.Post
+match-one-part-match-all-start-2 t c = cut-inside (c .before .before .before .before .before .before .before .before .before .before .pre .1) (c .before .before .before .before .before .before .before .word .ensures .0) (c .before .before .before .before .before .before .if1 .left) (c .before .before .before .before .before .if2 .left) (c .before .before .before .before .word3 .ensures .0) refl
 
-match-one-part-match-all-end-2 : (t : ℕ) → match-one-lts.Need-part-match-all-end-2 (
-  word-reads.Asked,
-  word-reads.Learnt,
-  on-leaf-reads.Asked,
-  on-leaf-reads.Learnt,
-  match-all-below t,
-  match-all.Post,
-  both-reads.Asked,
-  both-reads.Learnt,
-) (match-one-at t) match-one.Post
-match-one-part-match-all-end-2 t c = to-the-end _ _ _ _ _ (c .before .before .before .before .before .before .before .before .before .before .pre .1)
+match-one-part-match-all-end-2 : (t : ℕ) → match-one-lts.Need-part-match-all-end-2 (match-one-claims t) (match-one-at t) match-one.Post
+match-one-part-match-all-end-2 t c = to-the-end (c .before .before .before .before .before .before .before .before .before .before .pre .1)
 
-match-one-match-all-requires-2 : (t : ℕ) → match-one-lts.Need-match-all-requires-2 (
-  word-reads.Asked,
-  word-reads.Learnt,
-  on-leaf-reads.Asked,
-  on-leaf-reads.Learnt,
-  match-all-below t,
-  match-all.Post,
-  both-reads.Asked,
-  both-reads.Learnt,
-) (match-one-at t) match-one.Post
+match-one-match-all-requires-2 : (t : ℕ) → match-one-lts.Need-match-all-requires-2 (match-one-claims t) (match-one-at t) match-one.Post
 match-one-match-all-requires-2 t c κs =
-    let q = second-lent _ _ _ _ _ (c .before .before .before .before .before .before .before .before .before .before .before .pre .1) _ (c .before .before .before .before .before .before .before .before .word .ensures .0) (c .before .before .before .before .before .before .before .if1 .left) (c .before .before .before .before .before .before .if2 .left) _ (c .before .before .before .before .before .word3 .ensures .0) _ refl _ (c .before .word4 .ensures .0) in let h = q .1 .against .there in (omega (arith, c .before .before .before .before .before .before .before .before .before .before .before .pre .0, q .0), q .1)
+    let q = second-lent (c .before .before .before .before .before .before .before .before .before .before .before .pre .1) (c .before .before .before .before .before .before .before .before .word .ensures .0) (c .before .before .before .before .before .before .before .if1 .left) (c .before .before .before .before .before .before .if2 .left) (c .before .before .before .before .before .word3 .ensures .0) refl (c .before .word4 .ensures .0) in let h = q .1 .against .there in (omega (arith, c .before .before .before .before .before .before .before .before .before .before .before .pre .0, q .0), q .1)
 
-match-one-both-requires : (t : ℕ) → match-one-lts.Need-both-requires (
-  word-reads.Asked,
-  word-reads.Learnt,
-  on-leaf-reads.Asked,
-  on-leaf-reads.Learnt,
-  match-all-below t,
-  match-all.Post,
-  both-reads.Asked,
-  both-reads.Learnt,
-) (match-one-at t) match-one.Post
+match-one-both-requires : (t : ℕ) → match-one-lts.Need-both-requires (match-one-claims t) (match-one-at t) match-one.Post
 match-one-both-requires t c κs = tt
 
-match-one-returns-3 : (t : ℕ) → match-one-lts.Need-returns-3 (
-  word-reads.Asked,
-  word-reads.Learnt,
-  on-leaf-reads.Asked,
-  on-leaf-reads.Learnt,
-  match-all-below t,
-  match-all.Post,
-  both-reads.Asked,
-  both-reads.Learnt,
-) (match-one-at t) match-one.Post
+match-one-returns-3 : (t : ℕ) → match-one-lts.Need-returns-3 (match-one-claims t) (match-one-at t) match-one.Post
 match-one-returns-3 t c =
-    pair-matches _ _ _ _ _ (c .before .before .before .before .before .before .before .before .before .before .before .before .before .pre .1) _ (c .before .before .before .before .before .before .before .before .before .before .word .ensures .0) (c .before .before .before .before .before .before .before .before .before .if1 .left) (c .before .before .before .before .before .before .before .before .if2 .left) _ (c .before .before .before .before .before .before .before .word3 .ensures .0) _ refl _ (c .before .before .before .before .match-all .result) (c .before .match-all2 .result) (c .both .result) (c .before .before .before .word4 .ensures .0) (c .before .before .before .before .match-all .ensures) (c .before .match-all2 .ensures) (c .both .ensures)
+    pair-matches (c .before .before .before .before .before .before .before .before .before .before .before .before .before .pre .1) (c .before .before .before .before .before .before .before .before .before .before .word .ensures .0) (c .before .before .before .before .before .before .before .before .before .if1 .left) (c .before .before .before .before .before .before .before .before .if2 .left) (c .before .before .before .before .before .before .before .word3 .ensures .0) refl (c .before .before .before .before .match-all .result) (c .before .match-all2 .result) (c .both .result) (c .before .before .before .word4 .ensures .0) (c .before .before .before .before .match-all .ensures) (c .before .match-all2 .ensures) (c .both .ensures)
 
 pub +match-all+match-one-spec : {M : Type 1} → statement M
-+match-all+match-one-spec = close μ-match-all μ-match-one (λ t. match-all-lts.spec (
-  match-one-below t,
-  match-one.Post,
-  word-reads.Asked,
-  word-reads.Learnt,
-  either-reads.Asked,
-  either-reads.Learnt,
-)
++match-all+match-one-spec = close μ-match-all μ-match-one (λ t. match-all-lts.spec (match-all-claims t)
     (match-all-at t)
     match-all.Post
     match-all-Inv-loop
@@ -416,16 +173,7 @@ pub +match-all+match-one-spec : {M : Type 1} → statement M
     (match-all-loop-less t)
     (match-all-loop-again t)
     (match-all-returns t))
-    λ t. match-one-lts.spec (
-      word-reads.Asked,
-      word-reads.Learnt,
-      on-leaf-reads.Asked,
-      on-leaf-reads.Learnt,
-      match-all-below t,
-      match-all.Post,
-      both-reads.Asked,
-      both-reads.Learnt,
-    )
+    λ t. match-one-lts.spec (match-one-claims t)
     (match-one-at t)
     match-one.Post
     (match-one-word-requires t)

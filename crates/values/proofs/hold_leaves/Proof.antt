@@ -11,7 +11,7 @@ use Rattle.values.proofs.hold_leaves.Tie as tie
 abbrev Inv-loop : tie.InvT-loop
 Inv-loop sheet n first value held₀ all leaf₀ i₀ held leaf i =
     (g : Chained sheet n first all)
-    → (i ≤ all) × Along sheet (g .written) first i leaf × Held sheet (g .written) first value held₀ i held
+    → (i ≤ all) × Along (g .written) first i leaf × Held (g .written) first value held₀ i held
 
 abbrev μ-loop : tie.MeasureT-loop
 μ-loop sheet n first value held₀ all leaf₀ i₀ held leaf i = all - i
@@ -19,7 +19,7 @@ abbrev μ-loop : tie.MeasureT-loop
 loop-holds : tie.Need-loop-holds Inv-loop μ-loop
 loop-holds c =
     λ g. let e = g .sized .counted in let h = g .there in
-    (omega arith, from-first _ _ _ (omega arith) (g .sort), refl)
+    (omega arith, from-first _ _ (omega arith) (g .sort), refl)
 
 shared-slice-read-held : tie.Need-shared-slice-read-held Inv-loop μ-loop
 shared-slice-read-held c = search needs
@@ -44,14 +44,14 @@ loop-again : tie.Need-loop-again Inv-loop μ-loop
 loop-again c =
     λ g. let v = c .before .before .before .loop .inv g in let m = g .many in (
       omega arith,
-      along-next _ _ _ _ _ (v .1) (omega arith) _ (c .word .ensures .0),
-      held-next _ (g .written) _ _ _ _ _ (v .1) m (omega arith) _ (v .2),
+      along-next _ _ (v .1) (omega arith) (c .word .ensures .0),
+      held-next (g .written) _ _ _ _ _ (v .1) m (omega arith) _ (v .2),
     )
 
 returns : tie.Need-returns Inv-loop μ-loop
 returns c =
     let g = c .before .before .before .before .pre in let v = c .before .loop .inv g in let m = g .many in
-    all-held _ (g .written) _ (c .before .before .before .before .args .value .now) (c .before .before .before .before .args .held .now) (c .before .loop .i) m (omega arith) (omega arith) _ (v .2)
+    all-held (g .written) _ (c .before .before .before .before .args .value .now) (c .before .before .before .before .args .held .now) (c .before .loop .i) m (omega arith) (omega arith) _ (v .2)
 
 pub hold-leaves-spec : {M : Type 1} → statement M
 hold-leaves-spec =

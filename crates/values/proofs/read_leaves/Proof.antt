@@ -10,7 +10,7 @@ use Rattle.values.proofs.read_leaves.Tie as tie
 
 abbrev Inv-loop : tie.InvT-loop
 Inv-loop sheet n first out₀ all leaf₀ i₀ out leaf i =
-    (g : Chained sheet n first all) → (i ≤ all) × Along sheet (g .written) first i leaf × Read sheet (g .written) first i out
+    (g : Chained sheet n first all) → (i ≤ all) × Along (g .written) first i leaf × Read (g .written) first i out
 
 abbrev μ-loop : tie.MeasureT-loop
 μ-loop sheet n first out₀ all leaf₀ i₀ out leaf i = all - i
@@ -18,7 +18,7 @@ abbrev μ-loop : tie.MeasureT-loop
 loop-holds : tie.Need-loop-holds Inv-loop μ-loop
 loop-holds c =
     λ g. let e = g .sized .counted in let h = g .there in
-    (omega arith, from-first _ _ _ (omega arith) (g .sort), none-read _ _ _ _ (g .many))
+    (omega arith, from-first _ _ (omega arith) (g .sort), none-read _ _ _ (g .many))
 
 word-requires : tie.Need-word-requires Inv-loop μ-loop
 word-requires c κs =
@@ -28,7 +28,7 @@ word-requires c κs =
 cast-out : tie.Need-cast-out Inv-loop μ-loop
 cast-out c =
     let g = c .before .before .before .before .before .pre in let v = c .before .before .loop .inv g in let m = g .many in
-    let b = leaf-byte _ (g .written) _ (v .1 .there (omega arith)) (v .1 .sort (omega arith)) in let w = c .word .ensures .0 in
+    let b = leaf-byte (g .written) (v .1 .there (omega arith)) (v .1 .sort (omega arith)) in let w = c .word .ensures .0 in
     omega arith
 
 slice-write-out : tie.Need-slice-write-out Inv-loop μ-loop
@@ -50,8 +50,8 @@ loop-again : tie.Need-loop-again Inv-loop μ-loop
 loop-again c =
     λ g. let v = c .before .before .before .loop .inv g in let m = g .many in (
       omega arith,
-      along-next _ _ _ _ _ (v .1) (omega arith) _ (c .word2 .ensures .0),
-      read-next _ _ _ _ _ (v .1) (omega arith) _ _ (c .before .word .ensures .0) (v .2),
+      along-next _ _ (v .1) (omega arith) (c .word2 .ensures .0),
+      read-next _ _ (v .1) (omega arith) _ (c .before .word .ensures .0) (v .2),
     )
 
 same-length : tie.Need-same-length Inv-loop μ-loop
@@ -61,7 +61,7 @@ same-length c =
 returns : tie.Need-returns Inv-loop μ-loop
 returns c =
     let g = c .before .before .before .before .pre in let v = c .before .loop .inv g in let m = g .many in let l = v .2 .long in
-    all-read _ _ _ _ _ (omega arith) (omega arith) (v .2)
+    all-read _ _ _ _ (omega arith) (omega arith) (v .2)
 
 pub read-leaves-spec : {M : Type 1} → statement M
 read-leaves-spec =
