@@ -2,12 +2,13 @@
 -- record is reached once, and at each IF the word is what its chain tells there. And the call's ways out: what the check's answer and
 -- that of the stimulus say of it, and that the words told are the first of the evaluation's table.
 -- Assumes nothing.
-use Prim.Native.Nat.{ℕ, _≤_, _<_}
+use Prim.Native.Nat.{ℕ, _-_, _≤_, _<_}
 use mathlib.Core.List.{List, [], _∷_}
 use mathlib.Core.Logic.{_≢_}
 use mathlib.Core.Path.{_≡_, refl, ap, _∙_}
 use native.Mathlib.Omega.{arith}
 use lib.ListN.{length, getD, take, replicate}
+use lib.Seq.{length-take-le}
 use Rattle.picoella.specs.Types.{leaves}
 use Rattle.records.specs.Words.{count, wordB}
 use Rattle.records.specs.TypeRecords.{typeAt}
@@ -173,3 +174,11 @@ module _ {s : List ℕ} {n : ℕ} {W : List ℕ} {t : ℕ} {input words : List �
       → words′ ≡ fired s input
   told-words before table words′ z f e =
       e ∙ rw (f, z, g .room) (fired-first s input 4096 (records-few s t (g .accepted)))
+
+  -- the room lent for the cycle
+  pub told-looking : (names held output : List ℕ) → length names ≡ 4096 → length held ≡ 4096 → length output ≡ 64
+      → Cycling s n W (take 4096 names) held input s (take (getD W t 0 - 0) output)
+  told-looking names held output wide long room =
+      let f = output-few in
+      told-cycling (take 4096 names) held (take (getD W t 0 - 0) output) (length-take-le 4096 names (omega arith)) long
+      (length-take-le (getD W t 0 - 0) output (omega arith) ∙ omega arith)

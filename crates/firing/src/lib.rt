@@ -26,7 +26,7 @@ use verdict::packed_verdict;
 
 // Copies the first words of a table.
 fn copy_words(table: &Fired, words: &mut [u16])
-    requires { ⌜ length (now words) ≤ 4096 ⌝ }
+    requires { ⌜ (length (now words) ≤ 4096) × (length (now table) ≡ 4096) ⌝ }
     ensures { λ _. ⌜ now (words .exit) ≡ take (length (now (words .entry))) (now (table .entry)) ⌝ }
 {
     let all = words.len();
