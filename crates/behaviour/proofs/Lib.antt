@@ -16,6 +16,7 @@ pub mod Scoped
 pub mod ScopesAgain
 pub mod DelayRecords
 pub mod Evaluated
+pub mod Firings
 pub mod Run
 pub mod AfterRun
 pub mod SheetOrder
