@@ -19,6 +19,7 @@ pub mod DelayRecords
 pub mod FiredWords
 pub mod FirstYes
 pub mod Evaluated
+pub mod Firings
 pub mod Run
 pub mod AfterRun
 pub mod SheetOrder
