@@ -2,6 +2,7 @@
 pub mod AcceptedAgain
 pub mod FittingWidths
 pub mod Refusing
+pub mod Calls
 pub mod Laws
 pub mod LeafBounds
 pub mod PassesAgain

@@ -31,6 +31,8 @@ pub const WRONG_NEXT: u64 = 11;
 
 pub const NO_FILE: u64 = 12;
 
+pub const WRONG_WORDS: u64 = 16;
+
 // The number that a search found, if it found one.
 pub enum Found {
     At(usize),
