@@ -6,6 +6,7 @@ mod checks;
 mod external;
 mod files;
 mod memory;
+mod one_cycle;
 mod report;
 mod runs;
 #[cfg(feature = "translate")]

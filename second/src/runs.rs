@@ -4,7 +4,7 @@
 mod bench;
 mod cases;
 mod compare;
-mod faults;
+pub mod faults;
 mod good_calls;
 mod jobs;
 mod late;

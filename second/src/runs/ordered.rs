@@ -14,9 +14,9 @@ use second::simulator::run_by;
 use second::values::at_or_below;
 use second::watch::Watch;
 
-use super::compare::{filling, Case, Left, Memory};
+use super::compare::{Case, Left, Memory};
 use super::plan::Options;
-use crate::memory::Placement;
+use crate::memory::{filling, Placement};
 use crate::report::{self, hex};
 use crate::workers::{self, Count, Halt};
 
