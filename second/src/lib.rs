@@ -12,6 +12,8 @@ pub mod verdict;
 // The run.
 pub mod accepted;
 pub mod evaluator;
+pub mod firing;
+pub mod firing_mistakes;
 pub mod listing;
 pub mod matching;
 pub mod order;
@@ -37,6 +39,8 @@ pub mod samples;
 pub mod shapes;
 pub mod survey;
 
+#[cfg(test)]
+mod firing_tests;
 #[cfg(test)]
 mod generate_tests;
 #[cfg(test)]

@@ -5,6 +5,7 @@
 mod checks;
 mod external;
 mod files;
+mod firings;
 mod memory;
 mod one_cycle;
 mod report;
@@ -25,6 +26,7 @@ const COMMANDS: &[(Command, &str)] = &[
     #[cfg(feature = "translate")]
     (texts::command, texts::USAGE),
     (files::command, files::USAGE),
+    (firings::command, firings::USAGE),
 ];
 
 fn main() -> ExitCode {
