@@ -12,3 +12,4 @@ pub use Rattle.verdict.proofs.Exact.{exact, accepted-judged, input-context}
 pub use Rattle.verdict.proofs.Places.{accepted-by-types}
 pub use Rattle.verdict.proofs.PlacesSmall.{verdict-place}
 pub use Rattle.verdict.proofs.VerdictFirst.{verdict-first, first-accepted}
+pub use Rattle.accepted.proofs.Refusing.{Refusing, refusing-answer}

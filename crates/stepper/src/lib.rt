@@ -1,6 +1,7 @@
 // One cycle of a sheet: the root's value for an input, and the sheet with every delay holding its next value.
 ghost use mathlib.Core.Path.{_≡_};
 ghost use Prim.Native.Nat.{ℕ, _<_};
+ghost use lib.ListN.{length};
 ghost use Rattle.records.specs.Words.{wordB};
 ghost use Rattle.records.specs.Kinds.{leafs};
 ghost use Rattle.records.specs.Says.{kindAt, sortAt};
@@ -9,6 +10,7 @@ ghost use Rattle.behaviour.specs.Copies.{copied, leavesOf, delayChains};
 ghost use Rattle.stepper.specs.Cycling.{Copying, Cycling, Looked, Cycled};
 use evaluator::eval;
 use records::KIND_DELAY;
+use records::RECORDS;
 use records::WORD_A;
 use records::WORD_B;
 use records::WORD_KIND;
@@ -18,6 +20,13 @@ use records::offset;
 use records::word;
 use values::NextValues;
 use values::enter_value;
+
+// The names' bytes: room for 64 values of 64 leaves. It also makes the table of delay values.
+pub fn no_names() -> [u8; RECORDS]
+    ensures { λ r. ⌜ length r ≡ 4096 ⌝ }
+{
+    [0; RECORDS]
+}
 
 // Copies a table's entries to the leaves from `first`: word a, low byte first.
 fn copy_chain(sheet: &[u8], n: usize, first: usize, held: &NextValues, current: &mut [u8])

@@ -48,8 +48,13 @@ module _ (s stim : List ℕ) where
             (not-false (eqb (length stim) (inputLeaves s)) (neither-right (wrongStimulus s stim) other e)),
       )
 
-  counted-one : length stim ≡ inputLeaves s → cycleCount s stim ≡ 1
-  counted-one l =
+  -- of so many bytes it is refused by 8 as a run is, which is then of one cycle
+  pub one-cycle-run : length stim ≡ inputLeaves s → notOneCycle s stim ≡ wrongStimulus s stim
+  unfolding notOneCycle
+  one-cycle-run k = rw (eq-eqb (length stim) (inputLeaves s) k) (or-false (wrongStimulus s stim))
+
+  pub one-cycle-counted : length stim ≡ inputLeaves s → cycleCount s stim ≡ 1
+  one-cycle-counted l =
       let some = some-leaves (inputType s) in
       rw l (ap (λ (k : ℕ). k / inputLeaves s) (sym (one-mul (inputLeaves s))) ∙ mul-div-cancel 1 some)
 
@@ -57,7 +62,7 @@ module _ (s stim : List ℕ) where
   pub one-cycle-alone : length stim ≡ inputLeaves s → cycles s stim ≡ stim ∷ []
   unfolding cycles
   one-cycle-alone l =
-      rw (counted-one l) (ap (λ (v : List ℕ). v ∷ []) (take-all (inputLeaves s) stim (omega arith)))
+      rw (one-cycle-counted l) (ap (λ (v : List ℕ). v ∷ []) (take-all (inputLeaves s) stim (omega arith)))
 
   -- what neither check refuses
   module _ (h : NoneApplies (oneCycleChecks s stim)) where
@@ -93,15 +98,11 @@ module _ {s : List ℕ} {n : ℕ} {W : List ℕ} (g : Accepting s n W) {a : ℕ}
   pub held-to-other : (length stim ≡ getD W a 0 → ⊥) → HeldToOne s stim (Refused 8 0)
   held-to-other d = record { answered = rw (other d) refl; numbered = omega arith; small = omega arith }
 
-  same : length stim ≡ inputLeaves s → notOneCycle s stim ≡ wrongStimulus s stim
-  unfolding notOneCycle
-  same k = rw (eq-eqb (length stim) (inputLeaves s) k) (or-false (wrongStimulus s stim))
-
   pub held-to-one : length stim ≡ getD W a 0 → (answer : Answer) → Held s stim answer → HeldToOne s stim answer
   held-to-one l answer h =
       let k : length stim ≡ inputLeaves s = l ∙ takes g ea in
       record {
-        answered = h .answered ∙ rw (same k, counted-one s stim k) refl;
+        answered = h .answered ∙ rw (one-cycle-run s stim k, one-cycle-counted s stim k) refl;
         numbered = h .numbered;
         small = h .small;
       }
