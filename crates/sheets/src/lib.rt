@@ -3,6 +3,8 @@ ghost use mathlib.Core.Path.{_≡_};
 ghost use Rattle.answers.specs.Answers.{packed};
 ghost use Rattle.verdict.specs.Verdict.{verdict, verdictAnswer};
 ghost use Rattle.simulator.specs.Running.{Ran};
+ghost use Rattle.preview.specs.Preview.{Previewed};
+use preview::preview;
 use simulator::run;
 use verdict::check;
 
@@ -20,4 +22,12 @@ pub extern "C" fn sheet_run(sheet: &[u8], stim: &[u8], out: &mut [u8], next: &mu
     ensures { λ r. ⌜ Ran (now (sheet .entry)) (now (stim .entry)) (now (out .entry)) (now (next .entry)) r (now (out .exit)) (now (next .exit)) ⌝ }
 {
     run(sheet, stim, out, next)
+}
+
+// The preview: the answer's code times 2^32, plus its place.
+#[no_mangle]
+pub extern "C" fn sheet_preview(sheet: &[u8], stim: &[u8], out: &mut [u8]) -> u64
+    ensures { λ r. ⌜ Previewed (now (sheet .entry)) (now (stim .entry)) (now (out .entry)) r (now (out .exit)) ⌝ }
+{
+    preview(sheet, stim, out)
 }
