@@ -129,7 +129,7 @@ places-small s stim out = call-place s (shownChecks s stim out) (Done 0) (shown-
 
 pub unaltered : PreviewUnaltered
 unfolding finalPreview
-unaltered s stim out f = kept-bytes (previewAnswer s stim out) (output s stim) out f
+unaltered s stim out f = kept-bytes (previewAnswer s stim out) _ out f
 
 -- one cycle's bytes, with slices of the right lengths
 module _
