@@ -15,6 +15,8 @@ pub mod evaluator;
 pub mod listing;
 pub mod matching;
 pub mod order;
+pub mod preview;
+pub mod preview_mistakes;
 pub mod rule;
 pub mod run_mistakes;
 pub mod simulator;
@@ -41,6 +43,8 @@ pub mod survey;
 mod generate_tests;
 #[cfg(test)]
 mod order_tests;
+#[cfg(test)]
+mod preview_tests;
 #[cfg(test)]
 mod rule_tests;
 #[cfg(test)]
