@@ -23,6 +23,9 @@ void written_runs(void);
 /* Runs refused with codes 8 to 11, and with several that apply. */
 void refused_runs(void);
 
+/* The outputs of one cycle that is not taken, small ones worked out by hand and those at the limits; every refusal. */
+void previews(void);
+
 /* What a run of a sheet at a limit gives in each cycle. The input is flat or has as many leaves as the output, if not said. */
 enum answer {
     /* The sheet is refused. */
