@@ -94,6 +94,7 @@ static void all_calls(void)
     runs_of_t();
     written_runs();
     refused_runs();
+    previews();
     limits_run();
     carries();
     lengths();
@@ -108,6 +109,14 @@ static uint8_t stim[64], out[64], next[MOST_BYTES], other_bytes[MOST_BYTES];
 static void one_check(void)
 {
     sheet_check(bytes, limit_length);
+}
+
+/* The preview of one cycle, with one leaf or 64 in and out. */
+static void one_preview(void)
+{
+    for (size_t inputs = 1; inputs <= 64; inputs += 63)
+        for (size_t outputs = 1; outputs <= 64; outputs += 63)
+            sheet_preview(bytes, limit_length, stim, inputs, out, outputs);
 }
 
 /* The run of one cycle: the stimulus and the output have one leaf, or 64. */
@@ -164,6 +173,7 @@ int main(void)
     on_small_stack(all_calls);
     printf("all calls were made on a stack of %d bytes\n", (int)SMALL_STACK);
     measure("check", one_check, SHEET_CHECK_STACK);
+    measure("preview", one_preview, SHEET_PREVIEW_STACK);
     measure("run", one_run, SHEET_RUN_STACK);
     measure("carry", one_carry, SHEET_CARRY_STACK);
     return tally_end();
