@@ -136,7 +136,7 @@ static inline const char *sheet_sentence(uint32_t code)
         "A pair type has the same parts as a lower one, or over 64 leaves.",
         "An expression lies over 64 deep, or in the defining parts of over three feedbacks.",
         "A type rule is broken.",
-        "The stimulus is over 65,535 bytes long, or not made of whole cycles; for a preview, not exactly one cycle.",
+        "The stimulus is over 65,535 bytes long, or not made of whole cycles; or not of one, for a call on one cycle.",
         "A byte of the stimulus is above the constructor count of its leaf.",
         "The output slice has another length than the cycles times the output's leaves.",
         "The next slice is not as long as the sheet that it receives.",

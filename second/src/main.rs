@@ -6,6 +6,7 @@ mod carries;
 mod checks;
 mod external;
 mod files;
+mod firings;
 mod memory;
 mod one_cycle;
 mod previews;
@@ -29,6 +30,7 @@ const COMMANDS: &[(Command, &str)] = &[
     #[cfg(feature = "translate")]
     (texts::command, texts::USAGE),
     (files::command, files::USAGE),
+    (firings::command, firings::USAGE),
 ];
 
 fn main() -> ExitCode {

@@ -232,7 +232,7 @@ read-agreed (x ∷ es) h l n room m agree =
     go (inl later) m rest = rest later
     go (inr last) (List·Memᴰ·tail later) rest = absurd (last later)
     go (inr last) (List·Memᴰ·head p) rest =
-        put-elsewhere enter entryAt InTable table-cells es l (set h (x .place) (x .value)) last
+        put-elsewhere table-cells es l (set h (x .place) (x .value)) last
         ∙ rw p (getD-set-same h (x .place) (x .value) 0 (rw p at room))
         ∙ agree x (List·Memᴰ·head refl) (sym p)
 
@@ -272,7 +272,7 @@ fired-words s t v input = record { one-a-record = as-many; at-if = at-if; elsewh
 
     elsewhere : (r : ℕ) → (kindAt s r ≡ expression ifMatches → ⊥) → getD (fired s input) r 0 ≡ 0
     elsewhere r f =
-        put-elsewhere enter entryAt InTable table-cells es r (replicate (count s) 0)
+        put-elsewhere table-cells es r (replicate (count s) 0)
         (λ m. let x = entry-of-place es r m in
         let o = circuit-fires s t v input (x .0) (x .1) in
         let at : o .at ≡ r = ap (λ (y : Entry). y .place) (sym (o .entry-is)) ∙ x .2 in

@@ -143,7 +143,7 @@ module _ (old new : List ℕ) (t′ t : ℕ) (v′ : verdict old ≡ Accepted t�
           subst (λ x. wordA (carried old new) x ≤ 255) z
           (rw (reads-carried old new t v (s .at) (s .there) (f .0) (s .member)) (taken-small (s .at) (f .0) (s .member)))
       go (inr n) =
-          rw (put-elsewhere putWord wordA InSheet sheet-cells (takenBelow old new (count new)) r new n) (leaf-small w r h k)
+          rw (put-elsewhere sheet-cells (takenBelow old new (count new)) r new n) (leaf-small w r h k)
 
   -- a constant takes nothing
   constant-keeps : (r : ℕ) → kindAt new r ≡ expression constant → giver old new r ≡ none

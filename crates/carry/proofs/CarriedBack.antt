@@ -122,7 +122,7 @@ each-value f g (x ∷ ls) e l (List·Memᴰ·tail m) = each-value f g ls (ap res
 
 module _ (s running : List ℕ) (t t′ : ℕ) (v : verdict s ≡ Accepted t) (v′ : verdict running ≡ Accepted t′) (o : OnlyDelays s running) where
   only : Rewritten s running
-  only = only-leaves (accepted-written s t v) o
+  only = only-leaves (accepted-written s v) o
 
   -- labels are the same
   pub running-label : (r : ℕ) → label running r ≡ label s r
@@ -169,7 +169,7 @@ module _ (s running : List ℕ) (t t′ : ℕ) (v : verdict s ≡ Accepted t) (v
     -- so each delay leaf is the running sheet's
     leaf-taken : (l : ℕ) → List·Memᴰ l (delayLeaves (circuit s)) → wordA (carried running s) l ≡ wordA running l
     leaf-taken l m =
-        let d = circuit-delay-leaf (accepted-written s t v) l m in
+        let d = circuit-delay-leaf (accepted-written s v) l m in
         let g : giver running s (d .of) ≡ some (d .of) =
         partner-gives (formed s refl) (d .of) (d .of) (own-partner (d .of) (d .there) (d .kind)) in
         let same-leaves : leavesAt running (d .of) ≡ leavesAt s (d .of) =
@@ -189,8 +189,8 @@ module _ (s running : List ℕ) (t t′ : ℕ) (v : verdict s ≡ Accepted t) (v
       where
         small : (l : ℕ) → List·Memᴰ l (delayLeaves (circuit s)) → wordA running l ≤ 255
         small l m =
-            let w = accepted-written running t′ v′ in
-            let r = circuit-leaves w false true l (rw (only-delays-circuit s running t v o) m) in
+            let w = accepted-written running v′ in
+            let r = circuit-leaves w false true l (rw (only-delays-circuit v o) m) in
             leaf-small w l (r .there) (kind-of-sort leafs (kindAt running l) (r .sort))
 
         elsewhere : (i : ℕ) → ((l : ℕ) → List·Memᴰ l (delayLeaves (circuit s)) → (i ≡ lowByte l → ⊥) × (i ≡ highByte l → ⊥))

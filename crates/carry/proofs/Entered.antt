@@ -114,7 +114,7 @@ module _ (old new : List ℕ) (t : ℕ) (v : verdict new ≡ Accepted t) where
       → (l : ℕ) → List·Memᴰ l (leavesAt new r) → wordA (carried old new) l ≡ wordA new l
   unfolding carried
   stays r hr k e a z l m =
-      put-elsewhere putWord wordA InSheet sheet-cells (takenBelow old new (count new)) l new other
+      put-elsewhere sheet-cells (takenBelow old new (count new)) l new other
     where
       other : List·Memᴰ l (placesOf (takenBelow old new (count new))) → ⊥
       other n = go (entry-at l (takenBelow old new (count new)) n)
@@ -165,11 +165,11 @@ module _ (old new : List ℕ) (t : ℕ) (v : verdict new ≡ Accepted t) where
       go : Dec (r ≡ k) → (r < k → wordA (putAll putWord (takenBelow old new k) new) (e .place) ≡ e .value)
           → wordA (putAll putWord (taken k) (putAll putWord (takenBelow old new k) new)) (e .place) ≡ e .value
       go (yes z) ih =
-          put-read putWord wordA InSheet sheet-cells (taken k) (putAll putWord (takenBelow old new k) new) (taken-distinct k (omega arith))
+          put-read sheet-cells (taken k) (putAll putWord (takenBelow old new k) new) (taken-distinct k (omega arith))
           (λ l n. in-sheet (putAll putWord (takenBelow old new k) new) (below-long k) k l n (omega arith)) e (rw z at m)
       go (no f) ih =
           let p = taken-place r (e .place) (place-of-member e (taken r) m) in
-          put-elsewhere putWord wordA InSheet sheet-cells (taken k) (e .place) (putAll putWord (takenBelow old new k) new)
+          put-elsewhere sheet-cells (taken k) (e .place) (putAll putWord (takenBelow old new k) new)
           (apart r (omega arith) (expression delay) (p .0) delay-chain k (omega arith) (λ z. f (sym z)) (e .place) (p .1))
           ∙ ih (omega arith)
 
@@ -195,7 +195,7 @@ module _ (old new : List ℕ) (t : ℕ) (v : verdict new ≡ Accepted t) where
           record-delay-leaf new t v l (record { of = s .at; there = s .there; kind = p .0; leaf = rw z at (p .1) })
 
   pub carried-rewritten : Rewritten new (carried old new)
-  carried-rewritten = only-leaves (accepted-written new t v) carried-only-delays
+  carried-rewritten = only-leaves (accepted-written new v) carried-only-delays
 
   -- the leaves of a record are those that they were
   pub leaves-same : (r : ℕ) → leavesAt (carried old new) r ≡ leavesAt new r

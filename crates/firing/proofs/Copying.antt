@@ -14,8 +14,8 @@ pub record CopiedWords (table before : List ℕ) (i : ℕ) (words : List ℕ) : 
   pub front : take i words ≡ take i table
 
 module _ {table before : List ℕ} where
-  pub none-copied : CopiedWords table before 0 before
-  none-copied = record { same = refl; few = omega arith; front = refl }
+  pub no-word-copied : CopiedWords table before 0 before
+  no-word-copied = record { same = refl; few = omega arith; front = refl }
 
   pub word-copied : (i : ℕ) (words : List ℕ) → i < length before → length before ≤ length table → CopiedWords table before i words
       → CopiedWords table before (i + 1) (set words i (getD table i 0))
@@ -31,9 +31,9 @@ module _ {table before : List ℕ} where
             ∙ sym (take-suc table i 0 (omega arith)));
       }
 
-  pub all-copied : (i : ℕ) (words : List ℕ) → length before ≤ i → CopiedWords table before i words
+  pub all-words-copied : (i : ℕ) (words : List ℕ) → length before ≤ i → CopiedWords table before i words
       → words ≡ take (length before) table
-  all-copied i words h c =
+  all-words-copied i words h c =
       let f = c .few in
       let e : i ≡ length before = omega arith in
       let l : length words ≡ i = c .same ∙ sym e in

@@ -160,7 +160,7 @@ module _ {s : List ℕ} {n : ℕ} {W : List ℕ} {t : ℕ} {input words : List �
         type = t;
         accepted = g .accepted;
         table = g .accepting .table;
-        leaves-alone = record { length = refl; others = λ r f k h. refl; leaves = λ r k h f. refl };
+        leaves-alone = record { length = refl; others = λ r f k h. refl; leaves = λ r k h f. refl; unlabelled = λ r f. refl };
         again = g .accepted;
         wide = wide;
         long = long;

@@ -117,7 +117,7 @@ shown-cycling {s} {n} {W} {input} {out} g env held we lh =
       type = g .type;
       accepted = g .accepted;
       table = g .accepting .table;
-      leaves-alone = record { length = refl; others = λ r f k h. refl; leaves = λ r k h f. refl };
+      leaves-alone = record { length = refl; others = λ r f k h. refl; leaves = λ r k h f. refl; unlabelled = λ r f. refl };
       again = g .accepted;
       wide = we;
       long = lh;

@@ -30,10 +30,10 @@ pub extern "C" fn sheet_run(sheet: &[u8], stim: &[u8], out: &mut [u8], next: &mu
 
 // Carrying: the answer's code times 2^32, plus its place.
 #[no_mangle]
-pub extern "C" fn sheet_carry(old_sheet: &[u8], new_sheet: &[u8], next: &mut [u8]) -> u64
-    ensures { λ r. ⌜ CarryGives (now (old_sheet .entry)) (now (new_sheet .entry)) (now (next .entry)) r (now (next .exit)) ⌝ }
+pub extern "C" fn sheet_carry(old: &[u8], new: &[u8], next: &mut [u8]) -> u64
+    ensures { λ r. ⌜ CarryGives (now (old .entry)) (now (new .entry)) (now (next .entry)) r (now (next .exit)) ⌝ }
 {
-    carry(old_sheet, new_sheet, next)
+    carry(old, new, next)
 }
 
 // Which alternative fired, in one cycle: the answer's code times 2^32, plus its place.

@@ -4,7 +4,7 @@ use native.Mathlib.Omega.{arith}
 use Prim.Native.Nat.{_-_, _≤_}
 use mathlib.Core.Path.{_≡_}
 use lib.ListN.{length}
-use Rattle.firing.proofs.Copying.{CopiedWords, none-copied, word-copied, all-copied}
+use Rattle.firing.proofs.Copying.{CopiedWords, no-word-copied, word-copied, all-words-copied}
 use Rattle.firing.proofs.copy_words.Statement.{statement}
 use Rattle.firing.proofs.copy_words.Tie as tie
 use Rattle.firing.proofs.copy_words.Reads as reads
@@ -17,7 +17,7 @@ abbrev μ-loop : tie.MeasureT-loop
 μ-loop table words₀ all i₀ words i = all - i
 
 loop-holds : tie.Need-loop-holds Inv-loop μ-loop
-loop-holds c = none-copied
+loop-holds c = no-word-copied
 
 mul-words : tie.Need-mul-words Inv-loop μ-loop
 mul-words c = omega arith
@@ -45,7 +45,7 @@ same-length : tie.Need-same-length Inv-loop μ-loop
 same-length c = c .before .loop .inv .same
 
 returns : tie.Need-returns Inv-loop μ-loop
-returns c = all-copied (c .before .loop .i) (c .before .loop .words) (omega arith) (c .before .loop .inv)
+returns c = all-words-copied (c .before .loop .i) (c .before .loop .words) (omega arith) (c .before .loop .inv)
 
 pub copy-words-spec : {M : Type 1} → statement M
 copy-words-spec =
