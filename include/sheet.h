@@ -219,7 +219,7 @@ uint64_t sheet_carry(const uint8_t *old_sheet, size_t old_length, const uint8_t 
 /*
  * Carrying's stack need, measured as the check's. A table of 65,536 labels, 128 KiB of it, is held while no check runs.
  */
-#define SHEET_CARRY_STACK 262144
+#define SHEET_CARRY_STACK 229376
 
 #ifdef __cplusplus
 }
