@@ -122,6 +122,11 @@ static const struct written_run runs[] = {
      5,
      {{1, 1, 1, 2, 5}, {16, 0, 3}, {40, 0, 1, 3, 4}, {64}, {33}},
      4, 4, 4, {3, 0, 2, 1}, {0, 3, 0, 2}, 1, {{3, 1}}},
+    /* The same with a label, which stays in the next sheet. */
+    {"a labelled delay",
+     5,
+     {{1, 1, 1, 2, 5}, {16, 0, 3}, {40, 0, 1, 3, 4, 513}, {64}, {33}},
+     4, 4, 4, {3, 0, 2, 1}, {0, 3, 0, 2}, 1, {{3, 1}}},
     /* IF the input is 1 THEN a delay of the input, from 2, ELSE another, from 3. Both advance in each cycle, also on 0,
      * where both hold 1. */
     {"delays in both branches",

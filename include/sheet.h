@@ -5,6 +5,8 @@
  *         Is the sheet well formed and well typed, and what is the type of its output?
  *     uint64_t sheet_run(sheet, sheet_length, stim, stim_length, out, out_length, next, next_length)
  *         What does it put out, cycle by cycle, and what is the sheet then?
+ *     uint64_t sheet_carry(old_sheet, old_length, new_sheet, new_length, next, next_length)
+ *         What is the new sheet with what the delays of the old one hold, by their labels?
  *
  * A result holds a code and a place: take them with sheet_code_of and sheet_place_of, and turn a code into a sentence with
  * sheet_sentence. What a sheet is, what a cycle computes and when each code is given is in docs/SHEETS.md.
@@ -30,7 +32,7 @@
  *
  *     cc -Iinclude host.c target/staticlib/libsheets.a
  *
- * examples/check.c and examples/run.c are whole hosts.
+ * examples/check.c, examples/run.c and examples/carry.c are whole hosts.
  */
 #ifndef SHEET_H
 #define SHEET_H
@@ -47,11 +49,11 @@ extern "C" {
  * be, the second where a call or a code is added, the third where neither is so.
  */
 #define SHEET_VERSION_MAJOR 1
-#define SHEET_VERSION_MINOR 1
+#define SHEET_VERSION_MINOR 2
 #define SHEET_VERSION_PATCH 0
 
 /* The same as text, and as one number to compare: 1.2.3 is 10203. */
-#define SHEET_VERSION "1.1.0"
+#define SHEET_VERSION "1.2.0"
 #define SHEET_VERSION_NUMBER (SHEET_VERSION_MAJOR * 10000 + SHEET_VERSION_MINOR * 100 + SHEET_VERSION_PATCH)
 
 /* The most bytes that a sheet may have: 4,096 records of 12. */
@@ -68,10 +70,10 @@ extern "C" {
  * place says; sheet_sentence has a sentence on it for people.
  */
 enum sheet_code {
-    /* The check's place is the record of the output's type, a run's the number of cycles done. */
+    /* The check's place is the record of the output's type, a run's the number of cycles done, carrying's 0. */
     SHEET_ACCEPTED = 0,
 
-    /* The sheet is refused, by the check and by a run. */
+    /* The sheet is refused, by the check, by a run and as the old sheet of carrying. */
     /* Place 0. */
     SHEET_WRONG_LENGTH = 1,
     /* Place 0, which is the header's record. */
@@ -89,12 +91,18 @@ enum sheet_code {
     SHEET_WRONG_STIMULUS = 8,
     /* The first such byte of the stimulus, counted from 0. */
     SHEET_WRONG_INPUT = 9,
-    /* Codes 10 and 11: the length that is needed, in bytes. */
+    /* Codes 10 and 11: the length that is needed, in bytes. Carrying gives 11 too. */
     SHEET_WRONG_OUTPUT_LENGTH = 10,
     SHEET_WRONG_NEXT_LENGTH = 11,
 
     /* Of programs, not of calls: 1 is the sheet's file, 2 the stimulus's. */
-    SHEET_NO_FILE = 12
+    SHEET_NO_FILE = 12,
+
+    /* The old sheet is accepted and carrying is refused. */
+    /* The code, 1 to 7, by which the check refuses the new sheet. */
+    SHEET_NEW_SHEET_REFUSED = 18,
+    /* The lowest delay whose label a lower-numbered delay of the same sheet bears; the old sheet is searched first. */
+    SHEET_LABEL_TWICE = 19
 };
 
 /* The code of a result. */
@@ -124,9 +132,15 @@ static inline const char *sheet_sentence(uint32_t code)
         "The stimulus is over 65,535 bytes long, or not made of whole cycles.",
         "A byte of the stimulus is above the constructor count of its leaf.",
         "The output slice has another length than the cycles times the output's leaves.",
-        "The next slice is not as long as the sheet.",
+        "The next slice is not as long as the sheet that it receives.",
         "The file cannot be opened.",
     };
+    switch (code) {
+    case SHEET_NEW_SHEET_REFUSED:
+        return "The new sheet is refused by the check.";
+    case SHEET_LABEL_TWICE:
+        return "Two delays of one sheet bear the same label.";
+    }
     return code < sizeof sentences / sizeof *sentences ? sentences[code] : "No call returns this code.";
 }
 
@@ -184,6 +198,28 @@ uint64_t sheet_run(const uint8_t *sheet, size_t sheet_length, const uint8_t *sti
  * most two others.
  */
 #define SHEET_RUN_STACK 106496
+
+/*
+ * Carrying: the new sheet with the values that the delays of the old, running one hold. Codes 0 to 7, 18, 19 and 11, in this order.
+ *
+ * Word d of a delay is its label, 0 for none. Each labelled delay of the new sheet takes the held value of the old sheet's delay with
+ * that label, where the types of both have the same shape: pairs, and flat types with equal numbers of constructors, in the same
+ * places. All else of the new sheet stays: a delay with no label, with one that no delay of the old sheet bears, or with a type of
+ * another shape keeps what it holds. On success `next`, which is to be as long as the new sheet, holds that sheet; the check accepts
+ * it with the new sheet's type, and the place is 0. When every delay is labelled and no label stands twice, carrying a sheet that a
+ * run led to into the sheet that the run began from gives the former, byte for byte.
+ *
+ *     uint64_t result = sheet_carry(running, running_length, changed, changed_length, next, changed_length);
+ *     if (sheet_code_of(result) == SHEET_ACCEPTED)
+ *         result = sheet_run(next, changed_length, stim, stim_length, out, out_length, after, changed_length);
+ */
+uint64_t sheet_carry(const uint8_t *old_sheet, size_t old_length, const uint8_t *new_sheet, size_t new_length, uint8_t *next,
+                     size_t next_length);
+
+/*
+ * Carrying's stack need, measured as the check's. A table of 65,536 labels, 128 KiB of it, is held while no check runs.
+ */
+#define SHEET_CARRY_STACK 229376
 
 #ifdef __cplusplus
 }

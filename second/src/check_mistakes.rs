@@ -31,10 +31,12 @@ pub enum CheckMistake {
     NoSharing,
     /// A pattern that an IF has judged is not judged again for another.
     JudgedOnce,
+    /// A delay with a label is refused with code 3.
+    LabelsRefused,
 }
 
 /// Every mistake and its name.
-pub const MISTAKES: [(&str, CheckMistake); 22] = [
+pub const MISTAKES: [(&str, CheckMistake); 23] = [
     ("refuse-all", CheckMistake::RefuseAll),
     ("no-code-3", CheckMistake::NoCode(3)),
     ("no-code-4", CheckMistake::NoCode(4)),
@@ -57,6 +59,7 @@ pub const MISTAKES: [(&str, CheckMistake); 22] = [
     ("sharing-of-expressions", CheckMistake::SharingOfExpressions),
     ("no-sharing", CheckMistake::NoSharing),
     ("judged-once", CheckMistake::JudgedOnce),
+    ("labels-refused", CheckMistake::LabelsRefused),
 ];
 
 /// The mistake with this name.

@@ -18,6 +18,16 @@ extern "C" {
         next_length: usize,
     ) -> u64;
 
+    /// Reads both sheets, fills the next slice; gives code * 2^32 + place.
+    fn sheet_carry(
+        old: *const u8,
+        old_length: usize,
+        new: *const u8,
+        new_length: usize,
+        next: *mut u8,
+        next_length: usize,
+    ) -> u64;
+
     /// Reads the text, fills the slice for the sheet; gives code * 2^32 + place.
     #[cfg(feature = "translate")]
     fn sheet_translate(
@@ -48,6 +58,14 @@ pub fn run(sheet: &[u8], stimulus: &[u8], outputs: &mut [u8], next: &mut [u8]) -
             next.as_mut_ptr(),
             next.len(),
         )
+    }
+}
+
+/// The packed answer of the archive's carrying.
+pub fn carry(old: &[u8], new: &[u8], next: &mut [u8]) -> u64 {
+    // The slices are valid for their lengths and do not overlap.
+    unsafe {
+        sheet_carry(old.as_ptr(), old.len(), new.as_ptr(), new.len(), next.as_mut_ptr(), next.len())
     }
 }
 

@@ -1,7 +1,8 @@
 //! Compares the second implementations of the type check, of the run and of the
-//! translation with those in the archive, on generated sheets and texts; times
+//! other calls with those in the archive, on generated sheets and texts; times
 //! them; writes named sheets.
 
+mod carries;
 mod checks;
 mod external;
 mod files;
@@ -21,6 +22,7 @@ type Command = fn(&[&str]) -> Option<ExitCode>;
 const COMMANDS: &[(Command, &str)] = &[
     (checks::command, checks::USAGE),
     (runs::command, runs::USAGE),
+    (carries::command, carries::USAGE),
     #[cfg(feature = "translate")]
     (texts::command, texts::USAGE),
     (files::command, files::USAGE),

@@ -4,6 +4,8 @@
 use std::ffi::c_void;
 use std::hint::black_box;
 
+use second::random::Random;
+
 extern "C" {
     fn mmap(
         at: *mut c_void,
@@ -131,4 +133,14 @@ impl Drop for Area {
             munmap(self.mapped, self.room + 2 * PAGES);
         }
     }
+}
+
+/// Bytes for a lent slice to hold beforehand.
+pub fn filling(length: usize, fill: &mut Random) -> Vec<u8> {
+    let mut bytes = vec![0; length];
+    for eight in bytes.chunks_mut(8) {
+        let drawn = fill.draw().to_le_bytes();
+        eight.copy_from_slice(&drawn[..eight.len()]);
+    }
+    bytes
 }

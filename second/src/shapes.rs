@@ -2,6 +2,7 @@
 //! that cost a check most.
 
 mod building;
+mod delays;
 mod large;
 mod limits;
 mod patterns;
@@ -31,7 +32,7 @@ pub const SMALL: [(&str, Make); 15] = [
 ];
 
 /// Sheets of 4,096 records.
-pub const LARGE: [(&str, Make); 21] = [
+pub const LARGE: [(&str, Make); 25] = [
     ("deep", large::deep),
     ("wide", large::wide),
     ("wide-random", large::wide_random),
@@ -51,6 +52,10 @@ pub const LARGE: [(&str, Make); 21] = [
     ("deep-pattern", patterns::deep_pattern),
     ("shared-pattern", patterns::shared_pattern),
     ("shared-nested-pattern", patterns::shared_nested_pattern),
+    ("labelled-delays", delays::labelled),
+    ("labelled-delays-again", delays::labelled_again),
+    ("wide-delays", delays::wide),
+    ("wide-delays-again", delays::wide_again),
     ("names", large::names),
     ("doubled-types", large::doubled_types),
 ];

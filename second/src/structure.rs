@@ -38,7 +38,7 @@ pub fn judge(sheet: &[u8], mistake: Option<CheckMistake>) -> Result<Structure, A
         };
         found.map_or(Ok(()), |i| Err(Answer { code, place: i as u32 }))
     };
-    lowest(3, &|i| !record_holds(&records, i))?;
+    lowest(3, &|i| !record_holds(&records, i, mistake))?;
     let namings = namings(&records, mistake);
     lowest(4, &|i| !namings[i].hold())?;
     let leaves = type_leaves(&records);
@@ -67,10 +67,14 @@ fn header_holds(records: &[Record]) -> bool {
 }
 
 /// Code 3: a known kind outside the header, and every word as its kind asks.
-fn record_holds(records: &[Record], number: usize) -> bool {
+fn record_holds(records: &[Record], number: usize, mistake: Option<CheckMistake>) -> bool {
+    let asked = |word: Word| match word {
+        Word::Label if mistake == Some(CheckMistake::LabelsRefused) => Word::Zero,
+        word => word,
+    };
     match words(records[number][KIND]) {
         None => false,
-        Some(asked) => (0..5).all(|k| word_holds(records, number, NEXT + k, asked[k])),
+        Some(words) => (0..5).all(|k| word_holds(records, number, NEXT + k, asked(words[k]))),
     }
 }
 
@@ -81,7 +85,7 @@ fn word_holds(records: &[Record], number: usize, index: usize, asked: Word) -> b
     let higher = usize::from(value) > number;
     match asked {
         Word::Zero => value == 0,
-        Word::Number => true,
+        Word::Number | Word::Label => true,
         Word::Count => (1..=255).contains(&value),
         Word::LeafValue => value <= 255,
         Word::Constructor => value >= 1 && value <= flat_count(records, records[number][A]),

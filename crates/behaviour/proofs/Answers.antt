@@ -49,7 +49,7 @@ use Rattle.behaviour.specs.Promises.{SaysOfCall, LowestFirst, PlacesSmal
 use Rattle.behaviour.proofs.Afterwards.{answer-done, afterwards}
 
 -- two lists of checks, one after the other
-first-both : (ks js : List Check) (done : Answer) → firstApplying (ks ++ js) done ≡ firstApplying ks (firstApplying js done)
+pub first-both : (ks js : List Check) (done : Answer) → firstApplying (ks ++ js) done ≡ firstApplying ks (firstApplying js done)
 first-both [] js done = refl
 first-both (k ∷ ks) js done = go (k .found) (first-both ks js done)
   where
@@ -59,7 +59,7 @@ first-both (k ∷ ks) js done = go (k .found) (first-both ks js done)
     go (some p) e = refl
 
 -- what comes after a refusal does not matter
-first-then : (ks : List Check) (p : ℕ) (rest : ℕ → Answer) → firstApplying ks (rest p) ≡ onDone (firstApplying ks (Done p)) rest
+pub first-then : (ks : List Check) (p : ℕ) (rest : ℕ → Answer) → firstApplying ks (rest p) ≡ onDone (firstApplying ks (Done p)) rest
 first-then [] p rest = refl
 first-then (k ∷ ks) p rest = go (k .found) (first-then ks p rest)
   where
@@ -82,10 +82,10 @@ not-true true e = sym e
 not-true false e = refl
 
 -- where none applies the call is well formed
-same-length-by : (a b p : ℕ) → when (not (eqb a b)) p ≡ none → a ≡ b
+pub same-length-by : (a b p : ℕ) → when (not (eqb a b)) p ≡ none → a ≡ b
 same-length-by a b p e = eqb-true a b (not-false (eqb a b) (when-none (not (eqb a b)) p e))
 
-none-split : (ks js : List Check) → NoneApplies (ks ++ js) → NoneApplies ks × NoneApplies js
+pub none-split : (ks js : List Check) → NoneApplies (ks ++ js) → NoneApplies ks × NoneApplies js
 none-split [] js h = (tt, h)
 none-split (k ∷ ks) js h = let r = none-split ks js (h .1) in ((h .0, r .0), r .1)
 
@@ -119,12 +119,12 @@ lowest-first s stim out next a = (
 )
 
 -- the place of each answer is small
-place-or : (c : ℕ) (o : Option ℕ) (rest : Answer) → ((p : ℕ) → o ≡ some p → p < 2 ^ 32) → (o ≡ none → place rest < 2 ^ 32)
+pub place-or : (c : ℕ) (o : Option ℕ) (rest : Answer) → ((p : ℕ) → o ≡ some p → p < 2 ^ 32) → (o ≡ none → place rest < 2 ^ 32)
     → place (orRefused c o rest) < 2 ^ 32
 place-or c (some p) rest found nothing = found p refl
 place-or c none rest found nothing = nothing refl
 
-when-some : (b : Bool) (p q : ℕ) → when b p ≡ some q → p ≡ q
+pub when-some : (b : Bool) (p q : ℕ) → when b p ≡ some q → p ≡ q
 when-some true p q e = cc
 when-some false p q e = let z : _≡_ {A = ℕ} 0 1 = cc in absurd (omega arith)
 
@@ -177,7 +177,7 @@ places-small s stim out next = go (verdict s) refl
     go (Verdicts.TooDeep r) e = small r (ap (λ w. place (verdictAnswer w)) e)
     go (Verdicts.IllTyped r) e = small r (ap (λ w. place (verdictAnswer w)) e)
 
-kept-bytes : (a : Answer) (new old : List ℕ) → code a ≢ 0 → whenDone a new old ≡ old
+pub kept-bytes : (a : Answer) (new old : List ℕ) → code a ≢ 0 → whenDone a new old ≡ old
 kept-bytes (Done n) new old f = absurd (f refl)
 kept-bytes (Refused c p) new old f = refl
 

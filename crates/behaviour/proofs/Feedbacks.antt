@@ -14,7 +14,7 @@ use Rattle.records.specs.Kinds.{expression, feedback, rowOf, kindOf}
 use Rattle.records.specs.Says.{kindAt}
 use Rattle.records.specs.TypeRecords.{typeAt, Declared}
 use Rattle.records.specs.Trees.{Tree, feedbackOf, treeAt}
-use Rattle.records.specs.Rewritten.{OnlyLeaves}
+use Rattle.records.specs.Rewritten.{Rewritten}
 use Rattle.records.proofs.Rewritten.{same-type, same-tree}
 use Rattle.records.proofs.Asked.{past-header}
 use Rattle.records.proofs.Trees.{tree-of}
@@ -128,7 +128,7 @@ module _ (s : List ℕ) {t : ℕ} (v : verdict s ≡ Accepted t) {q : ℕ} (belo
 
   -- in a sheet that differs in delay leaves alone
   module _ {s′ : List ℕ} (v′ : verdict s′ ≡ Accepted t) (o : OnlyDelays s s′) where
-    only : OnlyLeaves s s′
+    only : Rewritten s s′
     only = only-leaves (written passes) o
 
     scope-there : Scope s′ q (scoped .0)

@@ -3,6 +3,8 @@ ghost use mathlib.Core.Path.{_≡_};
 ghost use Rattle.answers.specs.Answers.{packed};
 ghost use Rattle.verdict.specs.Verdict.{verdict, verdictAnswer};
 ghost use Rattle.simulator.specs.Running.{Ran};
+ghost use Rattle.carry.specs.Carry.{CarryGives};
+use carry::carry;
 use simulator::run;
 use verdict::check;
 
@@ -20,4 +22,12 @@ pub extern "C" fn sheet_run(sheet: &[u8], stim: &[u8], out: &mut [u8], next: &mu
     ensures { λ r. ⌜ Ran (now (sheet .entry)) (now (stim .entry)) (now (out .entry)) (now (next .entry)) r (now (out .exit)) (now (next .exit)) ⌝ }
 {
     run(sheet, stim, out, next)
+}
+
+// Carrying: the answer's code times 2^32, plus its place.
+#[no_mangle]
+pub extern "C" fn sheet_carry(old: &[u8], new: &[u8], next: &mut [u8]) -> u64
+    ensures { λ r. ⌜ CarryGives (now (old .entry)) (now (new .entry)) (now (next .entry)) r (now (next .exit)) ⌝ }
+{
+    carry(old, new, next)
 }

@@ -15,7 +15,7 @@ use Rattle.records.specs.TypeRecords.{typeAt}
 use Rattle.records.specs.Trees.{chain, circuit}
 use Rattle.records.specs.Held.{delayLeaves}
 use Rattle.records.specs.Written.{Written}
-use Rattle.records.specs.Rewritten.{OnlyLeaves}
+use Rattle.records.specs.Rewritten.{Rewritten}
 use Rattle.records.proofs.Rewritten.{same-kind, same-chain, same-type}
 use Rattle.records.proofs.Types.{few-leaves}
 use Rattle.records.proofs.TypeRecords.{input-type}
@@ -45,14 +45,14 @@ use Rattle.stepper.specs.Cycling.{Copying, Cycling, Looked, Cycled}
 use Rattle.stepper.proofs.WidthsAgain.{sized-again, widths-again}
 
 module _ {s : List ℕ} {n : ℕ} {W env held input current out : List ℕ} (g : Cycling s n W env held input current out) where
-  abbrev o : OnlyLeaves s current
+  abbrev o : Rewritten s current
   o = g .leaves-alone
 
   first-written : Written s
   first-written = written (exact s (g .type) .0 (g .accepted) .0)
 
   -- the header is no leaf
-  header-word : (k : ℕ) → k < 6 → word current 0 k ≡ word s 0 k
+  header-word : (k : ℕ) → k < 5 → word current 0 k ≡ word s 0 k
   header-word = o .others 0 (λ e. let h = first-written .headed in let z : _≡_ {A = ℕ} 0 1 = cc in omega arith)
 
   pub first-sized : Sized s n × (0 < n) × (3 < 6)

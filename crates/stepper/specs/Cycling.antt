@@ -1,5 +1,5 @@
 -- One cycle of a sheet. `first` is the sheet that was checked, `current` the one that the cycle begins from: the two differ in leaves
--- alone, and are accepted with the same type.
+-- alone, or in labels too, and are accepted with the same type.
 use Prim.Native.Nat.{ℕ}
 use mathlib.Core.Path.{_≡_}
 use mathlib.Core.List.{List, [], _∷_}
@@ -9,7 +9,7 @@ use Rattle.records.specs.Words.{wordA}
 use Rattle.records.specs.Sized.{Sized}
 use Rattle.records.specs.TypeRecords.{typeAt}
 use Rattle.records.specs.Written.{Written}
-use Rattle.records.specs.Rewritten.{OnlyLeaves}
+use Rattle.records.specs.Rewritten.{Rewritten}
 use Rattle.verdict.specs.Verdict.{verdict}
 use Rattle.verdict.specs.Widths.{Widths}
 use Rattle.verdict.specs.declared.Verdict.the-variants.{Accepted}
@@ -31,7 +31,7 @@ pub record Cycling (first : List ℕ) (n : ℕ) (widths env held input current o
   pub type : ℕ
   pub accepted : verdict first ≡ Accepted type
   pub table : Widths first widths
-  pub leaves-alone : OnlyLeaves first current
+  pub leaves-alone : Rewritten first current
   pub again : verdict current ≡ Accepted type
   pub wide : length env ≡ 4096
   pub long : length held ≡ 4096

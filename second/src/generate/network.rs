@@ -1,6 +1,7 @@
 //! One feedback of many leaves, each leaf a small expression of other leaves.
 //! Its type is a pair of equal parts, again and again.
 
+use super::labels::label;
 use super::patterns::share;
 use super::types::doubling;
 use crate::draft::Draft;
@@ -74,6 +75,7 @@ fn wired(
     let root = draft.feedback(of, defining, body);
     draft.set_root(root);
     share(&mut draft, random);
+    label(&mut draft, random);
     draft
 }
 

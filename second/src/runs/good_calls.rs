@@ -1,5 +1,6 @@
 //! Compares calls that keep every rule, and counts what comes up in them.
 
+use second::labels::labels;
 use second::records::{read, KIND, KINDS, MAX_RECORDS};
 use second::rule::Rule;
 use second::run_mistakes::RunMistake;
@@ -23,6 +24,7 @@ pub fn compare_good(to: &mut Comparer, case: &Case, frame: &Frame, values: usize
         (tally::SHEETS, several(case, frame)),
         (tally::DEFINED, outputs.iter().any(|&leaf| leaf != 0)),
         (tally::CHANGED, *next != case.sheet),
+        (tally::LABELLED, *next != case.sheet && labels(next).iter().any(|&label| label != 0)),
         (tally::OUTPUTS_DIFFER, cycles.any(|cycle| Some(cycle) != first)),
         (tally::OTHERS, watch.others),
         (tally::SLOW, watch.most > 16),
