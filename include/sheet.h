@@ -226,7 +226,7 @@ uint64_t sheet_carry(const uint8_t *old_sheet, size_t old_length, const uint8_t 
 /*
  * Carrying's stack need, measured as the check's. A table of 65,536 labels, 128 KiB of it, is held while no check runs.
  */
-#define SHEET_CARRY_STACK 262144
+#define SHEET_CARRY_STACK 229376
 
 /*
  * Which alternative fired: for one cycle of the sheet a word for each record. At an IF it is the record of the first alternative of its
