@@ -204,7 +204,7 @@ uint64_t sheet_run(const uint8_t *sheet, size_t sheet_length, const uint8_t *sti
  * bounds above, a feedback is applied at most 65 times, once more than a type has leaves, and lies in the defining parts of at
  * most two others.
  */
-#define SHEET_RUN_STACK 106496
+#define SHEET_RUN_STACK 114688
 
 /*
  * Carrying: the new sheet with the values that the delays of the old, running one hold. Codes 0 to 7, 18, 19 and 11, in this order.
@@ -248,7 +248,7 @@ uint64_t sheet_fired(const uint8_t *sheet, size_t sheet_length, const uint8_t *s
                      size_t fired_length);
 
 /* Its stack need, bounded as the run's. */
-#define SHEET_FIRED_STACK 262144
+#define SHEET_FIRED_STACK 114688
 
 #ifdef __cplusplus
 }
