@@ -42,6 +42,9 @@ enum answer {
     DELAYED_IN_A_ROW
 };
 
+/* Which alternatives fire in one cycle, worked out by hand and on the sheets at the limits; every refusal. */
+void firings(void);
+
 /* Sheets at a limit of docs/SHEETS.md and just past it, among them the deepest and the longest. */
 struct limit_case {
     const char *name;

@@ -55,6 +55,11 @@ void guard_thread(void)
     }
 }
 
+void guard_name(const char *name)
+{
+    current = name;
+}
+
 void tally(int passed, const char *name, const char *what)
 {
     passed_count += passed ? 1 : 0;

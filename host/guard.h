@@ -11,6 +11,9 @@ void guard_open(void);
 /* Has a fault on this thread, a slice overrun or a stack overflow, reported with the name of the call. */
 void guard_thread(void);
 
+/* Names the call that is made from here on, for such a report. */
+void guard_name(const char *name);
+
 /* Counts one passed or failed, and says what failed. */
 void tally(int passed, const char *name, const char *what);
 

@@ -93,6 +93,7 @@ static void all_calls(void)
     limits_checked();
     runs_of_t();
     written_runs();
+    firings();
     refused_runs();
     limits_run();
     carries();
@@ -104,6 +105,14 @@ static void all_calls(void)
 /* Calls on a sheet at a limit, which stands in `bytes`, and again, with other delays, in `other_bytes`. */
 static size_t limit_length;
 static uint8_t stim[64], out[64], next[MOST_BYTES], other_bytes[MOST_BYTES];
+
+/* The alternatives that fire, with one leaf of input or 64. */
+static void one_firing(void)
+{
+    static uint16_t words[MOST_RECORDS];
+    for (size_t inputs = 1; inputs <= 64; inputs += 63)
+        sheet_fired(bytes, limit_length, stim, inputs, words, limit_length / RECORD_BYTES);
+}
 
 static void one_check(void)
 {
@@ -163,6 +172,7 @@ int main(void)
     puts("all calls were made on the program's own stack");
     on_small_stack(all_calls);
     printf("all calls were made on a stack of %d bytes\n", (int)SMALL_STACK);
+    measure("fired", one_firing, SHEET_FIRED_STACK);
     measure("check", one_check, SHEET_CHECK_STACK);
     measure("run", one_run, SHEET_RUN_STACK);
     measure("carry", one_carry, SHEET_CARRY_STACK);

@@ -7,6 +7,8 @@
  *         What does it put out, cycle by cycle, and what is the sheet then?
  *     uint64_t sheet_carry(old_sheet, old_length, new_sheet, new_length, next, next_length)
  *         What is the new sheet with what the delays of the old one hold, by their labels?
+ *     uint64_t sheet_fired(sheet, sheet_length, stim, stim_length, fired, fired_length)
+ *         Which alternative of each IF says yes first in one cycle?
  *
  * A result holds a code and a place: take them with sheet_code_of and sheet_place_of, and turn a code into a sentence with
  * sheet_sentence. What a sheet is, what a cycle computes and when each code is given is in docs/SHEETS.md.
@@ -14,7 +16,7 @@
  * RULES FOR EVERY CALL
  *
  * - A slice is lent as a pointer to its first byte and then its length in bytes. The pointer is valid even where the length is 0:
- *   never null.
+ *   never null. A slice of 16-bit words has its length in words, and its pointer is aligned to 2.
  * - Slices lent to one call do not overlap, and nothing else writes to them while the call runs.
  * - A call touches nothing but the slices lent to it and its stack: it allocates nothing, keeps no pointer and no state. Several
  *   threads may call at the same time.
@@ -32,7 +34,7 @@
  *
  *     cc -Iinclude host.c target/staticlib/libsheets.a
  *
- * examples/check.c, examples/run.c and examples/carry.c are whole hosts.
+ * examples/check.c, examples/run.c, examples/carry.c and examples/fired.c are whole hosts.
  */
 #ifndef SHEET_H
 #define SHEET_H
@@ -49,11 +51,11 @@ extern "C" {
  * be, the second where a call or a code is added, the third where neither is so.
  */
 #define SHEET_VERSION_MAJOR 1
-#define SHEET_VERSION_MINOR 2
+#define SHEET_VERSION_MINOR 3
 #define SHEET_VERSION_PATCH 0
 
 /* The same as text, and as one number to compare: 1.2.3 is 10203. */
-#define SHEET_VERSION "1.2.0"
+#define SHEET_VERSION "1.3.0"
 #define SHEET_VERSION_NUMBER (SHEET_VERSION_MAJOR * 10000 + SHEET_VERSION_MINOR * 100 + SHEET_VERSION_PATCH)
 
 /* The most bytes that a sheet may have: 4,096 records of 12. */
@@ -70,7 +72,7 @@ extern "C" {
  * place says; sheet_sentence has a sentence on it for people.
  */
 enum sheet_code {
-    /* The check's place is the record of the output's type, a run's the number of cycles done, carrying's 0. */
+    /* The check's place is the record of the output's type, a run's the number of cycles done, that of every other call 0. */
     SHEET_ACCEPTED = 0,
 
     /* The sheet is refused, by the check, by a run and as the old sheet of carrying. */
@@ -97,6 +99,9 @@ enum sheet_code {
 
     /* Of programs, not of calls: 1 is the sheet's file, 2 the stimulus's. */
     SHEET_NO_FILE = 12,
+
+    /* Of sheet_fired: the number of words that is needed. */
+    SHEET_WRONG_WORDS = 16,
 
     /* The old sheet is accepted and carrying is refused. */
     /* The code, 1 to 7, by which the check refuses the new sheet. */
@@ -129,13 +134,15 @@ static inline const char *sheet_sentence(uint32_t code)
         "A pair type has the same parts as a lower one, or over 64 leaves.",
         "An expression lies over 64 deep, or in the defining parts of over three feedbacks.",
         "A type rule is broken.",
-        "The stimulus is over 65,535 bytes long, or not made of whole cycles.",
+        "The stimulus is over 65,535 bytes long, or not made of whole cycles; or not of one, for a call on one cycle.",
         "A byte of the stimulus is above the constructor count of its leaf.",
         "The output slice has another length than the cycles times the output's leaves.",
         "The next slice is not as long as the sheet that it receives.",
         "The file cannot be opened.",
     };
     switch (code) {
+    case SHEET_WRONG_WORDS:
+        return "The slice has another length than one word for each record.";
     case SHEET_NEW_SHEET_REFUSED:
         return "The new sheet is refused by the check.";
     case SHEET_LABEL_TWICE:
@@ -197,7 +204,7 @@ uint64_t sheet_run(const uint8_t *sheet, size_t sheet_length, const uint8_t *sti
  * bounds above, a feedback is applied at most 65 times, once more than a type has leaves, and lies in the defining parts of at
  * most two others.
  */
-#define SHEET_RUN_STACK 106496
+#define SHEET_RUN_STACK 114688
 
 /*
  * Carrying: the new sheet with the values that the delays of the old, running one hold. Codes 0 to 7, 18, 19 and 11, in this order.
@@ -220,6 +227,28 @@ uint64_t sheet_carry(const uint8_t *old_sheet, size_t old_length, const uint8_t 
  * Carrying's stack need, measured as the check's. A table of 65,536 labels, 128 KiB of it, is held while no check runs.
  */
 #define SHEET_CARRY_STACK 229376
+
+/*
+ * Which alternative fired: for one cycle of the sheet a word for each record. At an IF it is the record of the first alternative of its
+ * chain that says yes, or 0 where none does, in the evaluation in which every feedback around the IF has its settled value; at
+ * every other record it is 0. Codes 0 to 9 and 16.
+ *
+ * The stimulus is exactly one cycle: an empty one and more than one cycle are refused by code 8. `fired` is one word for each record,
+ * so as long as the sheet's length divided by 12; any other length is refused by code 16, whose place is the number of words needed.
+ * The length counts words of 16 bits, and `fired` is aligned to 2. The sheet is not written: the cycle is looked at, not taken.
+ *
+ *     static uint16_t fired[4096];
+ *     uint64_t result = sheet_fired(sheet, length, stim, stim_length, fired, length / 12);
+ *     if (sheet_code_of(result) == SHEET_ACCEPTED)
+ *         for (size_t record = 0; record < length / 12; record++)
+ *             if (fired[record] != 0)
+ *                 printf("record %zu: alternative %d\n", record, fired[record]);
+ */
+uint64_t sheet_fired(const uint8_t *sheet, size_t sheet_length, const uint8_t *stim, size_t stim_length, uint16_t *fired,
+                     size_t fired_length);
+
+/* Its stack need, bounded as the run's. */
+#define SHEET_FIRED_STACK 114688
 
 #ifdef __cplusplus
 }

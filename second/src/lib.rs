@@ -12,6 +12,8 @@ pub mod verdict;
 // The run.
 pub mod accepted;
 pub mod evaluator;
+pub mod firing;
+pub mod firing_mistakes;
 pub mod labels;
 pub mod listing;
 pub mod matching;
@@ -44,6 +46,8 @@ pub mod survey;
 
 #[cfg(test)]
 mod carry_tests;
+#[cfg(test)]
+mod firing_tests;
 #[cfg(test)]
 mod generate_tests;
 #[cfg(test)]

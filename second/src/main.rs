@@ -6,7 +6,9 @@ mod carries;
 mod checks;
 mod external;
 mod files;
+mod firings;
 mod memory;
+mod one_cycle;
 mod report;
 mod runs;
 #[cfg(feature = "translate")]
@@ -26,6 +28,7 @@ const COMMANDS: &[(Command, &str)] = &[
     #[cfg(feature = "translate")]
     (texts::command, texts::USAGE),
     (files::command, files::USAGE),
+    (firings::command, firings::USAGE),
 ];
 
 fn main() -> ExitCode {

@@ -52,6 +52,14 @@ impl Placement {
         }
     }
 
+    /// The same for a slice of items of so many bytes, which are aligned.
+    pub fn aligned(self, item: usize) -> Placement {
+        match self {
+            Placement::Within(offset) => Placement::Within(offset / item * item),
+            other => other,
+        }
+    }
+
     pub fn index(self) -> usize {
         match self {
             Placement::End => 0,

@@ -9,6 +9,7 @@ pub use Rattle.typing.proofs.PatternTypes.{fits-typed}
 pub use Rattle.typing.proofs.TypeRecordsOf.{type-of-record}
 pub use Rattle.typing.proofs.Typings.{within-fits}
 pub use Rattle.verdict.proofs.Exact.{exact, accepted-judged, input-context}
+pub use Rattle.verdict.proofs.OneWay.{Carried, to-root, to-part, carried-only}
 pub use Rattle.verdict.proofs.Places.{accepted-by-types}
 pub use Rattle.verdict.proofs.PlacesSmall.{verdict-place}
 pub use Rattle.verdict.proofs.VerdictFirst.{verdict-first, first-accepted}

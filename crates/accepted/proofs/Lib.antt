@@ -3,6 +3,7 @@ pub mod AcceptedAgain
 pub mod LabelsAgain
 pub mod FittingWidths
 pub mod Refusing
+pub mod Calls
 pub mod Laws
 pub mod LeafBounds
 pub mod PassesAgain

@@ -27,7 +27,7 @@ use Rattle.accepted.proofs.Laws.{verdict-first, verdict-place}
 use Rattle.accepted.proofs.Small.{accepted-sized}
 use Rattle.behaviour.specs.Delays.{putAll}
 use Rattle.behaviour.specs.Sheets.{putWord}
-use Rattle.behaviour.proofs.Answers.{first-both, first-then}
+use Rattle.answers.proofs.First.{first-both, first-then}
 use Rattle.carry.specs.Labels.{labelTwice}
 use Rattle.carry.specs.Bearers.{AllLabelled}
 use Rattle.carry.specs.Carried.{takenBelow, carried}

@@ -23,7 +23,7 @@ use Rattle.verdict.specs.Verdict.{sheetChecks, outputType, verdictAnswer, verdi
 use Rattle.verdict.specs.declared.Verdict.the-variants.{Accepted}
 use Rattle.accepted.proofs.Laws.{verdict-place, first-accepted}
 use Rattle.accepted.proofs.Small.{accepted-length}
-use Rattle.behaviour.proofs.Answers.{none-split, same-length-by, place-or, when-some, kept-bytes}
+use Rattle.answers.proofs.First.{none-split, same-length-by, place-or, when-some, kept-bytes}
 use Rattle.carry.specs.Labels.{labelTwice}
 use Rattle.carry.specs.Carried.{carried}
 use Rattle.carry.specs.Carry.{refusedBy, newChecks, carryChecks, carryAnswer, finalCarried}

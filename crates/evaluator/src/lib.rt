@@ -21,6 +21,7 @@ use records::WORD_D;
 use records::WORD_KIND;
 use records::Widths;
 use records::word;
+use values::Fired;
 use values::NextValues;
 use values::choose_value;
 use values::copy_value;
@@ -42,13 +43,14 @@ fn of_name(
     out: &mut [u8],
 )
     requires { ⌜ ((Γ : List ℕ) × EvaluatingIn (now sheet) n (now widths) (now env) names rec (now out) Γ) × (kindAt (now sheet) rec ≡ expression name) ⌝ }
-    ensures { λ _. ⌜ ((held : List ℕ) → Evaluated (now (sheet .entry)) n (now (widths .entry)) (now (env .entry)) names rec held (now (out .entry)) (now (env .entry)) held (now (out .exit))) ⌝ }
+    ensures { λ _. ⌜ ((held fired : List ℕ) → Evaluated (now (sheet .entry)) n (now (widths .entry)) (now (env .entry)) names rec held fired (now (out .entry)) (now (env .entry)) held fired (now (out .exit))) ⌝ }
 {
     let k = word(sheet, n, rec, WORD_A);
     copy_value(env, names - 1 - k, out);
 }
 
-// Evaluates an expression: its value goes to `out`, and its delays' next values to `held`.
+// Evaluates an expression: its value goes to `out`, its delays' next values to `held`, and the numbers of its IFs to `fired`,
+// which stands last so that the record's number is passed in a register.
 pub fn eval(
     sheet: &[u8],
     n: usize,
@@ -58,9 +60,10 @@ pub fn eval(
     held: &mut NextValues,
     rec: usize,
     out: &mut [u8],
+    fired: &mut Fired,
 )
     requires { ⌜ ((Γ : List ℕ) × EvaluatingIn (now sheet) n (now widths) (now env) names rec (now out) Γ) ⌝ }
-    ensures { λ _. ⌜ Evaluated (now (sheet .entry)) n (now (widths .entry)) (now (env .entry)) names rec (now (held .entry)) (now (out .entry)) (now (env .exit)) (now (held .exit)) (now (out .exit)) ⌝ }
+    ensures { λ _. ⌜ Evaluated (now (sheet .entry)) n (now (widths .entry)) (now (env .entry)) names rec (now (held .entry)) (now (fired .entry)) (now (out .entry)) (now (env .exit)) (now (held .exit)) (now (fired .exit)) (now (out .exit)) ⌝ }
 {
     let kind = word(sheet, n, rec, WORD_KIND);
     if kind == KIND_CONSTANT {
@@ -72,30 +75,30 @@ pub fn eval(
         return;
     }
     if kind == KIND_PAIR {
-        of_pair(sheet, n, widths, env, names, held, rec, out);
+        of_pair(sheet, n, widths, env, names, held, rec, out, fired);
         return;
     }
     if kind == KIND_FIRST {
-        of_first(sheet, n, widths, env, names, held, rec, out);
+        of_first(sheet, n, widths, env, names, held, rec, out, fired);
         return;
     }
     if kind == KIND_SECOND {
-        of_second(sheet, n, widths, env, names, held, rec, out);
+        of_second(sheet, n, widths, env, names, held, rec, out, fired);
         return;
     }
     if kind == KIND_LET {
-        of_let(sheet, n, widths, env, names, held, rec, out);
+        of_let(sheet, n, widths, env, names, held, rec, out, fired);
         return;
     }
     if kind == KIND_FEEDBACK {
-        of_feedback(sheet, n, widths, env, names, held, rec, out);
+        of_feedback(sheet, n, widths, env, names, held, rec, out, fired);
         return;
     }
     if kind == KIND_IF {
-        of_if(sheet, n, widths, env, names, held, rec, out);
+        of_if(sheet, n, widths, env, names, held, rec, out, fired);
         return;
     }
-    of_delay(sheet, n, widths, env, names, held, rec, out);
+    of_delay(sheet, n, widths, env, names, held, rec, out, fired);
 }
 
 fn of_pair(
@@ -107,15 +110,16 @@ fn of_pair(
     held: &mut NextValues,
     rec: usize,
     out: &mut [u8],
+    fired: &mut Fired,
 )
     requires { ⌜ ((Γ : List ℕ) × EvaluatingIn (now sheet) n (now widths) (now env) names rec (now out) Γ) × (kindAt (now sheet) rec ≡ expression tuple) ⌝ }
-    ensures { λ _. ⌜ Evaluated (now (sheet .entry)) n (now (widths .entry)) (now (env .entry)) names rec (now (held .entry)) (now (out .entry)) (now (env .exit)) (now (held .exit)) (now (out .exit)) ⌝ }
+    ensures { λ _. ⌜ Evaluated (now (sheet .entry)) n (now (widths .entry)) (now (env .entry)) names rec (now (held .entry)) (now (fired .entry)) (now (out .entry)) (now (env .exit)) (now (held .exit)) (now (fired .exit)) (now (out .exit)) ⌝ }
 {
     let a = word(sheet, n, rec, WORD_A);
     let w = widths[a] as usize;
-    eval(sheet, n, widths, env, names, held, a, &mut out[0..w]);
+    eval(sheet, n, widths, env, names, held, a, &mut out[0..w], fired);
     let b = word(sheet, n, rec, WORD_B);
-    eval(sheet, n, widths, env, names, held, b, &mut out[w..]);
+    eval(sheet, n, widths, env, names, held, b, &mut out[w..], fired);
 }
 
 fn of_first(
@@ -127,14 +131,25 @@ fn of_first(
     held: &mut NextValues,
     rec: usize,
     out: &mut [u8],
+    fired: &mut Fired,
 )
     requires { ⌜ ((Γ : List ℕ) × EvaluatingIn (now sheet) n (now widths) (now env) names rec (now out) Γ) × (kindAt (now sheet) rec ≡ expression first) ⌝ }
-    ensures { λ _. ⌜ Evaluated (now (sheet .entry)) n (now (widths .entry)) (now (env .entry)) names rec (now (held .entry)) (now (out .entry)) (now (env .exit)) (now (held .exit)) (now (out .exit)) ⌝ }
+    ensures { λ _. ⌜ Evaluated (now (sheet .entry)) n (now (widths .entry)) (now (env .entry)) names rec (now (held .entry)) (now (fired .entry)) (now (out .entry)) (now (env .exit)) (now (held .exit)) (now (fired .exit)) (now (out .exit)) ⌝ }
 {
     let a = word(sheet, n, rec, WORD_A);
     let w = widths[a] as usize;
     let mut whole = room();
-    eval(sheet, n, widths, env, names, held, a, &mut whole[0..w]);
+    eval(
+        sheet,
+        n,
+        widths,
+        env,
+        names,
+        held,
+        a,
+        &mut whole[0..w],
+        fired,
+    );
     put(&whole[0..out.len()], out);
 }
 
@@ -147,14 +162,25 @@ fn of_second(
     held: &mut NextValues,
     rec: usize,
     out: &mut [u8],
+    fired: &mut Fired,
 )
     requires { ⌜ ((Γ : List ℕ) × EvaluatingIn (now sheet) n (now widths) (now env) names rec (now out) Γ) × (kindAt (now sheet) rec ≡ expression second) ⌝ }
-    ensures { λ _. ⌜ Evaluated (now (sheet .entry)) n (now (widths .entry)) (now (env .entry)) names rec (now (held .entry)) (now (out .entry)) (now (env .exit)) (now (held .exit)) (now (out .exit)) ⌝ }
+    ensures { λ _. ⌜ Evaluated (now (sheet .entry)) n (now (widths .entry)) (now (env .entry)) names rec (now (held .entry)) (now (fired .entry)) (now (out .entry)) (now (env .exit)) (now (held .exit)) (now (fired .exit)) (now (out .exit)) ⌝ }
 {
     let a = word(sheet, n, rec, WORD_A);
     let w = widths[a] as usize;
     let mut whole = room();
-    eval(sheet, n, widths, env, names, held, a, &mut whole[0..w]);
+    eval(
+        sheet,
+        n,
+        widths,
+        env,
+        names,
+        held,
+        a,
+        &mut whole[0..w],
+        fired,
+    );
     put(&whole[w - out.len()..w], out);
 }
 
@@ -167,17 +193,28 @@ fn of_let(
     held: &mut NextValues,
     rec: usize,
     out: &mut [u8],
+    fired: &mut Fired,
 )
     requires { ⌜ ((Γ : List ℕ) × EvaluatingIn (now sheet) n (now widths) (now env) names rec (now out) Γ) × (kindAt (now sheet) rec ≡ expression letIn) ⌝ }
-    ensures { λ _. ⌜ Evaluated (now (sheet .entry)) n (now (widths .entry)) (now (env .entry)) names rec (now (held .entry)) (now (out .entry)) (now (env .exit)) (now (held .exit)) (now (out .exit)) ⌝ }
+    ensures { λ _. ⌜ Evaluated (now (sheet .entry)) n (now (widths .entry)) (now (env .entry)) names rec (now (held .entry)) (now (fired .entry)) (now (out .entry)) (now (env .exit)) (now (held .exit)) (now (fired .exit)) (now (out .exit)) ⌝ }
 {
     let a = word(sheet, n, rec, WORD_A);
     let w = widths[a] as usize;
     let mut value = room();
-    eval(sheet, n, widths, env, names, held, a, &mut value[0..w]);
+    eval(
+        sheet,
+        n,
+        widths,
+        env,
+        names,
+        held,
+        a,
+        &mut value[0..w],
+        fired,
+    );
     enter_value(env, names, &value[0..w]);
     let b = word(sheet, n, rec, WORD_B);
-    eval(sheet, n, widths, env, names + 1, held, b, out);
+    eval(sheet, n, widths, env, names + 1, held, b, out, fired);
 }
 
 fn of_feedback(
@@ -189,17 +226,28 @@ fn of_feedback(
     held: &mut NextValues,
     rec: usize,
     out: &mut [u8],
+    fired: &mut Fired,
 )
     requires { ⌜ ((Γ : List ℕ) × EvaluatingIn (now sheet) n (now widths) (now env) names rec (now out) Γ) × (kindAt (now sheet) rec ≡ expression feedback) ⌝ }
-    ensures { λ _. ⌜ Evaluated (now (sheet .entry)) n (now (widths .entry)) (now (env .entry)) names rec (now (held .entry)) (now (out .entry)) (now (env .exit)) (now (held .exit)) (now (out .exit)) ⌝ }
+    ensures { λ _. ⌜ Evaluated (now (sheet .entry)) n (now (widths .entry)) (now (env .entry)) names rec (now (held .entry)) (now (fired .entry)) (now (out .entry)) (now (env .exit)) (now (held .exit)) (now (fired .exit)) (now (out .exit)) ⌝ }
 {
     let d = word(sheet, n, rec, WORD_B);
     let w = widths[d] as usize;
     let mut settled = room();
     enter_value(env, names, &settled[0..w]);
-    settle(sheet, n, widths, env, names, held, d, &mut settled[0..w]);
+    settle(
+        sheet,
+        n,
+        widths,
+        env,
+        names,
+        held,
+        d,
+        &mut settled[0..w],
+        fired,
+    );
     let b = word(sheet, n, rec, WORD_C);
-    eval(sheet, n, widths, env, names + 1, held, b, out);
+    eval(sheet, n, widths, env, names + 1, held, b, out, fired);
 }
 
 // Evaluates a feedback's defining part until it gives back unchanged what the feedback's name holds.
@@ -212,16 +260,17 @@ fn settle(
     held: &mut NextValues,
     d: usize,
     value: &mut [u8],
+    fired: &mut Fired,
 )
     requires { ⌜ ((t : ℕ) × (Γ : List ℕ) × SettlingIn (now sheet) n (now widths) (now env) names d (now value) t Γ) ⌝ }
-    ensures { λ _. ⌜ Settled (now (sheet .entry)) n (now (widths .entry)) (now (env .entry)) names d (now (held .entry)) (now (value .entry)) (now (env .exit)) (now (held .exit)) ⌝ }
+    ensures { λ _. ⌜ Settled (now (sheet .entry)) n (now (widths .entry)) (now (env .entry)) names d (now (held .entry)) (now (fired .entry)) (now (value .entry)) (now (env .exit)) (now (held .exit)) (now (fired .exit)) ⌝ }
 {
-    eval(sheet, n, widths, env, names + 1, held, d, value);
+    eval(sheet, n, widths, env, names + 1, held, d, value, fired);
     if stands_at(env, names, value) {
         return;
     }
     enter_value(env, names, value);
-    settle(sheet, n, widths, env, names, held, d, value);
+    settle(sheet, n, widths, env, names, held, d, value, fired);
 }
 
 fn of_if(
@@ -233,16 +282,27 @@ fn of_if(
     held: &mut NextValues,
     rec: usize,
     out: &mut [u8],
+    fired: &mut Fired,
 )
     requires { ⌜ ((Γ : List ℕ) × EvaluatingIn (now sheet) n (now widths) (now env) names rec (now out) Γ) × (kindAt (now sheet) rec ≡ expression ifMatches) ⌝ }
-    ensures { λ _. ⌜ Evaluated (now (sheet .entry)) n (now (widths .entry)) (now (env .entry)) names rec (now (held .entry)) (now (out .entry)) (now (env .exit)) (now (held .exit)) (now (out .exit)) ⌝ }
+    ensures { λ _. ⌜ Evaluated (now (sheet .entry)) n (now (widths .entry)) (now (env .entry)) names rec (now (held .entry)) (now (fired .entry)) (now (out .entry)) (now (env .exit)) (now (held .exit)) (now (fired .exit)) (now (out .exit)) ⌝ }
 {
     let a = word(sheet, n, rec, WORD_A);
     let w = widths[a] as usize;
     let mut tested = room();
-    eval(sheet, n, widths, env, names, held, a, &mut tested[0..w]);
+    eval(
+        sheet,
+        n,
+        widths,
+        env,
+        names,
+        held,
+        a,
+        &mut tested[0..w],
+        fired,
+    );
     let b = word(sheet, n, rec, WORD_B);
-    eval(sheet, n, widths, env, names, held, b, out);
+    eval(sheet, n, widths, env, names, held, b, out, fired);
     let other = word(sheet, n, rec, WORD_C);
     let all = out.len();
     let mut otherwise = room();
@@ -255,9 +315,11 @@ fn of_if(
         held,
         other,
         &mut otherwise[0..all],
+        fired,
     );
     let p = word(sheet, n, rec, WORD_D);
-    choose_value(sheet, n, widths, p, &tested[0..w], &otherwise[0..all], out);
+    let number = choose_value(sheet, n, widths, p, &tested[0..w], &otherwise[0..all], out);
+    fired[rec] = number as u16;
 }
 
 fn of_delay(
@@ -269,12 +331,13 @@ fn of_delay(
     held: &mut NextValues,
     rec: usize,
     out: &mut [u8],
+    fired: &mut Fired,
 )
     requires { ⌜ ((Γ : List ℕ) × EvaluatingIn (now sheet) n (now widths) (now env) names rec (now out) Γ) × (kindAt (now sheet) rec ≡ expression delay) ⌝ }
-    ensures { λ _. ⌜ Evaluated (now (sheet .entry)) n (now (widths .entry)) (now (env .entry)) names rec (now (held .entry)) (now (out .entry)) (now (env .exit)) (now (held .exit)) (now (out .exit)) ⌝ }
+    ensures { λ _. ⌜ Evaluated (now (sheet .entry)) n (now (widths .entry)) (now (env .entry)) names rec (now (held .entry)) (now (fired .entry)) (now (out .entry)) (now (env .exit)) (now (held .exit)) (now (fired .exit)) (now (out .exit)) ⌝ }
 {
     let c = word(sheet, n, rec, WORD_C);
-    eval(sheet, n, widths, env, names, held, c, out);
+    eval(sheet, n, widths, env, names, held, c, out, fired);
     let first = word(sheet, n, rec, WORD_B);
     hold_leaves(sheet, n, first, out, held);
     read_leaves(sheet, n, first, out);

@@ -4,7 +4,9 @@ ghost use Rattle.answers.specs.Answers.{packed};
 ghost use Rattle.verdict.specs.Verdict.{verdict, verdictAnswer};
 ghost use Rattle.simulator.specs.Running.{Ran};
 ghost use Rattle.carry.specs.Carry.{CarryGives};
+ghost use Rattle.firing.specs.Telling.{ToldFired};
 use carry::carry;
+use firing::fired_of;
 use simulator::run;
 use verdict::check;
 
@@ -30,4 +32,12 @@ pub extern "C" fn sheet_carry(old: &[u8], new: &[u8], next: &mut [u8]) -> u64
     ensures { λ r. ⌜ CarryGives (now (old .entry)) (now (new .entry)) (now (next .entry)) r (now (next .exit)) ⌝ }
 {
     carry(old, new, next)
+}
+
+// Which alternative fired, in one cycle: the answer's code times 2^32, plus its place.
+#[no_mangle]
+pub extern "C" fn sheet_fired(sheet: &[u8], stim: &[u8], fired: &mut [u16]) -> u64
+    ensures { λ r. ⌜ ToldFired (now (sheet .entry)) (now (stim .entry)) (now (fired .entry)) r (now (fired .exit)) ⌝ }
+{
+    fired_of(sheet, stim, fired)
 }
