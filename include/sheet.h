@@ -273,7 +273,7 @@ uint64_t sheet_preview(const uint8_t *sheet, size_t sheet_length, const uint8_t 
                        size_t out_length);
 
 /* The preview's stack need, from the caller's frame down: no more than this. */
-#define SHEET_PREVIEW_STACK 262144
+#define SHEET_PREVIEW_STACK 114688
 
 #ifdef __cplusplus
 }
