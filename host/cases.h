@@ -26,6 +26,9 @@ void refused_runs(void);
 /* Values carried into a new sheet, small ones worked out by hand and those at the limits; every refusal. */
 void carries(void);
 
+/* The outputs of one cycle that is not taken, small ones worked out by hand and those at the limits; every refusal. */
+void previews(void);
+
 /* What a run of a sheet at a limit gives in each cycle. The input is flat or has as many leaves as the output, if not said. */
 enum answer {
     /* The sheet is refused. */

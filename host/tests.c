@@ -95,6 +95,7 @@ static void all_calls(void)
     written_runs();
     firings();
     refused_runs();
+    previews();
     limits_run();
     carries();
     lengths();
@@ -117,6 +118,14 @@ static void one_firing(void)
 static void one_check(void)
 {
     sheet_check(bytes, limit_length);
+}
+
+/* The preview of one cycle, with one leaf or 64 in and out. */
+static void one_preview(void)
+{
+    for (size_t inputs = 1; inputs <= 64; inputs += 63)
+        for (size_t outputs = 1; outputs <= 64; outputs += 63)
+            sheet_preview(bytes, limit_length, stim, inputs, out, outputs);
 }
 
 /* The run of one cycle: the stimulus and the output have one leaf, or 64. */
@@ -174,6 +183,7 @@ int main(void)
     printf("all calls were made on a stack of %d bytes\n", (int)SMALL_STACK);
     measure("fired", one_firing, SHEET_FIRED_STACK);
     measure("check", one_check, SHEET_CHECK_STACK);
+    measure("preview", one_preview, SHEET_PREVIEW_STACK);
     measure("run", one_run, SHEET_RUN_STACK);
     measure("carry", one_carry, SHEET_CARRY_STACK);
     return tally_end();

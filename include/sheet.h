@@ -1,5 +1,5 @@
 /*
- * sheet.h: sheets of picoELLA circuits, checked and run. For hosts in C (C99 or later) and C++.
+ * sheet.h: sheets of picoELLA circuits, checked, run and previewed. For hosts in C (C99 or later) and C++.
  *
  *     uint64_t sheet_check(sheet, length)
  *         Is the sheet well formed and well typed, and what is the type of its output?
@@ -9,6 +9,8 @@
  *         What is the new sheet with what the delays of the old one hold, by their labels?
  *     uint64_t sheet_fired(sheet, sheet_length, stim, stim_length, fired, fired_length)
  *         Which alternative of each IF says yes first in one cycle?
+ *     uint64_t sheet_preview(sheet, sheet_length, stim, stim_length, out, out_length)
+ *         What would it put out for one cycle, without taking it?
  *
  * A result holds a code and a place: take them with sheet_code_of and sheet_place_of, and turn a code into a sentence with
  * sheet_sentence. What a sheet is, what a cycle computes and when each code is given is in docs/SHEETS.md.
@@ -34,7 +36,7 @@
  *
  *     cc -Iinclude host.c target/staticlib/libsheets.a
  *
- * examples/check.c, examples/run.c, examples/carry.c and examples/fired.c are whole hosts.
+ * examples/check.c, examples/run.c, examples/carry.c, examples/fired.c and examples/preview.c are whole hosts.
  */
 #ifndef SHEET_H
 #define SHEET_H
@@ -51,11 +53,11 @@ extern "C" {
  * be, the second where a call or a code is added, the third where neither is so.
  */
 #define SHEET_VERSION_MAJOR 1
-#define SHEET_VERSION_MINOR 3
+#define SHEET_VERSION_MINOR 4
 #define SHEET_VERSION_PATCH 0
 
 /* The same as text, and as one number to compare: 1.2.3 is 10203. */
-#define SHEET_VERSION "1.3.0"
+#define SHEET_VERSION "1.4.0"
 #define SHEET_VERSION_NUMBER (SHEET_VERSION_MAJOR * 10000 + SHEET_VERSION_MINOR * 100 + SHEET_VERSION_PATCH)
 
 /* The most bytes that a sheet may have: 4,096 records of 12. */
@@ -75,7 +77,7 @@ enum sheet_code {
     /* The check's place is the record of the output's type, a run's the number of cycles done, that of every other call 0. */
     SHEET_ACCEPTED = 0,
 
-    /* The sheet is refused, by the check, by a run and as the old sheet of carrying. */
+    /* The sheet is refused, by every call; in carrying, the old one. */
     /* Place 0. */
     SHEET_WRONG_LENGTH = 1,
     /* Place 0, which is the header's record. */
@@ -88,7 +90,7 @@ enum sheet_code {
     /* The first record that breaks a type rule, parts before the whole. */
     SHEET_ILL_TYPED = 7,
 
-    /* The sheet is accepted and the run is refused. */
+    /* The sheet is accepted and the run or the preview is refused. */
     /* Place 0. */
     SHEET_WRONG_STIMULUS = 8,
     /* The first such byte of the stimulus, counted from 0. */
@@ -249,6 +251,29 @@ uint64_t sheet_fired(const uint8_t *sheet, size_t sheet_length, const uint8_t *s
 
 /* Its stack need, bounded as the run's. */
 #define SHEET_FIRED_STACK 114688
+
+/*
+ * The preview: what the sheet puts out for one cycle of input, without taking it. It begins with the check. Codes 0 to 10, and 0
+ * at place 0.
+ *
+ * `stim` is exactly one cycle, as many bytes as the input has leaves; an empty stimulus and one of several cycles are refused by 8. On
+ * success `out` holds the output's leaves, the bytes that sheet_run puts out for that cycle; the sheet is only read. `out` is to be as
+ * long as the output has leaves: lent with length 0, a good preview is refused with code 10, whose place is that length, 1 to 64.
+ *
+ *     uint8_t out[64];
+ *     uint64_t result = sheet_preview(sheet, length, stim, stim_length, out, 0);
+ *     if (sheet_code_of(result) == SHEET_WRONG_OUTPUT_LENGTH) {
+ *         size_t needed = sheet_place_of(result);
+ *         result = sheet_preview(sheet, length, stim, stim_length, out, needed);
+ *     }
+ *     if (sheet_code_of(result) == SHEET_ACCEPTED)
+ *         printf("first leaf %d\n", out[0]);
+ */
+uint64_t sheet_preview(const uint8_t *sheet, size_t sheet_length, const uint8_t *stim, size_t stim_length, uint8_t *out,
+                       size_t out_length);
+
+/* The preview's stack need, from the caller's frame down: no more than this. */
+#define SHEET_PREVIEW_STACK 114688
 
 #ifdef __cplusplus
 }

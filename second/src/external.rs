@@ -16,6 +16,17 @@ extern "C" {
         fired_length: usize,
     ) -> u64;
 
+    /// Reads the sheet and one cycle of input, fills the output slice; gives
+    /// code * 2^32 + place.
+    fn sheet_preview(
+        sheet: *const u8,
+        sheet_length: usize,
+        stimulus: *const u8,
+        stimulus_length: usize,
+        outputs: *mut u8,
+        output_length: usize,
+    ) -> u64;
+
     /// Reads the sheet and the stimulus, fills the output and the next slice;
     /// gives code * 2^32 + place.
     fn sheet_run(
@@ -68,6 +79,21 @@ pub fn fired(sheet: &[u8], stimulus: &[u8], fired: &mut [u8]) -> u64 {
             stimulus.len(),
             fired.as_mut_ptr().cast::<u16>(),
             fired.len() / 2,
+        )
+    }
+}
+
+/// The packed answer of the archive's preview.
+pub fn preview(sheet: &[u8], stimulus: &[u8], outputs: &mut [u8]) -> u64 {
+    // The slices are valid for their lengths and do not overlap.
+    unsafe {
+        sheet_preview(
+            sheet.as_ptr(),
+            sheet.len(),
+            stimulus.as_ptr(),
+            stimulus.len(),
+            outputs.as_mut_ptr(),
+            outputs.len(),
         )
     }
 }

@@ -18,6 +18,8 @@ pub mod labels;
 pub mod listing;
 pub mod matching;
 pub mod order;
+pub mod preview;
+pub mod preview_mistakes;
 pub mod rule;
 pub mod run_mistakes;
 pub mod simulator;
@@ -54,6 +56,8 @@ mod generate_tests;
 mod labels_tests;
 #[cfg(test)]
 mod order_tests;
+#[cfg(test)]
+mod preview_tests;
 #[cfg(test)]
 mod rule_tests;
 #[cfg(test)]

@@ -9,6 +9,7 @@ mod files;
 mod firings;
 mod memory;
 mod one_cycle;
+mod previews;
 mod report;
 mod runs;
 #[cfg(feature = "translate")]
@@ -23,6 +24,7 @@ type Command = fn(&[&str]) -> Option<ExitCode>;
 /// The commands, and the lines that tell their use.
 const COMMANDS: &[(Command, &str)] = &[
     (checks::command, checks::USAGE),
+    (previews::command, previews::USAGE),
     (runs::command, runs::USAGE),
     (carries::command, carries::USAGE),
     #[cfg(feature = "translate")]
