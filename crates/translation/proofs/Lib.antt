@@ -1,0 +1,9 @@
+-- The theorems, a file each.
+pub mod Standing
+pub mod TypesMeant
+pub mod Tables
+pub mod Sizes
+pub mod PatternsRead
+pub mod Decodes
+pub mod Kept
+pub mod Examples

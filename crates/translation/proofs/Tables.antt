@@ -1,0 +1,327 @@
+-- What the tables of a text's names say of the sheet that it is laid out as, where the names are good.
+-- Assumes nothing.
+use Prim.Native.Nat.{ℕ, zero, suc, _+_, _<_, min}
+use mathlib.Core.Path.{_≡_, refl, ap, ap₂, sym, _∙_}
+use mathlib.Core.Bool.{Bool, true, false, cond}
+use mathlib.Core.List.{List, [], _∷_, _++_}
+use mathlib.Core.Option.{Option}
+use mathlib.Core.Logic.{_⊎_, inl, inr}
+use native.Mathlib.Omega.{arith}
+use lib.ListN.{length}
+use Rattle.picoella.specs.Types.{Ty, Flat, TyTuple, leaves}
+use Rattle.records.specs.Words.{wordA}
+use Rattle.records.specs.TypeRecords.{typeAt, typeWithin}
+use Rattle.grammar.specs.Source.{Identifier, identifier, Declaration, Constructors, PairOf}
+use Rattle.naming.specs.Declared.{
+  Role,
+  aType,
+  aConstructor,
+  theInput,
+  DeclaredName,
+  declaredAs,
+  sameName,
+  input,
+  atFirst,
+  isDeclared,
+  typeRole,
+  constructorRole,
+  patternRoles,
+}
+use Rattle.naming.specs.Checks.{PlacedCheck, checkAt, AllPass, no-check-left, one-holds}
+use Rattle.naming.specs.Constants.{letters}
+use Rattle.naming.specs.Names.{add, addAll, afterDeclaration, afterAll, isNew, isOne, declarationChecks, declarationsChecks}
+use Rattle.naming.specs.Records.{LeafCount, leafCount, leafCountOf, leafCounts}
+use Rattle.translation.specs.Resolved.{
+  TypeEntry,
+  typeEntry,
+  typeMeant,
+  typeNumber,
+  afterEntry,
+  typeEntriesFrom,
+  typeEntries,
+  ConstructorEntry,
+  constructorEntry,
+  constructorEntriesOf,
+  constructorEntriesFrom,
+  constructorEntries,
+  constructorMeant,
+}
+use Rattle.translation.specs.Distances.{typeOr}
+use Rattle.translation.specs.Layout.{typesLaid, numberOr}
+use Rattle.translation.proofs.Standing.{Stands}
+use Rattle.translation.proofs.TypesMeant.{
+  SaysType,
+  Headed,
+  AllSay,
+  none-say,
+  AllFlat,
+  none-flat,
+  one-flat,
+  header-says,
+  number-says,
+  or-says,
+  entries-say,
+  constructors-flat,
+}
+
+pub record Tables (s : List ℕ) (ds : List Declaration) : Type 0 where
+  pub types : (w : List ℕ) → typeAt s (typeNumber (typeEntries ds) w) ≡ typeMeant (typeEntries ds) w
+  pub perhaps : (w : Option (List ℕ)) → typeAt s (numberOr (typeEntries ds) w) ≡ typeOr (typeEntries ds) w
+  pub constructors : (w : List ℕ)
+      → typeAt s (constructorMeant (constructorEntries ds) w .type)
+      ≡ Flat (constructorMeant (constructorEntries ds) w .type) (constructorMeant (constructorEntries ds) w .constructors)
+  pub counts : (w : List ℕ) → isDeclared constructorRole w (afterAll atFirst ds) ≡ true
+      → wordA s (constructorMeant (constructorEntries ds) w .type) ≡ constructorMeant (constructorEntries ds) w .constructors
+  pub leaf-counts : (w : List ℕ) → isDeclared typeRole w (afterAll atFirst ds) ≡ true
+      → leafCountOf (leafCounts [] ds) w ≡ min 64 (leaves (typeMeant (typeEntries ds) w))
+
+-- a list of checks that pass, in two
+pub pass-both : (cs es : List PlacedCheck) → AllPass (cs ++ es) → AllPass cs × AllPass es
+pass-both [] es h = (no-check-left, h)
+pass-both (checkAt p true ∷ cs) es (one-holds h) = let t = pass-both cs es h in (one-holds (t .0), t .1)
+
+pub passes : {p : ℕ} {b : Bool} {cs : List PlacedCheck} → AllPass (checkAt p b ∷ cs) → b ≡ true
+passes (one-holds h) = refl
+
+pub pass-rest : {p : ℕ} {b : Bool} {cs : List PlacedCheck} → AllPass (checkAt p b ∷ cs) → AllPass cs
+pass-rest (one-holds h) = h
+
+-- the checks after that of a new name
+pub after-new : (D : List DeclaredName) (n : Identifier) {cs : List PlacedCheck} → AllPass (isNew D n ∷ cs) → AllPass cs
+after-new D (identifier v p) h = pass-rest h
+
+-- a name of a pattern that is no type is a constructor
+pub type-or-constructor : (w : List ℕ) (D : List DeclaredName) → isDeclared patternRoles w D ≡ true → isDeclared typeRole w D ≡ false
+    → isDeclared constructorRole w D ≡ true
+type-or-constructor w [] h n = h
+type-or-constructor w (declaredAs v x ∷ D) h n = go (sameName w v) x (type-or-constructor w D) h n
+  where
+    go : (b : Bool) (x : Role)
+        → (isDeclared patternRoles w D ≡ true → isDeclared typeRole w D ≡ false → isDeclared constructorRole w D ≡ true)
+        → cond b (patternRoles x) (isDeclared patternRoles w D) ≡ true → cond b (typeRole x) (isDeclared typeRole w D) ≡ false
+        → cond b (constructorRole x) (isDeclared constructorRole w D) ≡ true
+    go true aType f h n = sym n ∙ h
+    go true aConstructor f h n = refl
+    go true theInput f h n = h
+    go false x f h n = f h n
+
+-- whether a constructor of this name is in the table
+abbrev pub isEntry : List ℕ → List ConstructorEntry → Bool
+isEntry w [] = false
+isEntry w (constructorEntry v t n k ∷ C) = cond (sameName w v) true (isEntry w C)
+
+entry-left : (w : List ℕ) (C C′ : List ConstructorEntry) → isEntry w C ≡ true → isEntry w (C ++ C′) ≡ true
+entry-left w [] C′ h = let no : _≡_ {A = ℕ} 0 1 = cc in let none : ⊥ = omega arith in elim none [ ]
+entry-left w (constructorEntry v t n k ∷ C) C′ h = go (sameName w v) (entry-left w C C′) h
+  where
+    go : (b : Bool) → (isEntry w C ≡ true → isEntry w (C ++ C′) ≡ true) → cond b true (isEntry w C) ≡ true
+        → cond b true (isEntry w (C ++ C′)) ≡ true
+    go true f h = refl
+    go false f h = f h
+
+entry-right : (w : List ℕ) (C C′ : List ConstructorEntry) → isEntry w C′ ≡ true → isEntry w (C ++ C′) ≡ true
+entry-right w [] C′ h = h
+entry-right w (constructorEntry v t n k ∷ C) C′ h = go (sameName w v) (entry-right w C C′ h)
+  where
+    go : (b : Bool) → isEntry w (C ++ C′) ≡ true → cond b true (isEntry w (C ++ C′)) ≡ true
+    go true e = refl
+    go false e = e
+
+-- the table has the count of each of its constructors
+counted : {s : List ℕ} (w : List ℕ) {C : List ConstructorEntry} → AllFlat s C → isEntry w C ≡ true
+    → wordA s (constructorMeant C w .type) ≡ constructorMeant C w .constructors
+counted w none-flat h = let no : _≡_ {A = ℕ} 0 1 = cc in let none : ⊥ = omega arith in elim none [ ]
+counted {s} w (one-flat {v} {t} {n} {k} {C} x a rest) h = go (sameName w v) (counted w rest) h
+  where
+    go : (b : Bool)
+        → (isEntry w C ≡ true → wordA s (constructorMeant C w .type) ≡ constructorMeant C w .constructors)
+        → cond b true (isEntry w C) ≡ true
+        → wordA s (cond b (record { type = t; constructors = n; number = k }) (constructorMeant C w) .type)
+        ≡ cond b (record { type = t; constructors = n; number = k }) (constructorMeant C w) .constructors
+    go true f h = a
+    go false f h = f h
+
+-- and its type
+flat-type : {s : List ℕ} → Headed s → (w : List ℕ) {C : List ConstructorEntry} → AllFlat s C
+    → SaysType s (constructorMeant C w .type) (Flat (constructorMeant C w .type) (constructorMeant C w .constructors))
+flat-type h w none-flat = header-says h
+flat-type {s} h w (one-flat {v} {t} {n} {k} {C} x a rest) = go (sameName w v) (flat-type h w rest)
+  where
+    go : (b : Bool)
+        → SaysType s (constructorMeant C w .type) (Flat (constructorMeant C w .type) (constructorMeant C w .constructors))
+        → SaysType s (cond b (record { type = t; constructors = n; number = k }) (constructorMeant C w) .type)
+        (Flat (cond b (record { type = t; constructors = n; number = k }) (constructorMeant C w) .type)
+        (cond b (record { type = t; constructors = n; number = k }) (constructorMeant C w) .constructors))
+    go true y = x
+    go false y = y
+
+-- a constructor after some declarations was one before them or is one of theirs
+added : (w : List ℕ) (D : List DeclaredName) (cs : List Identifier) (t n k : ℕ)
+    → isDeclared constructorRole w (addAll cs D) ≡ true
+    → (isDeclared constructorRole w D ≡ true) ⊎ (isEntry w (constructorEntriesOf t n k cs) ≡ true)
+added w D [] t n k h = inl h
+added w D (identifier v p ∷ cs) t n k h = further (added w (add aConstructor (identifier v p) D) cs t n (suc k) h)
+  where
+    go : (b : Bool) → cond b true (isDeclared constructorRole w D) ≡ true
+        → (isDeclared constructorRole w D ≡ true) ⊎ (cond b true (isEntry w (constructorEntriesOf t n (suc k) cs)) ≡ true)
+    go true h = inr refl
+    go false h = inl h
+
+    or : (b : Bool) → isEntry w (constructorEntriesOf t n (suc k) cs) ≡ true
+        → cond b true (isEntry w (constructorEntriesOf t n (suc k) cs)) ≡ true
+    or true h = refl
+    or false h = h
+
+    further : (isDeclared constructorRole w (add aConstructor (identifier v p) D) ≡ true)
+        ⊎ (isEntry w (constructorEntriesOf t n (suc k) cs) ≡ true)
+        → (isDeclared constructorRole w D ≡ true)
+        ⊎ (cond (sameName w v) true (isEntry w (constructorEntriesOf t n (suc k) cs)) ≡ true)
+    further (inl x) = go (sameName w v) x
+    further (inr x) = inr (or (sameName w v) x)
+
+no-constructor : (w : List ℕ) (D : List DeclaredName) (t : Identifier) → isDeclared constructorRole w (add aType t D) ≡ true
+    → isDeclared constructorRole w D ≡ true
+no-constructor w D (identifier v p) h = go (sameName w v) h
+  where
+    go : (b : Bool) → cond b false (isDeclared constructorRole w D) ≡ true → isDeclared constructorRole w D ≡ true
+    go true h = let no : _≡_ {A = ℕ} 0 1 = cc in let none : ⊥ = omega arith in elim none [ ]
+    go false h = h
+
+declared-entry : (w : List ℕ) (i : ℕ) (D : List DeclaredName) (ds : List Declaration)
+    → isDeclared constructorRole w (afterAll D ds) ≡ true
+    → (isDeclared constructorRole w D ≡ true) ⊎ (isEntry w (constructorEntriesFrom i ds) ≡ true)
+declared-entry w i D [] h = inl h
+declared-entry w i D (Constructors t c cs ∷ ds) h =
+    further (declared-entry w (suc i) (addAll (c ∷ cs) (add aType t D)) ds h)
+  where
+    here : List ConstructorEntry
+    here = constructorEntriesOf i (length (c ∷ cs)) 1 (c ∷ cs)
+
+    before : (isDeclared constructorRole w (add aType t D) ≡ true) ⊎ (isEntry w here ≡ true)
+        → (isDeclared constructorRole w D ≡ true) ⊎ (isEntry w (here ++ constructorEntriesFrom (suc i) ds) ≡ true)
+    before (inl x) = inl (no-constructor w D t x)
+    before (inr x) = inr (entry-left w here (constructorEntriesFrom (suc i) ds) x)
+
+    further : (isDeclared constructorRole w (addAll (c ∷ cs) (add aType t D)) ≡ true)
+        ⊎ (isEntry w (constructorEntriesFrom (suc i) ds) ≡ true)
+        → (isDeclared constructorRole w D ≡ true) ⊎ (isEntry w (here ++ constructorEntriesFrom (suc i) ds) ≡ true)
+    further (inl x) = before (added w (add aType t D) (c ∷ cs) i (length (c ∷ cs)) 1 x)
+    further (inr x) = inr (entry-right w here (constructorEntriesFrom (suc i) ds) x)
+declared-entry w i D (PairOf t a b ∷ ds) h = further (declared-entry w (suc i) (add aType t D) ds h)
+  where
+    further : (isDeclared constructorRole w (add aType t D) ≡ true) ⊎ (isEntry w (constructorEntriesFrom (suc i) ds) ≡ true)
+        → (isDeclared constructorRole w D ≡ true) ⊎ (isEntry w (constructorEntriesFrom (suc i) ds) ≡ true)
+    further (inl x) = inl (no-constructor w D t x)
+    further (inr x) = inr x
+
+pub a-constructor : (w : List ℕ) (ds : List Declaration) → isDeclared constructorRole w (afterAll atFirst ds) ≡ true
+    → isEntry w (constructorEntries ds) ≡ true
+a-constructor w ds h = go (declared-entry w 1 atFirst ds h)
+  where
+    not-input : (b : Bool) → cond b false false ≡ true → isEntry w (constructorEntries ds) ≡ true
+    not-input true e = cc
+    not-input false e = cc
+
+    go : (isDeclared constructorRole w atFirst ≡ true) ⊎ (isEntry w (constructorEntries ds) ≡ true)
+        → isEntry w (constructorEntries ds) ≡ true
+    go (inl x) = not-input (sameName w input) x
+    go (inr x) = x
+
+-- whether a type of this name is in the table
+abbrev pub isNamed : List ℕ → List TypeEntry → Bool
+isNamed w [] = false
+isNamed w (typeEntry v j τ ∷ T) = cond (sameName w v) true (isNamed w T)
+
+-- the leaf counts are those of the types, up to 64
+pub data Matched : List LeafCount → List TypeEntry → Type 0 where
+  none-matched : Matched [] []
+  one-matched : {v : List ℕ} {n j : ℕ} {τ : Ty} {L : List LeafCount} {T : List TypeEntry}
+      → n ≡ min 64 (leaves τ) → Matched L T → Matched (leafCount v n ∷ L) (typeEntry v j τ ∷ T)
+
+matched-count : (w : List ℕ) {L : List LeafCount} {T : List TypeEntry} → Matched L T → isNamed w T ≡ true
+    → leafCountOf L w ≡ min 64 (leaves (typeMeant T w))
+matched-count w none-matched h = let no : _≡_ {A = ℕ} 0 1 = cc in omega arith
+matched-count w (one-matched {v} {n} {j} {τ} {L} {T} e m) h = go (sameName w v) (matched-count w m) h
+  where
+    go : (b : Bool) → (isNamed w T ≡ true → leafCountOf L w ≡ min 64 (leaves (typeMeant T w))) → cond b true (isNamed w T) ≡ true
+        → cond b n (leafCountOf L w) ≡ min 64 (leaves (cond b τ (typeMeant T w)))
+    go true f h = e
+    go false f h = f h
+
+-- every name that is declared as a type is in the table
+pub record Known (D : List DeclaredName) (T : List TypeEntry) : Type 0 where
+  pub named : (w : List ℕ) → isDeclared typeRole w D ≡ true → isNamed w T ≡ true
+
+no-type-added : (w : List ℕ) (D : List DeclaredName) (cs : List Identifier) → isDeclared typeRole w (addAll cs D) ≡ true
+    → isDeclared typeRole w D ≡ true
+no-type-added w D [] h = h
+no-type-added w D (identifier v p ∷ cs) h = go (sameName w v) (no-type-added w (add aConstructor (identifier v p) D) cs h)
+  where
+    go : (b : Bool) → cond b false (isDeclared typeRole w D) ≡ true → isDeclared typeRole w D ≡ true
+    go true h = let no : _≡_ {A = ℕ} 0 1 = cc in let none : ⊥ = omega arith in elim none [ ]
+    go false h = h
+
+known-type : (D : List DeclaredName) (T : List TypeEntry) (t : Identifier) (j : ℕ) (τ : Ty) → Known D T
+    → Known (add aType t D) (typeEntry (letters t) j τ ∷ T)
+known-type D T (identifier v p) j τ k = record { named = λ w. go w (sameName w v) }
+  where
+    go : (w : List ℕ) (b : Bool) → cond b true (isDeclared typeRole w D) ≡ true → cond b true (isNamed w T) ≡ true
+    go w true h = refl
+    go w false h = k .named w h
+
+known-constructors : (D : List DeclaredName) (T : List TypeEntry) (cs : List Identifier) → Known D T → Known (addAll cs D) T
+known-constructors D T cs k = record { named = λ w h. k .named w (no-type-added w D cs h) }
+
+pub after-known : (i : ℕ) (D : List DeclaredName) (T : List TypeEntry) (d : Declaration) → Known D T
+    → Known (afterDeclaration D d) (afterEntry i T d)
+after-known i D T (Constructors t c cs) k =
+    known-constructors (add aType t D) (afterEntry i T (Constructors t c cs)) (c ∷ cs) (known-type D T t i (Flat i (length (c ∷ cs))) k)
+after-known i D T (PairOf t a b) k = known-type D T t i (TyTuple (typeMeant T (letters a)) (typeMeant T (letters b))) k
+
+pub types-known : (i : ℕ) (D : List DeclaredName) (T : List TypeEntry) (L : List LeafCount) (ds : List Declaration) → Known D T → Matched L T
+    → AllPass (declarationsChecks D ds)
+    → Known (afterAll D ds) (typeEntriesFrom i T ds) × Matched (leafCounts L ds) (typeEntriesFrom i T ds)
+types-known i D T L [] k m h = (k, m)
+types-known i D T L (Constructors t c cs ∷ ds) k m h =
+    types-known (suc i) (afterDeclaration D (Constructors t c cs)) (afterEntry i T (Constructors t c cs)) (leafCount (letters t) 1 ∷ L) ds
+    (after-known i D T (Constructors t c cs) k)
+    (one-matched refl m)
+    (pass-both (declarationChecks D (Constructors t c cs)) (declarationsChecks (afterDeclaration D (Constructors t c cs)) ds) h .1)
+types-known i D T L (PairOf (identifier v r) (identifier a p) (identifier b q) ∷ ds) k m h =
+    let t = identifier v r in
+    let both =
+    pass-both (declarationChecks D (PairOf t (identifier a p) (identifier b q)))
+    (declarationsChecks (afterDeclaration D (PairOf t (identifier a p) (identifier b q))) ds) h in
+    let parts = pass-rest (both .0) in
+    let f = matched-count a m (k .named a (passes parts)) in
+    let g = matched-count b m (k .named b (passes (pass-rest parts))) in
+    types-known (suc i) (add aType t D) (afterEntry i T (PairOf t (identifier a p) (identifier b q)))
+    (leafCount (letters t) (min 64 (leafCountOf L a + leafCountOf L b)) ∷ L) ds
+    (known-type D T t i (TyTuple (typeMeant T a) (typeMeant T b)) k)
+    (one-matched (rw (f, g) (omega arith)) m)
+    (both .1)
+
+not-a-type : (b : Bool) → cond b false false ≡ true → false ≡ true
+not-a-type true e = e
+not-a-type false e = e
+
+pub no-type : Known atFirst []
+no-type = record { named = λ w. not-a-type (sameName w input) }
+
+at-record : {s : List ℕ} {j : ℕ} {τ : Ty} → SaysType s j τ → typeAt s j ≡ τ
+unfolding typeAt
+at-record {s} {j} x = x .within (suc j) (omega arith)
+
+pub tables : {s : List ℕ} → Headed s → (ds : List Declaration) → Stands s 1 (typesLaid 1 [] ds) → AllPass (declarationsChecks atFirst ds)
+    → Tables s ds
+tables {s} h ds st good =
+    let say = entries-say h (omega arith) none-say ds st in
+    let flat = constructors-flat h [] ds st in
+    let known = types-known 1 atFirst [] [] ds no-type none-matched good in
+    record {
+      types = λ w. at-record (number-says h (omega arith) say w .1);
+      perhaps = λ w. at-record (or-says h (omega arith) say w);
+      constructors = λ w. at-record (flat-type h w flat);
+      counts = λ w c. counted w flat (a-constructor w ds c);
+      leaf-counts = λ w d. matched-count w (known .1) (known .0 .named w d);
+    }

@@ -1,0 +1,5 @@
+-- A text as a sheet (request (a), codes 0 and 15). To believe: what the names stand for, the records, and the expression with distances.
+pub mod Resolved
+pub mod Distances
+pub mod Layout
+pub mod Promises
