@@ -1,4 +1,4 @@
-/* What both examples need: reading a file into memory. */
+/* What all examples need: reading a file into memory. */
 #ifndef READ_FILE_H
 #define READ_FILE_H
 

@@ -23,6 +23,12 @@ void written_runs(void);
 /* Runs refused with codes 8 to 11, and with several that apply. */
 void refused_runs(void);
 
+/* Values carried into a new sheet, small ones worked out by hand and those at the limits; every refusal. */
+void carries(void);
+
+/* The outputs of one cycle that is not taken, small ones worked out by hand and those at the limits; every refusal. */
+void previews(void);
+
 /* What a run of a sheet at a limit gives in each cycle. The input is flat or has as many leaves as the output, if not said. */
 enum answer {
     /* The sheet is refused. */
@@ -38,6 +44,9 @@ enum answer {
     DELAYED_INSIDE,
     DELAYED_IN_A_ROW
 };
+
+/* Which alternatives fire in one cycle, worked out by hand and on the sheets at the limits; every refusal. */
+void firings(void);
 
 /* Sheets at a limit of docs/SHEETS.md and just past it, among them the deepest and the longest. */
 struct limit_case {
@@ -56,6 +65,9 @@ extern const size_t limit_count;
 
 /* Writes the sheet of a case and gives its length. */
 size_t limit_sheet(const struct limit_case *one, uint8_t *bytes);
+
+/* The same with a label at each delay and one value in all leaves of delays, where the sheet is accepted. */
+size_t labelled_limit_sheet(const struct limit_case *one, uint8_t *bytes, uint8_t value);
 
 void limits_checked(void);
 

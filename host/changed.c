@@ -72,6 +72,11 @@ static const struct changed_case cases[] = {
     /* Type 1 has one constructor, so pattern 10 names one above the count; pattern 7 does not. */
     {"record: pattern above a smaller count", 1, {{1, A, 1}}, SHEET_WRONG_RECORD, 10},
     {"record: leaf of 256", 1, {{4, A, 256}}, SHEET_WRONG_RECORD, 4},
+    /* Any label at a delay, also one past the count; none elsewhere. */
+    {"a label", 1, {{3, D, 1}}, SHEET_ACCEPTED, 1},
+    {"the greatest label", 1, {{3, D, 65535}}, SHEET_ACCEPTED, 1},
+    {"record: label at a feedback", 1, {{2, D, 1}}, SHEET_WRONG_RECORD, 2},
+    {"record: label at a constant", 1, {{11, D, 1}}, SHEET_WRONG_RECORD, 11},
     {"record: type word 0", 1, {{3, A, 0}}, SHEET_WRONG_RECORD, 3},
     {"record: type word its own number", 1, {{3, A, 3}}, SHEET_WRONG_RECORD, 3},
     {"record: type word no type", 1, {{3, A, 2}}, SHEET_WRONG_RECORD, 3},

@@ -12,8 +12,8 @@
 #include "room.h"
 #include "sheet.h"
 
-/* The rooms of the four slices of a run, for each side. */
-static struct room sheets[SIDES], stims[SIDES], outs[SIDES], nexts[SIDES];
+/* The rooms of the four slices of a run, for each side; and of a second sheet. */
+static struct room sheets[SIDES], stims[SIDES], outs[SIDES], nexts[SIDES], second_sheets[SIDES];
 
 /* What the slices that a run fills hold beforehand: a byte left as it is differs between the two calls. */
 static const uint8_t fills[SIDES] = {0xa5, 0x5a};
@@ -28,6 +28,7 @@ void guard_open(void)
         room_open(&stims[side], SHEET_LONGEST_STIMULUS + 1);
         room_open(&outs[side], 64 * SHEET_LONGEST_STIMULUS);
         room_open(&nexts[side], MOST_BYTES);
+        room_open(&second_sheets[side], MOST_BYTES);
     }
 }
 
@@ -52,6 +53,11 @@ void guard_thread(void)
         perror("sigaction");
         exit(1);
     }
+}
+
+void guard_name(const char *name)
+{
+    current = name;
 }
 
 void tally(int passed, const char *name, const char *what)
@@ -113,6 +119,36 @@ struct run_answer guarded_run(const char *name, const struct run_call *call)
     return one;
 }
 
+/* What a call that carries values gave. The slice stands until the next call. */
+struct carry_answer {
+    uint64_t result;
+    const uint8_t *next;
+    int untouched;
+};
+
+static struct carry_answer lend_two(const struct carry_call *call, enum side side)
+{
+    const uint8_t *old_sheet = room_copy(&sheets[side], side, call->old_sheet, call->old_length);
+    const uint8_t *new_sheet = room_copy(&second_sheets[side], side, call->new_sheet, call->new_length);
+    uint8_t *next = room_fill(&nexts[side], side, call->next_length, fills[side]);
+    uint64_t result = sheet_carry(old_sheet, call->old_length, new_sheet, call->new_length, next, call->next_length);
+    return (struct carry_answer){result, next, all_are(next, call->next_length, fills[side])};
+}
+
+static struct carry_answer guarded_carry(const char *name, const struct carry_call *call)
+{
+    current = name;
+    struct carry_answer one = lend_two(call, PAGE_AFTER), other = lend_two(call, PAGE_BEFORE);
+    current = "none";
+    int equal = memcmp(one.next, other.next, call->next_length) == 0;
+    if (one.result != other.result || one.untouched != other.untouched || (!one.untouched && !equal))
+        tally(0, name, "two calls on the same bytes differ");
+    for (enum side side = 0; side < SIDES; side++)
+        if (!room_kept(&nexts[side], side, call->next_length, fills[side]))
+            tally(0, name, "the call writes beyond a slice");
+    return one;
+}
+
 static void tally_result(const char *name, const char *call, uint64_t result, uint32_t code, uint32_t place)
 {
     char what[128];
@@ -154,6 +190,20 @@ void expect(const char *name, const uint8_t *sheet, size_t length, uint32_t code
     struct run_call call = {sheet, length, stim, accepted ? 0 : sizeof stim, 5, 7};
     tally_result(name, "check", guarded_check(name, sheet, length), code, place);
     expect_refused(name, &call, accepted ? SHEET_WRONG_OUTPUT_LENGTH : code, place * !accepted);
+}
+
+void expect_carry_refused(const char *name, const struct carry_call *call, uint32_t code, uint32_t place)
+{
+    struct carry_answer answer = guarded_carry(name, call);
+    tally_result(name, "carry", answer.result, code, place);
+    tally(answer.untouched, name, "the refused call alters a slice");
+}
+
+void expect_carried(const char *name, const struct carry_call *call, const uint8_t *next)
+{
+    struct carry_answer answer = guarded_carry(name, call);
+    tally_result(name, "carry", answer.result, SHEET_ACCEPTED, 0);
+    tally_bytes(name, "next", answer.next, next, call->next_length);
 }
 
 static int possible(uint32_t code, uint32_t place, size_t length)

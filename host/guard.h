@@ -1,4 +1,4 @@
-/* Calls of the check and of the run on slices that lie against unreadable pages, and the tally of what they gave. */
+/* Calls on slices that lie against unreadable pages, and the tally of what they gave. */
 #ifndef GUARD_H
 #define GUARD_H
 
@@ -10,6 +10,9 @@ void guard_open(void);
 
 /* Has a fault on this thread, a slice overrun or a stack overflow, reported with the name of the call. */
 void guard_thread(void);
+
+/* Names the call that is made from here on, for such a report. */
+void guard_name(const char *name);
 
 /* Counts one passed or failed, and says what failed. */
 void tally(int passed, const char *name, const char *what);
@@ -52,6 +55,21 @@ void expect_refused(const char *name, const struct run_call *call, uint32_t code
 
 /* The run must do so many cycles and fill the two slices with these bytes. */
 void expect_run(const char *name, const struct run_call *call, uint32_t cycles, const uint8_t *out, const uint8_t *next);
+
+/* What a call that carries values is lent: two slices to read, and the length of one to fill. */
+struct carry_call {
+    const uint8_t *old_sheet;
+    size_t old_length;
+    const uint8_t *new_sheet;
+    size_t new_length;
+    size_t next_length;
+};
+
+/* The call, made twice as a run is, must be refused with this code at this place, and leave the next slice as it is. */
+void expect_carry_refused(const char *name, const struct carry_call *call, uint32_t code, uint32_t place);
+
+/* The call, made twice, must give 0 at 0 and fill the next slice with these bytes. */
+void expect_carried(const char *name, const struct carry_call *call, const uint8_t *next);
 
 /*
  * The verdict must be this one. A run whose stimulus and lengths are wrong too must be refused with the same; where the verdict is

@@ -88,6 +88,36 @@ static void alternatives(struct draft *draft, const struct limit_case *one)
     }
 }
 
+/* IFs in each other's three parts, so many; every other part is the input. */
+static void choices(struct draft *draft, struct place at, size_t count)
+{
+    if (count == 0) {
+        name(draft, at.namer, at.word, 0);
+        return;
+    }
+    uint16_t choice = draft_part(draft, at.namer, at.word, IF);
+    for (enum word part = A; part <= C; part++)
+        choices(draft, (struct place){choice, part}, (count - 1 + (size_t)(part - A)) / 3);
+}
+
+/* 512 IFs, which have 1,025 names for parts, on one chain of 2,048 alternatives: constructor 2, as the last record of all. */
+static void shared_pattern(struct draft *draft, const struct limit_case *one)
+{
+    begin(draft);
+    fill(draft, 1, one->size, 512 + 1025 + 2048);
+    choices(draft, root, 512);
+    uint16_t first = (uint16_t)draft->count;
+    for (size_t record = 1; record < first; record++)
+        if (draft->words[record][KIND] == IF)
+            draft->words[record][D] = first;
+    for (uint16_t at = draft_add(draft, CONSTRUCTOR);; at = draft_part(draft, at, NEXT, CONSTRUCTOR)) {
+        draft->words[at][A] = 1;
+        draft->words[at][B] = 2;
+        if (draft->count == one->size)
+            return;
+    }
+}
+
 /* A constant of a flat type with as many leaves as there are records left. */
 static void leaf_chain(struct draft *draft, const struct limit_case *one)
 {
@@ -235,6 +265,8 @@ const struct limit_case limit_cases[] = {
     /* The longest. All names have type 1, the constants type 64; the one constant of record 2 has leaves too many. */
     {"4,096 records: names", wide, 4096, 0, 0, SHEET_ACCEPTED, 1, INPUT},
     {"4,096 records: alternatives", alternatives, 4096, 0, 0, SHEET_ACCEPTED, 1, INPUT},
+    /* On 1 and 0 every IF comes to the end of the chain; whatever they say, all parts are the input. */
+    {"4,096 records: IFs on one pattern", shared_pattern, 4096, 0, 0, SHEET_ACCEPTED, 1, INPUT},
     {"4,096 records: one chain of leaves", leaf_chain, 4096, 0, 0, SHEET_ILL_TYPED, 2, NO_RUN},
     {"4,096 records: constants", in_a_row, 4096, CONSTANT, 0, SHEET_ACCEPTED, 64, UNDEFINED},
     /* Each delay holds what the name of the one before it gave; the first one, with the lowest number, holds the newest. */

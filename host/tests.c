@@ -1,5 +1,5 @@
 /*
- * Tests of the check and the run as a host in C calls them: verdicts and outputs worked out by hand, slices against unreadable
+ * Tests of the calls as a host in C makes them: verdicts and outputs worked out by hand, slices against unreadable
  * pages, and a small stack.
  * Prints what failed, what was measured, and at last `N passed, M failed`; status 0 only where none failed.
  */
@@ -93,20 +93,39 @@ static void all_calls(void)
     limits_checked();
     runs_of_t();
     written_runs();
+    firings();
     refused_runs();
+    previews();
     limits_run();
+    carries();
     lengths();
     damaged_bytes();
     random_sheets();
 }
 
-/* Calls on a sheet at a limit, which stands in `bytes`. */
+/* Calls on a sheet at a limit, which stands in `bytes`, and again, with other delays, in `other_bytes`. */
 static size_t limit_length;
-static uint8_t stim[64], out[64], next[MOST_BYTES];
+static uint8_t stim[64], out[64], next[MOST_BYTES], other_bytes[MOST_BYTES];
+
+/* The alternatives that fire, with one leaf of input or 64. */
+static void one_firing(void)
+{
+    static uint16_t words[MOST_RECORDS];
+    for (size_t inputs = 1; inputs <= 64; inputs += 63)
+        sheet_fired(bytes, limit_length, stim, inputs, words, limit_length / RECORD_BYTES);
+}
 
 static void one_check(void)
 {
     sheet_check(bytes, limit_length);
+}
+
+/* The preview of one cycle, with one leaf or 64 in and out. */
+static void one_preview(void)
+{
+    for (size_t inputs = 1; inputs <= 64; inputs += 63)
+        for (size_t outputs = 1; outputs <= 64; outputs += 63)
+            sheet_preview(bytes, limit_length, stim, inputs, out, outputs);
 }
 
 /* The run of one cycle: the stimulus and the output have one leaf, or 64. */
@@ -117,6 +136,11 @@ static void one_run(void)
             sheet_run(bytes, limit_length, stim, inputs, out, outputs, next, limit_length);
 }
 
+static void one_carry(void)
+{
+    sheet_carry(bytes, limit_length, other_bytes, limit_length, next, limit_length);
+}
+
 /* The most stack that a call uses on the sheets at the limits, against the figure in sheet.h. */
 static void measure(const char *name, void (*call)(void), size_t figure)
 {
@@ -124,7 +148,8 @@ static void measure(const char *name, void (*call)(void), size_t figure)
     const char *worst = "";
     memset(stim, 1, sizeof stim);
     for (size_t k = 0; k < limit_count; k++) {
-        limit_length = limit_sheet(&limit_cases[k], bytes);
+        limit_length = labelled_limit_sheet(&limit_cases[k], bytes, 1);
+        labelled_limit_sheet(&limit_cases[k], other_bytes, 2);
         size_t used = stack_used(call);
         if (used > most) {
             most = used;
@@ -141,9 +166,10 @@ static void header_calls(void)
 {
     uint64_t result = (uint64_t)SHEET_ILL_TYPED << 32 | 4095;
     tally(sheet_code_of(result) == 7 && sheet_place_of(result) == 4095, "sheet.h", "a result taken apart");
-    for (uint32_t code = 0; code <= SHEET_NO_FILE; code++)
-        for (uint32_t other = code + 1; other <= SHEET_NO_FILE + 1; other++)
-            tally(strcmp(sheet_sentence(code), sheet_sentence(other)) != 0, "sheet.h", "two codes with one sentence");
+    static const uint32_t codes[] = {0, 1, 2, 3, 4, 5, 6, 7, 8, 9, 10, 11, 12, SHEET_NEW_SHEET_REFUSED, SHEET_LABEL_TWICE, 255};
+    for (size_t one = 0; one < sizeof codes / sizeof *codes; one++)
+        for (size_t other = 0; other < one; other++)
+            tally(strcmp(sheet_sentence(codes[one]), sheet_sentence(codes[other])) != 0, "sheet.h", "two codes with one sentence");
 }
 
 int main(void)
@@ -155,7 +181,10 @@ int main(void)
     puts("all calls were made on the program's own stack");
     on_small_stack(all_calls);
     printf("all calls were made on a stack of %d bytes\n", (int)SMALL_STACK);
+    measure("fired", one_firing, SHEET_FIRED_STACK);
     measure("check", one_check, SHEET_CHECK_STACK);
+    measure("preview", one_preview, SHEET_PREVIEW_STACK);
     measure("run", one_run, SHEET_RUN_STACK);
+    measure("carry", one_carry, SHEET_CARRY_STACK);
     return tally_end();
 }

@@ -6,7 +6,7 @@
 #include "guard.h"
 #include "sheet.h"
 
-enum { MOST_WRITTEN = 13 };
+enum { MOST_WRITTEN = 15 };
 
 struct written_case {
     const char *name;
@@ -42,6 +42,86 @@ static const struct written_case cases[] = {
     {"naming: both parts one", 6, {{1, 1, 1, 3, 6}, {16, 2, 2}, {17, 0, 1, 1}, {34, 0, 4, 4}, {33}, {33}}, SHEET_WRONG_NAMING, 4},
     /* A leaf in no chain. */
     {"naming: loose leaf", 4, {{1, 1, 1, 2, 4}, {16, 0, 2}, {33}, {64}}, SHEET_WRONG_NAMING, 3},
+
+    /* Patterns that IFs share: 2 and 4 name 9, the first of two alternatives, by their words d. */
+    {"two IFs on one pattern",
+     11,
+     {{1, 1, 1, 2, 11}, {16, 0, 3}, {39, 0, 3, 4, 8, 9}, {33}, {39, 0, 5, 6, 7, 9}, {33}, {33}, {33}, {33}, {49, 10, 1, 1},
+      {49, 0, 1, 3}},
+     SHEET_ACCEPTED,
+     1},
+    /* 10, its second alternative, is named by 9's next and by a word d, of either IF or of both; of both, 9 is named by none. */
+    {"naming: tail of a chain, by then's IF",
+     11,
+     {{1, 1, 1, 2, 11}, {16, 0, 3}, {39, 0, 3, 4, 8, 9}, {33}, {39, 0, 5, 6, 7, 10}, {33}, {33}, {33}, {33}, {49, 10, 1, 1},
+      {49, 0, 1, 3}},
+     SHEET_WRONG_NAMING,
+     10},
+    {"naming: tail of a chain, by the outer IF",
+     11,
+     {{1, 1, 1, 2, 11}, {16, 0, 3}, {39, 0, 3, 4, 8, 10}, {33}, {39, 0, 5, 6, 7, 9}, {33}, {33}, {33}, {33}, {49, 10, 1, 1},
+      {49, 0, 1, 3}},
+     SHEET_WRONG_NAMING,
+     10},
+    {"naming: tail of a chain, by both IFs",
+     11,
+     {{1, 1, 1, 2, 11}, {16, 0, 3}, {39, 0, 3, 4, 8, 10}, {33}, {39, 0, 5, 6, 7, 10}, {33}, {33}, {33}, {33}, {49, 10, 1, 1},
+      {49, 0, 1, 3}},
+     SHEET_WRONG_NAMING,
+     9},
+    /* 11 follows 9 and 10, the patterns of the two IFs. */
+    {"naming: one alternative after two",
+     12,
+     {{1, 1, 1, 2, 12}, {16, 0, 3}, {39, 0, 3, 4, 8, 9}, {33}, {39, 0, 5, 6, 7, 10}, {33}, {33}, {33}, {33}, {49, 11, 1, 1},
+      {49, 11, 1, 2}, {49, 0, 1, 3}},
+     SHEET_WRONG_NAMING,
+     11},
+    /* Type 2 is (1, 1), and 10 a pair pattern that 3 and 5 share; its parts are 11 and 12. */
+    {"two IFs on one pair pattern",
+     13,
+     {{1, 1, 2, 3, 13}, {16, 2, 2}, {17, 0, 1, 1}, {39, 0, 4, 5, 9, 10}, {33}, {39, 0, 6, 7, 8, 10}, {33}, {33}, {33}, {33},
+      {50, 0, 11, 12}, {48, 0, 1}, {49, 0, 1, 2}},
+     SHEET_ACCEPTED,
+     2},
+    /* 11 is a part of 10, and 5's word d names it too; 7 applies as well, but 4 is lower. */
+    {"naming: part of a pair pattern, by an IF",
+     13,
+     {{1, 1, 2, 3, 13}, {16, 2, 2}, {17, 0, 1, 1}, {39, 0, 4, 5, 9, 10}, {33}, {39, 0, 6, 7, 8, 11}, {33}, {33}, {33}, {33},
+      {50, 0, 11, 12}, {48, 0, 1}, {49, 0, 1, 2}},
+     SHEET_WRONG_NAMING,
+     11},
+    /* Both parts of 10 are 11. */
+    {"naming: both parts of a pair pattern one",
+     12,
+     {{1, 1, 2, 3, 12}, {16, 2, 2}, {17, 0, 1, 1}, {39, 0, 4, 5, 9, 10}, {33}, {39, 0, 6, 7, 8, 10}, {33}, {33}, {33}, {33},
+      {50, 0, 11, 11}, {48, 0, 1}},
+     SHEET_WRONG_NAMING,
+     11},
+    /* 12 is a part of 10 and of 11, the patterns of the two IFs. */
+    {"naming: a part of two pair patterns",
+     15,
+     {{1, 1, 2, 3, 15}, {16, 2, 2}, {17, 0, 1, 1}, {39, 0, 4, 5, 9, 10}, {33}, {39, 0, 6, 7, 8, 11}, {33}, {33}, {33}, {33},
+      {50, 0, 12, 13}, {50, 0, 12, 14}, {48, 0, 1}, {48, 0, 1}, {48, 0, 1}},
+     SHEET_WRONG_NAMING,
+     12},
+    /* 12 is the second part of 10 and follows the first. */
+    {"naming: a part that is a next",
+     13,
+     {{1, 1, 2, 3, 13}, {16, 2, 2}, {17, 0, 1, 1}, {39, 0, 4, 5, 9, 10}, {33}, {39, 0, 6, 7, 8, 10}, {33}, {33}, {33}, {33},
+      {50, 0, 11, 12}, {48, 12, 1}, {48, 0, 1}},
+     SHEET_WRONG_NAMING,
+     12},
+    /* What is no pattern is not shared: 6, an expression; 6, a leaf. */
+    {"naming: one branch for two",
+     9,
+     {{1, 1, 1, 2, 9}, {16, 0, 3}, {39, 0, 3, 4, 7, 8}, {33}, {39, 0, 5, 6, 6, 8}, {33}, {33}, {33}, {49, 0, 1, 1}},
+     SHEET_WRONG_NAMING,
+     6},
+    {"naming: one leaf for two constants",
+     7,
+     {{1, 1, 1, 3, 7}, {16, 2, 2}, {17, 0, 1, 1}, {34, 0, 4, 5}, {32, 0, 1, 6}, {32, 0, 1, 6}, {64}},
+     SHEET_WRONG_NAMING,
+     6},
 
     /* Code 5. 3 has the parts of 2. */
     {"type: the same pair again", 5, {{1, 1, 1, 4, 5}, {16, 2, 2}, {17, 3, 1, 1}, {17, 0, 1, 1}, {33}}, SHEET_WRONG_TYPE, 3},
@@ -145,6 +225,28 @@ static const struct written_case cases[] = {
       {48, 0, 1}, {33}, {33}},
      SHEET_ILL_TYPED,
      4},
+
+    /* 3 tests the input, of type 1, and its then part, 5, a constant of type 2; they share a pattern. Of type 1 it is wrong for 5,
+     * of type 2 for 3, which judges its pattern before its then part. */
+    {"typing: shared pattern of the outer IF's type",
+     12,
+     {{1, 1, 1, 3, 12}, {16, 2, 2}, {16, 0, 2}, {39, 0, 4, 5, 10, 11}, {33}, {39, 0, 6, 8, 9, 11}, {32, 0, 2, 7}, {64}, {33},
+      {33}, {33}, {48, 0, 1}},
+     SHEET_ILL_TYPED,
+     5},
+    {"typing: shared pattern of the inner IF's type",
+     12,
+     {{1, 1, 1, 3, 12}, {16, 2, 2}, {16, 0, 2}, {39, 0, 4, 5, 10, 11}, {33}, {39, 0, 6, 8, 9, 11}, {32, 0, 2, 7}, {64}, {33},
+      {33}, {33}, {48, 0, 2}},
+     SHEET_ILL_TYPED,
+     3},
+    /* The same with 5 for the tested part of 3: both test type 2, 5 by its constant and 3 the value of 5, the input's type 1. */
+    {"typing: shared pattern, an IF in the tested part",
+     12,
+     {{1, 1, 1, 3, 12}, {16, 2, 2}, {16, 0, 2}, {39, 0, 4, 9, 10, 11}, {39, 0, 5, 7, 8, 11}, {32, 0, 2, 6}, {64}, {33}, {33},
+      {33}, {33}, {48, 0, 2}},
+     SHEET_ILL_TYPED,
+     3},
 
     /* A feedback of type 2 whose defining part, the input, has type 1: reported at the feedback, after its body. */
     {"typing: defining part of another type",

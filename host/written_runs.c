@@ -7,7 +7,7 @@
 #include "guard.h"
 #include "sheet.h"
 
-enum { MOST_WRITTEN = 16, MOST_STIM = 14, MOST_HELD = 2 };
+enum { MOST_WRITTEN = 20, MOST_STIM = 14, MOST_HELD = 2 };
 
 struct held {
     uint16_t leaf, value;
@@ -64,6 +64,23 @@ static const struct written_run runs[] = {
       {50, 0, 9, 10}, {49, 0, 1, 2}, {49, 0, 1, 2}, {32, 0, 1, 12}, {64, 0, 1}, {32, 0, 1, 14}, {64, 0, 2}},
      6, 12, 6, {0, 0, 1, 1, 2, 2, 1, 2, 1, 0, 0, 2}, {0, 1, 1, 2, 0, 0}, 0, {{0}}},
 
+    /* Shared patterns: 1|3, from 9. IF the input is 1|3 THEN (IF the input is 1|3 THEN 2 ELSE the input) ELSE the input. On 0 the
+     * inner IF is undecided between 2 and 0, and the outer one between 0 and 0. */
+    {"two IFs on one pattern",
+     12,
+     {{1, 1, 1, 2, 12}, {16, 0, 3}, {39, 0, 3, 4, 11, 9}, {33}, {39, 0, 5, 6, 8, 9}, {33}, {32, 0, 1, 7}, {64, 0, 2}, {33},
+      {49, 10, 1, 1}, {49, 0, 1, 3}, {33}},
+     4, 4, 4, {0, 1, 2, 3}, {0, 2, 2, 2}, 0, {{0}}},
+    /* Pattern 2 for three IFs: IF (IF the input is 2 THEN 1 ELSE 2) is 2 THEN (IF a delay, from 2, of the input is 2 THEN 3 ELSE 1)
+     * ELSE 2. The delay holds 2, 1, 2, 3, 0 in the cycles, and 1 at the end. In cycle 3, on 0, the tested part is undecided between
+     * 1 and 2, and the branches are 1 and 2; in cycle 4 the then part is undecided between 3 and 1. */
+    {"three IFs on one pattern",
+     20,
+     {{1, 1, 1, 2, 20}, {16, 0, 3}, {39, 0, 3, 9, 17, 19}, {39, 0, 4, 5, 7, 19}, {33}, {32, 0, 1, 6}, {64, 0, 1}, {32, 0, 1, 8},
+      {64, 0, 2}, {39, 0, 10, 13, 15, 19}, {40, 0, 1, 11, 12}, {64, 0, 2}, {33}, {32, 0, 1, 14}, {64, 0, 3}, {32, 0, 1, 16},
+      {64, 0, 1}, {32, 0, 1, 18}, {64, 0, 2}, {49, 0, 1, 2}},
+     5, 5, 5, {1, 2, 3, 0, 1}, {3, 2, 3, 0, 0}, 1, {{11, 1}}},
+
     /* Undecided IFs. IF the input is 1 THEN (1,2) ELSE (1,1): on 0 the first leaf is agreed on, the second is not. */
     {"branches that agree in one leaf",
      12,
@@ -104,6 +121,11 @@ static const struct written_run runs[] = {
     {"a delay",
      5,
      {{1, 1, 1, 2, 5}, {16, 0, 3}, {40, 0, 1, 3, 4}, {64}, {33}},
+     4, 4, 4, {3, 0, 2, 1}, {0, 3, 0, 2}, 1, {{3, 1}}},
+    /* The same with a label, which stays in the next sheet. */
+    {"a labelled delay",
+     5,
+     {{1, 1, 1, 2, 5}, {16, 0, 3}, {40, 0, 1, 3, 4, 513}, {64}, {33}},
      4, 4, 4, {3, 0, 2, 1}, {0, 3, 0, 2}, 1, {{3, 1}}},
     /* IF the input is 1 THEN a delay of the input, from 2, ELSE another, from 3. Both advance in each cycle, also on 0,
      * where both hold 1. */

@@ -1,10 +1,16 @@
 /*
- * sheet.h: sheets of picoELLA circuits, checked and run. For hosts in C (C99 or later) and C++.
+ * sheet.h: sheets of picoELLA circuits, checked, run and previewed. For hosts in C (C99 or later) and C++.
  *
  *     uint64_t sheet_check(sheet, length)
  *         Is the sheet well formed and well typed, and what is the type of its output?
  *     uint64_t sheet_run(sheet, sheet_length, stim, stim_length, out, out_length, next, next_length)
  *         What does it put out, cycle by cycle, and what is the sheet then?
+ *     uint64_t sheet_carry(old_sheet, old_length, new_sheet, new_length, next, next_length)
+ *         What is the new sheet with what the delays of the old one hold, by their labels?
+ *     uint64_t sheet_fired(sheet, sheet_length, stim, stim_length, fired, fired_length)
+ *         Which alternative of each IF says yes first in one cycle?
+ *     uint64_t sheet_preview(sheet, sheet_length, stim, stim_length, out, out_length)
+ *         What would it put out for one cycle, without taking it?
  *
  * A result holds a code and a place: take them with sheet_code_of and sheet_place_of, and turn a code into a sentence with
  * sheet_sentence. What a sheet is, what a cycle computes and when each code is given is in docs/SHEETS.md.
@@ -12,7 +18,7 @@
  * RULES FOR EVERY CALL
  *
  * - A slice is lent as a pointer to its first byte and then its length in bytes. The pointer is valid even where the length is 0:
- *   never null.
+ *   never null. A slice of 16-bit words has its length in words, and its pointer is aligned to 2.
  * - Slices lent to one call do not overlap, and nothing else writes to them while the call runs.
  * - A call touches nothing but the slices lent to it and its stack: it allocates nothing, keeps no pointer and no state. Several
  *   threads may call at the same time.
@@ -30,7 +36,7 @@
  *
  *     cc -Iinclude host.c target/staticlib/libsheets.a
  *
- * examples/check.c and examples/run.c are whole hosts.
+ * examples/check.c, examples/run.c, examples/carry.c, examples/fired.c and examples/preview.c are whole hosts.
  */
 #ifndef SHEET_H
 #define SHEET_H
@@ -47,11 +53,11 @@ extern "C" {
  * be, the second where a call or a code is added, the third where neither is so.
  */
 #define SHEET_VERSION_MAJOR 1
-#define SHEET_VERSION_MINOR 1
+#define SHEET_VERSION_MINOR 4
 #define SHEET_VERSION_PATCH 0
 
 /* The same as text, and as one number to compare: 1.2.3 is 10203. */
-#define SHEET_VERSION "1.1.0"
+#define SHEET_VERSION "1.4.0"
 #define SHEET_VERSION_NUMBER (SHEET_VERSION_MAJOR * 10000 + SHEET_VERSION_MINOR * 100 + SHEET_VERSION_PATCH)
 
 /* The most bytes that a sheet may have: 4,096 records of 12. */
@@ -68,10 +74,10 @@ extern "C" {
  * place says; sheet_sentence has a sentence on it for people.
  */
 enum sheet_code {
-    /* The check's place is the record of the output's type, a run's the number of cycles done. */
+    /* The check's place is the record of the output's type, a run's the number of cycles done, that of every other call 0. */
     SHEET_ACCEPTED = 0,
 
-    /* The sheet is refused, by the check and by a run. */
+    /* The sheet is refused, by every call; in carrying, the old one. */
     /* Place 0. */
     SHEET_WRONG_LENGTH = 1,
     /* Place 0, which is the header's record. */
@@ -84,17 +90,26 @@ enum sheet_code {
     /* The first record that breaks a type rule, parts before the whole. */
     SHEET_ILL_TYPED = 7,
 
-    /* The sheet is accepted and the run is refused. */
+    /* The sheet is accepted and the run or the preview is refused. */
     /* Place 0. */
     SHEET_WRONG_STIMULUS = 8,
     /* The first such byte of the stimulus, counted from 0. */
     SHEET_WRONG_INPUT = 9,
-    /* Codes 10 and 11: the length that is needed, in bytes. */
+    /* Codes 10 and 11: the length that is needed, in bytes. Carrying gives 11 too. */
     SHEET_WRONG_OUTPUT_LENGTH = 10,
     SHEET_WRONG_NEXT_LENGTH = 11,
 
     /* Of programs, not of calls: 1 is the sheet's file, 2 the stimulus's. */
-    SHEET_NO_FILE = 12
+    SHEET_NO_FILE = 12,
+
+    /* Of sheet_fired: the number of words that is needed. */
+    SHEET_WRONG_WORDS = 16,
+
+    /* The old sheet is accepted and carrying is refused. */
+    /* The code, 1 to 7, by which the check refuses the new sheet. */
+    SHEET_NEW_SHEET_REFUSED = 18,
+    /* The lowest delay whose label a lower-numbered delay of the same sheet bears; the old sheet is searched first. */
+    SHEET_LABEL_TWICE = 19
 };
 
 /* The code of a result. */
@@ -117,16 +132,24 @@ static inline const char *sheet_sentence(uint32_t code)
         "The sheet is under 12 bytes long, over 49,152, or no multiple of 12.",
         "The header's kind, count or last word is wrong, or it names no record or one of the wrong sort.",
         "A record has an unknown kind, or a word that its kind, the numbering rule or the sort it asks for does not allow.",
-        "A record is not named exactly once.",
+        "A record is named by no word, or by several that are not all words d of IFs.",
         "A pair type has the same parts as a lower one, or over 64 leaves.",
         "An expression lies over 64 deep, or in the defining parts of over three feedbacks.",
         "A type rule is broken.",
-        "The stimulus is over 65,535 bytes long, or not made of whole cycles.",
+        "The stimulus is over 65,535 bytes long, or not made of whole cycles; or not of one, for a call on one cycle.",
         "A byte of the stimulus is above the constructor count of its leaf.",
         "The output slice has another length than the cycles times the output's leaves.",
-        "The next slice is not as long as the sheet.",
+        "The next slice is not as long as the sheet that it receives.",
         "The file cannot be opened.",
     };
+    switch (code) {
+    case SHEET_WRONG_WORDS:
+        return "The slice has another length than one word for each record.";
+    case SHEET_NEW_SHEET_REFUSED:
+        return "The new sheet is refused by the check.";
+    case SHEET_LABEL_TWICE:
+        return "Two delays of one sheet bear the same label.";
+    }
     return code < sizeof sentences / sizeof *sentences ? sentences[code] : "No call returns this code.";
 }
 
@@ -184,6 +207,73 @@ uint64_t sheet_run(const uint8_t *sheet, size_t sheet_length, const uint8_t *sti
  * most two others.
  */
 #define SHEET_RUN_STACK 106496
+
+/*
+ * Carrying: the new sheet with the values that the delays of the old, running one hold. Codes 0 to 7, 18, 19 and 11, in this order.
+ *
+ * Word d of a delay is its label, 0 for none. Each labelled delay of the new sheet takes the held value of the old sheet's delay with
+ * that label, where the types of both have the same shape: pairs, and flat types with equal numbers of constructors, in the same
+ * places. All else of the new sheet stays: a delay with no label, with one that no delay of the old sheet bears, or with a type of
+ * another shape keeps what it holds. On success `next`, which is to be as long as the new sheet, holds that sheet; the check accepts
+ * it with the new sheet's type, and the place is 0. When every delay is labelled and no label stands twice, carrying a sheet that a
+ * run led to into the sheet that the run began from gives the former, byte for byte.
+ *
+ *     uint64_t result = sheet_carry(running, running_length, changed, changed_length, next, changed_length);
+ *     if (sheet_code_of(result) == SHEET_ACCEPTED)
+ *         result = sheet_run(next, changed_length, stim, stim_length, out, out_length, after, changed_length);
+ */
+uint64_t sheet_carry(const uint8_t *old_sheet, size_t old_length, const uint8_t *new_sheet, size_t new_length, uint8_t *next,
+                     size_t next_length);
+
+/*
+ * Carrying's stack need, measured as the check's. A table of 65,536 labels, 128 KiB of it, is held while no check runs.
+ */
+#define SHEET_CARRY_STACK 262144
+
+/*
+ * Which alternative fired: for one cycle of the sheet a word for each record. At an IF it is the record of the first alternative of its
+ * chain that says yes, or 0 where none does, in the evaluation in which every feedback around the IF has its settled value; at
+ * every other record it is 0. Codes 0 to 9 and 16.
+ *
+ * The stimulus is exactly one cycle: an empty one and more than one cycle are refused by code 8. `fired` is one word for each record,
+ * so as long as the sheet's length divided by 12; any other length is refused by code 16, whose place is the number of words needed.
+ * The length counts words of 16 bits, and `fired` is aligned to 2. The sheet is not written: the cycle is looked at, not taken.
+ *
+ *     static uint16_t fired[4096];
+ *     uint64_t result = sheet_fired(sheet, length, stim, stim_length, fired, length / 12);
+ *     if (sheet_code_of(result) == SHEET_ACCEPTED)
+ *         for (size_t record = 0; record < length / 12; record++)
+ *             if (fired[record] != 0)
+ *                 printf("record %zu: alternative %d\n", record, fired[record]);
+ */
+uint64_t sheet_fired(const uint8_t *sheet, size_t sheet_length, const uint8_t *stim, size_t stim_length, uint16_t *fired,
+                     size_t fired_length);
+
+/* Its stack need, bounded as the run's. */
+#define SHEET_FIRED_STACK 262144
+
+/*
+ * The preview: what the sheet puts out for one cycle of input, without taking it. It begins with the check. Codes 0 to 10, and 0
+ * at place 0.
+ *
+ * `stim` is exactly one cycle, as many bytes as the input has leaves; an empty stimulus and one of several cycles are refused by 8. On
+ * success `out` holds the output's leaves, the bytes that sheet_run puts out for that cycle; the sheet is only read. `out` is to be as
+ * long as the output has leaves: lent with length 0, a good preview is refused with code 10, whose place is that length, 1 to 64.
+ *
+ *     uint8_t out[64];
+ *     uint64_t result = sheet_preview(sheet, length, stim, stim_length, out, 0);
+ *     if (sheet_code_of(result) == SHEET_WRONG_OUTPUT_LENGTH) {
+ *         size_t needed = sheet_place_of(result);
+ *         result = sheet_preview(sheet, length, stim, stim_length, out, needed);
+ *     }
+ *     if (sheet_code_of(result) == SHEET_ACCEPTED)
+ *         printf("first leaf %d\n", out[0]);
+ */
+uint64_t sheet_preview(const uint8_t *sheet, size_t sheet_length, const uint8_t *stim, size_t stim_length, uint8_t *out,
+                       size_t out_length);
+
+/* The preview's stack need, from the caller's frame down: no more than this. */
+#define SHEET_PREVIEW_STACK 262144
 
 #ifdef __cplusplus
 }

@@ -72,6 +72,11 @@ impl Circuit {
         delays
     }
 
+    /// All delays, in the order of their records.
+    pub fn delays(&self) -> impl Iterator<Item = usize> + '_ {
+        (1..self.records.len()).filter(|&number| self.records[number][KIND] == DELAY)
+    }
+
     /// The leaf records of all delays.
     pub fn delay_leaves(&self) -> Vec<usize> {
         let delays = self.records.iter().filter(|record| record[KIND] == DELAY);

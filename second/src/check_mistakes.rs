@@ -21,10 +21,22 @@ pub enum CheckMistake {
     Nesting(usize),
     /// Types compared by shape instead of by record.
     ShapeEquality,
+    /// Several next words may name one pattern record.
+    SharingByNext,
+    /// Several words of pair patterns may name one pattern record.
+    SharingByPairPattern,
+    /// Several words may name one expression.
+    SharingOfExpressions,
+    /// Several IFs may not name one pattern.
+    NoSharing,
+    /// A pattern that an IF has judged is not judged again for another.
+    JudgedOnce,
+    /// A delay with a label is refused with code 3.
+    LabelsRefused,
 }
 
 /// Every mistake and its name.
-pub const MISTAKES: [(&str, CheckMistake); 17] = [
+pub const MISTAKES: [(&str, CheckMistake); 23] = [
     ("refuse-all", CheckMistake::RefuseAll),
     ("no-code-3", CheckMistake::NoCode(3)),
     ("no-code-4", CheckMistake::NoCode(4)),
@@ -42,6 +54,12 @@ pub const MISTAKES: [(&str, CheckMistake); 17] = [
     ("nesting-4", CheckMistake::Nesting(4)),
     ("nesting-2", CheckMistake::Nesting(2)),
     ("shape-equality", CheckMistake::ShapeEquality),
+    ("sharing-by-next", CheckMistake::SharingByNext),
+    ("sharing-by-pair-pattern", CheckMistake::SharingByPairPattern),
+    ("sharing-of-expressions", CheckMistake::SharingOfExpressions),
+    ("no-sharing", CheckMistake::NoSharing),
+    ("judged-once", CheckMistake::JudgedOnce),
+    ("labels-refused", CheckMistake::LabelsRefused),
 ];
 
 /// The mistake with this name.

@@ -12,6 +12,27 @@ use crate::run_mistakes::RunMistake;
 use crate::values::{all_values, undefined, value_count, Value};
 use crate::watch::Watch;
 
+/// What an IF tested in the evaluations of a cycle: in the first, in the last
+/// but one and in the last of them. In the last the name of every feedback
+/// around the IF holds its settled value.
+#[derive(Clone, Default)]
+pub struct Tested {
+    pub first: Option<Value>,
+    pub before: Option<Value>,
+    pub last: Value,
+}
+
+impl Tested {
+    fn note(&mut self, value: Value) {
+        if self.first.is_none() {
+            self.first = Some(value.clone());
+            self.last = value;
+        } else {
+            self.before = Some(std::mem::replace(&mut self.last, value));
+        }
+    }
+}
+
 pub struct Evaluator<'a> {
     circuit: &'a Circuit,
     rule: Rule,
@@ -28,6 +49,8 @@ pub struct Evaluator<'a> {
     /// mistake asks for them.
     pub settled: Vec<Value>,
     pub settled_before: Vec<Value>,
+    /// What each IF tested, by record.
+    pub tested: Vec<Tested>,
     watch: &'a mut Watch,
 }
 
@@ -43,6 +66,7 @@ impl<'a> Evaluator<'a> {
         let coming = held.clone();
         let settled = vec![Value::new(); held.len()];
         let settled_before = settled.clone();
+        let tested = vec![Tested::default(); held.len()];
         Evaluator {
             circuit,
             rule,
@@ -53,6 +77,7 @@ impl<'a> Evaluator<'a> {
             coming,
             settled,
             settled_before,
+            tested,
             watch,
         }
     }
@@ -86,7 +111,7 @@ impl<'a> Evaluator<'a> {
                 let name = self.settle(number);
                 self.part_with(name, &record, C)
             }
-            IF => self.choice(&record),
+            IF => self.choice(number, &record),
             DELAY => {
                 self.coming[number] = self.part(&record, C);
                 self.held[number].clone()
@@ -108,9 +133,10 @@ impl<'a> Evaluator<'a> {
     }
 
     /// An IF evaluates all three parts.
-    fn choice(&mut self, record: &Record) -> Value {
+    fn choice(&mut self, number: usize, record: &Record) -> Value {
         let tested = self.part(record, A);
         let answer = chain(self.circuit, record[D], &tested, self.mistake);
+        self.tested[number].note(tested);
         if self.mistake == Some(RunMistake::ChosenBranchOnly) {
             return self.chosen_only(record, answer);
         }

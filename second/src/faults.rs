@@ -8,6 +8,7 @@ mod naming;
 mod order;
 mod patterns;
 mod picks;
+mod sharing;
 mod typing;
 mod words;
 
@@ -18,6 +19,7 @@ pub fn categories() -> Vec<Category> {
     let mut all = header::categories();
     all.extend(words::categories());
     all.extend(naming::categories());
+    all.extend(sharing::categories());
     all.extend(limits::categories());
     all.extend(typing::categories());
     all.extend(patterns::categories());

@@ -138,7 +138,7 @@ fn plausible(word: Word, number: usize, kinds: &[u16], random: &mut Random) -> u
     let higher = |wanted: Sort| numbers(kinds, number + 1..kinds.len(), wanted);
     match word {
         Word::Zero => 0,
-        Word::Number => random.below(2) as u16,
+        Word::Number | Word::Label => random.below(2) as u16,
         Word::Count | Word::Constructor | Word::LeafValue => random.range(1, 2) as u16,
         Word::Type | Word::FlatType => random.pick(&lower(Sort::Type)).unwrap_or(0),
         Word::Part(wanted) => random.pick(&higher(wanted)).unwrap_or(0),

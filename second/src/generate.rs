@@ -2,7 +2,9 @@
 
 pub mod boundary;
 pub mod circuits;
+pub mod delays;
 pub mod expressions;
+pub mod labels;
 pub mod network;
 pub mod patterns;
 pub mod small;

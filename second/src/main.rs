@@ -1,11 +1,15 @@
 //! Compares the second implementations of the type check, of the run and of the
-//! translation with those in the archive, on generated sheets and texts; times
+//! other calls with those in the archive, on generated sheets and texts; times
 //! them; writes named sheets.
 
+mod carries;
 mod checks;
 mod external;
 mod files;
+mod firings;
 mod memory;
+mod one_cycle;
+mod previews;
 mod report;
 mod runs;
 #[cfg(feature = "translate")]
@@ -20,10 +24,13 @@ type Command = fn(&[&str]) -> Option<ExitCode>;
 /// The commands, and the lines that tell their use.
 const COMMANDS: &[(Command, &str)] = &[
     (checks::command, checks::USAGE),
+    (previews::command, previews::USAGE),
     (runs::command, runs::USAGE),
+    (carries::command, carries::USAGE),
     #[cfg(feature = "translate")]
     (texts::command, texts::USAGE),
     (files::command, files::USAGE),
+    (firings::command, firings::USAGE),
 ];
 
 fn main() -> ExitCode {

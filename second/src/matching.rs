@@ -29,6 +29,13 @@ pub fn chain(circuit: &Circuit, first: u16, value: &[u8], mistake: Option<RunMis
     }
 }
 
+/// The alternatives of a chain, in order, and what each of them says.
+pub fn answers(circuit: &Circuit, first: u16, value: &[u8]) -> Vec<(u16, Match)> {
+    let next = |&pattern: &u16| Some(circuit.records[usize::from(pattern)][NEXT]);
+    let patterns = std::iter::successors(Some(first), next).take_while(|&pattern| pattern != 0);
+    patterns.map(|p| (p, alternative(circuit, usize::from(p), value, None))).collect()
+}
+
 /// One alternative. The parts of a pair pattern are chains, and nest no
 /// deeper than the type.
 fn alternative(

@@ -4,6 +4,8 @@
 use std::ffi::c_void;
 use std::hint::black_box;
 
+use second::random::Random;
+
 extern "C" {
     fn mmap(
         at: *mut c_void,
@@ -47,6 +49,14 @@ impl Placement {
             0 | 2 => Placement::End,
             1 => Placement::Start,
             _ => Placement::Within((turn / 4 % 16) as usize),
+        }
+    }
+
+    /// The same for a slice of items of so many bytes, which are aligned.
+    pub fn aligned(self, item: usize) -> Placement {
+        match self {
+            Placement::Within(offset) => Placement::Within(offset / item * item),
+            other => other,
         }
     }
 
@@ -131,4 +141,14 @@ impl Drop for Area {
             munmap(self.mapped, self.room + 2 * PAGES);
         }
     }
+}
+
+/// Bytes for a lent slice to hold beforehand.
+pub fn filling(length: usize, fill: &mut Random) -> Vec<u8> {
+    let mut bytes = vec![0; length];
+    for eight in bytes.chunks_mut(8) {
+        let drawn = fill.draw().to_le_bytes();
+        eight.copy_from_slice(&drawn[..eight.len()]);
+    }
+    bytes
 }

@@ -75,6 +75,8 @@ pub enum Word {
     Zero,
     /// A name's number: judged by the type rules only.
     Number,
+    /// A delay's label: any number, 0 for none.
+    Label,
     /// A flat type's number of constructors, 1 to 255.
     Count,
     /// A leaf's value, 0 to 255.
@@ -93,7 +95,7 @@ pub enum Word {
 
 /// The words next, a, b, c, d of a kind outside the header.
 pub fn words(kind: u16) -> Option<[Word; 5]> {
-    use Word::{Constructor, Count, FlatType, LeafValue, Next, Number, Part, Type, Zero};
+    use Word::{Constructor, Count, FlatType, Label, LeafValue, Next, Number, Part, Type, Zero};
     const TYPES: Word = Next(Sort::Type);
     const CHAIN: Word = Next(Sort::Pattern);
     const EXPRESSION: Word = Part(Sort::Expression);
@@ -109,7 +111,7 @@ pub fn words(kind: u16) -> Option<[Word; 5]> {
         LET => [Zero, EXPRESSION, EXPRESSION, Zero, Zero],
         FEEDBACK => [Zero, Type, EXPRESSION, EXPRESSION, Zero],
         IF => [Zero, EXPRESSION, EXPRESSION, EXPRESSION, PATTERN],
-        DELAY => [Zero, Type, LEAVES, EXPRESSION, Zero],
+        DELAY => [Zero, Type, LEAVES, EXPRESSION, Label],
         WHOLE => [CHAIN, Type, Zero, Zero, Zero],
         CONSTRUCTOR => [CHAIN, FlatType, Constructor, Zero, Zero],
         PAIR_PATTERN => [CHAIN, PATTERN, PATTERN, Zero, Zero],

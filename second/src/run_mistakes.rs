@@ -51,10 +51,12 @@ pub enum RunMistake {
     ElevenBeforeTen,
     /// The place of code 9 is counted from the start of its cycle.
     PlaceOfNineInCycle,
+    /// The delays of the next sheet have no labels.
+    LabelsCleared,
 }
 
 /// Every mistake and its name.
-pub const MISTAKES: [(&str, RunMistake); 23] = [
+pub const MISTAKES: [(&str, RunMistake); 24] = [
     ("undefined-everywhere", RunMistake::UndefinedEverywhere),
     ("copy-sheet", RunMistake::CopySheet),
     ("cycle-zero-again", RunMistake::CycleZeroAgain),
@@ -78,6 +80,7 @@ pub const MISTAKES: [(&str, RunMistake); 23] = [
     ("ten-before-nine", RunMistake::TenBeforeNine),
     ("eleven-before-ten", RunMistake::ElevenBeforeTen),
     ("place-of-nine-in-cycle", RunMistake::PlaceOfNineInCycle),
+    ("labels-cleared", RunMistake::LabelsCleared),
 ];
 
 /// The mistake with this name.

@@ -4,13 +4,14 @@
 mod bench;
 mod cases;
 mod compare;
-mod faults;
+pub mod faults;
 mod good_calls;
 mod jobs;
 mod late;
 mod ordered;
 mod plan;
 mod program;
+mod relabelled;
 mod rules;
 mod tally;
 
@@ -22,6 +23,7 @@ pub const USAGE: &str = "       second run [--seed N] [--runs N] [--threads N] [
        second run-mistakes
        second late [--seed N] [--pairs N] [--threads N] [--mistake NAME]
        second rules [--seed N] [--runs N] [--threads N] [--mistake NAME]
+       second relabelled [--seed N] [--pairs N] [--threads N] [--mistake NAME]
        second bench-run [PROGRAM FOLDER]
        second sheetrun PROGRAM FOLDER [--seed N] [--mistake NAME]";
 
@@ -39,6 +41,8 @@ pub fn command(words: &[&str]) -> Option<ExitCode> {
             .map(|options| ordered::run(&late::LATE, &options)),
         ["rules", options @ ..] => plan::Options::read(options, "--runs", named)
             .map(|options| ordered::run(&rules::RULES, &options)),
+        ["relabelled", options @ ..] => plan::Options::read(options, "--pairs", named)
+            .map(|options| ordered::run(&relabelled::RELABELLED, &options)),
         ["bench-run"] => Some(bench::run(None)),
         ["bench-run", program, folder] => Some(bench::run(Some((program, folder)))),
         ["sheetrun", program, folder, options @ ..] => {

@@ -2,8 +2,10 @@
 //! that cost a check most.
 
 mod building;
+mod delays;
 mod large;
 mod limits;
+mod patterns;
 mod running;
 
 use crate::samples;
@@ -30,7 +32,7 @@ pub const SMALL: [(&str, Make); 15] = [
 ];
 
 /// Sheets of 4,096 records.
-pub const LARGE: [(&str, Make); 19] = [
+pub const LARGE: [(&str, Make); 25] = [
     ("deep", large::deep),
     ("wide", large::wide),
     ("wide-random", large::wide_random),
@@ -45,9 +47,15 @@ pub const LARGE: [(&str, Make); 19] = [
     ("deep-constants-right", large::deep_constants_right),
     ("delays", large::delays),
     ("one-leaf-chain", large::one_leaf_chain),
-    ("pattern-chain", large::pattern_chain),
-    ("nested-patterns", large::nested_patterns),
-    ("deep-pattern", large::deep_pattern),
+    ("pattern-chain", patterns::pattern_chain),
+    ("nested-patterns", patterns::nested_patterns),
+    ("deep-pattern", patterns::deep_pattern),
+    ("shared-pattern", patterns::shared_pattern),
+    ("shared-nested-pattern", patterns::shared_nested_pattern),
+    ("labelled-delays", delays::labelled),
+    ("labelled-delays-again", delays::labelled_again),
+    ("wide-delays", delays::wide),
+    ("wide-delays-again", delays::wide_again),
     ("names", large::names),
     ("doubled-types", large::doubled_types),
 ];

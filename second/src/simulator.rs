@@ -3,6 +3,7 @@
 
 use crate::accepted::Circuit;
 use crate::answers::Answer;
+use crate::labels::without_labels;
 use crate::rule::{Rule, IN_FORCE};
 use crate::run_mistakes::RunMistake;
 use crate::stepper::Stepper;
@@ -123,6 +124,7 @@ fn all_cycles(
     match mistake {
         Some(RunMistake::UndefinedEverywhere) => outputs.fill(0),
         Some(RunMistake::CopySheet) => next = call.sheet.to_vec(),
+        Some(RunMistake::LabelsCleared) => next = without_labels(&next),
         Some(RunMistake::CycleZeroAgain) => {
             outputs.truncate(ready.leaves);
             outputs = outputs.repeat(ready.cycles);

@@ -1,7 +1,7 @@
 //! One cycle: the root's value, and what each delay holds after it.
 
 use crate::accepted::Circuit;
-use crate::evaluator::Evaluator;
+use crate::evaluator::{Evaluator, Tested};
 use crate::rule::Rule;
 use crate::run_mistakes::RunMistake;
 use crate::values::Value;
@@ -34,6 +34,11 @@ impl<'a> Stepper<'a> {
             evaluator.settled_before.clone_from(&evaluator.settled);
         }
         output
+    }
+
+    /// What each IF tested, by record.
+    pub fn tested(&self) -> &[Tested] {
+        &self.evaluator.tested
     }
 
     /// A sheet with the values that the delays hold.

@@ -19,6 +19,11 @@ pub fn wrong_length(
     (!holds).then_some(Answer { code: 8, place: 0 })
 }
 
+/// Code 8 of a call that takes exactly one cycle.
+pub fn not_one_cycle(circuit: &Circuit, stimulus: &[u8]) -> Option<Answer> {
+    (stimulus.len() != leaves(circuit)).then_some(Answer { code: 8, place: 0 })
+}
+
 /// Code 9: the first byte above its leaf's constructor count.
 pub fn above_count(
     circuit: &Circuit,
@@ -44,6 +49,6 @@ pub fn cycles<'a>(
 }
 
 /// How many leaves the input has.
-fn leaves(circuit: &Circuit) -> usize {
+pub fn leaves(circuit: &Circuit) -> usize {
     circuit.width(usize::from(circuit.input()))
 }

@@ -6,7 +6,7 @@ use crate::answers::Answer;
 use crate::check_mistakes::{CheckMistake, Limits};
 use crate::records::{
     expression_parts, read, root, sort, words, Record, Sort, Word, A, B, C, D, FEEDBACK, FLAT,
-    HEADER, KIND, NEXT, PAIR_TYPE, RECORD_BYTES,
+    HEADER, IF, KIND, NEXT, PAIR_PATTERN, PAIR_TYPE, RECORD_BYTES,
 };
 
 /// A sheet that keeps the rules of codes 1 to 6.
@@ -38,9 +38,9 @@ pub fn judge(sheet: &[u8], mistake: Option<CheckMistake>) -> Result<Structure, A
         };
         found.map_or(Ok(()), |i| Err(Answer { code, place: i as u32 }))
     };
-    lowest(3, &|i| !record_holds(&records, i))?;
-    let namings = namings(&records);
-    lowest(4, &|i| namings[i] != 1)?;
+    lowest(3, &|i| !record_holds(&records, i, mistake))?;
+    let namings = namings(&records, mistake);
+    lowest(4, &|i| !namings[i].hold())?;
     let leaves = type_leaves(&records);
     let repeated = repeated_pairs(&records);
     lowest(5, &|i| repeated[i] || leaves[i] > limits.leaves)?;
@@ -67,10 +67,14 @@ fn header_holds(records: &[Record]) -> bool {
 }
 
 /// Code 3: a known kind outside the header, and every word as its kind asks.
-fn record_holds(records: &[Record], number: usize) -> bool {
+fn record_holds(records: &[Record], number: usize, mistake: Option<CheckMistake>) -> bool {
+    let asked = |word: Word| match word {
+        Word::Label if mistake == Some(CheckMistake::LabelsRefused) => Word::Zero,
+        word => word,
+    };
     match words(records[number][KIND]) {
         None => false,
-        Some(asked) => (0..5).all(|k| word_holds(records, number, NEXT + k, asked[k])),
+        Some(words) => (0..5).all(|k| word_holds(records, number, NEXT + k, asked(words[k]))),
     }
 }
 
@@ -81,7 +85,7 @@ fn word_holds(records: &[Record], number: usize, index: usize, asked: Word) -> b
     let higher = usize::from(value) > number;
     match asked {
         Word::Zero => value == 0,
-        Word::Number => true,
+        Word::Number | Word::Label => true,
         Word::Count => (1..=255).contains(&value),
         Word::LeafValue => value <= 255,
         Word::Constructor => value >= 1 && value <= flat_count(records, records[number][A]),
@@ -100,27 +104,55 @@ fn flat_count(records: &[Record], number: u16) -> u16 {
     }
 }
 
-/// The numbers that a record outside the header names in words that count as
-/// naming; 0 stands for none.
-fn named(record: &Record) -> [u16; 5] {
-    let asked = words(record[KIND]).unwrap_or([Word::Zero; 5]);
-    std::array::from_fn(|k| match asked[k] {
-        Word::Part(_) | Word::Next(_) => record[NEXT + k],
-        _ => 0,
-    })
+/// Code 4: how many words name a record.
+#[derive(Clone, Copy, Default)]
+struct Namings {
+    /// Words of which several may name one record: the d of an IF.
+    sharing: u32,
+    /// All others that count as naming.
+    single: u32,
 }
 
-/// Code 4: how many words name each record outside the header.
-fn namings(records: &[Record]) -> Vec<u32> {
-    let mut count = vec![0; records.len()];
-    count[usize::from(records[0][NEXT])] += 1;
-    count[usize::from(records[0][B])] += 1;
+impl Namings {
+    /// Named by one word that shares or more of them and no other, or by one
+    /// other word and nothing else.
+    fn hold(self) -> bool {
+        matches!((self.sharing, self.single), (1.., 0) | (0, 1))
+    }
+}
+
+/// Whether several words like this one may name the same record.
+fn shares(kind: u16, index: usize, asked: Word, mistake: Option<CheckMistake>) -> bool {
+    let of_mistake = match mistake {
+        Some(CheckMistake::SharingByNext) => asked == Word::Next(Sort::Pattern),
+        Some(CheckMistake::SharingByPairPattern) => kind == PAIR_PATTERN && index != NEXT,
+        Some(CheckMistake::SharingOfExpressions) => asked == Word::Part(Sort::Expression),
+        Some(CheckMistake::NoSharing) => return false,
+        _ => false,
+    };
+    of_mistake || (kind == IF && index == D)
+}
+
+/// Code 4: the namings of each record outside the header.
+fn namings(records: &[Record], mistake: Option<CheckMistake>) -> Vec<Namings> {
+    let mut namings = vec![Namings::default(); records.len()];
+    namings[usize::from(records[0][NEXT])].single += 1;
+    namings[usize::from(records[0][B])].single += 1;
     for record in &records[1..] {
-        for number in named(record) {
-            count[usize::from(number)] += 1;
+        let asked = words(record[KIND]).unwrap_or([Word::Zero; 5]);
+        for (k, word) in asked.into_iter().enumerate() {
+            let named = match word {
+                Word::Part(_) | Word::Next(_) => &mut namings[usize::from(record[NEXT + k])],
+                _ => continue,
+            };
+            if shares(record[KIND], NEXT + k, word, mistake) {
+                named.sharing += 1;
+            } else {
+                named.single += 1;
+            }
         }
     }
-    count
+    namings
 }
 
 /// The leaves of each type record, 0 for other records. A pair type's parts
@@ -171,4 +203,15 @@ pub fn nestings(records: &[Record]) -> Vec<usize> {
         }
     }
     nesting
+}
+
+/// How many IFs name each record by their word d, if words name records.
+pub fn choices_on(records: &[Record]) -> Vec<usize> {
+    let mut choices = vec![0; records.len()];
+    for record in records.iter().filter(|record| record[KIND] == IF) {
+        if let Some(count) = choices.get_mut(usize::from(record[D])) {
+            *count += 1;
+        }
+    }
+    choices
 }

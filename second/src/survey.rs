@@ -1,7 +1,7 @@
 //! Finds places in a draft: expressions with their depth and scope, and
 //! alternatives of patterns.
 
-use crate::draft::Draft;
+use crate::draft::{Draft, Term};
 use crate::random::Random;
 use crate::records::{
     words, Sort, Word, A, B, CONSTANT, D, FEEDBACK, IF, LET, NAME, NEXT, PAIR_PATTERN,
@@ -70,6 +70,25 @@ pub fn some_closing(draft: &Draft, top: Spot, random: &mut Random) -> Option<Spo
     random.pick(&spots)
 }
 
+/// Whether a node is another one or is named from it on.
+pub fn reaches(draft: &Draft, from: usize, to: usize) -> bool {
+    let mut seen = vec![false; draft.nodes.len()];
+    let mut open = vec![from];
+    while let Some(node) = open.pop() {
+        if node == to {
+            return true;
+        }
+        if !std::mem::replace(&mut seen[node], true) {
+            let parts = draft.nodes[node].words.into_iter().filter_map(|term| match term {
+                Term::Part(part) => Some(part),
+                _ => None,
+            });
+            open.extend(parts);
+        }
+    }
+    false
+}
+
 /// An alternative of a pattern and where it stands.
 #[derive(Clone, Copy, Debug)]
 pub struct Alternative {
@@ -99,11 +118,13 @@ pub fn alternatives_of(draft: &Draft, choice: usize) -> Vec<Alternative> {
     found
 }
 
-/// All alternatives of a draft.
+/// All IFs of a draft.
+pub fn choices(draft: &Draft) -> Vec<usize> {
+    let nodes = expressions(draft).into_iter().map(|spot| spot.node);
+    nodes.filter(|&node| draft.kind(node) == IF).collect()
+}
+
+/// All alternatives of a draft, those of a shared pattern once for each IF.
 pub fn alternatives(draft: &Draft) -> Vec<Alternative> {
-    expressions(draft)
-        .into_iter()
-        .filter(|spot| draft.kind(spot.node) == IF)
-        .flat_map(|spot| alternatives_of(draft, spot.node))
-        .collect()
+    choices(draft).into_iter().flat_map(|choice| alternatives_of(draft, choice)).collect()
 }

@@ -155,11 +155,14 @@ impl Typing<'_> {
         Ok((whole[KIND] == PAIR_TYPE).then_some(whole[word]))
     }
 
-    /// An IF: the tested part, the pattern at once, then the branches.
+    /// An IF: the tested part, the pattern at once, then the branches. Each IF
+    /// judges its pattern by its own tested type, named by others or not.
     fn choice(&mut self, record: &Record, number: usize) -> Result<Option<u16>, usize> {
         let late = self.mistake == Some(CheckMistake::PatternLate);
         let tested = self.part(record, A)?;
-        let fits = self.pattern_fits(record[D], tested);
+        let judged = self.types[usize::from(record[D])] != 0;
+        let skipped = self.mistake == Some(CheckMistake::JudgedOnce) && judged;
+        let fits = skipped || self.pattern_fits(record[D], tested);
         if !fits && !late {
             return Err(number);
         }

@@ -1,4 +1,4 @@
--- An accepted sheet is accepted again, with the same type, where only leaves are rewritten and the leaves of each constant and
+-- An accepted sheet is accepted again, with the same type, where only leaves and labels are rewritten and the leaves of each constant and
 -- each delay still fit its type: the tree and its types are the same, so each other rule holds as it did. By induction on the
 -- tree.
 -- Assumes nothing.
@@ -34,7 +34,7 @@ use Rattle.records.specs.Trees.{
   circuit,
 }
 use Rattle.records.specs.Decoding.{leafValues}
-use Rattle.records.specs.Rewritten.{OnlyLeaves}
+use Rattle.records.specs.Rewritten.{Rewritten}
 use Rattle.records.proofs.Table.{is-pair}
 use Rattle.records.proofs.Rewritten.{SameWords, same-kind, same-pair-of, same-circuit, leaf-or-same}
 use Rattle.typing.specs.Judgements.{patternFits, typeRecordOf}
@@ -74,8 +74,8 @@ judged-fitting s Γ (feedbackOf r t a b) j = (judged-fitting s (t ∷ Γ) a (j .
 judged-fitting s Γ (ifOf r a p b c) j = (judged-fitting s Γ a (j .0), judged-fitting s Γ b (j .2), judged-fitting s Γ c (j .3))
 judged-fitting s Γ (delayOf r t ls a) j = (within-fits (bounds (typeAt s t)) (leafValues s ls) (j .1), judged-fitting s Γ a (j .0))
 
-module _ (s s′ : List ℕ) (o : OnlyLeaves s s′) where
-  pattern-again : (m : Alternatives) (t : ℕ) → patternFits s′ m t ≡ patternFits s m t
+module _ (s s′ : List ℕ) (o : Rewritten s s′) where
+  pub pattern-again : (m : Alternatives) (t : ℕ) → patternFits s′ m t ≡ patternFits s m t
   pattern-again end t = refl
   pattern-again noPattern t = refl
   pattern-again (wholeType r u m) t = rw (pattern-again m t)
@@ -90,7 +90,7 @@ module _ (s s′ : List ℕ) (o : OnlyLeaves s s′) where
           rw (e 0 (omega arith), e 2 (omega arith), e 3 (omega arith), fa (wordA s t), fb (wordB s t), fm)
 
   -- the words of a pair type's record
-  pair-words : (t : ℕ) → isPair (kindAt s t) ≡ true → (k : ℕ) → k < 6 → word s′ t k ≡ word s t k
+  pair-words : (t : ℕ) → isPair (kindAt s t) ≡ true → (k : ℕ) → k < 5 → word s′ t k ≡ word s t k
   pair-words t e k h = o .others t (λ f. let g = is-pair (kindAt s t) e in let z : _≡_ {A = ℕ} 0 1 = cc in omega arith) k h
 
   judged-again : (Γ : List ℕ) (e : Tree) → RulesHold s Γ e → Fitting s′ e → RulesHold s′ Γ e × (typeRecordOf s′ Γ e ≡ typeRecordOf s Γ e)

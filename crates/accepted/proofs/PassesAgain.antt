@@ -1,5 +1,5 @@
--- A sheet that passes codes 1 to 6 passes them again where only leaves are rewritten, each to a byte: the rules of codes 4 to 6
--- read no word a of a leaf, and a leaf's word a may be any byte.
+-- A sheet that passes codes 1 to 6 passes them again where only leaves and labels are rewritten, each leaf to a byte: the rules of
+-- codes 4 to 6 read no word a of a leaf and no word d of a delay, and a leaf's word a may be any byte, a delay's word d any number.
 -- Assumes nothing.
 use Prim.Native.Nat.{ℕ, zero, suc, _≤_, _<_}
 use mathlib.Core.Bool.{Bool, false, _&&_, and-false}
@@ -13,7 +13,7 @@ use lib.Dec.{eqb, ltb}
 use Rattle.records.specs.Words.{word, count, wordA}
 use Rattle.records.specs.Kinds.{leaf}
 use Rattle.records.specs.Says.{kindAt}
-use Rattle.records.specs.Rewritten.{OnlyLeaves}
+use Rattle.records.specs.Rewritten.{Rewritten}
 use Rattle.records.specs.Written.{Written}
 use Rattle.records.proofs.Rewritten.{SameWords, same-count, same-kind, same-type, same-pair-below, same-namings, leaf-or-same}
 use Rattle.records.proofs.WrittenAgain.{written-again}
@@ -34,16 +34,16 @@ unfolding wrongRecord
 record-passes w zero h = refl
 record-passes w (suc r) h = rw (w .others (suc r) (omega arith) h, w .said (suc r) h) (and-false (ltb 0 (suc r)))
 
-module _ (s s′ : List ℕ) (o : OnlyLeaves s s′) where
-  same-length : wrongLength s′ ≡ wrongLength s
+module _ (s s′ : List ℕ) (o : Rewritten s s′) where
+  pub same-length : wrongLength s′ ≡ wrongLength s
   unfolding wrongLength
   same-length = rw (o .length)
 
-  same-naming-rule : (r : ℕ) → wrongNaming s′ r ≡ wrongNaming s r
+  pub same-naming-rule : (r : ℕ) → wrongNaming s′ r ≡ wrongNaming s r
   unfolding wrongNaming
   same-naming-rule r = rw (same-namings s s′ o r)
 
-  same-type-rule : (r : ℕ) → wrongType s′ r ≡ wrongType s r
+  pub same-type-rule : (r : ℕ) → wrongType s′ r ≡ wrongType s r
   unfolding wrongType
   same-type-rule r = go (leaf-or-same s s′ o r)
     where
@@ -75,7 +75,7 @@ module _ (s s′ : List ℕ) (o : OnlyLeaves s s′) where
   unfolding nesting
   same-nesting r = ap₂ howMany (fun-ext (λ n. ap (λ k. isFeedback k && eqb (n .at) 3) (same-kind s s′ o (n .by)))) (same-ancestry r)
 
-  same-depth-rule : (r : ℕ) → tooDeep s′ r ≡ tooDeep s r
+  pub same-depth-rule : (r : ℕ) → tooDeep s′ r ≡ tooDeep s r
   unfolding tooDeep
   same-depth-rule r = rw (same-kind s s′ o r, same-depth r, same-nesting r)
 

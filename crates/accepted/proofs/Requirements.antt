@@ -22,7 +22,7 @@ use Rattle.structure.specs.Depth.{depth, nesting}
 use Rattle.structure.specs.NamerTable.{summary, Holds}
 use Rattle.structure.specs.LeafTable.{typeLeaves, Counts}
 use Rattle.structure.specs.DepthTable.{Capped, Placed, Placing}
-use Rattle.structure.proofs.Passes.{written, named-once, length-fits}
+use Rattle.structure.proofs.Passes.{written, well-named, length-fits}
 use Rattle.typing.specs.Judging.{Ground, Judging, Closing}
 use Rattle.typing.proofs.Bounds.{counts-leaves}
 use Rattle.verdict.specs.Stages.{CheckingDepths}
@@ -102,7 +102,7 @@ module _ (s : List ℕ) (p : Passes s) (whole : length s ≡ 12 * count s) where
         record {
           sized = sized;
           written = written p;
-          once = named-once p;
+          well = well-named p;
           named = n .1;
           some = omega arith;
           placed = d .2;

@@ -58,7 +58,7 @@ use Rattle.verdict.specs.Scopes.{
   of-delay,
 }
 use Rattle.verdict.specs.declared.Verdict.the-variants.{Accepted}
-use Rattle.structure.proofs.Passes.{written, named-once, types-fit, not-deep}
+use Rattle.structure.proofs.Passes.{written, well-named, types-fit, not-deep}
 use Rattle.structure.proofs.Depths.{depth-of-part, depth-of-root}
 use Rattle.typing.proofs.Judged.{RulesHold}
 use Rattle.typing.specs.Judging.{Context}
@@ -88,7 +88,7 @@ part-checked : {s : List ℕ} {q : ℕ} {Γ : List ℕ} → Passes s → Checked
 part-checked {s} {q} {Γ} p o k e j t a Δ judged context few =
     let w = written p in
     let f = part-of-kind w q (expression k) expressions (o .there) e j t a in
-    let d = depth-of-part w (named-once p) q (expression k) expressions (o .past) (o .there) e j t a in
+    let d = depth-of-part w (well-named p) q (expression k) expressions (o .past) (o .there) e j t a refl in
     let n = o .names in
     record { past = omega arith; there = f .1; sort = f .2; judged = judged; context = context; names = omega arith }
 
@@ -103,7 +103,7 @@ unfolding circuit
 scope-checked {s} t p v root =
     let w = written p in
     let f = root-is w in
-    let d = depth-of-root w (named-once p) in
+    let d = depth-of-root w (well-named p) in
     record {
       past = f .0;
       there = f .1;

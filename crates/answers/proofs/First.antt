@@ -1,12 +1,17 @@
 -- The answer of a list of checks is that of the first that applies: along the list, a check that does not apply leaves the answer to
--- those after it. And only that: of two answers that say so of one list, the checks that apply first are the same.
+-- those after it. And only that: of two answers that say so of one list, the checks that apply first are the same. Lists one after
+-- the other, the places of what they give, and the bytes that a refusal leaves.
 -- Assumes nothing.
-use Prim.Native.Nat.{ℕ}
-use mathlib.Core.Bool.{Bool, true, false}
+use Prim.Native.Nat.{ℕ, _<_, _^_}
+use mathlib.Core.Bool.{Bool, true, false, not}
 use mathlib.Core.List.{List, [], _∷_, _++_}
 use mathlib.Core.Option.{Option, none, some}
 use mathlib.Core.Path.{_≡_, refl, sym, ap, _∙_}
+use mathlib.Core.Logic.{_≢_}
 use native.Mathlib.Omega.{arith}
+use lib.Dec.{eqb}
+use borrow.Author.Tests.{eqb-true, not-false}
+use Rattle.answers.specs.Answers.{code, place, whenDone, onDone}
 use Rattle.answers.specs.declared.Answer.{Answer}
 use Rattle.answers.specs.declared.Answer.the-variants.{Done, Refused}
 use Rattle.answers.specs.Checks.{Check, check, when, orRefused, firstApplying, NoneApplies, Refuses, SaysOf}
@@ -57,3 +62,47 @@ says-first ks done (Refused c p) r =
     ap (λ (l : List Check). firstApplying l (Done done)) (r .split)
     ∙ refused-first (r .before) (r .applying) (r .after) (Done done) p (r .none-before) (r .applies)
     ∙ ap (λ (n : ℕ). Refused n p) (r .numbered)
+
+-- two lists of checks, one after the other
+pub first-both : (ks js : List Check) (done : Answer) → firstApplying (ks ++ js) done ≡ firstApplying ks (firstApplying js done)
+first-both [] js done = refl
+first-both (k ∷ ks) js done = go (k .found) (first-both ks js done)
+  where
+    go : (o : Option ℕ) → firstApplying (ks ++ js) done ≡ firstApplying ks (firstApplying js done)
+        → orRefused (k .number) o (firstApplying (ks ++ js) done) ≡ orRefused (k .number) o (firstApplying ks (firstApplying js done))
+    go none e = e
+    go (some p) e = refl
+
+-- what comes after a refusal does not matter
+pub first-then : (ks : List Check) (p : ℕ) (rest : ℕ → Answer) → firstApplying ks (rest p) ≡ onDone (firstApplying ks (Done p)) rest
+first-then [] p rest = refl
+first-then (k ∷ ks) p rest = go (k .found) (first-then ks p rest)
+  where
+    go : (o : Option ℕ) → firstApplying ks (rest p) ≡ onDone (firstApplying ks (Done p)) rest
+        → orRefused (k .number) o (firstApplying ks (rest p)) ≡ onDone (orRefused (k .number) o (firstApplying ks (Done p))) rest
+    go none e = e
+    go (some q) e = refl
+
+-- where none of both applies, none of each does
+pub none-split : (ks js : List Check) → NoneApplies (ks ++ js) → NoneApplies ks × NoneApplies js
+none-split [] js h = (tt, h)
+none-split (k ∷ ks) js h = let r = none-split ks js (h .1) in ((h .0, r .0), r .1)
+
+-- what a test that applies at one place says
+pub when-some : (b : Bool) (p q : ℕ) → when b p ≡ some q → p ≡ q
+when-some true p q e = cc
+when-some false p q e = let z : _≡_ {A = ℕ} 0 1 = cc in absurd (omega arith)
+
+pub same-length-by : (a b p : ℕ) → when (not (eqb a b)) p ≡ none → a ≡ b
+same-length-by a b p e = eqb-true a b (not-false (eqb a b) (when-none (not (eqb a b)) p e))
+
+-- the place of an answer is small where that of each check is, as far as none before it applies
+pub place-or : (c : ℕ) (o : Option ℕ) (rest : Answer) → ((p : ℕ) → o ≡ some p → p < 2 ^ 32) → (o ≡ none → place rest < 2 ^ 32)
+    → place (orRefused c o rest) < 2 ^ 32
+place-or c (some p) rest found nothing = found p refl
+place-or c none rest found nothing = nothing refl
+
+-- a refusal leaves the bytes of a lent slice
+pub kept-bytes : (a : Answer) (new old : List ℕ) → code a ≢ 0 → whenDone a new old ≡ old
+kept-bytes (Done n) new old f = absurd (f refl)
+kept-bytes (Refused c p) new old f = refl

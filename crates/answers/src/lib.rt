@@ -31,6 +31,12 @@ pub const WRONG_NEXT: u64 = 11;
 
 pub const NO_FILE: u64 = 12;
 
+pub const WRONG_WORDS: u64 = 16;
+
+pub const NEW_SHEET_REFUSED: u64 = 18;
+
+pub const LABEL_TWICE: u64 = 19;
+
 // The number that a search found, if it found one.
 pub enum Found {
     At(usize),

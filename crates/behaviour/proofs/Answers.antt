@@ -18,7 +18,18 @@ use Rattle.answers.specs.Lowest.{lowest}
 use Rattle.answers.specs.declared.Answer.{Answer}
 use Rattle.answers.specs.declared.Answer.the-variants.{Done, Refused}
 use Rattle.answers.proofs.Lowest.{lowest-some-passes}
-use Rattle.answers.proofs.First.{when-none, first-says, says-first}
+use Rattle.answers.proofs.First.{
+  when-none,
+  first-says,
+  says-first,
+  first-both,
+  first-then,
+  none-split,
+  when-some,
+  same-length-by,
+  place-or,
+  kept-bytes,
+}
 use Rattle.verdict.specs.Verdict.{verdictAnswer, sheetChecks, outputType, verdict}
 use Rattle.verdict.specs.declared.Verdict.{Verdict}
 use Rattle.verdict.specs.declared.Verdict.the-variants.{Accepted}
@@ -26,7 +37,8 @@ use Rattle.verdict.specs.declared.Verdict.the-variants as Verdicts
 use Rattle.picoella.specs.Types.{leaves}
 use Rattle.records.specs.TypeRecords.{typeAt}
 use Rattle.records.proofs.Types.{some-leaves}
-use Rattle.accepted.proofs.Laws.{verdict-first, verdict-place, first-accepted}
+use Rattle.accepted.proofs.Calls.{accepted-output, call-place}
+use Rattle.accepted.proofs.Laws.{verdict-first, first-accepted}
 use Rattle.accepted.proofs.Small.{accepted-length, accepted-few}
 use Rattle.meaning.specs.Undecided.{undecidedRule}
 use Rattle.stimulus.specs.Stimulus.{inputType, inputLeaves, cycleCount, endToEnd, cycles, wrongStimulus, wrongByte, stimulusChecks}
@@ -48,26 +60,6 @@ use Rattle.behaviour.specs.Afterwards.{WellFormed, Afterwards}
 use Rattle.behaviour.specs.Promises.{SaysOfCall, LowestFirst, PlacesSmall, RefusalUnaltered}
 use Rattle.behaviour.proofs.Afterwards.{answer-done, afterwards}
 
--- two lists of checks, one after the other
-first-both : (ks js : List Check) (done : Answer) → firstApplying (ks ++ js) done ≡ firstApplying ks (firstApplying js done)
-first-both [] js done = refl
-first-both (k ∷ ks) js done = go (k .found) (first-both ks js done)
-  where
-    go : (o : Option ℕ) → firstApplying (ks ++ js) done ≡ firstApplying ks (firstApplying js done)
-        → orRefused (k .number) o (firstApplying (ks ++ js) done) ≡ orRefused (k .number) o (firstApplying ks (firstApplying js done))
-    go none e = e
-    go (some p) e = refl
-
--- what comes after a refusal does not matter
-first-then : (ks : List Check) (p : ℕ) (rest : ℕ → Answer) → firstApplying ks (rest p) ≡ onDone (firstApplying ks (Done p)) rest
-first-then [] p rest = refl
-first-then (k ∷ ks) p rest = go (k .found) (first-then ks p rest)
-  where
-    go : (o : Option ℕ) → firstApplying ks (rest p) ≡ onDone (firstApplying ks (Done p)) rest
-        → orRefused (k .number) o (firstApplying ks (rest p)) ≡ onDone (orRefused (k .number) o (firstApplying ks (Done p))) rest
-    go none e = e
-    go (some q) e = refl
-
 -- the answer of a call is that of the first of all its checks
 pub answer-first : (s stim out next : List ℕ) → answer s stim out next ≡ firstApplying (callChecks s stim out next) (Done (cycleCount s stim))
 unfolding answer bySlices
@@ -77,18 +69,7 @@ answer-first s stim out next =
     ∙ sym (first-then (sheetChecks s) (outputType s) rest)
     ∙ sym (first-both (sheetChecks s) (runChecks s (outputType s) stim out next) (Done (cycleCount s stim)))
 
-not-true : (b : Bool) → not b ≡ true → b ≡ false
-not-true true e = sym e
-not-true false e = refl
-
 -- where none applies the call is well formed
-same-length-by : (a b p : ℕ) → when (not (eqb a b)) p ≡ none → a ≡ b
-same-length-by a b p e = eqb-true a b (not-false (eqb a b) (when-none (not (eqb a b)) p e))
-
-none-split : (ks js : List Check) → NoneApplies (ks ++ js) → NoneApplies ks × NoneApplies js
-none-split [] js h = (tt, h)
-none-split (k ∷ ks) js h = let r = none-split ks js (h .1) in ((h .0, r .0), r .1)
-
 well-formed-where : (s stim out next : List ℕ) → NoneApplies (callChecks s stim out next) → WellFormed s stim out next (outputType s)
 well-formed-where s stim out next h =
     let p = none-split (sheetChecks s) (runChecks s (outputType s) stim out next) h in
@@ -119,15 +100,6 @@ lowest-first s stim out next a = (
 )
 
 -- the place of each answer is small
-place-or : (c : ℕ) (o : Option ℕ) (rest : Answer) → ((p : ℕ) → o ≡ some p → p < 2 ^ 32) → (o ≡ none → place rest < 2 ^ 32)
-    → place (orRefused c o rest) < 2 ^ 32
-place-or c (some p) rest found nothing = found p refl
-place-or c none rest found nothing = nothing refl
-
-when-some : (b : Bool) (p q : ℕ) → when b p ≡ some q → p ≡ q
-when-some true p q e = cc
-when-some false p q e = let z : _≡_ {A = ℕ} 0 1 = cc in absurd (omega arith)
-
 slices-small : (s : List ℕ) (t : ℕ) (stim out next : List ℕ) → verdict s ≡ Accepted t → place (bySlices s t stim out next) < 2 ^ 32
 unfolding bySlices
 slices-small s t stim out next v =
@@ -161,25 +133,11 @@ slices-small s t stim out next v =
         (omega arith, omega arith)
 
 pub places-small : PlacesSmall
-unfolding answer
-places-small s stim out next = go (verdict s) refl
-  where
-    small : (r : ℕ) → place (verdictAnswer (verdict s)) ≡ r → r < 2 ^ 32
-    small r e = let h = verdict-place s in omega arith
-
-    go : (w : Verdict) → verdict s ≡ w → place (onDone (verdictAnswer w) (λ t. bySlices s t stim out next)) < 2 ^ 32
-    go (Accepted t) e = slices-small s t stim out next e
-    go Verdicts.WrongLength e = omega arith
-    go Verdicts.WrongHeader e = omega arith
-    go (Verdicts.WrongRecord r) e = small r (ap (λ w. place (verdictAnswer w)) e)
-    go (Verdicts.WrongNaming r) e = small r (ap (λ w. place (verdictAnswer w)) e)
-    go (Verdicts.WrongType r) e = small r (ap (λ w. place (verdictAnswer w)) e)
-    go (Verdicts.TooDeep r) e = small r (ap (λ w. place (verdictAnswer w)) e)
-    go (Verdicts.IllTyped r) e = small r (ap (λ w. place (verdictAnswer w)) e)
-
-kept-bytes : (a : Answer) (new old : List ℕ) → code a ≢ 0 → whenDone a new old ≡ old
-kept-bytes (Done n) new old f = absurd (f refl)
-kept-bytes (Refused c p) new old f = refl
+unfolding bySlices
+places-small s stim out next =
+    rw (answer-first s stim out next)
+    (call-place s (runChecks s (outputType s) stim out next) (Done (cycleCount s stim))
+    (λ t v. rw (accepted-output s t v) at (slices-small s t stim out next v)))
 
 pub refusal-unaltered : RefusalUnaltered
 unfolding finalOut finalNext

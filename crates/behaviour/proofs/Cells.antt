@@ -41,10 +41,10 @@ put-byte i l v s low high =
     getD-set-other (set s (lowByte l) v) (highByte l) i 0 0 high ∙ getD-set-other s (lowByte l) i v 0 low
 
 -- a word is its two bytes
-abbrev ofBytes : ℕ → ℕ → ℕ
+abbrev pub ofBytes : ℕ → ℕ → ℕ
 ofBytes x y = x + 256 * y
 
-word-a : (s : List ℕ) (l : ℕ) → wordA s l ≡ ofBytes (getD s (lowByte l) 0) (getD s (highByte l) 0)
+pub word-a : (s : List ℕ) (l : ℕ) → wordA s l ≡ ofBytes (getD s (lowByte l) 0) (getD s (highByte l) 0)
 unfolding word
 word-a s l = let e : 12 * l + 4 + 1 ≡ 12 * l + 5 = omega arith in ap (λ i. ofBytes (getD s (lowByte l) 0) (getD s i 0)) e
 

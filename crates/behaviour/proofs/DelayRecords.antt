@@ -49,7 +49,7 @@ use Rattle.records.proofs.Table.{askOfKind, kind-of-sort}
 use Rattle.records.proofs.Asked.{part-of-kind, root-is, past-header}
 use Rattle.records.proofs.Trees.{from-above, tree-of}
 use Rattle.structure.specs.Passes.{Passes}
-use Rattle.accepted.proofs.Laws.{written, named-once}
+use Rattle.accepted.proofs.Laws.{written, well-named}
 use Rattle.verdict.specs.Verdict.{verdict}
 use Rattle.verdict.specs.Scopes.{
   Scope,
@@ -172,7 +172,7 @@ module _ (s : List ℕ) (t : ℕ) (v : verdict s ≡ Accepted t) where
   record-delay-leaf l d =
       let q = d .of in
       let e = d .kind in
-      let c = every-expression (written passes) (named-once passes) q (past-header (written passes) q (rw e)) (d .there) (rw e) in
+      let c = every-expression (written passes) (well-named passes) q (past-header (written passes) q (rw e)) (d .there) (rw e) in
       scope-leaves (c .1) l (rw (tree-by-kind (c .1) delay e) (Memᴰ·append-left _ (d .leaf)))
 
   -- the records' chains have the delays' leaves and no others

@@ -14,13 +14,13 @@ use Rattle.records.specs.Kinds.{expression, feedback, rowOf, kindOf}
 use Rattle.records.specs.Says.{kindAt}
 use Rattle.records.specs.TypeRecords.{typeAt, Declared}
 use Rattle.records.specs.Trees.{Tree, feedbackOf, treeAt}
-use Rattle.records.specs.Rewritten.{OnlyLeaves}
+use Rattle.records.specs.Rewritten.{Rewritten}
 use Rattle.records.proofs.Rewritten.{same-type, same-tree}
 use Rattle.records.proofs.Asked.{past-header}
 use Rattle.records.proofs.Trees.{tree-of}
 use Rattle.records.proofs.Decoding.{expressions-there}
 use Rattle.structure.specs.Passes.{Passes}
-use Rattle.accepted.proofs.Laws.{written, named-once}
+use Rattle.accepted.proofs.Laws.{written, well-named}
 use Rattle.verdict.specs.Verdict.{verdict}
 use Rattle.verdict.specs.Scopes.{Scope}
 use Rattle.verdict.specs.declared.Verdict.the-variants.{Accepted}
@@ -114,7 +114,7 @@ module _ (s : List ℕ) {t : ℕ} (v : verdict s ≡ Accepted t) {q : ℕ} (belo
   passes = accepted-by-types s t .0 v .0
 
   scoped : Scoped s q
-  scoped = every-expression (written passes) (named-once passes) q (past-header (written passes) q (rw kind)) below (rw kind)
+  scoped = every-expression (written passes) (well-named passes) q (past-header (written passes) q (rw kind)) below (rw kind)
 
   -- its defining part and body
   abbrev defining : Tree
@@ -128,7 +128,7 @@ module _ (s : List ℕ) {t : ℕ} (v : verdict s ≡ Accepted t) {q : ℕ} (belo
 
   -- in a sheet that differs in delay leaves alone
   module _ {s′ : List ℕ} (v′ : verdict s′ ≡ Accepted t) (o : OnlyDelays s s′) where
-    only : OnlyLeaves s s′
+    only : Rewritten s s′
     only = only-leaves (written passes) o
 
     scope-there : Scope s′ q (scoped .0)

@@ -165,7 +165,7 @@ pub record HasPlaces (ls : List ℕ) (τ : Ty) : Type 0 where
 abbrev pub Reads : (ℕ → ℕ) → List Entry → Type 0
 Reads read es = (e : Entry) → List·Memᴰ e es → read (e .place) ≡ e .value
 
-read-assigned : (read : ℕ → ℕ) (ls vs : List ℕ) → length ls ≡ length vs → Reads read (assigned ls vs) → map read ls ≡ vs
+pub read-assigned : (read : ℕ → ℕ) (ls vs : List ℕ) → length ls ≡ length vs → Reads read (assigned ls vs) → map read ls ≡ vs
 read-assigned read [] [] e h = refl
 read-assigned read [] (v ∷ vs) e h = absurd (omega arith)
 read-assigned read (l ∷ ls) [] e h = absurd (omega arith)

@@ -14,8 +14,12 @@ pub mod Bytes
 pub mod Cycle
 pub mod Scoped
 pub mod ScopesAgain
+pub mod Reaching
 pub mod DelayRecords
+pub mod FiredWords
+pub mod FirstYes
 pub mod Evaluated
+pub mod Firings
 pub mod Run
 pub mod AfterRun
 pub mod SheetOrder
@@ -30,4 +34,5 @@ pub mod ByRules
 pub mod ZeroCycles
 pub mod Kept
 pub mod Bench
+pub mod FiringBench
 pub mod Witness

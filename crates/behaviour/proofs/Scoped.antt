@@ -52,8 +52,8 @@ use Rattle.records.specs.Kinds.{
   never,
 }
 use Rattle.records.specs.Says.{kindAt, sortAt, askAt}
-use Rattle.records.specs.Namings.{Naming, names, namings, exactlyOnce}
-use Rattle.records.specs.Written.{Written, NamedOnce}
+use Rattle.records.specs.Namings.{Naming, names, namings, wellNamed}
+use Rattle.records.specs.Written.{Written, WellNamed}
 use Rattle.records.proofs.Tests.{never-both, both-left, both-right}
 use Rattle.records.proofs.Table.{askOfKind, ask-by-kind}
 use Rattle.records.proofs.Asked.{Means, as-asked}
@@ -163,13 +163,12 @@ asks-expression s r free w n m h e = n
 asks-expression s r total w n m h e = n
 asks-expression s r never w n m h e = n
 
-one-naming : (ns : List Naming) → exactlyOnce ns ≡ true → (x : Naming) × List·Memᴰ x ns
-one-naming [] e = absurd (never-both false e refl)
-one-naming (x ∷ []) e = (x, List·Memᴰ·head refl)
-one-naming (x ∷ y ∷ ns) e = absurd (never-both false e refl)
+a-naming : (ns : List Naming) → wellNamed ns ≡ true → (x : Naming) × List·Memᴰ x ns
+a-naming [] e = absurd (never-both false e refl)
+a-naming (x ∷ ns) e = (x, List·Memᴰ·head refl)
 
-pub every-expression : {s : List ℕ} → Written s → NamedOnce s → (q : ℕ) → 0 < q → q < count s → sortAt s q ≡ expressions → Scoped s q
-every-expression {s} w once q low high e = go (suc q) q (omega arith) low high e
+pub every-expression : {s : List ℕ} → Written s → WellNamed s → (q : ℕ) → 0 < q → q < count s → sortAt s q ≡ expressions → Scoped s q
+every-expression {s} w well q low high e = go (suc q) q (omega arith) low high e
   where
     header-first : (r : ℕ) → r < count s → kindAt s r ≡ header → r ≡ 0
     header-first zero h e = refl
@@ -182,7 +181,7 @@ every-expression {s} w once q low high e = go (suc q) q (omega arith) low high e
     go : (n q : ℕ) → q < n → 0 < q → q < count s → sortAt s q ≡ expressions → Scoped s q
     go zero q h low high e = absurd (omega arith)
     go (suc n) q h low high e =
-        let f = one-naming (namings s q) (once q low high) in
+        let f = a-naming (namings s q) (well q low high) in
         let x = f .0 in
         let m = in-namings-names s q x (f .1) in
         let below = namer-lower w q x low m in

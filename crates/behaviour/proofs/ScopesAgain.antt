@@ -1,5 +1,5 @@
--- Where only leaves are rewritten the scopes of an accepted sheet stay: its expressions are no leaves, so their words are the same,
--- and types are. By induction on the way down from the root.
+-- Where only leaves and labels are rewritten the scopes of an accepted sheet stay: its expressions are no leaves, so their words up
+-- to word c are the same, and types are. By induction on the way down from the root.
 -- Assumes nothing.
 use Prim.Native.Nat.{ℕ, _<_}
 use mathlib.Core.List.{List}
@@ -9,7 +9,7 @@ use Rattle.records.specs.Words.{word, wordA, wordB}
 use Rattle.records.specs.Kinds.{ExpressionKind, expression, tuple, first, second, letIn, feedback, ifMatches, delay}
 use Rattle.records.specs.Says.{kindAt}
 use Rattle.records.specs.Trees.{treeAt}
-use Rattle.records.specs.Rewritten.{OnlyLeaves}
+use Rattle.records.specs.Rewritten.{Rewritten}
 use Rattle.records.proofs.Grown.{grown-tree}
 use Rattle.records.proofs.Rewritten.{same-kind, same-tree}
 use Rattle.accepted.proofs.Laws.{written}
@@ -36,12 +36,12 @@ use Rattle.accepted.proofs.Laws.{accepted-by-types}
 use Rattle.accepted.proofs.Scopes.{scope-checked}
 use Rattle.behaviour.proofs.TermsAgain.{type-of-same}
 
-module _ (s s′ : List ℕ) (o : OnlyLeaves s s′) (t : ℕ) (v : verdict s ≡ Accepted t) where
+module _ (s s′ : List ℕ) (o : Rewritten s s′) (t : ℕ) (v : verdict s ≡ Accepted t) where
   -- the words of an expression
-  expression-words : (q : ℕ) (k : ExpressionKind) → kindAt s q ≡ expression k → (j : ℕ) → j < 6 → word s′ q j ≡ word s q j
+  expression-words : (q : ℕ) (k : ExpressionKind) → kindAt s q ≡ expression k → (j : ℕ) → j < 5 → word s′ q j ≡ word s q j
   expression-words q k e = o .others q (λ f. let z : _≡_ {A = ℕ} 0 1 = cc in omega arith)
 
-  header-words : (j : ℕ) → j < 6 → word s′ 0 j ≡ word s 0 j
+  header-words : (j : ℕ) → j < 5 → word s′ 0 j ≡ word s 0 j
   header-words =
       o .others 0 (λ f. let g = written (accepted-by-types s t .0 v .0) .headed in let z : _≡_ {A = ℕ} 0 1 = cc in omega arith)
 

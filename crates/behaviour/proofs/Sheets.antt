@@ -17,7 +17,7 @@ use Rattle.records.specs.Says.{kindAt}
 use Rattle.records.specs.Trees.{circuit}
 use Rattle.records.specs.Held.{held, delayLeaves}
 use Rattle.records.specs.Decoding.{leafValues}
-use Rattle.records.specs.Rewritten.{OnlyLeaves}
+use Rattle.records.specs.Rewritten.{Rewritten}
 use Rattle.records.specs.Written.{Written}
 use Rattle.records.proofs.Table.{askOfKind, kind-of-sort}
 use Rattle.records.proofs.Asked.{as-kind-asks}
@@ -26,7 +26,7 @@ use Rattle.records.proofs.Distinct.{circuit-distinct}
 use Rattle.records.proofs.Grown.{grown-circuit}
 use Rattle.records.proofs.Rewritten.{same-circuit}
 use Rattle.structure.specs.Passes.{Passes}
-use Rattle.accepted.proofs.Laws.{written, named-once}
+use Rattle.accepted.proofs.Laws.{written, well-named}
 use Rattle.verdict.specs.Verdict.{inputs, verdict}
 use Rattle.verdict.specs.declared.Verdict.the-variants.{Accepted}
 use Rattle.accepted.proofs.Laws.{accepted-by-types}
@@ -85,7 +85,7 @@ same-record r k l h e = go (decLt r l) (decLt l r)
     go (no a) (no b) = (omega arith, omega arith)
 
 -- a word of a record that is not the word a of a delay's leaf
-same-word : {s s′ : List ℕ} → OnlyDelays s s′ → (r k : ℕ) → k < 6
+pub same-word : {s s′ : List ℕ} → OnlyDelays s s′ → (r k : ℕ) → k < 6
     → ((l : ℕ) → List·Memᴰ l (delayLeaves (circuit s)) → r ≡ l → k ≡ 2 → ⊥) → word s′ r k ≡ word s r k
 unfolding word
 same-word {s} {s′} o r k h other =
@@ -93,28 +93,29 @@ same-word {s} {s′} o r k h other =
     (o .bytes (12 * r + 2 * k) (λ l m. (λ e. let p = same-record r k l h e in other l m (p .0) (p .1), λ e. omega arith)))
     (o .bytes (12 * r + 2 * k + 1) (λ l m. (λ e. omega arith, λ e. let p = same-record r k l h (omega arith) in other l m (p .0) (p .1))))
 
--- where only delays' leaves differ only leaves do
-pub only-leaves : {s s′ : List ℕ} → Written s → OnlyDelays s s′ → OnlyLeaves s s′
+-- where only delays' leaves differ only leaves do, and no label
+pub only-leaves : {s s′ : List ℕ} → Written s → OnlyDelays s s′ → Rewritten s s′
 only-leaves {s} {s′} w o = record {
   length = o .length;
-  others = λ r f k h. same-word o r k h (λ l m e g. f (is-leaf l m e));
-  leaves = λ r k h f. same-word o r k h (λ l m e g. f g);
+  others = λ r f k h. same-word o r k (omega arith) (λ l m e g. f (is-leaf l m e));
+  leaves = λ r k h f. same-word o r k (omega arith) (λ l m e g. f g);
+  unlabelled = λ r f. same-word o r 5 (omega arith) (λ l m e g. absurd (omega arith));
 }
   where
     is-leaf : {r : ℕ} (l : ℕ) → List·Memᴰ l (delayLeaves (circuit s)) → r ≡ l → kindAt s r ≡ leaf
     is-leaf {r} l m e = rw e (kind-of-sort leafs (kindAt s l) (circuit-leaves w false true l m .sort))
 
 -- the header is no leaf
-pub header-same : {s s′ : List ℕ} → Written s → OnlyDelays s s′ → (k : ℕ) → k < 6 → word s′ 0 k ≡ word s 0 k
+pub header-same : {s s′ : List ℕ} → Written s → OnlyDelays s s′ → (k : ℕ) → k < 5 → word s′ 0 k ≡ word s 0 k
 header-same w o =
     only-leaves w o .others 0 (λ f. let g = w .headed in let z : _≡_ {A = ℕ} 0 1 = cc in omega arith)
 
 -- a leaf record of the sheet: its word a stands in the sheet, and is a byte
-leaf-in-sheet : (s : List ℕ) (l : ℕ) → l < count s → InSheet l s
+pub leaf-in-sheet : (s : List ℕ) (l : ℕ) → l < count s → InSheet l s
 unfolding count
 leaf-in-sheet s l h = omega arith
 
-leaf-small : {s : List ℕ} → Written s → (l : ℕ) → l < count s → kindAt s l ≡ leaf → wordA s l ≤ 255
+pub leaf-small : {s : List ℕ} → Written s → (l : ℕ) → l < count s → kindAt s l ≡ leaf → wordA s l ≤ 255
 leaf-small w l h e = unfold askOfKind in as-kind-asks w l leaf h e 2 refl
 
 -- the entry at a place
@@ -160,7 +161,7 @@ module _ (s : List ℕ) {t : ℕ} (v : verdict s ≡ Accepted t) where
   constants-stay : {s′ : List ℕ} → OnlyDelays s s′ → (x : ℕ) → List·Memᴰ x (held false true false (circuit s)) → wordA s′ x ≡ wordA s x
   constants-stay o x m =
       same-word o x 2 (omega arith)
-      (λ l n e k. constants-apart (circuit s) (circuit-distinct accepted-written (named-once passes) false true true) x m (rw e n))
+      (λ l n e k. constants-apart (circuit s) (circuit-distinct accepted-written (well-named passes) false true true) x m (rw e n))
 
   pub circuit-filled : {s′ : List ℕ} → OnlyDelays s s′ → circuitTerm s′ ≡ fill (leafValues s′) (circuitTerm s)
   unfolding circuitTerm
@@ -174,7 +175,7 @@ module _ (s : List ℕ) {t : ℕ} (v : verdict s ≡ Accepted t) where
 
   module _ {e : Term} (h : Writable s t e) where
     -- only leaves are rewritten
-    pub write-only-leaves : OnlyLeaves s (write s e)
+    pub write-only-leaves : Rewritten s (write s e)
     write-only-leaves = only-leaves accepted-written (write-only-delays s e (h .frame))
 
     has-places : Placed HasPlaces e
@@ -186,7 +187,7 @@ module _ (s : List ℕ) {t : ℕ} (v : verdict s ≡ Accepted t) where
     write-reads =
         let places = framed-places s e (h .frame) in
         put-read sheet-cells (entries e) s
-        (places .distinct (circuit-distinct accepted-written (named-once passes) false false true))
+        (places .distinct (circuit-distinct accepted-written (well-named passes) false false true))
         (λ l m. leaf-in-sheet s l (circuit-leaves accepted-written false true l (places .back l m) .there))
 
     -- every other record keeps its word a

@@ -14,7 +14,7 @@ use Rattle.records.specs.Trees.{circuit}
 use Rattle.records.specs.Held.{delayLeaves, Distinct}
 use Rattle.records.proofs.Leaves.{circuit-leaves}
 use Rattle.records.proofs.Distinct.{circuit-distinct}
-use Rattle.accepted.proofs.Laws.{named-once}
+use Rattle.accepted.proofs.Laws.{well-named}
 use Rattle.verdict.specs.Verdict.{verdict}
 use Rattle.verdict.specs.declared.Verdict.the-variants.{Accepted}
 use Rattle.accepted.proofs.Laws.{accepted-by-types}
@@ -25,7 +25,7 @@ use Rattle.behaviour.specs.Terms.{circuitTerm}
 use Rattle.behaviour.specs.Delays.{Entry, assigned, entries, places, putAll, enter, store}
 use Rattle.behaviour.specs.Sheets.{putWord, write, Writable}
 use Rattle.behaviour.specs.Copies.{copied}
-use Rattle.behaviour.proofs.Entries.{put-append, put-leaves, put-again, put-elsewhere, put-read}
+use Rattle.behaviour.proofs.Entries.{placesOf, put-append, put-leaves, put-again, put-elsewhere, put-read}
 use Rattle.behaviour.proofs.Cells.{entryAt, InTable, table-cells, InSheet, sheet-cells}
 use Rattle.behaviour.proofs.Members.{member-or-not, Among, Rearranged}
 use Rattle.behaviour.proofs.Frames.{assigned-places, same-places, Reads, Small, values-small, same-placed, HasPlaces, typed-valued}
@@ -51,9 +51,12 @@ store-delay t ls vs h = put-append enter (entries t) (assigned ls vs) h
 pub store-length : (t : Term) (h : List ℕ) → length (store t h) ≡ length h
 store-length t h = put-leaves enter length (entries t) (λ l m v a. length-set a l v) h
 
+-- what is entered at some places replaces what was entered there before
+pub entered-again : (es fs : List Entry) (h : List ℕ) → placesOf es ≡ placesOf fs → putAll enter es (putAll enter fs h) ≡ putAll enter es h
+entered-again es fs h e = put-again table-cells es fs h (λ l m. rw e m)
+
 pub store-again : (t u : Term) (h : List ℕ) → frame t ≡ frame u → store t (store u h) ≡ store t h
-store-again t u h e =
-    put-again table-cells (entries t) (entries u) h (λ l m. rw (same-places t u e) m)
+store-again t u h e = entered-again (entries t) (entries u) h (same-places t u e)
 
 -- what a second evaluation in another environment enters replaces what a first one entered
 pub store-next-again : (undecided : List ℕ → List ℕ → List ℕ) (ρ π : List (List ℕ)) (t : Term) (h : List ℕ)
@@ -98,7 +101,7 @@ module _ (s : List ℕ) (t : ℕ) (v : verdict s ≡ Accepted t) (e : Term) (h :
   leaves-distinct : Distinct (places e)
   leaves-distinct =
       framed-places s e (h .frame) .distinct
-      (circuit-distinct (accepted-written s v) (named-once (accepted-by-types s t .0 v .0)) false false true)
+      (circuit-distinct (accepted-written s v) (well-named (accepted-by-types s t .0 v .0)) false false true)
 
   pub written-small : Small (entries e)
   written-small =

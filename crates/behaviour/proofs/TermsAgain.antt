@@ -43,7 +43,7 @@ use Rattle.records.specs.Trees.{
 }
 use Rattle.records.specs.Held.{held}
 use Rattle.records.specs.Decoding.{leafValues, orElse, patternOf}
-use Rattle.records.specs.Rewritten.{OnlyLeaves}
+use Rattle.records.specs.Rewritten.{Rewritten}
 use Rattle.records.specs.Written.{Written}
 use Rattle.records.proofs.Rewritten.{same-type, same-pair-of}
 use Rattle.records.proofs.Grown.{Alternative, Grown}
@@ -55,13 +55,13 @@ use Rattle.meaning.specs.Elaboration.{Constant, Pair, First, Second, LetIn, Fee
 use Rattle.behaviour.specs.Terms.{term}
 use Rattle.behaviour.proofs.Frames.{fill}
 
-same-values : (s s′ ls : List ℕ) → ((x : ℕ) → List·Memᴰ x ls → wordA s′ x ≡ wordA s x) → leafValues s′ ls ≡ leafValues s ls
+pub same-values : (s s′ ls : List ℕ) → ((x : ℕ) → List·Memᴰ x ls → wordA s′ x ≡ wordA s x) → leafValues s′ ls ≡ leafValues s ls
 same-values s s′ [] same = refl
 same-values s s′ (l ∷ ls) same = ap₂ _∷_ (same l (List·Memᴰ·head refl)) (same-values s s′ ls (λ x m. same x (List·Memᴰ·tail m)))
 
-module _ (s s′ : List ℕ) (o : OnlyLeaves s s′) (w : Written s) where
+module _ (s s′ : List ℕ) (o : Rewritten s s′) (w : Written s) where
   -- the words of a type record
-  type-words : (t : ℕ) → TypeRecord s t → (k : ℕ) → k < 6 → word s′ t k ≡ word s t k
+  type-words : (t : ℕ) → TypeRecord s t → (k : ℕ) → k < 5 → word s′ t k ≡ word s t k
   type-words t u k h =
       o .others t
       (λ e. let f : sortAt s t ≡ leafs = ap sortOf e in let g = u .sort in let z : _≡_ {A = ℕ} 0 1 = cc in omega arith) k h

@@ -4,6 +4,8 @@ pub mod Sheets
 pub mod Run
 pub mod Afterwards
 pub mod ByRules
+pub mod Firing
+pub mod Reaching
 pub mod SheetOrder
 pub mod Promises
 -- What the promises pin down, so that it need not be believed:
@@ -12,6 +14,7 @@ pub mod Delays
 pub mod Cycle
 -- The bench cases, by computation:
 pub mod Bench
+pub mod FiringBench
 -- What functions ask and give, and their proofs need:
 pub mod Copies
 pub mod Evaluated

@@ -5,7 +5,7 @@ use mathlib.Core.List.{List, _++_}
 use mathlib.Core.Path.{_≡_, refl, sym, ap, _∙_}
 use native.Mathlib.Omega.{arith}
 use borrow.Author.Tests.{eqb-true}
-use lib.ListN.{length, getD, take, drop, replicate, length-map}
+use lib.ListN.{length, getD, set, take, drop, replicate, length-map}
 use Rattle.picoella.specs.Types.{leaves}
 use Rattle.records.specs.Words.{word, wordA, wordB, wordC, count}
 use Rattle.records.specs.Kinds.{expression, ifMatches, delay, leafs, patterns}
@@ -24,6 +24,8 @@ use Rattle.meaning.specs.Undecided.{undecidedRule}
 use Rattle.behaviour.specs.Delays.{assigned, putAll, enter}
 use Rattle.behaviour.specs.Evaluated.{valueAt, storedAt}
 use Rattle.behaviour.proofs.Evaluated.{if-value, if-stored, delay-value, delay-stored}
+use Rattle.behaviour.specs.Firing.{firedAt}
+use Rattle.behaviour.proofs.Firings.{if-fired, delay-fired}
 use Rattle.values.specs.Chained.{Chained}
 use Rattle.values.specs.Matchings.{Matching, Chosen}
 use Rattle.values.specs.Slots.{frames}
@@ -88,8 +90,8 @@ module _ {s : List ℕ} {n : ℕ} {W env : List ℕ} {names rec : ℕ} {out Γ :
     else-entry =
         then-entry ∙ entry-is r then-scope ∙ rw same-types (sym (entry-is r else-scope))
 
-    module _ {held env₁ held₁ o₁ : List ℕ} (p₁ : Evaluated s n W env names x held (take (c - 0) R) env₁ held₁ o₁) where
-      d₁ : EvaluatedIn s Γ env names x held env₁ held₁ o₁
+    module _ {held fired env₁ held₁ fired₁ o₁ : List ℕ} (p₁ : Evaluated s n W env names x held fired (take (c - 0) R) env₁ held₁ fired₁ o₁) where
+      d₁ : EvaluatedIn s Γ env names x held fired env₁ held₁ fired₁ o₁
       d₁ = room-done r tested-scope ec eR p₁
 
       pub then-ready : EvaluatingIn s n W env₁ names y out Γ
@@ -97,8 +99,8 @@ module _ {s : List ℕ} {n : ℕ} {W env : List ℕ} {names rec : ℕ} {out Γ :
           ready-at r then-scope env₁ names out (r .many) (d₁ .wide) then-entry
           (same-values r env₁ (d₁ .kept))
 
-      module _ {env₂ held₂ o₂ : List ℕ} (p₂ : Evaluated s n W env₁ names y held₁ out env₂ held₂ o₂) where
-        d₂ : EvaluatedIn s Γ env₁ names y held₁ env₂ held₂ o₂
+      module _ {env₂ held₂ fired₂ o₂ : List ℕ} (p₂ : Evaluated s n W env₁ names y held₁ fired₁ out env₂ held₂ fired₂ o₂) where
+        d₂ : EvaluatedIn s Γ env₁ names y held₁ fired₁ env₂ held₂ fired₂ o₂
         d₂ = p₂ .done Γ then-ready
 
         f₁ : frames s Γ env₁ ≡ ρ
@@ -126,8 +128,8 @@ module _ {s : List ℕ} {n : ℕ} {W env : List ℕ} {names rec : ℕ} {out Γ :
               ready-at r else-scope env₂ names (take (length o₂ - 0) Q) (r .many) (d₂ .wide)
               (lent-long (length o₂) Q else-fits ∙ then-long ∙ else-entry) (same-values r env₂ kept₂)
 
-          module _ {env₃ held₃ o₃ : List ℕ} (p₃ : Evaluated s n W env₂ names z held₂ (take (length o₂ - 0) Q) env₃ held₃ o₃) where
-            d₃ : EvaluatedIn s Γ env₂ names z held₂ env₃ held₃ o₃
+          module _ {env₃ held₃ fired₃ o₃ : List ℕ} (p₃ : Evaluated s n W env₂ names z held₂ fired₂ (take (length o₂ - 0) Q) env₃ held₃ fired₃ o₃) where
+            d₃ : EvaluatedIn s Γ env₂ names z held₂ fired₂ env₃ held₃ fired₃ o₃
             d₃ = p₃ .done Γ else-ready
 
             f₂ : frames s Γ env₂ ≡ ρ
@@ -189,14 +191,19 @@ module _ {s : List ℕ} {n : ℕ} {W env : List ℕ} {names rec : ℕ} {out Γ :
             pub if-wide : length env₃ ≡ length env
             if-wide = d₃ .wide ∙ sym (r .wide)
 
-            pub if-done : {out′ : List ℕ} → Chosen s p tested otherwise o₂ out′ → EvaluatedIn s Γ env names rec held env₃ held₃ out′
+            pub if-done : {out′ : List ℕ} {number : ℕ} → Chosen s p tested otherwise o₂ out′ number
+                → EvaluatedIn s Γ env names rec held fired env₃ held₃ (set fired₃ rec number) out′
             if-done g =
                 let h₂ : held₂ ≡ storedAt undecidedRule s Γ ρ y held₁ = rw f₁ at (d₂ .stored) in
                 let h₃ : held₃ ≡ storedAt undecidedRule s Γ ρ z held₂ = rw f₂ at (d₃ .stored) in
-                let chosen = rw (tested-is, otherwise-is, d₁ .value, then-value, else-value, ex, ey, ez, ep) at g in
+                let k₂ : fired₂ ≡ firedAt undecidedRule s Γ ρ y fired₁ = rw f₁ at (d₂ .noted) in
+                let k₃ : fired₃ ≡ firedAt undecidedRule s Γ ρ z fired₂ = rw f₂ at (d₃ .noted) in
+                let chosen = rw (tested-is, otherwise-is, d₁ .value, then-value, else-value, ex, ey, ez, ep) at (g .chosen) in
+                let number-is = rw (tested-is, d₁ .value, ex, ep) at (g .tells) in
                 record {
                   value = chosen ∙ sym (if-value undecidedRule s w Γ ρ rec b e);
                   stored = h₃ ∙ rw (h₂, d₁ .stored, ex, ey, ez) (sym (if-stored undecidedRule s w Γ ρ rec b e held));
+                  noted = rw (number-is, k₃, k₂, d₁ .noted, ex, ey, ez) (sym (if-fired undecidedRule s w Γ ρ rec b e fired));
                   wide = d₃ .wide;
                   kept = d₃ .kept ∙ kept₂;
                 }
@@ -219,7 +226,7 @@ module _ {s : List ℕ} {n : ℕ} {W env : List ℕ} {names rec : ℕ} {out Γ :
     delayed-ready =
         ready-at r delayed-scope env names out (r .many) (r .wide) delayed-entry (r .values)
 
-    pub delay-chained : {held env₁ held₁ o : List ℕ} → Evaluated s n W env names x held out env₁ held₁ o → Chained s n l (length o)
+    pub delay-chained : {held fired env₁ held₁ fired₁ o : List ℕ} → Evaluated s n W env names x held fired out env₁ held₁ fired₁ o → Chained s n l (length o)
     delay-chained p₁ =
         let eo = ap length (p₁ .done Γ delayed-ready .value) ∙ value-long r delayed-scope (r .values) ∙ sym delayed-entry in
         let q = part-of-kind w rec (expression delay) leafs b e 3 refl (unfold askOfKind in refl) in
@@ -235,14 +242,15 @@ module _ {s : List ℕ} {n : ℕ} {W env : List ℕ} {names rec : ℕ} {out Γ :
               ∙ ready-value r ∙ sym eo);
         }
 
-    pub delay-done : {held env₁ held₁ o₁ held₂ o₂ : List ℕ} → Evaluated s n W env names x held out env₁ held₁ o₁
+    pub delay-done : {held fired env₁ held₁ fired₁ o₁ held₂ o₂ : List ℕ} → Evaluated s n W env names x held fired out env₁ held₁ fired₁ o₁
         → held₂ ≡ putAll enter (assigned (chain s l) o₁) held₁ → o₂ ≡ leafValues s (chain s l)
-        → EvaluatedIn s Γ env names rec held env₁ held₂ o₂
-    delay-done {held} p₁ h g =
+        → EvaluatedIn s Γ env names rec held fired env₁ held₂ fired₁ o₂
+    delay-done {held} {fired} p₁ h g =
         let d = p₁ .done Γ delayed-ready in
         record {
           value = g ∙ rw el (sym (delay-value undecidedRule s w Γ ρ rec b e));
           stored = h ∙ rw (d .value, d .stored, ex, el) (sym (delay-stored undecidedRule s w Γ ρ rec b e held));
+          noted = d .noted ∙ rw ex (sym (delay-fired undecidedRule s w Γ ρ rec b e fired));
           wide = d .wide;
           kept = d .kept;
         }

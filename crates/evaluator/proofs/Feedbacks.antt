@@ -27,6 +27,8 @@ use Rattle.meaning.proofs.FeedbackLeast.{undefined-rises, feedback-typed}
 use Rattle.behaviour.specs.Terms.{term}
 use Rattle.behaviour.specs.Evaluated.{valueAt, storedAt}
 use Rattle.behaviour.proofs.Evaluated.{feedback-value, feedback-stored}
+use Rattle.behaviour.specs.Firing.{firedAt}
+use Rattle.behaviour.proofs.Firings.{feedback-fired}
 use Rattle.values.specs.Slots.{slot, entered, frames}
 use Rattle.evaluator.specs.Evaluating.{EvaluatingIn, EvaluatedIn, Evaluated, SettlingIn, SettledIn, Settled, leadsTo}
 use Rattle.evaluator.proofs.Frames.{front-kept, frames-kept, lent-long, zeros-long, zeros-front}
@@ -141,8 +143,8 @@ module _ {s : List ℕ} {n : ℕ} {W env : List ℕ} {names rec : ℕ} {out Γ :
           let f = feedback-small in
           omega arith
 
-      module _ {held env₂ held₁ : List ℕ} (p : Settled s n W env₁ names d held (take (c - 0) R) env₂ held₁) where
-        f₁ : SettledIn s t Γ env₁ names d held env₂ held₁
+      module _ {held fired env₂ held₁ fired₁ : List ℕ} (p : Settled s n W env₁ names d held fired (take (c - 0) R) env₂ held₁ fired₁) where
+        f₁ : SettledIn s t Γ env₁ names d held fired env₂ held₁ fired₁
         f₁ = p .settled t Γ feedback-settling
 
         abbrev u : List ℕ
@@ -177,15 +179,18 @@ module _ {s : List ℕ} {n : ℕ} {W env : List ℕ} {names rec : ℕ} {out Γ :
             ∙ value-long r body-scope body-values)
             body-values
 
-        pub feedback-done : {env₃ held₂ o : List ℕ} → Evaluated s n W env₂ (names + 1) y held₁ out env₃ held₂ o
-            → EvaluatedIn s Γ env names rec held env₃ held₂ o
-        feedback-done {env₃} {held₂} q =
+        pub feedback-done : {env₃ held₂ fired₂ o : List ℕ} → Evaluated s n W env₂ (names + 1) y held₁ fired₁ out env₃ held₂ fired₂ o
+            → EvaluatedIn s Γ env names rec held fired env₃ held₂ fired₂ o
+        feedback-done {env₃} {held₂} {fired₂} q =
             let d₂ = q .done (t ∷ Γ) feedback-body-ready in
             let h₁ : held₁ ≡ storedAt undecidedRule s (t ∷ Γ) (u ∷ π) d held = rw (leads, ρ₁) at (f₁ .stored) in
             let h₂ : held₂ ≡ storedAt undecidedRule s (t ∷ Γ) (u ∷ π) y held₁ = rw framed₂ at (d₂ .stored) in
+            let k₁ : fired₁ ≡ firedAt undecidedRule s (t ∷ Γ) (u ∷ π) d fired = rw (leads, ρ₁) at (f₁ .noted) in
+            let k₂ : fired₂ ≡ firedAt undecidedRule s (t ∷ Γ) (u ∷ π) y fired₁ = rw framed₂ at (d₂ .noted) in
             record {
               value = d₂ .value ∙ sym body-value;
               stored = h₂ ∙ rw (h₁, ed, ey) (sym (feedback-stored undecidedRule s w Γ π rec b e held));
+              noted = k₂ ∙ rw (k₁, ed, ey) (sym (feedback-fired undecidedRule s w Γ π rec b e fired));
               wide = d₂ .wide;
               kept = front-kept (64 * names) (64 * (names + 1)) env₃ env₂ (omega arith) (d₂ .kept) ∙ kept₂;
             }

@@ -22,6 +22,8 @@ use Rattle.meaning.specs.Values.{ValuesOf}
 use Rattle.meaning.specs.Undecided.{undecidedRule}
 use Rattle.behaviour.specs.Evaluated.{valueAt, storedAt}
 use Rattle.behaviour.proofs.Evaluated.{name-value, name-stored, let-value, let-stored}
+use Rattle.behaviour.specs.Firing.{firedAt}
+use Rattle.behaviour.proofs.Firings.{name-fired, let-fired}
 use Rattle.values.specs.Slots.{slot, entered, frames}
 use Rattle.evaluator.specs.Evaluating.{EvaluatingIn, EvaluatedIn, Evaluated}
 use Rattle.evaluator.proofs.Frames.{front-kept, frame-at, back-part, back-long}
@@ -77,13 +79,14 @@ module _ {s : List ℕ} {n : ℕ} {W env : List ℕ} {names rec : ℕ} {out Γ :
     name-leaves =
         r .room ∙ entry-is r (r .scope) ∙ rw (tree-of w rec b (expression name) e, ek) refl
 
-    pub name-done : {held out′ : List ℕ} → out′ ≡ slot (names - 1 - k) (length out) env → EvaluatedIn s Γ env names rec held env held out′
-    name-done {held} g =
+    pub name-done : {held fired out′ : List ℕ} → out′ ≡ slot (names - 1 - k) (length out) env → EvaluatedIn s Γ env names rec held fired env held fired out′
+    name-done {held} {fired} g =
         let there : slot (names - 1 - k) (length out) env ≡ getD ρ k [] =
         rw (name-leaves, ← r .many) (sym (frame-at s Γ env k (let h = name-in-scope in let m = r .many in omega arith))) in
         record {
           value = g ∙ there ∙ rw ek (sym (name-value undecidedRule s w Γ ρ rec b e));
           stored = sym (name-stored undecidedRule s w Γ ρ rec b e held);
+          noted = sym (name-fired undecidedRule s w Γ ρ rec b e fired);
           wide = r .wide;
           kept = refl;
         }
@@ -108,8 +111,8 @@ module _ {s : List ℕ} {n : ℕ} {W env : List ℕ} {names rec : ℕ} {out Γ :
         let i = entry-is r defining-scope in
         omega arith
 
-    module _ {held env₁ held₁ o₁ : List ℕ} (p₁ : Evaluated s n W env names x held (take (c - 0) R) env₁ held₁ o₁) where
-      d₁ : EvaluatedIn s Γ env names x held env₁ held₁ o₁
+    module _ {held fired env₁ held₁ fired₁ o₁ : List ℕ} (p₁ : Evaluated s n W env names x held fired (take (c - 0) R) env₁ held₁ fired₁ o₁) where
+      d₁ : EvaluatedIn s Γ env names x held fired env₁ held₁ fired₁ o₁
       d₁ = room-done r defining-scope ec eR p₁
 
       typed : OfType (typeAt s t) o₁
@@ -158,15 +161,17 @@ module _ {s : List ℕ} {n : ℕ} {W env : List ℕ} {names rec : ℕ} {out Γ :
             ∙ value-long r body-scope body-values)
             body-values
 
-        pub let-done : {env₃ held₂ o₂ : List ℕ} → Evaluated s n W env₂ (names + 1) y held₁ out env₃ held₂ o₂
-            → EvaluatedIn s Γ env names rec held env₃ held₂ o₂
-        let-done {env₃} {held₂} p₂ =
+        pub let-done : {env₃ held₂ fired₂ o₂ : List ℕ} → Evaluated s n W env₂ (names + 1) y held₁ fired₁ out env₃ held₂ fired₂ o₂
+            → EvaluatedIn s Γ env names rec held fired env₃ held₂ fired₂ o₂
+        let-done {env₃} {held₂} {fired₂} p₂ =
             let d₂ = p₂ .done (t ∷ Γ) let-body-ready in
             let h₂ : held₂ ≡ storedAt undecidedRule s (t ∷ Γ) (valueAt undecidedRule s Γ ρ x ∷ ρ) y held₁ =
             rw framed at (d₂ .stored) in
+            let k₂ : fired₂ ≡ firedAt undecidedRule s (t ∷ Γ) (valueAt undecidedRule s Γ ρ x ∷ ρ) y fired₁ = rw framed at (d₂ .noted) in
             record {
               value = d₂ .value ∙ sym body-value;
               stored = h₂ ∙ rw (d₁ .stored, ex, ey) (sym (let-stored undecidedRule s w Γ ρ rec b e held));
+              noted = k₂ ∙ rw (d₁ .noted, ex, ey) (sym (let-fired undecidedRule s w Γ ρ rec b e fired));
               wide = d₂ .wide;
               kept =
                   front-kept (64 * names) (64 * (names + 1)) env₃ env₂ (omega arith) (d₂ .kept)

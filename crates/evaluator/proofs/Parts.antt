@@ -20,6 +20,8 @@ use Rattle.verdict.specs.Scopes.{Scope, tuple-first, tuple-second, of-first, of
 use Rattle.meaning.specs.Undecided.{undecidedRule}
 use Rattle.behaviour.specs.Evaluated.{valueAt, storedAt}
 use Rattle.behaviour.proofs.Evaluated.{constant-value, constant-stored, tuple-value, tuple-stored, first-value, first-stored, second-value, second-stored}
+use Rattle.behaviour.specs.Firing.{firedAt}
+use Rattle.behaviour.proofs.Firings.{constant-fired, tuple-fired, first-fired, second-fired}
 use Rattle.values.specs.Chained.{Chained}
 use Rattle.values.specs.Slots.{frames}
 use Rattle.evaluator.specs.Evaluating.{EvaluatingIn, EvaluatedIn, Evaluated}
@@ -57,12 +59,13 @@ module _ {s : List ℕ} {n : ℕ} {W env : List ℕ} {names rec : ℕ} {out Γ :
         long : (ls : List ℕ) → length (leafValues s ls) ≡ length ls
         long ls = length-map ls (wordA s)
 
-    pub constant-done : {x : ℕ} → x ≡ word s rec 3 → {held out′ : List ℕ} → out′ ≡ leafValues s (chain s x)
-        → EvaluatedIn s Γ env names rec held env held out′
-    constant-done ex {held} g =
+    pub constant-done : {x : ℕ} → x ≡ word s rec 3 → {held fired out′ : List ℕ} → out′ ≡ leafValues s (chain s x)
+        → EvaluatedIn s Γ env names rec held fired env held fired out′
+    constant-done ex {held} {fired} g =
         record {
           value = g ∙ rw ex (sym (constant-value undecidedRule s sheet-written Γ ρ rec record-there e));
           stored = sym (constant-stored undecidedRule s sheet-written Γ ρ rec record-there e held);
+          noted = sym (constant-fired undecidedRule s sheet-written Γ ρ rec record-there e fired);
           wide = r .wide;
           kept = refl;
         }
@@ -98,8 +101,8 @@ module _ {s : List ℕ} {n : ℕ} {W env : List ℕ} {names rec : ℕ} {out Γ :
           ready-at r scope-a env names (take (w - 0) out) (r .many) (r .wide)
           (lent-long w out pair-cut ∙ ew) (r .values)
 
-      module _ {held env₁ held₁ o₁ : List ℕ} (p₁ : Evaluated s n W env names x held (take (w - 0) out) env₁ held₁ o₁) where
-        d₁ : EvaluatedIn s Γ env names x held env₁ held₁ o₁
+      module _ {held fired env₁ held₁ fired₁ o₁ : List ℕ} (p₁ : Evaluated s n W env names x held fired (take (w - 0) out) env₁ held₁ fired₁ o₁) where
+        d₁ : EvaluatedIn s Γ env names x held fired env₁ held₁ fired₁ o₁
         d₁ = p₁ .done Γ pair-first-ready
 
         first-wide : length o₁ ≡ w
@@ -117,18 +120,20 @@ module _ {s : List ℕ} {n : ℕ} {W env : List ℕ} {names rec : ℕ} {out Γ :
             (let l = rest-long w out o₁ first-wide pair-cut in let p = pair-widths in omega arith)
             (same-values r env₁ (d₁ .kept))
 
-        pub pair-done : {env₂ held₂ o₂ : List ℕ} → Evaluated s n W env₁ names y held₁ rest env₂ held₂ o₂
-            → EvaluatedIn s Γ env names rec held env₂ held₂
+        pub pair-done : {env₂ held₂ fired₂ o₂ : List ℕ} → Evaluated s n W env₁ names y held₁ fired₁ rest env₂ held₂ fired₂ o₂
+            → EvaluatedIn s Γ env names rec held fired env₂ held₂ fired₂
             (take w (o₁ ++ drop (w - 0) out)
             ++ (o₂ ++ drop (length (o₁ ++ drop (w - 0) out) - w) (drop w (o₁ ++ drop (w - 0) out))))
-        pair-done {env₂} {held₂} {o₂} p₂ =
+        pair-done {env₂} {held₂} {fired₂} {o₂} p₂ =
             let d₂ = p₂ .done Γ pair-second-ready in
             let f = same-frames r env₁ (d₁ .kept) in
             let v₂ : o₂ ≡ val y = rw f at (d₂ .value) in
             let h₂ : held₂ ≡ storedAt undecidedRule s Γ ρ y held₁ = rw f at (d₂ .stored) in
+            let k₂ : fired₂ ≡ firedAt undecidedRule s Γ ρ y fired₁ = rw f at (d₂ .noted) in
             record {
               value = both-back w out o₁ first-wide pair-cut o₂ ∙ rw (d₁ .value, v₂) (sym parts);
               stored = h₂ ∙ rw (d₁ .stored, ex, ey) (sym (tuple-stored undecidedRule s sheet-written Γ ρ rec record-there e held));
+              noted = k₂ ∙ rw (d₁ .noted, ex, ey) (sym (tuple-fired undecidedRule s sheet-written Γ ρ rec record-there e fired));
               wide = d₂ .wide;
               kept = d₂ .kept ∙ d₁ .kept;
             }
@@ -145,8 +150,8 @@ module _ {s : List ℕ} {n : ℕ} {W env : List ℕ} {names rec : ℕ} {out Γ :
     room-ready =
         ready-at r c env names (take (w - 0) R) (r .many) (r .wide) (lent-long w R fits-room ∙ ew) (r .values)
 
-    module _ {held env₁ held₁ o₁ : List ℕ} (p₁ : Evaluated s n W env names x held (take (w - 0) R) env₁ held₁ o₁) where
-      pub room-done : EvaluatedIn s Γ env names x held env₁ held₁ o₁
+    module _ {held fired env₁ held₁ fired₁ o₁ : List ℕ} (p₁ : Evaluated s n W env names x held fired (take (w - 0) R) env₁ held₁ fired₁ o₁) where
+      pub room-done : EvaluatedIn s Γ env names x held fired env₁ held₁ fired₁ o₁
       room-done = p₁ .done Γ room-ready
 
       pub room-wide : length o₁ ≡ w
@@ -157,7 +162,7 @@ module _ {s : List ℕ} {n : ℕ} {W env : List ℕ} {names rec : ℕ} {out Γ :
     pub first-scope : Scope s x Γ
     first-scope = rw ex (of-first e (r .scope))
 
-    module _ {held env₁ held₁ o₁ : List ℕ} (p₁ : Evaluated s n W env names x held (take (w - 0) R) env₁ held₁ o₁) where
+    module _ {held fired env₁ held₁ fired₁ o₁ : List ℕ} (p₁ : Evaluated s n W env names x held fired (take (w - 0) R) env₁ held₁ fired₁ o₁) where
       abbrev cut : ℕ
       cut = leaves (typeAt s (wordA s (typeRecordOf s Γ (treeAt s (wordA s rec)))))
 
@@ -193,12 +198,13 @@ module _ {s : List ℕ} {n : ℕ} {W env : List ℕ} {names rec : ℕ} {out Γ :
 
       pub first-done : {out′ : List ℕ}
           → out′ ≡ take (length out - 0) (o₁ ++ drop (w - 0) R) ++ drop (length (take (length out - 0) (o₁ ++ drop (w - 0) R))) out
-          → EvaluatedIn s Γ env names rec held env₁ held₁ out′
+          → EvaluatedIn s Γ env names rec held fired env₁ held₁ fired₁ out′
       first-done {out′} g =
           let d = room-done first-scope ew eR p₁ in
           record {
             value = put-whole (take (length out - 0) (o₁ ++ drop (w - 0) R)) out out′ first-fits g ∙ part-is ∙ sym front;
             stored = d .stored ∙ rw ex (sym (first-stored undecidedRule s sheet-written Γ ρ rec record-there e held));
+            noted = d .noted ∙ rw ex (sym (first-fired undecidedRule s sheet-written Γ ρ rec record-there e fired));
             wide = d .wide;
             kept = d .kept;
           }
@@ -208,7 +214,7 @@ module _ {s : List ℕ} {n : ℕ} {W env : List ℕ} {names rec : ℕ} {out Γ :
     pub second-scope : Scope s x Γ
     second-scope = rw ex (of-second e (r .scope))
 
-    module _ {held env₁ held₁ o₁ : List ℕ} (p₁ : Evaluated s n W env names x held (take (w - 0) R) env₁ held₁ o₁) where
+    module _ {held fired env₁ held₁ fired₁ o₁ : List ℕ} (p₁ : Evaluated s n W env names x held fired (take (w - 0) R) env₁ held₁ fired₁ o₁) where
       abbrev cut′ : ℕ
       cut′ = leaves (typeAt s (wordA s (typeRecordOf s Γ (treeAt s (wordA s rec)))))
 
@@ -247,12 +253,13 @@ module _ {s : List ℕ} {n : ℕ} {W env : List ℕ} {names rec : ℕ} {out Γ :
       pub second-fits : length piece ≡ length out
       second-fits = ap length piece-is ∙ sym end-long
 
-      pub second-done : {out′ : List ℕ} → out′ ≡ piece ++ drop (length piece) out → EvaluatedIn s Γ env names rec held env₁ held₁ out′
+      pub second-done : {out′ : List ℕ} → out′ ≡ piece ++ drop (length piece) out → EvaluatedIn s Γ env names rec held fired env₁ held₁ fired₁ out′
       second-done {out′} g =
           let d = room-done second-scope ew eR p₁ in
           record {
             value = put-whole piece out out′ second-fits g ∙ piece-is ∙ sym end;
             stored = d .stored ∙ rw ex (sym (second-stored undecidedRule s sheet-written Γ ρ rec record-there e held));
+            noted = d .noted ∙ rw ex (sym (second-fired undecidedRule s sheet-written Γ ρ rec record-there e fired));
             wide = d .wide;
             kept = d .kept;
           }

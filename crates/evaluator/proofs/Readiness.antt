@@ -99,6 +99,9 @@ module _ {s : List ℕ} {n : ℕ} {W env : List ℕ} {names rec : ℕ} {out Γ :
   pub ready-there : rec < count s
   ready-there = in-circuit (r .scope) .there
 
+  pub ready-low : rec < 4096
+  ready-low = let c = r .sized .counted in let t = ready-there in let f = r .sized .few in omega arith
+
   pub ready-word : {k : ℕ} → k < 6 → Sized s n × (rec < n) × (k < 6)
   ready-word h = let c = r .sized .counted in let t = ready-there in (r .sized, omega arith, h)
 

@@ -1,6 +1,6 @@
 -- A feedback settled: from an approximation that lies at or below what the defining part gives for it, each round that changes the
 -- value leaves fewer undefined leaves, and leads where the approximation leads; the round that finds the value unchanged enters
--- the delays' next values, in place of those that earlier rounds entered.
+-- the delays' next values and the numbers of the IFs, in place of those that earlier rounds entered.
 -- Assumes nothing.
 use Prim.Native.Nat.{ℕ, suc, _+_, _-_, _*_, _≤_, _<_}
 use mathlib.Core.Bool.{Bool, true, false}
@@ -22,6 +22,8 @@ use Rattle.meaning.proofs.FeedbackLeast.{application-monotone, application-type
 use Rattle.behaviour.specs.Terms.{term}
 use Rattle.behaviour.specs.Evaluated.{valueAt, storedAt}
 use Rattle.behaviour.proofs.Evaluated.{stored-again}
+use Rattle.behaviour.specs.Firing.{firedAt}
+use Rattle.behaviour.proofs.Firings.{fired-again}
 use Rattle.values.specs.Answers.{Agrees}
 use Rattle.values.specs.Slots.{slot, entered, frames}
 use Rattle.evaluator.specs.Evaluating.{EvaluatingIn, EvaluatedIn, Evaluated, SettlingIn, SettledIn, Settled, approximation, leadsTo}
@@ -85,8 +87,8 @@ module _ {s : List ℕ} {n : ℕ} {W env : List ℕ} {names d : ℕ} {value : Li
   pub value-wide : length value ≡ leaves σ
   value-wide = r .room ∙ wide-leaves
 
-  module _ {held env₁ held₁ o : List ℕ} (p : Evaluated s n W env (names + 1) d held value env₁ held₁ o) where
-    d₁ : EvaluatedIn s (t ∷ Γ) env (names + 1) d held env₁ held₁ o
+  module _ {held fired env₁ held₁ fired₁ o : List ℕ} (p : Evaluated s n W env (names + 1) d held fired value env₁ held₁ fired₁ o) where
+    d₁ : EvaluatedIn s (t ∷ Γ) env (names + 1) d held fired env₁ held₁ fired₁ o
     d₁ = p .done (t ∷ Γ) r
 
     given : o ≡ application undecidedRule ρ part v
@@ -112,11 +114,14 @@ module _ {s : List ℕ} {n : ℕ} {W env : List ℕ} {names d : ℕ} {value : Li
     held-is : held₁ ≡ storedAt undecidedRule s (t ∷ Γ) (v ∷ ρ) d held
     held-is = rw framed at (d₁ .stored)
 
+    fired-is : fired₁ ≡ firedAt undecidedRule s (t ∷ Γ) (v ∷ ρ) d fired
+    fired-is = rw framed at (d₁ .noted)
+
     module _ {answer : Bool} (a : Agrees o (slot names (length o) env₁) answer) where
       standing : slot names (length o) env₁ ≡ v
       standing = rw given-long same-slot
 
-      pub unchanged-settled : answer ≡ true → SettledIn s t Γ env names d held env₁ held₁
+      pub unchanged-settled : answer ≡ true → SettledIn s t Γ env names d held fired env₁ held₁ fired₁
       unchanged-settled e =
           let u : application undecidedRule ρ part v ≡ v = sym given ∙ a .same e ∙ standing in
           let i : iterate undecidedRule ρ σ part v ≡ v =
@@ -124,6 +129,7 @@ module _ {s : List ℕ} {n : ℕ} {W env : List ℕ} {names d : ℕ} {value : Li
           record {
             reached = same-slot ∙ sym i;
             stored = held-is ∙ rw i refl;
+            noted = fired-is ∙ rw i refl;
             wide = d₁ .wide;
             kept = kept;
           }
@@ -176,16 +182,18 @@ module _ {s : List ℕ} {n : ℕ} {W env : List ℕ} {names d : ℕ} {value : Li
             rw (ρ₂, slot₂, given)
             (sym (iterate-again undecidedRule rule-lawful (Declared s) {ρ = ρ} {t = part} typed (typed-values .1) rises))
 
-        pub changed-settled : {env₃ held₂ : List ℕ} → Settled s n W env₂ names d held₁ o env₃ held₂
-            → SettledIn s t Γ env names d held env₃ held₂
-        changed-settled {held₂ = held₂} q =
+        pub changed-settled : {env₃ held₂ fired₂ : List ℕ} → Settled s n W env₂ names d held₁ fired₁ o env₃ held₂ fired₂
+            → SettledIn s t Γ env names d held fired env₃ held₂ fired₂
+        changed-settled {held₂ = held₂} {fired₂} q =
             let f = q .settled t Γ settling-again in
             let h : held₂ ≡ storedAt undecidedRule s (t ∷ Γ) (leadsTo s t Γ d names env ∷ ρ) d held₁ = rw (leads, ρ₂) at (f .stored) in
+            let k : fired₂ ≡ firedAt undecidedRule s (t ∷ Γ) (leadsTo s t Γ d names env ∷ ρ) d fired₁ = rw (leads, ρ₂) at (f .noted) in
             record {
               reached = f .reached ∙ leads;
               stored = h ∙ rw held-is
                   (stored-again undecidedRule s (ready-written r) (t ∷ Γ)
                   (leadsTo s t Γ d names env ∷ ρ) d (ready-there r) (v ∷ ρ) held);
+              noted = k ∙ rw fired-is (fired-again undecidedRule s (ready-written r) (t ∷ Γ) (leadsTo s t Γ d names env ∷ ρ) d (ready-there r) (v ∷ ρ) fired);
               wide = f .wide;
               kept = f .kept ∙ kept₂;
             }

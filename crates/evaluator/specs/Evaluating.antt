@@ -18,6 +18,7 @@ use Rattle.meaning.specs.Undecided.{undecidedRule}
 use Rattle.meaning.specs.Evaluation.{iterate}
 use Rattle.behaviour.specs.Terms.{term}
 use Rattle.behaviour.specs.Evaluated.{valueAt, storedAt}
+use Rattle.behaviour.specs.Firing.{firedAt}
 use Rattle.values.specs.Slots.{slot, frames}
 
 -- an expression is evaluated: record rec of an accepted sheet, with the names of Γ in scope, into a slice as wide as its type
@@ -32,10 +33,11 @@ pub record EvaluatingIn (s : List ℕ) (n : ℕ) (widths env : List ℕ) (names 
   pub room : length out ≡ getD widths rec 0
   pub values : ValuesOf (map (typeAt s) Γ) (frames s Γ env)
 
--- what comes of it: the value, the table of the delays' next values, and an environment with the same names
-pub record EvaluatedIn (s Γ env : List ℕ) (names rec : ℕ) (held env′ held′ out′ : List ℕ) : Type 0 where
+-- what comes of it: the value, the table of the delays' next values, the numbers of its IFs, and an environment with the same names
+pub record EvaluatedIn (s Γ env : List ℕ) (names rec : ℕ) (held fired env′ held′ fired′ out′ : List ℕ) : Type 0 where
   pub value : out′ ≡ valueAt undecidedRule s Γ (frames s Γ env) rec
   pub stored : held′ ≡ storedAt undecidedRule s Γ (frames s Γ env) rec held
+  pub noted : fired′ ≡ firedAt undecidedRule s Γ (frames s Γ env) rec fired
   pub wide : length env′ ≡ 4096
   pub kept : take (64 * names) env′ ≡ take (64 * names) env
 
@@ -57,15 +59,32 @@ pub record SettlingIn (s : List ℕ) (n : ℕ) (widths env : List ℕ) (names d 
       : Both (bounds (typeAt s t)) (approximation s t names env)
       (valueAt undecidedRule s (t ∷ Γ) (frames s (t ∷ Γ) env) d)
 
-pub record SettledIn (s : List ℕ) (t : ℕ) (Γ env : List ℕ) (names d : ℕ) (held env′ held′ : List ℕ) : Type 0 where
+pub record SettledIn (s : List ℕ) (t : ℕ) (Γ env : List ℕ) (names d : ℕ) (held fired env′ held′ fired′ : List ℕ) : Type 0 where
   pub reached : approximation s t names env′ ≡ leadsTo s t Γ d names env
   pub stored : held′ ≡ storedAt undecidedRule s (t ∷ Γ) (leadsTo s t Γ d names env ∷ frames s Γ env) d held
+  pub noted : fired′ ≡ firedAt undecidedRule s (t ∷ Γ) (leadsTo s t Γ d names env ∷ frames s Γ env) d fired
   pub wide : length env′ ≡ 4096
   pub kept : take (64 * names) env′ ≡ take (64 * names) env
 
 -- The contracts: for every list of names in scope with which the call is ready.
-pub record Evaluated (s : List ℕ) (n : ℕ) (widths env : List ℕ) (names rec : ℕ) (held out env′ held′ out′ : List ℕ) : Type 0 where
-  pub done : (Γ : List ℕ) → EvaluatingIn s n widths env names rec out Γ → EvaluatedIn s Γ env names rec held env′ held′ out′
+pub record Evaluated
+    (s : List ℕ)
+    (n : ℕ)
+    (widths env : List ℕ)
+    (names rec : ℕ)
+    (held fired out env′ held′ fired′ out′ : List ℕ)
+    : Type 0
+  where
+    pub done : (Γ : List ℕ) → EvaluatingIn s n widths env names rec out Γ
+        → EvaluatedIn s Γ env names rec held fired env′ held′ fired′ out′
 
-pub record Settled (s : List ℕ) (n : ℕ) (widths env : List ℕ) (names d : ℕ) (held value env′ held′ : List ℕ) : Type 0 where
-  pub settled : (t : ℕ) (Γ : List ℕ) → SettlingIn s n widths env names d value t Γ → SettledIn s t Γ env names d held env′ held′
+pub record Settled
+    (s : List ℕ)
+    (n : ℕ)
+    (widths env : List ℕ)
+    (names d : ℕ)
+    (held fired value env′ held′ fired′ : List ℕ)
+    : Type 0
+  where
+    pub settled : (t : ℕ) (Γ : List ℕ) → SettlingIn s n widths env names d value t Γ
+        → SettledIn s t Γ env names d held fired env′ held′ fired′

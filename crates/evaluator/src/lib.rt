@@ -21,6 +21,7 @@ use records::WORD_D;
 use records::WORD_KIND;
 use records::Widths;
 use records::word;
+use values::Fired;
 use values::NextValues;
 use values::choose_value;
 use values::copy_value;
@@ -42,13 +43,13 @@ fn of_name(
     out: &mut [u8],
 )
     requires { ⌜ ((Γ : List ℕ) × EvaluatingIn (now sheet) n (now widths) (now env) names rec (now out) Γ) × (kindAt (now sheet) rec ≡ expression name) ⌝ }
-    ensures { λ _. ⌜ ((held : List ℕ) → Evaluated (now (sheet .entry)) n (now (widths .entry)) (now (env .entry)) names rec held (now (out .entry)) (now (env .entry)) held (now (out .exit))) ⌝ }
+    ensures { λ _. ⌜ ((held fired : List ℕ) → Evaluated (now (sheet .entry)) n (now (widths .entry)) (now (env .entry)) names rec held fired (now (out .entry)) (now (env .entry)) held fired (now (out .exit))) ⌝ }
 {
     let k = word(sheet, n, rec, WORD_A);
     copy_value(env, names - 1 - k, out);
 }
 
-// Evaluates an expression: its value goes to `out`, and its delays' next values to `held`.
+// Evaluates an expression: its value goes to `out`, its delays' next values to `held`, and the numbers of its IFs to `fired`.
 pub fn eval(
     sheet: &[u8],
     n: usize,
@@ -56,11 +57,12 @@ pub fn eval(
     env: &mut [u8],
     names: usize,
     held: &mut NextValues,
+    fired: &mut Fired,
     rec: usize,
     out: &mut [u8],
 )
     requires { ⌜ ((Γ : List ℕ) × EvaluatingIn (now sheet) n (now widths) (now env) names rec (now out) Γ) ⌝ }
-    ensures { λ _. ⌜ Evaluated (now (sheet .entry)) n (now (widths .entry)) (now (env .entry)) names rec (now (held .entry)) (now (out .entry)) (now (env .exit)) (now (held .exit)) (now (out .exit)) ⌝ }
+    ensures { λ _. ⌜ Evaluated (now (sheet .entry)) n (now (widths .entry)) (now (env .entry)) names rec (now (held .entry)) (now (fired .entry)) (now (out .entry)) (now (env .exit)) (now (held .exit)) (now (fired .exit)) (now (out .exit)) ⌝ }
 {
     let kind = word(sheet, n, rec, WORD_KIND);
     if kind == KIND_CONSTANT {
@@ -72,30 +74,30 @@ pub fn eval(
         return;
     }
     if kind == KIND_PAIR {
-        of_pair(sheet, n, widths, env, names, held, rec, out);
+        of_pair(sheet, n, widths, env, names, held, fired, rec, out);
         return;
     }
     if kind == KIND_FIRST {
-        of_first(sheet, n, widths, env, names, held, rec, out);
+        of_first(sheet, n, widths, env, names, held, fired, rec, out);
         return;
     }
     if kind == KIND_SECOND {
-        of_second(sheet, n, widths, env, names, held, rec, out);
+        of_second(sheet, n, widths, env, names, held, fired, rec, out);
         return;
     }
     if kind == KIND_LET {
-        of_let(sheet, n, widths, env, names, held, rec, out);
+        of_let(sheet, n, widths, env, names, held, fired, rec, out);
         return;
     }
     if kind == KIND_FEEDBACK {
-        of_feedback(sheet, n, widths, env, names, held, rec, out);
+        of_feedback(sheet, n, widths, env, names, held, fired, rec, out);
         return;
     }
     if kind == KIND_IF {
-        of_if(sheet, n, widths, env, names, held, rec, out);
+        of_if(sheet, n, widths, env, names, held, fired, rec, out);
         return;
     }
-    of_delay(sheet, n, widths, env, names, held, rec, out);
+    of_delay(sheet, n, widths, env, names, held, fired, rec, out);
 }
 
 fn of_pair(
@@ -105,17 +107,18 @@ fn of_pair(
     env: &mut [u8],
     names: usize,
     held: &mut NextValues,
+    fired: &mut Fired,
     rec: usize,
     out: &mut [u8],
 )
     requires { ⌜ ((Γ : List ℕ) × EvaluatingIn (now sheet) n (now widths) (now env) names rec (now out) Γ) × (kindAt (now sheet) rec ≡ expression tuple) ⌝ }
-    ensures { λ _. ⌜ Evaluated (now (sheet .entry)) n (now (widths .entry)) (now (env .entry)) names rec (now (held .entry)) (now (out .entry)) (now (env .exit)) (now (held .exit)) (now (out .exit)) ⌝ }
+    ensures { λ _. ⌜ Evaluated (now (sheet .entry)) n (now (widths .entry)) (now (env .entry)) names rec (now (held .entry)) (now (fired .entry)) (now (out .entry)) (now (env .exit)) (now (held .exit)) (now (fired .exit)) (now (out .exit)) ⌝ }
 {
     let a = word(sheet, n, rec, WORD_A);
     let w = widths[a] as usize;
-    eval(sheet, n, widths, env, names, held, a, &mut out[0..w]);
+    eval(sheet, n, widths, env, names, held, fired, a, &mut out[0..w]);
     let b = word(sheet, n, rec, WORD_B);
-    eval(sheet, n, widths, env, names, held, b, &mut out[w..]);
+    eval(sheet, n, widths, env, names, held, fired, b, &mut out[w..]);
 }
 
 fn of_first(
@@ -125,16 +128,27 @@ fn of_first(
     env: &mut [u8],
     names: usize,
     held: &mut NextValues,
+    fired: &mut Fired,
     rec: usize,
     out: &mut [u8],
 )
     requires { ⌜ ((Γ : List ℕ) × EvaluatingIn (now sheet) n (now widths) (now env) names rec (now out) Γ) × (kindAt (now sheet) rec ≡ expression first) ⌝ }
-    ensures { λ _. ⌜ Evaluated (now (sheet .entry)) n (now (widths .entry)) (now (env .entry)) names rec (now (held .entry)) (now (out .entry)) (now (env .exit)) (now (held .exit)) (now (out .exit)) ⌝ }
+    ensures { λ _. ⌜ Evaluated (now (sheet .entry)) n (now (widths .entry)) (now (env .entry)) names rec (now (held .entry)) (now (fired .entry)) (now (out .entry)) (now (env .exit)) (now (held .exit)) (now (fired .exit)) (now (out .exit)) ⌝ }
 {
     let a = word(sheet, n, rec, WORD_A);
     let w = widths[a] as usize;
     let mut whole = room();
-    eval(sheet, n, widths, env, names, held, a, &mut whole[0..w]);
+    eval(
+        sheet,
+        n,
+        widths,
+        env,
+        names,
+        held,
+        fired,
+        a,
+        &mut whole[0..w],
+    );
     put(&whole[0..out.len()], out);
 }
 
@@ -145,16 +159,27 @@ fn of_second(
     env: &mut [u8],
     names: usize,
     held: &mut NextValues,
+    fired: &mut Fired,
     rec: usize,
     out: &mut [u8],
 )
     requires { ⌜ ((Γ : List ℕ) × EvaluatingIn (now sheet) n (now widths) (now env) names rec (now out) Γ) × (kindAt (now sheet) rec ≡ expression second) ⌝ }
-    ensures { λ _. ⌜ Evaluated (now (sheet .entry)) n (now (widths .entry)) (now (env .entry)) names rec (now (held .entry)) (now (out .entry)) (now (env .exit)) (now (held .exit)) (now (out .exit)) ⌝ }
+    ensures { λ _. ⌜ Evaluated (now (sheet .entry)) n (now (widths .entry)) (now (env .entry)) names rec (now (held .entry)) (now (fired .entry)) (now (out .entry)) (now (env .exit)) (now (held .exit)) (now (fired .exit)) (now (out .exit)) ⌝ }
 {
     let a = word(sheet, n, rec, WORD_A);
     let w = widths[a] as usize;
     let mut whole = room();
-    eval(sheet, n, widths, env, names, held, a, &mut whole[0..w]);
+    eval(
+        sheet,
+        n,
+        widths,
+        env,
+        names,
+        held,
+        fired,
+        a,
+        &mut whole[0..w],
+    );
     put(&whole[w - out.len()..w], out);
 }
 
@@ -165,19 +190,30 @@ fn of_let(
     env: &mut [u8],
     names: usize,
     held: &mut NextValues,
+    fired: &mut Fired,
     rec: usize,
     out: &mut [u8],
 )
     requires { ⌜ ((Γ : List ℕ) × EvaluatingIn (now sheet) n (now widths) (now env) names rec (now out) Γ) × (kindAt (now sheet) rec ≡ expression letIn) ⌝ }
-    ensures { λ _. ⌜ Evaluated (now (sheet .entry)) n (now (widths .entry)) (now (env .entry)) names rec (now (held .entry)) (now (out .entry)) (now (env .exit)) (now (held .exit)) (now (out .exit)) ⌝ }
+    ensures { λ _. ⌜ Evaluated (now (sheet .entry)) n (now (widths .entry)) (now (env .entry)) names rec (now (held .entry)) (now (fired .entry)) (now (out .entry)) (now (env .exit)) (now (held .exit)) (now (fired .exit)) (now (out .exit)) ⌝ }
 {
     let a = word(sheet, n, rec, WORD_A);
     let w = widths[a] as usize;
     let mut value = room();
-    eval(sheet, n, widths, env, names, held, a, &mut value[0..w]);
+    eval(
+        sheet,
+        n,
+        widths,
+        env,
+        names,
+        held,
+        fired,
+        a,
+        &mut value[0..w],
+    );
     enter_value(env, names, &value[0..w]);
     let b = word(sheet, n, rec, WORD_B);
-    eval(sheet, n, widths, env, names + 1, held, b, out);
+    eval(sheet, n, widths, env, names + 1, held, fired, b, out);
 }
 
 fn of_feedback(
@@ -187,19 +223,30 @@ fn of_feedback(
     env: &mut [u8],
     names: usize,
     held: &mut NextValues,
+    fired: &mut Fired,
     rec: usize,
     out: &mut [u8],
 )
     requires { ⌜ ((Γ : List ℕ) × EvaluatingIn (now sheet) n (now widths) (now env) names rec (now out) Γ) × (kindAt (now sheet) rec ≡ expression feedback) ⌝ }
-    ensures { λ _. ⌜ Evaluated (now (sheet .entry)) n (now (widths .entry)) (now (env .entry)) names rec (now (held .entry)) (now (out .entry)) (now (env .exit)) (now (held .exit)) (now (out .exit)) ⌝ }
+    ensures { λ _. ⌜ Evaluated (now (sheet .entry)) n (now (widths .entry)) (now (env .entry)) names rec (now (held .entry)) (now (fired .entry)) (now (out .entry)) (now (env .exit)) (now (held .exit)) (now (fired .exit)) (now (out .exit)) ⌝ }
 {
     let d = word(sheet, n, rec, WORD_B);
     let w = widths[d] as usize;
     let mut settled = room();
     enter_value(env, names, &settled[0..w]);
-    settle(sheet, n, widths, env, names, held, d, &mut settled[0..w]);
+    settle(
+        sheet,
+        n,
+        widths,
+        env,
+        names,
+        held,
+        fired,
+        d,
+        &mut settled[0..w],
+    );
     let b = word(sheet, n, rec, WORD_C);
-    eval(sheet, n, widths, env, names + 1, held, b, out);
+    eval(sheet, n, widths, env, names + 1, held, fired, b, out);
 }
 
 // Evaluates a feedback's defining part until it gives back unchanged what the feedback's name holds.
@@ -210,18 +257,19 @@ fn settle(
     env: &mut [u8],
     names: usize,
     held: &mut NextValues,
+    fired: &mut Fired,
     d: usize,
     value: &mut [u8],
 )
     requires { ⌜ ((t : ℕ) × (Γ : List ℕ) × SettlingIn (now sheet) n (now widths) (now env) names d (now value) t Γ) ⌝ }
-    ensures { λ _. ⌜ Settled (now (sheet .entry)) n (now (widths .entry)) (now (env .entry)) names d (now (held .entry)) (now (value .entry)) (now (env .exit)) (now (held .exit)) ⌝ }
+    ensures { λ _. ⌜ Settled (now (sheet .entry)) n (now (widths .entry)) (now (env .entry)) names d (now (held .entry)) (now (fired .entry)) (now (value .entry)) (now (env .exit)) (now (held .exit)) (now (fired .exit)) ⌝ }
 {
-    eval(sheet, n, widths, env, names + 1, held, d, value);
+    eval(sheet, n, widths, env, names + 1, held, fired, d, value);
     if stands_at(env, names, value) {
         return;
     }
     enter_value(env, names, value);
-    settle(sheet, n, widths, env, names, held, d, value);
+    settle(sheet, n, widths, env, names, held, fired, d, value);
 }
 
 fn of_if(
@@ -231,18 +279,29 @@ fn of_if(
     env: &mut [u8],
     names: usize,
     held: &mut NextValues,
+    fired: &mut Fired,
     rec: usize,
     out: &mut [u8],
 )
     requires { ⌜ ((Γ : List ℕ) × EvaluatingIn (now sheet) n (now widths) (now env) names rec (now out) Γ) × (kindAt (now sheet) rec ≡ expression ifMatches) ⌝ }
-    ensures { λ _. ⌜ Evaluated (now (sheet .entry)) n (now (widths .entry)) (now (env .entry)) names rec (now (held .entry)) (now (out .entry)) (now (env .exit)) (now (held .exit)) (now (out .exit)) ⌝ }
+    ensures { λ _. ⌜ Evaluated (now (sheet .entry)) n (now (widths .entry)) (now (env .entry)) names rec (now (held .entry)) (now (fired .entry)) (now (out .entry)) (now (env .exit)) (now (held .exit)) (now (fired .exit)) (now (out .exit)) ⌝ }
 {
     let a = word(sheet, n, rec, WORD_A);
     let w = widths[a] as usize;
     let mut tested = room();
-    eval(sheet, n, widths, env, names, held, a, &mut tested[0..w]);
+    eval(
+        sheet,
+        n,
+        widths,
+        env,
+        names,
+        held,
+        fired,
+        a,
+        &mut tested[0..w],
+    );
     let b = word(sheet, n, rec, WORD_B);
-    eval(sheet, n, widths, env, names, held, b, out);
+    eval(sheet, n, widths, env, names, held, fired, b, out);
     let other = word(sheet, n, rec, WORD_C);
     let all = out.len();
     let mut otherwise = room();
@@ -253,11 +312,13 @@ fn of_if(
         env,
         names,
         held,
+        fired,
         other,
         &mut otherwise[0..all],
     );
     let p = word(sheet, n, rec, WORD_D);
-    choose_value(sheet, n, widths, p, &tested[0..w], &otherwise[0..all], out);
+    let number = choose_value(sheet, n, widths, p, &tested[0..w], &otherwise[0..all], out);
+    fired[rec] = number as u16;
 }
 
 fn of_delay(
@@ -267,14 +328,15 @@ fn of_delay(
     env: &mut [u8],
     names: usize,
     held: &mut NextValues,
+    fired: &mut Fired,
     rec: usize,
     out: &mut [u8],
 )
     requires { ⌜ ((Γ : List ℕ) × EvaluatingIn (now sheet) n (now widths) (now env) names rec (now out) Γ) × (kindAt (now sheet) rec ≡ expression delay) ⌝ }
-    ensures { λ _. ⌜ Evaluated (now (sheet .entry)) n (now (widths .entry)) (now (env .entry)) names rec (now (held .entry)) (now (out .entry)) (now (env .exit)) (now (held .exit)) (now (out .exit)) ⌝ }
+    ensures { λ _. ⌜ Evaluated (now (sheet .entry)) n (now (widths .entry)) (now (env .entry)) names rec (now (held .entry)) (now (fired .entry)) (now (out .entry)) (now (env .exit)) (now (held .exit)) (now (fired .exit)) (now (out .exit)) ⌝ }
 {
     let c = word(sheet, n, rec, WORD_C);
-    eval(sheet, n, widths, env, names, held, c, out);
+    eval(sheet, n, widths, env, names, held, fired, c, out);
     let first = word(sheet, n, rec, WORD_B);
     hold_leaves(sheet, n, first, out, held);
     read_leaves(sheet, n, first, out);

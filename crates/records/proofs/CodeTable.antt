@@ -18,6 +18,7 @@ use Rattle.records.specs.Kinds.{
   isFlat,
   isPair,
   isHeader,
+  isDelay,
   zeroed,
   never,
   askNumber,
@@ -161,3 +162,7 @@ pair-number = only-kind isPair 17 refl (omega arith) tt
 pub header-number : (k : ℕ) → isHeader (kindOf k) ≡ eqb k 1
 unfolding kindOf
 header-number = only-kind isHeader 1 refl (omega arith) tt
+
+pub delay-number : (k : ℕ) → isDelay (kindOf k) ≡ eqb k 40
+unfolding kindOf
+delay-number = only-kind isDelay 40 refl (omega arith) tt

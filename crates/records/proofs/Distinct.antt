@@ -39,11 +39,11 @@ use Rattle.records.specs.Kinds.{
 use Rattle.records.specs.Says.{kindAt, sortAt}
 use Rattle.records.specs.Trees.{follow, chain, treeStep, treeAt, circuit}
 use Rattle.records.specs.Held.{listed, held, Distinct}
-use Rattle.records.specs.Written.{Written, NamedOnce}
+use Rattle.records.specs.Written.{Written, WellNamed}
 use Rattle.records.proofs.Table.{askOfKind, kind-of-sort}
 use Rattle.records.proofs.Asked.{part-of-kind, root-is}
 use Rattle.records.proofs.Trees.{from-above, next-leaf, chain-of, tree-of}
-use Rattle.records.proofs.Namings.{Names, part-names, next-names}
+use Rattle.records.proofs.Namings.{Names, part-names, next-names, part-word-other}
 use Rattle.records.proofs.Under.{Under, here, down, under-higher, under-under, parts-apart}
 
 -- distinct records, all with this property
@@ -91,8 +91,9 @@ only-listed false rs o = record { distinct = tt; all = λ x m. elim m [ ] }
 only-weaker : {P Q : ℕ → Type 0} (rs : List ℕ) → ((x : ℕ) → P x → Q x) → Only P rs → Only Q rs
 only-weaker rs f o = record { distinct = o .distinct; all = λ x m. f x (o .all x m) }
 
--- records under the part of record r that its word j names
+-- records under the part of record r that its word j, which is not d, names
 record Piece (s : List ℕ) (r j : ℕ) (rs : List ℕ) : Type 0 where
+  other : j < 5
   named : Names s (word s r j) (record { by = r; at = j })
   higher : r < word s r j
   only : Only (Under s (word s r j)) rs
@@ -105,16 +106,16 @@ piece-below : {s : List ℕ} {r j : ℕ} {rs : List ℕ} → Written s → Piece
 piece-below {s} {r} {j} {rs} w p =
     only-weaker rs
     (λ x u. let h = under-higher w u in let l = p .higher in
-    (omega arith, under-under (down (record { by = r; at = j }) here (omega arith) (p .named)) u))
+    (omega arith, under-under (down (record { by = r; at = j }) here (omega arith) (p .other) (p .named)) u))
     (p .only)
 
-pieces-apart : {s : List ℕ} {r j k : ℕ} {rs ls : List ℕ} → Written s → NamedOnce s → (j ≡ k → ⊥) → Piece s r j rs
+pieces-apart : {s : List ℕ} {r j k : ℕ} {rs ls : List ℕ} → Written s → WellNamed s → (j ≡ k → ⊥) → Piece s r j rs
     → Piece s r k ls → Apart rs ls
 unfolding Apart
-pieces-apart {s} {r} {j} {k} w once differ p q =
+pieces-apart {s} {r} {j} {k} w well differ p q =
     let hp = p .higher in
     let hq = q .higher in
-    λ x m n. parts-apart s w once r j k (word s r j) (word s r k) x differ (omega arith) (omega arith) (p .named) (q .named)
+    λ x m n. parts-apart s w well r j k (word s r j) (word s r k) x differ (p .other) (q .other) (omega arith) (omega arith) (p .named) (q .named)
     (p .only .all x m) (q .only .all x n)
 
 with-own : {s : List ℕ} {r : ℕ} (b : Bool) (rs : List ℕ) → Below s r rs → Only (Under s r) (listed b (r ∷ []) ++ rs)
@@ -147,6 +148,7 @@ rest-piece {s} w r h e above = go (nextWord s r) refl
         rw (← q)
         (piece-below {j = 1} w
         (record {
+          other = omega arith;
           named = next-names s r leaf leafs h (kind-of-sort leafs (kindAt s r) e) (unfold askOfKind in refl);
           higher = p .0;
           only = above (nextWord s r) (p .0) (p .1) (p .2);
@@ -160,32 +162,32 @@ chain-only {s} w = from-above (count s) (λ r. sortAt s r ≡ leafs → Only (Un
     step r h above e = rw (chain-of w r h e) (with-own true (follow [] (chain s) (nextWord s r)) (rest-piece w r h e above))
 
 -- a record with two pieces
-two : {s : List ℕ} {r j k : ℕ} {rs ls : List ℕ} → Written s → NamedOnce s → (x : Bool) → Piece s r j rs → Piece s r k ls
+two : {s : List ℕ} {r j k : ℕ} {rs ls : List ℕ} → Written s → WellNamed s → (x : Bool) → Piece s r j rs → Piece s r k ls
     → (j ≡ k → ⊥)
     → Only (Under s r) (listed x (r ∷ []) ++ (rs ++ ls))
-two {rs = rs} {ls = ls} w once x p q differ =
-    with-own x (rs ++ ls) (below-both rs ls (piece-below w p) (piece-below w q) (pieces-apart w once differ p q))
+two {rs = rs} {ls = ls} w well x p q differ =
+    with-own x (rs ++ ls) (below-both rs ls (piece-below w p) (piece-below w q) (pieces-apart w well differ p q))
 
 -- what the tree of a record of this kind holds, from what its parts hold
-node-only : {s : List ℕ} → Written s → NamedOnce s → (x c d : Bool) (k : ExpressionKind) (r : ℕ)
+node-only : {s : List ℕ} → Written s → WellNamed s → (x c d : Bool) (k : ExpressionKind) (r : ℕ)
     → ((j : ℕ) → (ltb 0 j && ltb j 6) ≡ true → askOfKind (expression k) j ≡ part expressions
     → Piece s r j (held x c d (treeAt s (word s r j))))
     → (askOfKind (expression k) 3 ≡ part leafs → (b : Bool) → Piece s r 3 (listed b (chain s (wordB s r))))
     → Only (Under s r) (held x c d (treeStep s (treeAt s) (expression k) r (wordA s r) (wordB s r) (wordC s r) (wordD s r)))
-node-only {s} w once x c d constant r at leaves =
+node-only {s} w well x c d constant r at leaves =
     with-own x (listed c (chain s (wordB s r))) (piece-below w (leaves (unfold askOfKind in refl) c))
-node-only {s} w once x c d name r at leaves = only-one x r here
-node-only {s} w once x c d tuple r at leaves =
-    two w once x (at 2 refl (unfold askOfKind in refl)) (at 3 refl (unfold askOfKind in refl)) (λ e. omega arith)
-node-only {s} w once x c d first r at leaves =
+node-only {s} w well x c d name r at leaves = only-one x r here
+node-only {s} w well x c d tuple r at leaves =
+    two w well x (at 2 refl (unfold askOfKind in refl)) (at 3 refl (unfold askOfKind in refl)) (λ e. omega arith)
+node-only {s} w well x c d first r at leaves =
     with-own x (held x c d (treeAt s (wordA s r))) (piece-below w (at 2 refl (unfold askOfKind in refl)))
-node-only {s} w once x c d second r at leaves =
+node-only {s} w well x c d second r at leaves =
     with-own x (held x c d (treeAt s (wordA s r))) (piece-below w (at 2 refl (unfold askOfKind in refl)))
-node-only {s} w once x c d letIn r at leaves =
-    two w once x (at 2 refl (unfold askOfKind in refl)) (at 3 refl (unfold askOfKind in refl)) (λ e. omega arith)
-node-only {s} w once x c d feedback r at leaves =
-    two w once x (at 3 refl (unfold askOfKind in refl)) (at 4 refl (unfold askOfKind in refl)) (λ e. omega arith)
-node-only {s} w once x c d ifMatches r at leaves =
+node-only {s} w well x c d letIn r at leaves =
+    two w well x (at 2 refl (unfold askOfKind in refl)) (at 3 refl (unfold askOfKind in refl)) (λ e. omega arith)
+node-only {s} w well x c d feedback r at leaves =
+    two w well x (at 3 refl (unfold askOfKind in refl)) (at 4 refl (unfold askOfKind in refl)) (λ e. omega arith)
+node-only {s} w well x c d ifMatches r at leaves =
     let p = at 2 refl (unfold askOfKind in refl) in
     let q = at 3 refl (unfold askOfKind in refl) in
     let o = at 4 refl (unfold askOfKind in refl) in
@@ -194,14 +196,14 @@ node-only {s} w once x c d ifMatches r at leaves =
     let e = held x c d (treeAt s (wordC s r)) in
     with-own x (a ++ (b ++ e))
     (below-both a (b ++ e) (piece-below w p)
-    (below-both b e (piece-below w q) (piece-below w o) (pieces-apart w once (λ z. omega arith) q o))
-    (apart-both a b e (pieces-apart w once (λ z. omega arith) p q) (pieces-apart w once (λ z. omega arith) p o)))
-node-only {s} w once x c d delay r at leaves =
-    two w once x (leaves (unfold askOfKind in refl) d) (at 4 refl (unfold askOfKind in refl)) (λ e. omega arith)
+    (below-both b e (piece-below w q) (piece-below w o) (pieces-apart w well (λ z. omega arith) q o))
+    (apart-both a b e (pieces-apart w well (λ z. omega arith) p q) (pieces-apart w well (λ z. omega arith) p o)))
+node-only {s} w well x c d delay r at leaves =
+    two w well x (leaves (unfold askOfKind in refl) d) (at 4 refl (unfold askOfKind in refl)) (λ e. omega arith)
 
-pub tree-only : {s : List ℕ} → Written s → NamedOnce s → (x c d : Bool) (r : ℕ) → r < count s → sortAt s r ≡ expressions
+pub tree-only : {s : List ℕ} → Written s → WellNamed s → (x c d : Bool) (r : ℕ) → r < count s → sortAt s r ≡ expressions
     → Only (Under s r) (held x c d (treeAt s r))
-tree-only {s} w once x c d =
+tree-only {s} w well x c d =
     from-above (count s) (λ r. sortAt s r ≡ expressions → Only (Under s r) (held x c d (treeAt s r))) step
   where
     step : (r : ℕ) → r < count s
@@ -210,19 +212,21 @@ tree-only {s} w once x c d =
     step r h above e =
         let k = kind-of-sort expressions (kindAt s r) e in
         rw (tree-of w r h (expression (k .0)) (k .1))
-        (node-only w once x c d (k .0) r
+        (node-only w well x c d (k .0) r
         (λ j t a. let p = part-of-kind w r (expression (k .0)) expressions h (k .1) j t a in record {
+          other = part-word-other (expression (k .0)) expressions j a t refl;
           named = part-names s r (expression (k .0)) expressions h (k .1) j t a;
           higher = p .0;
           only = above (word s r j) (p .0) (p .1) (p .2);
         })
         (λ a b. let p = part-of-kind w r (expression (k .0)) leafs h (k .1) 3 refl a in record {
+          other = omega arith;
           named = part-names s r (expression (k .0)) leafs h (k .1) 3 refl a;
           higher = p .0;
           only = only-listed b (chain s (wordB s r)) (chain-only w (wordB s r) (p .1) (p .2));
         }))
 
 -- no expression record, no leaf record and no delay's leaf twice in the circuit
-pub circuit-distinct : {s : List ℕ} → Written s → NamedOnce s → (x c d : Bool) → Distinct (held x c d (circuit s))
+pub circuit-distinct : {s : List ℕ} → Written s → WellNamed s → (x c d : Bool) → Distinct (held x c d (circuit s))
 unfolding circuit
-circuit-distinct {s} w once x c d = let p = root-is w in tree-only w once x c d (wordB s 0) (p .1) (p .2) .distinct
+circuit-distinct {s} w well x c d = let p = root-is w in tree-only w well x c d (wordB s 0) (p .1) (p .2) .distinct

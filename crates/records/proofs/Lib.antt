@@ -17,3 +17,4 @@ pub mod TypeRecords
 pub mod Types
 pub mod Under
 pub mod WrittenAgain
+pub mod Labels

@@ -1,6 +1,6 @@
 -- The namings of a record are the words that name it, each once: a word that names it is among them, and what is among them
--- names it. So where a record is named once, a word that names it is its only naming. A record that names is lower than the one
--- it names.
+-- names it. So where a record is well named, a word other than d that names it is its only naming: it is named once, and by nothing
+-- else. Words d name in IFs alone, and name patterns. A record that names is lower than the one it names.
 -- Assumes nothing.
 use Prim.Native.Nat.{ℕ, zero, suc, _≤_, _<_}
 use mathlib.Core.Bool.{Bool, true, false, _&&_}
@@ -15,7 +15,7 @@ use mathlib.Core.List.{
   Memᴰ·append-left,
   Memᴰ·append-right,
 }
-use mathlib.Core.Path.{_≡_, refl, ap}
+use mathlib.Core.Path.{_≡_, refl, sym, ap, _∙_}
 use mathlib.Core.Logic.{_⊎_, inl, inr}
 use native.Mathlib.Omega.{arith}
 use native.Mathlib.Decide.{ℕ-discrete}
@@ -24,7 +24,30 @@ use borrow.Author.Tests.{eqb-true, eq-eqb, ltb-true}
 use Rattle.records.specs.Words.{word, count}
 use Rattle.records.specs.Kinds.{
   Kind,
+  header,
+  typeOf,
+  flat,
+  pair,
+  expression,
+  constant,
+  name,
+  tuple,
+  first,
+  second,
+  letIn,
+  feedback,
+  ifMatches,
+  delay,
+  pattern,
+  whole,
+  constructor,
+  parts,
+  leaf,
+  unknown,
   Sort,
+  patterns,
+  sameSort,
+  sortNumber,
   Ask,
   zeroed,
   nextOf,
@@ -38,13 +61,14 @@ use Rattle.records.specs.Kinds.{
   free,
   total,
   never,
+  askNumber,
 }
-use Rattle.records.specs.Says.{kindAt, askAt}
-use Rattle.records.specs.Namings.{Naming, names, namesAt, ifNamed, namingsIn, namingsBelow, namings, exactlyOnce}
-use Rattle.records.specs.Written.{Written, NamedOnce}
+use Rattle.records.specs.Says.{kindAt, sortAt, askAt}
+use Rattle.records.specs.Namings.{Naming, names, namesAt, ifNamed, namingsIn, namingsBelow, namings, byWordD, wellNamed}
+use Rattle.records.specs.Written.{Written, WellNamed}
 use Rattle.records.proofs.Tests.{never-both, both-left, both-right}
 use Rattle.records.proofs.Table.{askOfKind, ask-by-kind}
-use Rattle.records.proofs.Asked.{Means, as-asked}
+use Rattle.records.proofs.Asked.{Means, as-asked, part-of-kind}
 
 -- a word that names is in the list
 in-record : (s : List ℕ) (r q n k : ℕ) → 0 < k → k ≤ n → namesAt s r q k ≡ true
@@ -68,11 +92,15 @@ in-records s r (suc n) q k h low high e = go (ℕ-discrete q n) (in-records s r 
     go (yes d) rest = Memᴰ·append-right (namingsBelow s r n) (rw (← d) (in-record s r q 5 k low (omega arith) e))
     go (no d) rest = Memᴰ·append-left (namingsIn s r n 5) (rest (omega arith) low high e)
 
-only : (x : Naming) (ns : List Naming) → exactlyOnce ns ≡ true → List·Memᴰ x ns → ns ≡ x ∷ []
-only x [] e m = absurd (never-both false e refl)
-only x (y ∷ []) e (List·Memᴰ·head h) = rw h
-only x (y ∷ []) e (List·Memᴰ·tail m) = elim m [ ]
-only x (y ∷ z ∷ ns) e m = absurd (never-both false e refl)
+by-word-d : (x : Naming) (ns : List Naming) → byWordD ns ≡ true → List·Memᴰ x ns → x .at ≡ 5
+by-word-d x (y ∷ ns) e (List·Memᴰ·head h) = rw h (eqb-true (y .at) 5 (both-left (eqb (y .at) 5) (byWordD ns) e))
+by-word-d x (y ∷ ns) e (List·Memᴰ·tail m) = by-word-d x ns (both-right (eqb (y .at) 5) (byWordD ns) e) m
+
+only : (x : Naming) (ns : List Naming) → wellNamed ns ≡ true → x .at < 5 → List·Memᴰ x ns → ns ≡ x ∷ []
+only x [] e l m = absurd (never-both false e refl)
+only x (y ∷ []) e l (List·Memᴰ·head h) = rw h
+only x (y ∷ []) e l (List·Memᴰ·tail m) = elim m [ ]
+only x (y ∷ z ∷ ns) e l m = absurd (let d = by-word-d x (y ∷ z ∷ ns) e m in omega arith)
 
 -- the naming x is of record r
 pub record Names (s : List ℕ) (r : ℕ) (x : Naming) : Type 0 where
@@ -81,11 +109,13 @@ pub record Names (s : List ℕ) (r : ℕ) (x : Naming) : Type 0 where
   pub high : x .at < 6
   pub names : namesAt s r (x .by) (x .at) ≡ true
 
--- a word that names a record that is named once is its only naming
-pub only-naming : (s : List ℕ) → NamedOnce s → (r : ℕ) (x : Naming) → 0 < r → r < count s → Names s r x → namings s r ≡ x ∷ []
+-- a word other than d that names a record is its only naming
+pub only-naming : (s : List ℕ) → WellNamed s → (r : ℕ) (x : Naming) → 0 < r → r < count s → x .at < 5 → Names s r x
+    → namings s r ≡ x ∷ []
 unfolding namings
-only-naming s once r x low high n =
-    only x (namings s r) (once r low high) (in-records s r (count s) (x .by) (x .at) (n .there) (n .low) (n .high) (n .names))
+only-naming s well r x low high other n =
+    only x (namings s r) (well r low high) other
+    (in-records s r (count s) (x .by) (x .at) (n .there) (n .low) (n .high) (n .names))
 
 if-named : (b : Bool) (q k : ℕ) (x : Naming) → List·Memᴰ x (ifNamed b q k) → (b ≡ true) × (x .by ≡ q) × (x .at ≡ k)
 if-named true q k x (List·Memᴰ·head e) = (refl, ap (λ n. n .by) e, ap (λ n. n .at) e)
@@ -163,3 +193,51 @@ next-names s q k σ h e a = record {
   high = omega arith;
   names = rw (ask-by-kind s q 1 k e, a) (eq-eqb (word s q 1) (word s q 1) refl);
 }
+
+-- of all kinds only an IF has a word d that names
+names-by-d : (k : Kind) → names (askOfKind k 5) ≡ true → k ≡ expression ifMatches
+unfolding askOfKind
+names-by-d header e = absurd (never-both false e refl)
+names-by-d (typeOf flat) e = absurd (never-both false e refl)
+names-by-d (typeOf pair) e = absurd (never-both false e refl)
+names-by-d (expression constant) e = absurd (never-both false e refl)
+names-by-d (expression name) e = absurd (never-both false e refl)
+names-by-d (expression tuple) e = absurd (never-both false e refl)
+names-by-d (expression first) e = absurd (never-both false e refl)
+names-by-d (expression second) e = absurd (never-both false e refl)
+names-by-d (expression letIn) e = absurd (never-both false e refl)
+names-by-d (expression feedback) e = absurd (never-both false e refl)
+names-by-d (expression ifMatches) e = refl
+names-by-d (expression delay) e = absurd (never-both false e refl)
+names-by-d (pattern whole) e = absurd (never-both false e refl)
+names-by-d (pattern constructor) e = absurd (never-both false e refl)
+names-by-d (pattern parts) e = absurd (never-both false e refl)
+names-by-d leaf e = absurd (never-both false e refl)
+names-by-d unknown e = absurd (never-both false e refl)
+
+if-asks-pattern : askOfKind (expression ifMatches) 5 ≡ part patterns
+unfolding askOfKind
+if-asks-pattern = refl
+
+-- a naming by word d is by an IF, and of a pattern
+pub word-d-names : {s : List ℕ} → Written s → (r : ℕ) (x : Naming) → x .at ≡ 5 → Names s r x
+    → (kindAt s (x .by) ≡ expression ifMatches) × (sortAt s r ≡ patterns)
+word-d-names {s} w r x d n =
+    let m = rw d at (n .names) in
+    let a = both-left (names (askAt s (x .by) 5)) (eqb (word s (x .by) 5) r) m in
+    let e = eqb-true (word s (x .by) 5) r (both-right (names (askAt s (x .by) 5)) (eqb (word s (x .by) 5) r) m) in
+    let k = names-by-d (kindAt s (x .by)) (rw (ask-by-kind s (x .by) 5 (kindAt s (x .by)) refl) at a) in
+    (k, rw e at (part-of-kind w (x .by) (expression ifMatches) patterns (n .there) k 5 refl if-asks-pattern .2))
+
+-- a word that asks for a part other than a pattern is not d
+pub part-word-other : (k : Kind) (σ : Sort) (j : ℕ) → askOfKind k j ≡ part σ → (ltb 0 j && ltb j 6) ≡ true
+    → sameSort σ patterns ≡ false → j < 5
+part-word-other k σ j a t f = go (ℕ-discrete j 5)
+  where
+    go : Dec (j ≡ 5) → j < 5
+    go (no d) = let h = ltb-true j 6 (both-right (ltb 0 j) (ltb j 6) t) in omega arith
+    go (yes d) =
+        let b = rw d at a in
+        let c : k ≡ expression ifMatches = names-by-d k (rw b) in
+        let e : askNumber (part patterns) ≡ askNumber (part σ) = ap askNumber (sym if-asks-pattern ∙ (rw c at b)) in
+        absurd (never-both (sameSort σ patterns) (eq-eqb (sortNumber σ) (sortNumber patterns) (omega (arith, e))) f)

@@ -1,9 +1,9 @@
--- A sheet with only leaves rewritten has the same kinds, types, chains, alternatives, trees and namings: none of them reads the
--- word a of a leaf record. Each by induction on the steps, a record at a time: it is a leaf, whose word a is not read, or its
--- words are the same.
+-- A sheet with only leaves and labels rewritten has the same kinds, types, chains, alternatives, trees and namings: none of them
+-- reads the word a of a leaf record or the word d of a delay. Each by induction on the steps, a record at a time: it is a leaf,
+-- whose word a is not read, or its words are the same but for a label.
 -- Assumes nothing.
 use Prim.Native.Nat.{ℕ, zero, suc, _<_}
-use mathlib.Core.Bool.{false, cond}
+use mathlib.Core.Bool.{Bool, true, false, cond}
 use mathlib.Core.List.{List, _++_}
 use mathlib.Core.Path.{_≡_, refl, sym, ap, ap₂, fun-ext, _∙_}
 use mathlib.Core.Logic.{_⊎_, inl, inr}
@@ -29,10 +29,11 @@ use Rattle.records.specs.Kinds.{
   ifMatches,
   delay,
   kindOf,
+  isDelay,
 }
 use Rattle.records.specs.Says.{kindAt}
 use Rattle.records.specs.TypeRecords.{typeWithin, typeAt, isPairOf, pairBelow, pairOf}
-use Rattle.records.specs.Namings.{namesAt, ifNamed, namingsIn, namingsBelow, namings}
+use Rattle.records.specs.Namings.{names, namesAt, ifNamed, namingsIn, namingsBelow, namings}
 use Rattle.records.specs.Trees.{
   Tree,
   constantOf,
@@ -47,8 +48,8 @@ use Rattle.records.specs.Trees.{
   treeAt,
   circuit,
 }
-use Rattle.records.specs.Rewritten.{OnlyLeaves}
-use Rattle.records.proofs.Table.{askOfKind, ask-by-kind}
+use Rattle.records.specs.Rewritten.{Rewritten}
+use Rattle.records.proofs.Table.{askOfKind, ask-by-kind, is-delay}
 
 pub leaf-or-not : (k : Kind) → (k ≡ leaf) ⊎ (k ≡ leaf → ⊥)
 leaf-or-not leaf = inl refl
@@ -58,11 +59,18 @@ leaf-or-not (expression k) = inr (λ e. let z : _≡_ {A = ℕ} 0 1 = cc in omeg
 leaf-or-not (pattern k) = inr (λ e. let z : _≡_ {A = ℕ} 0 1 = cc in omega arith)
 leaf-or-not unknown = inr (λ e. let z : _≡_ {A = ℕ} 0 1 = cc in omega arith)
 
--- the words of record r are the same
-abbrev pub SameWords : List ℕ → List ℕ → ℕ → Type 0
-SameWords s s′ r = (k : ℕ) → k < 6 → word s′ r k ≡ word s r k
+pub delay-or-not : (k : Kind) → (k ≡ expression delay) ⊎ (k ≡ expression delay → ⊥)
+delay-or-not k = go (isDelay k) refl
+  where
+    go : (b : Bool) → isDelay k ≡ b → (k ≡ expression delay) ⊎ (k ≡ expression delay → ⊥)
+    go true e = inl (is-delay k e)
+    go false e = inr (λ f. let z : _≡_ {A = ℕ} 0 1 = cc in omega arith)
 
-module _ (s s′ : List ℕ) (o : OnlyLeaves s s′) where
+-- the words of record r are the same, up to word c
+abbrev pub SameWords : List ℕ → List ℕ → ℕ → Type 0
+SameWords s s′ r = (k : ℕ) → k < 5 → word s′ r k ≡ word s r k
+
+module _ (s s′ : List ℕ) (o : Rewritten s s′) where
   pub same-count : count s′ ≡ count s
   unfolding count
   same-count = rw (o .length)
@@ -73,7 +81,7 @@ module _ (s s′ : List ℕ) (o : OnlyLeaves s s′) where
   pub same-next : (r : ℕ) → nextWord s′ r ≡ nextWord s r
   same-next r = o .leaves r 1 (omega arith) (λ e. omega arith)
 
-  -- a record is a leaf or has the same words
+  -- a record is a leaf or has the same words up to word c
   pub leaf-or-same : (r : ℕ) → (kindAt s r ≡ leaf) ⊎ SameWords s s′ r
   leaf-or-same r = go (leaf-or-not (kindAt s r))
     where
@@ -138,21 +146,25 @@ module _ (s s′ : List ℕ) (o : OnlyLeaves s s′) where
   unfolding alternatives
   same-alternatives r = rw (same-count, alternatives-same (count s))
 
-  tree-step-same : (go : ℕ → Tree) (k : Kind) (r a b c d : ℕ) → treeStep s′ go k r a b c d ≡ treeStep s go k r a b c d
-  tree-step-same go header r a b c d = refl
-  tree-step-same go (typeOf k) r a b c d = refl
-  tree-step-same go (expression constant) r a b c d = ap (constantOf r a) (same-chain b)
-  tree-step-same go (expression name) r a b c d = refl
-  tree-step-same go (expression tuple) r a b c d = refl
-  tree-step-same go (expression first) r a b c d = refl
-  tree-step-same go (expression second) r a b c d = refl
-  tree-step-same go (expression letIn) r a b c d = refl
-  tree-step-same go (expression feedback) r a b c d = refl
-  tree-step-same go (expression ifMatches) r a b c d = ap (λ p. ifOf r (go a) p (go b) (go c)) (same-alternatives d)
-  tree-step-same go (expression delay) r a b c d = ap (λ ls. delayOf r a ls (go c)) (same-chain b)
-  tree-step-same go (pattern k) r a b c d = refl
-  tree-step-same go leaf r a b c d = refl
-  tree-step-same go unknown r a b c d = refl
+  -- the word d counts at an IF alone
+  tree-step-same : (go : ℕ → Tree) (k : Kind) (r a b c d d′ : ℕ) → ((k ≡ expression delay → ⊥) → d′ ≡ d)
+      → treeStep s′ go k r a b c d′ ≡ treeStep s go k r a b c d
+  tree-step-same go header r a b c d d′ e = refl
+  tree-step-same go (typeOf k) r a b c d d′ e = refl
+  tree-step-same go (expression constant) r a b c d d′ e = ap (constantOf r a) (same-chain b)
+  tree-step-same go (expression name) r a b c d d′ e = refl
+  tree-step-same go (expression tuple) r a b c d d′ e = refl
+  tree-step-same go (expression first) r a b c d d′ e = refl
+  tree-step-same go (expression second) r a b c d d′ e = refl
+  tree-step-same go (expression letIn) r a b c d d′ e = refl
+  tree-step-same go (expression feedback) r a b c d d′ e = refl
+  tree-step-same go (expression ifMatches) r a b c d d′ e =
+      ap (λ p. ifOf r (go a) p (go b) (go c))
+      (ap (alternatives s′) (e (λ f. let z : _≡_ {A = ℕ} 0 1 = cc in omega arith)) ∙ same-alternatives d)
+  tree-step-same go (expression delay) r a b c d d′ e = ap (λ ls. delayOf r a ls (go c)) (same-chain b)
+  tree-step-same go (pattern k) r a b c d d′ e = refl
+  tree-step-same go leaf r a b c d d′ e = refl
+  tree-step-same go unknown r a b c d d′ e = refl
 
   trees-same : (n : ℕ) → treeWithin s′ n ≡ treeWithin s n
   unfolding treeWithin
@@ -163,8 +175,8 @@ module _ (s s′ : List ℕ) (o : OnlyLeaves s s′) where
           → treeWithin s′ (suc n) r ≡ treeWithin s (suc n) r
       go r (inl e) ih = rw (same-kind r, e)
       go r (inr e) ih =
-          rw (e 0 (omega arith), e 2 (omega arith), e 3 (omega arith), e 4 (omega arith), e 5 (omega arith), ih)
-          (tree-step-same (treeWithin s n) (kindAt s r) r (wordA s r) (wordB s r) (wordC s r) (wordD s r))
+          rw (e 0 (omega arith), e 2 (omega arith), e 3 (omega arith), e 4 (omega arith), ih)
+          (tree-step-same (treeWithin s n) (kindAt s r) r (wordA s r) (wordB s r) (wordC s r) (wordD s r) (wordD s′ r) (o .unlabelled r))
 
   pub same-tree : (r : ℕ) → treeAt s′ r ≡ treeAt s r
   unfolding treeAt
@@ -175,16 +187,22 @@ module _ (s s′ : List ℕ) (o : OnlyLeaves s s′) where
   same-circuit = rw (o .leaves 0 3 (omega arith) (λ e. omega arith), same-tree (wordB s 0))
 
   same-naming : (r q k : ℕ) → k < 6 → namesAt s′ r q k ≡ namesAt s r q k
-  same-naming r q k h = go (ℕ-discrete k 2) (leaf-or-same q)
+  same-naming r q k h = go (ℕ-discrete k 2) (ℕ-discrete k 5) (leaf-or-same q) (delay-or-not (kindAt s q))
     where
-      -- the word a of a leaf asks for a byte, and names nothing
-      unnamed : (z : List ℕ) → kindAt z q ≡ leaf → namesAt z r q 2 ≡ false
-      unnamed z e = rw (ask-by-kind z q 2 leaf e) (unfold askOfKind in refl)
+      -- the word a of a leaf asks for a byte and the word d of a delay for any number: they name nothing
+      unnamed : (z : List ℕ) (x : Kind) → kindAt z q ≡ x → names (askOfKind x k) ≡ false → namesAt z r q k ≡ false
+      unnamed z x e f = rw (ask-by-kind z q k x e, f)
 
-      go : Dec (k ≡ 2) → (kindAt s q ≡ leaf) ⊎ SameWords s s′ q → namesAt s′ r q k ≡ namesAt s r q k
-      go (no f) d = rw (o .leaves q 0 (omega arith) (λ e. omega arith), o .leaves q k h f)
-      go (yes z) (inr e) = rw (z, e 0 (omega arith), e 2 (omega arith))
-      go (yes z) (inl e) = rw z (unnamed s′ (same-kind q ∙ e) ∙ sym (unnamed s e))
+      apart : (x : Kind) → kindAt s q ≡ x → names (askOfKind x k) ≡ false → namesAt s′ r q k ≡ namesAt s r q k
+      apart x e f = unnamed s′ x (same-kind q ∙ e) f ∙ sym (unnamed s x e f)
+
+      go : Dec (k ≡ 2) → Dec (k ≡ 5) → (kindAt s q ≡ leaf) ⊎ SameWords s s′ q
+          → (kindAt s q ≡ expression delay) ⊎ (kindAt s q ≡ expression delay → ⊥) → namesAt s′ r q k ≡ namesAt s r q k
+      go (no f) (no g) d x = rw (o .leaves q 0 (omega arith) (λ e. omega arith), o .leaves q k (omega arith) f)
+      go (yes z) y (inr e) x = rw (z, e 0 (omega arith), e 2 (omega arith))
+      go (yes z) y (inl e) x = apart leaf e (rw z (unfold askOfKind in refl))
+      go (no f) (yes z) d (inl e) = apart (expression delay) e (rw z (unfold askOfKind in refl))
+      go (no f) (yes z) d (inr g) = rw (z, o .leaves q 0 (omega arith) (λ e. omega arith), o .unlabelled q g)
 
   pub same-namings : (r : ℕ) → namings s′ r ≡ namings s r
   unfolding namings

@@ -48,6 +48,7 @@ use Rattle.records.specs.Kinds.{
   isFlat,
   isPair,
   isHeader,
+  isDelay,
   Ask,
   zeroed,
   never,
@@ -228,6 +229,22 @@ is-header (expression k) e = cc
 is-header (pattern k) e = cc
 is-header leaf e = cc
 is-header unknown e = cc
+
+pub is-delay : (k : Kind) → isDelay k ≡ true → k ≡ expression delay
+is-delay (expression delay) e = refl
+is-delay (expression constant) e = cc
+is-delay (expression name) e = cc
+is-delay (expression tuple) e = cc
+is-delay (expression first) e = cc
+is-delay (expression second) e = cc
+is-delay (expression letIn) e = cc
+is-delay (expression feedback) e = cc
+is-delay (expression ifMatches) e = cc
+is-delay header e = cc
+is-delay (typeOf k) e = cc
+is-delay (pattern k) e = cc
+is-delay leaf e = cc
+is-delay unknown e = cc
 
 -- a sort says which kinds a record may have
 abbrev pub OfSort : Sort → Kind → Type 0

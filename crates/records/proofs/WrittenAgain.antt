@@ -1,5 +1,6 @@
--- A written sheet with only leaves rewritten, each to a byte, is written, and what codes 4 and 5 ask holds of it where it held:
--- a word that is the same meets the same ask, as kinds and counts are the same, and a leaf's word a asks for a byte.
+-- A written sheet with only leaves and labels rewritten, each leaf to a byte, is written, and what codes 4 and 5 ask holds of it
+-- where it held: a word that is the same meets the same ask, as kinds and counts are the same, a leaf's word a asks for a byte, and
+-- a delay's word d for any number.
 -- Assumes nothing.
 use Prim.Native.Nat.{ℕ, _≤_, _<_}
 use mathlib.Core.Bool.{true, _&&_}
@@ -16,6 +17,8 @@ use Rattle.records.specs.Kinds.{
   flat,
   types,
   leaf,
+  expression,
+  delay,
   Ask,
   zeroed,
   nextOf,
@@ -32,14 +35,14 @@ use Rattle.records.specs.Kinds.{
   askOf,
 }
 use Rattle.records.specs.Says.{kindAt, askAt, higher, meets, meetsAt, wellSaid}
-use Rattle.records.specs.Rewritten.{OnlyLeaves}
-use Rattle.records.specs.Written.{Written, NamedOnce}
+use Rattle.records.specs.Rewritten.{Rewritten}
+use Rattle.records.specs.Written.{Written, WellNamed}
 use Rattle.records.proofs.Tests.{both}
 use Rattle.records.proofs.Table.{askOfKind, ask-by-kind, constructor-of-flat}
 use Rattle.records.proofs.Asked.{meets-at, as-asked}
-use Rattle.records.proofs.Rewritten.{same-count, same-kind, same-namings, leaf-or-not}
+use Rattle.records.proofs.Rewritten.{same-count, same-kind, same-namings, leaf-or-not, delay-or-not}
 
-module _ (s s′ : List ℕ) (w : Written s) (o : OnlyLeaves s s′)
+module _ (s s′ : List ℕ) (w : Written s) (o : Rewritten s s′)
     (small : (r : ℕ) → r < count s → kindAt s r ≡ leaf → wordA s′ r ≤ 255) where
   same-ask : (r j : ℕ) → askAt s′ r j ≡ askAt s r j
   same-ask r j = ap (λ n. askOf n j) (o .leaves r 0 (omega arith) (λ e. omega arith))
@@ -74,17 +77,21 @@ module _ (s s′ : List ℕ) (w : Written s) (o : OnlyLeaves s s′)
   meets-again r never v bound e = e
 
   word-again : (r j : ℕ) → r < count s → 0 < j → j < 6 → meetsAt s′ r j ≡ true
-  word-again r j h low high = go (ℕ-discrete j 2) (leaf-or-not (kindAt s r))
+  word-again r j h low high = go (ℕ-discrete j 2) (ℕ-discrete j 5) (leaf-or-not (kindAt s r)) (delay-or-not (kindAt s r))
     where
       unchanged : word s′ r j ≡ word s r j → meetsAt s′ r j ≡ true
       unchanged e =
           rw (same-ask r j, e) (meets-again r (askAt s r j) (word s r j) (same-bound r j h) (meets-at w r j h low high))
 
-      go : Dec (j ≡ 2) → (kindAt s r ≡ leaf) ⊎ (kindAt s r ≡ leaf → ⊥) → meetsAt s′ r j ≡ true
-      go (no f) d = unchanged (o .leaves r j high f)
-      go (yes z) (inr f) = unchanged (o .others r f j high)
-      go (yes z) (inl e) =
+      go : Dec (j ≡ 2) → Dec (j ≡ 5) → (kindAt s r ≡ leaf) ⊎ (kindAt s r ≡ leaf → ⊥)
+          → (kindAt s r ≡ expression delay) ⊎ (kindAt s r ≡ expression delay → ⊥) → meetsAt s′ r j ≡ true
+      go (no f) (no g) d x = unchanged (o .leaves r j (omega arith) f)
+      go (yes z) y (inr f) x = unchanged (o .others r f j (omega arith))
+      go (yes z) y (inl e) x =
           rw (z, ask-by-kind s′ r 2 leaf (same-kind s s′ o r ∙ e)) (unfold askOfKind in le-leb (wordA s′ r) 255 (small r h e))
+      go (no f) (yes z) d (inl e) =
+          rw (z, ask-by-kind s′ r 5 (expression delay) (same-kind s s′ o r ∙ e)) (unfold askOfKind in refl)
+      go (no f) (yes z) d (inr g) = unchanged (rw z (o .unlabelled r g))
 
   said-again : (r : ℕ) → r < count s → wellSaid s′ r ≡ true
   unfolding wellSaid
@@ -106,5 +113,5 @@ module _ (s s′ : List ℕ) (w : Written s) (o : OnlyLeaves s s′)
     others = λ r low high. rw (same-kind s s′ o r) (w .others r low (rw (same-count s s′ o) at high));
   }
 
-pub named-again : (s s′ : List ℕ) → OnlyLeaves s s′ → NamedOnce s → NamedOnce s′
-named-again s s′ o once = λ r low high. rw (same-namings s s′ o r) (once r low (rw (same-count s s′ o) at high))
+pub named-again : (s s′ : List ℕ) → Rewritten s s′ → WellNamed s → WellNamed s′
+named-again s s′ o well = λ r low high. rw (same-namings s s′ o r) (well r low (rw (same-count s s′ o) at high))

@@ -65,7 +65,7 @@ kindRows =
     ∷ row 37 (expression letIn) zeroed (part expressions) (part expressions) zeroed zeroed
     ∷ row 38 (expression feedback) zeroed lowerType (part expressions) (part expressions) zeroed
     ∷ row 39 (expression ifMatches) zeroed (part expressions) (part expressions) (part expressions) (part patterns)
-    ∷ row 40 (expression delay) zeroed lowerType (part leafs) (part expressions) zeroed
+    ∷ row 40 (expression delay) zeroed lowerType (part leafs) (part expressions) free
     ∷ row 48 (pattern whole) (nextOf patterns) lowerType zeroed zeroed zeroed
     ∷ row 49 (pattern constructor) (nextOf patterns) lowerFlat constructorOf zeroed zeroed
     ∷ row 50 (pattern parts) (nextOf patterns) (part patterns) (part patterns) zeroed zeroed
@@ -147,6 +147,22 @@ isPair (expression k) = false
 isPair (pattern k) = false
 isPair leaf = false
 isPair unknown = false
+
+abbrev pub isDelay : Kind → Bool
+isDelay header = false
+isDelay (typeOf k) = false
+isDelay (expression constant) = false
+isDelay (expression name) = false
+isDelay (expression tuple) = false
+isDelay (expression first) = false
+isDelay (expression second) = false
+isDelay (expression letIn) = false
+isDelay (expression feedback) = false
+isDelay (expression ifMatches) = false
+isDelay (expression delay) = true
+isDelay (pattern k) = false
+isDelay leaf = false
+isDelay unknown = false
 
 abbrev pub isHeader : Kind → Bool
 isHeader k = sameSort (sortOf k) headers

@@ -1,6 +1,8 @@
--- Which words name a record (docs/SHEETS.md, "Numbering and naming": "Every record but 0 is named exactly once; type words that
--- aren't next do not count as naming"). A naming is the record and the word that names. The rule that a record is named once is a
--- predicate on the list of its namings.
+-- Which words name a record, and when it is well named (docs/SHEETS.md, "Numbering and naming": "Every record but 0 is named exactly
+-- once; type words that aren't next do not count as naming", amended by "The first record of a pattern may now be named by the d word
+-- of several IFs. A pattern record named by a next word or by a pair pattern is still named once and by nothing else"). A naming is
+-- the record and the word that names, and the rule is a predicate on the list of a record's namings. It need not ask for IFs and
+-- patterns: of all words d only an IF's names, and what it names is a pattern (`word-d-names`).
 use Prim.Native.Nat.{ℕ, zero, suc}
 use mathlib.Core.Bool.{Bool, true, false, cond, _&&_}
 use mathlib.Core.List.{List, [], _∷_, _++_}
@@ -64,7 +66,13 @@ namingsBelow s r (suc q) = namingsBelow s r q ++ namingsIn s r q 5
 unfoldable pub namings : List ℕ → ℕ → List Naming
 namings s r = namingsBelow s r (count s)
 
-abbrev pub exactlyOnce : List Naming → Bool
-exactlyOnce [] = false
-exactlyOnce (n ∷ []) = true
-exactlyOnce (n ∷ m ∷ ns) = false
+-- every naming is by word d
+abbrev pub byWordD : List Naming → Bool
+byWordD [] = true
+byWordD (n ∷ ns) = eqb (n .at) 5 && byWordD ns
+
+-- named exactly once, or several times and by words d alone
+abbrev pub wellNamed : List Naming → Bool
+wellNamed [] = false
+wellNamed (n ∷ []) = true
+wellNamed (n ∷ m ∷ ns) = byWordD (n ∷ m ∷ ns)

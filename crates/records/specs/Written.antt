@@ -8,7 +8,7 @@ use Rattle.picoella.specs.Types.{leaves}
 use Rattle.records.specs.Words.{count, wordA, wordB}
 use Rattle.records.specs.Kinds.{header, typeOf, pair, isHeader}
 use Rattle.records.specs.Says.{kindAt, wellSaid}
-use Rattle.records.specs.Namings.{namings, exactlyOnce}
+use Rattle.records.specs.Namings.{namings, wellNamed}
 use Rattle.records.specs.TypeRecords.{typeAt, pairBelow}
 
 -- codes 1 to 3
@@ -20,8 +20,8 @@ pub record Written (s : List ℕ) : Type 0 where
   pub others : (r : ℕ) → 0 < r → r < count s → isHeader (kindAt s r) ≡ false
 
 -- code 4
-abbrev pub NamedOnce : List ℕ → Type 0
-NamedOnce s = (r : ℕ) → 0 < r → r < count s → exactlyOnce (namings s r) ≡ true
+abbrev pub WellNamed : List ℕ → Type 0
+WellNamed s = (r : ℕ) → 0 < r → r < count s → wellNamed (namings s r) ≡ true
 
 -- code 5
 pub record TypesFit (s : List ℕ) : Type 0 where

@@ -12,7 +12,7 @@ use lib.Seq.{take-all, take-length, take-suc, take-at, length-take-le, drop-drop
 use Rattle.picoella.specs.Types.{leaves, OfType}
 use Rattle.records.specs.Words.{wordA}
 use Rattle.records.specs.TypeRecords.{typeAt}
-use Rattle.records.specs.Rewritten.{OnlyLeaves}
+use Rattle.records.specs.Rewritten.{Rewritten}
 use Rattle.records.proofs.Rewritten.{same-type}
 use Rattle.records.proofs.Types.{few-leaves, some-leaves}
 use Rattle.accepted.proofs.Laws.{types-fit}
@@ -160,7 +160,7 @@ module _ {s : List ℕ} {n : ℕ} {W stim : List ℕ} {wi wo count : ℕ} {curre
         delays : OnlyDelays s begins
         delays = sheet-only-delays rule-lawful s (r .accepted) inputs-typed k
 
-        begins-leaves : OnlyLeaves s begins
+        begins-leaves : Rewritten s begins
         begins-leaves = only-leaves (accepted-written s (r .accepted)) delays
 
         begins-accepted : verdict begins ≡ Accepted (r .type)

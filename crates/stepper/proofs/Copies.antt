@@ -33,7 +33,7 @@ use Rattle.records.specs.Kinds.{
 }
 use Rattle.records.specs.Says.{kindAt, sortAt}
 use Rattle.records.specs.Trees.{chain, follow}
-use Rattle.records.proofs.CodeTable.{only-kind}
+use Rattle.records.proofs.CodeTable.{delay-number}
 use Rattle.records.proofs.Trees.{chain-of, next-leaf}
 use Rattle.records.proofs.Table.{askOfKind}
 use Rattle.records.proofs.Asked.{past-header, part-of-kind}
@@ -42,28 +42,8 @@ use Rattle.behaviour.specs.Sheets.{putWord}
 use Rattle.behaviour.specs.Copies.{copied, leavesOf, delayChains}
 use Rattle.stepper.specs.Cycling.{Copying}
 
-abbrev isDelay : Kind → Bool
-isDelay header = false
-isDelay (typeOf k) = false
-isDelay (expression constant) = false
-isDelay (expression name) = false
-isDelay (expression tuple) = false
-isDelay (expression first) = false
-isDelay (expression second) = false
-isDelay (expression letIn) = false
-isDelay (expression feedback) = false
-isDelay (expression ifMatches) = false
-isDelay (expression delay) = true
-isDelay (pattern k) = false
-isDelay leaf = false
-isDelay unknown = false
-
-delay-test : (k : ℕ) → isDelay (kindOf k) ≡ eqb k 40
-unfolding kindOf
-delay-test = only-kind isDelay 40 refl (omega arith) tt
-
-delay-number : (k : ℕ) → kindOf k ≡ expression delay → k ≡ 40
-delay-number k e = eqb-true k 40 (sym (delay-test k) ∙ rw e refl)
+numbered-delay : (k : ℕ) → kindOf k ≡ expression delay → k ≡ 40
+numbered-delay k e = eqb-true k 40 (sym (delay-number k) ∙ rw e refl)
 
 -- the leaves from l are still to be copied to
 pub record Left (first : List ℕ) (h : List ℕ) (all : List ℕ) (before : List ℕ) (l : ℕ) (now : List ℕ) : Type 0 where
@@ -152,7 +132,7 @@ module _ {s : List ℕ} {n : ℕ} {before : List ℕ} (h : List ℕ) (g : Copyin
       none (expression letIn) e = refl
       none (expression feedback) e = refl
       none (expression ifMatches) e = refl
-      none (expression delay) e = absurd (f (ek ∙ delay-number (word s r 0) e))
+      none (expression delay) e = absurd (f (ek ∙ numbered-delay (word s r 0) e))
       none (pattern q) e = refl
       none leaf e = refl
       none unknown e = refl

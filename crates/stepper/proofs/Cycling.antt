@@ -15,7 +15,7 @@ use Rattle.records.specs.TypeRecords.{typeAt}
 use Rattle.records.specs.Trees.{chain, circuit}
 use Rattle.records.specs.Held.{delayLeaves}
 use Rattle.records.specs.Written.{Written}
-use Rattle.records.specs.Rewritten.{OnlyLeaves}
+use Rattle.records.specs.Rewritten.{Rewritten}
 use Rattle.records.proofs.Rewritten.{same-kind, same-chain, same-type}
 use Rattle.records.proofs.Types.{few-leaves}
 use Rattle.records.proofs.TypeRecords.{input-type}
@@ -34,6 +34,8 @@ use Rattle.behaviour.specs.Delays.{store}
 use Rattle.behaviour.specs.Copies.{copied, leavesOf, delayChains}
 use Rattle.behaviour.specs.Cycle.{output, sheetAfterCycle, afterBy}
 use Rattle.behaviour.specs.Evaluated.{valueAt}
+use Rattle.behaviour.specs.Firing.{firedAt}
+use Rattle.behaviour.proofs.Firings.{fired-long}
 use Rattle.behaviour.proofs.Evaluated.{root-value, root-stored}
 use Rattle.behaviour.proofs.Cycle.{cycle-writable}
 use Rattle.behaviour.proofs.Stores.{leaves-in-table, store-length}
@@ -45,14 +47,14 @@ use Rattle.stepper.specs.Cycling.{Copying, Cycling, Looked, Cycled}
 use Rattle.stepper.proofs.WidthsAgain.{sized-again, widths-again}
 
 module _ {s : List ℕ} {n : ℕ} {W env held input current out : List ℕ} (g : Cycling s n W env held input current out) where
-  abbrev o : OnlyLeaves s current
+  abbrev o : Rewritten s current
   o = g .leaves-alone
 
   first-written : Written s
   first-written = written (exact s (g .type) .0 (g .accepted) .0)
 
   -- the header is no leaf
-  header-word : (k : ℕ) → k < 6 → word current 0 k ≡ word s 0 k
+  header-word : (k : ℕ) → k < 5 → word current 0 k ≡ word s 0 k
   header-word = o .others 0 (λ e. let h = first-written .headed in let z : _≡_ {A = ℕ} 0 1 = cc in omega arith)
 
   pub first-sized : Sized s n × (0 < n) × (3 < 6)
@@ -109,18 +111,22 @@ module _ {s : List ℕ} {n : ℕ} {W env held input current out : List ℕ} (g :
           values = rw framed (more-values input-typed no-values);
         }
 
-    pub look-done : {env₂ held₁ o₁ : List ℕ} → Evaluated current n W env₁ 1 x held out env₂ held₁ o₁
-        → Looked input current held env₂ held₁ o₁
-    look-done {held₁ = held₁} {o₁} p =
+    pub look-done : {fired env₂ held₁ fired₁ o₁ : List ℕ} → Evaluated current n W env₁ 1 x held fired out env₂ held₁ fired₁ o₁
+        → Looked input current held fired env₂ held₁ fired₁ o₁
+    look-done {fired} {held₁ = held₁} {fired₁} {o₁} p =
         let d = p .done (inputs current) root-ready in
         let v : o₁ ≡ valueAt undecidedRule current (inputs current) (input ∷ []) (wordB current 0) = rw (framed, at-root) at (d .value) in
         let h : held₁ ≡ store (next undecidedRule (input ∷ []) (circuitTerm current)) held =
         rw (framed, at-root) at (d .stored) ∙ sym (root-stored undecidedRule current input held) in
+        let f : fired₁ ≡ firedAt undecidedRule current (inputs current) (input ∷ []) (wordB current 0) fired =
+        rw (framed, at-root) at (d .noted) in
         record {
           wide = d .wide;
           long = rw h (store-length (next undecidedRule (input ∷ []) (circuitTerm current)) held ∙ g .long);
           value = v ∙ sym (root-value undecidedRule current input);
           stored = h;
+          noted = f;
+          same-size = rw f (fired-long undecidedRule current (inputs current) (input ∷ []) (wordB current 0) fired);
         }
 
   -- the chains are where they were
@@ -144,7 +150,7 @@ module _ {s : List ℕ} {n : ℕ} {W env held input current out : List ℕ} (g :
       write-copied-chains current (g .type) (g .again) (next undecidedRule (input ∷ []) (circuitTerm current))
       (cycle-writable undecidedRule rule-lawful current (g .type) (g .again) input input-typed) held room
 
-  pub cycle-done : {env₂ held₁ o₁ : List ℕ} → Looked input current held env₂ held₁ o₁
+  pub cycle-done : {fired env₂ held₁ fired₁ o₁ : List ℕ} → Looked input current held fired env₂ held₁ fired₁ o₁
       → {current′ : List ℕ} → current′ ≡ copied held₁ (delayChains s n) current → Cycled input current env₂ held₁ current′ o₁
   cycle-done l c =
       let counted : n ≡ count current = sized-again o (g .sized) .counted in

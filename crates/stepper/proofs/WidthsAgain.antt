@@ -1,5 +1,5 @@
--- Where only leaves are rewritten the table of an accepted sheet stays: expressions, patterns and types are where they were, with
--- the same scopes and types.
+-- Where only leaves and labels are rewritten the table of an accepted sheet stays: expressions, patterns and types are where they
+-- were, with the same scopes and types.
 -- Assumes nothing.
 use Prim.Native.Nat.{ℕ}
 use mathlib.Core.List.{List}
@@ -21,7 +21,7 @@ use Rattle.records.specs.Trees.{
   alternatives,
   treeAt,
 }
-use Rattle.records.specs.Rewritten.{OnlyLeaves}
+use Rattle.records.specs.Rewritten.{Rewritten}
 use Rattle.records.proofs.Rewritten.{same-count, same-kind, same-type, same-alternatives, same-tree}
 use Rattle.records.proofs.Grown.{grown-tree}
 use Rattle.accepted.proofs.Laws.{written}
@@ -37,15 +37,16 @@ use Rattle.behaviour.proofs.TermsAgain.{type-of-same}
 use Rattle.behaviour.proofs.ScopesAgain.{scope-again}
 
 -- and back
-pub leaves-back : {s s′ : List ℕ} → OnlyLeaves s s′ → OnlyLeaves s′ s
+pub leaves-back : {s s′ : List ℕ} → Rewritten s s′ → Rewritten s′ s
 leaves-back {s} {s′} o =
     record {
       length = sym (o .length);
       others = λ r f k h. sym (o .others r (λ e. f (same-kind s s′ o r ∙ e)) k h);
       leaves = λ r k h f. sym (o .leaves r k h f);
+      unlabelled = λ r f. sym (o .unlabelled r (λ e. f (same-kind s s′ o r ∙ e)));
     }
 
-module _ {s s′ : List ℕ} (o : OnlyLeaves s s′) where
+module _ {s s′ : List ℕ} (o : Rewritten s s′) where
   pub sized-again : {n : ℕ} → Sized s n → Sized s′ n
   sized-again z =
       record { counted = z .counted ∙ sym (same-count s s′ o); whole = o .length ∙ z .whole; some = z .some; few = z .few }

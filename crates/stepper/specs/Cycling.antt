@@ -1,22 +1,23 @@
 -- One cycle of a sheet. `first` is the sheet that was checked, `current` the one that the cycle begins from: the two differ in leaves
--- alone, and are accepted with the same type.
+-- alone, or in labels too, and are accepted with the same type.
 use Prim.Native.Nat.{ℕ}
 use mathlib.Core.Path.{_≡_}
 use mathlib.Core.List.{List, [], _∷_}
 use lib.ListN.{length}
 use Rattle.picoella.specs.Types.{leaves, OfType}
-use Rattle.records.specs.Words.{wordA}
+use Rattle.records.specs.Words.{wordA, wordB}
 use Rattle.records.specs.Sized.{Sized}
 use Rattle.records.specs.TypeRecords.{typeAt}
 use Rattle.records.specs.Written.{Written}
-use Rattle.records.specs.Rewritten.{OnlyLeaves}
-use Rattle.verdict.specs.Verdict.{verdict}
+use Rattle.records.specs.Rewritten.{Rewritten}
+use Rattle.verdict.specs.Verdict.{verdict, inputs}
 use Rattle.verdict.specs.Widths.{Widths}
 use Rattle.verdict.specs.declared.Verdict.the-variants.{Accepted}
 use Rattle.meaning.specs.Undecided.{undecidedRule}
 use Rattle.meaning.specs.Evaluation.{next}
 use Rattle.behaviour.specs.Terms.{circuitTerm}
 use Rattle.behaviour.specs.Delays.{store}
+use Rattle.behaviour.specs.Firing.{firedAt}
 use Rattle.behaviour.specs.Cycle.{output, sheetAfterCycle}
 
 -- a table is copied to a sheet, along chains of the first one
@@ -31,19 +32,22 @@ pub record Cycling (first : List ℕ) (n : ℕ) (widths env held input current o
   pub type : ℕ
   pub accepted : verdict first ≡ Accepted type
   pub table : Widths first widths
-  pub leaves-alone : OnlyLeaves first current
+  pub leaves-alone : Rewritten first current
   pub again : verdict current ≡ Accepted type
   pub wide : length env ≡ 4096
   pub long : length held ≡ 4096
   pub typed : OfType (typeAt first (wordA first 0)) input
   pub room : length out ≡ leaves (typeAt first type)
 
--- the root is evaluated: the output, and the delays' next values in their table; the sheet is only read
-pub record Looked (input current held env′ held′ out′ : List ℕ) : Type 0 where
+-- the root is evaluated: the output, the delays' next values in their table, and the numbers of the IFs in theirs; the sheet is only
+-- read
+pub record Looked (input current held fired env′ held′ fired′ out′ : List ℕ) : Type 0 where
   pub value : out′ ≡ output current input
   pub stored : held′ ≡ store (next undecidedRule (input ∷ []) (circuitTerm current)) held
+  pub noted : fired′ ≡ firedAt undecidedRule current (inputs current) (input ∷ []) (wordB current 0) fired
   pub wide : length env′ ≡ 4096
   pub long : length held′ ≡ 4096
+  pub same-size : length fired′ ≡ length fired
 
 -- and a whole cycle; the room stays as long as it was
 pub record Cycled (input current env′ held′ current′ out′ : List ℕ) : Type 0 where

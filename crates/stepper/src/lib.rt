@@ -1,6 +1,7 @@
 // One cycle of a sheet: the root's value for an input, and the sheet with every delay holding its next value.
 ghost use mathlib.Core.Path.{_≡_};
 ghost use Prim.Native.Nat.{ℕ, _<_};
+ghost use lib.ListN.{length};
 ghost use Rattle.records.specs.Words.{wordB};
 ghost use Rattle.records.specs.Kinds.{leafs};
 ghost use Rattle.records.specs.Says.{kindAt, sortAt};
@@ -9,6 +10,7 @@ ghost use Rattle.behaviour.specs.Copies.{copied, leavesOf, delayChains};
 ghost use Rattle.stepper.specs.Cycling.{Copying, Cycling, Looked, Cycled};
 use evaluator::eval;
 use records::KIND_DELAY;
+use records::RECORDS;
 use records::WORD_A;
 use records::WORD_B;
 use records::WORD_KIND;
@@ -16,8 +18,16 @@ use records::WORD_NEXT;
 use records::Widths;
 use records::offset;
 use records::word;
+use values::Fired;
 use values::NextValues;
 use values::enter_value;
+
+// The names' bytes: room for 64 values of 64 leaves. It also makes the table of delay values.
+pub fn no_names() -> [u8; RECORDS]
+    ensures { λ r. ⌜ length r ≡ 4096 ⌝ }
+{
+    [0; RECORDS]
+}
 
 // Copies a table's entries to the leaves from `first`: word a, low byte first.
 fn copy_chain(sheet: &[u8], n: usize, first: usize, held: &NextValues, current: &mut [u8])
@@ -56,24 +66,25 @@ fn copy_all(sheet: &[u8], n: usize, held: &NextValues, current: &mut [u8])
     }
 }
 
-// The evaluating half of a cycle from the sheet in `current`: the output goes to `out`, and the delays' next values to `held`. The
-// sheet that was checked is read for its records alone; `env` is room.
+// The evaluating half of a cycle from the sheet in `current`: the output goes to `out`, the delays' next values to `held`, and the
+// numbers of the IFs to `fired`. The sheet that was checked is read for its records alone; `env` is room.
 pub fn look(
     sheet: &[u8],
     n: usize,
     widths: &Widths,
     env: &mut [u8],
     held: &mut NextValues,
+    fired: &mut Fired,
     input: &[u8],
     current: &[u8],
     out: &mut [u8],
 )
     requires { ⌜ Cycling (now sheet) n (now widths) (now env) (now held) (now input) (now current) (now out) ⌝ }
-    ensures { λ _. ⌜ Looked (now (input .entry)) (now (current .entry)) (now (held .entry)) (now (env .exit)) (now (held .exit)) (now (out .exit)) ⌝ }
+    ensures { λ _. ⌜ Looked (now (input .entry)) (now (current .entry)) (now (held .entry)) (now (fired .entry)) (now (env .exit)) (now (held .exit)) (now (fired .exit)) (now (out .exit)) ⌝ }
 {
     enter_value(env, 0, input);
     let root = word(sheet, n, 0, WORD_B);
-    eval(current, n, widths, env, 1, held, root, out);
+    eval(current, n, widths, env, 1, held, fired, root, out);
 }
 
 // One cycle from the sheet in `current`: the output goes to `out`, and the sheet after the cycle to `current`.
@@ -83,6 +94,7 @@ pub fn cycle(
     widths: &Widths,
     env: &mut [u8],
     held: &mut NextValues,
+    fired: &mut Fired,
     input: &[u8],
     current: &mut [u8],
     out: &mut [u8],
@@ -90,6 +102,6 @@ pub fn cycle(
     requires { ⌜ Cycling (now sheet) n (now widths) (now env) (now held) (now input) (now current) (now out) ⌝ }
     ensures { λ _. ⌜ Cycled (now (input .entry)) (now (current .entry)) (now (env .exit)) (now (held .exit)) (now (current .exit)) (now (out .exit)) ⌝ }
 {
-    look(sheet, n, widths, env, held, input, current, out);
+    look(sheet, n, widths, env, held, fired, input, current, out);
     copy_all(sheet, n, held, current);
 }

@@ -3,3 +3,6 @@ pub mod Pieces
 pub mod Stimulus
 pub mod Tests
 pub mod Holding
+pub mod OneCycle
+pub mod OneCycleCalls
+pub mod Witness

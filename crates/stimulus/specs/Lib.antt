@@ -4,3 +4,5 @@ pub mod Stimulus
 -- What functions ask and give, and their proofs need:
 pub mod Tests
 pub mod Holding
+pub mod OneCycle
+pub mod OneCycleCalls

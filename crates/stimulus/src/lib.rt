@@ -9,6 +9,7 @@ ghost use Rattle.answers.specs.Searches.{found};
 ghost use Rattle.accepted.specs.Accepting.{Accepting};
 ghost use Rattle.stimulus.specs.Tests.{notWhole, above};
 ghost use Rattle.stimulus.specs.Holding.{Held};
+ghost use Rattle.stimulus.specs.OneCycle.{HeldToOne};
 use accepted::fill_bounds;
 use answers::Answer;
 use answers::Found;
@@ -82,4 +83,17 @@ pub fn check_stimulus(sheet: &[u8], n: usize, widths: &Widths, stim: &[u8]) -> A
         return Answer::Refused(WRONG_BYTE, i as u64);
     }
     Answer::Done((all / w) as u64)
+}
+
+// Codes 8 and 9 for one cycle of an accepted sheet's input, and else that one cycle.
+pub fn check_one_cycle(sheet: &[u8], n: usize, widths: &Widths, stim: &[u8]) -> Answer
+    requires { ⌜ Accepting (now sheet) n (now widths) ⌝ }
+    ensures { λ r. ⌜ HeldToOne (now (sheet .entry)) (now (stim .entry)) r ⌝ }
+{
+    let t = word(sheet, n, 0, WORD_A);
+    let w = widths[t] as usize;
+    if stim.len() != w {
+        return Answer::Refused(WRONG_STIMULUS, 0);
+    }
+    check_stimulus(sheet, n, widths, stim)
 }

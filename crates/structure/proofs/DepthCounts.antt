@@ -1,7 +1,7 @@
--- The tables of depths and nestings as records are added to them: a record lies one deeper than the one record that names it, which
+-- The tables of depths and nestings as records are added to them: a record lies one deeper than the first record that names it, which
 -- is lower and so in the tables, and in one more defining part just where it is one. Assumes nothing.
 use mathlib.Core.Path.{_≡_, refl, sym, _∙_, ap}
-use mathlib.Core.Bool.{Bool, true, false, cond, and-false}
+use mathlib.Core.Bool.{Bool, true, false, cond, and-false, false≢true}
 use mathlib.Core.List.{List, [], _∷_, List·Memᴰ·head}
 use Prim.Native.Nat.{ℕ, zero, suc, min, _+_, _*_, _-_, _/_, _%_, _≤_, _<_}
 use native.Mathlib.Omega.{arith}
@@ -13,7 +13,7 @@ use lib.Seq.{getD-set-same, getD-set-other}
 use Rattle.records.specs.Words.{count, word}
 use Rattle.records.specs.Kinds.{kindOf, sortNumber}
 use Rattle.records.specs.Says.{sortAt}
-use Rattle.records.specs.Namings.{Naming, namings, exactlyOnce}
+use Rattle.records.specs.Namings.{Naming, namings, wellNamed}
 use Rattle.records.specs.Trees.{follow}
 use Rattle.records.proofs.CodeTable.{only-kind}
 use Rattle.records.proofs.Namings.{Names, in-namings-names, namer-lower}
@@ -69,10 +69,16 @@ followed : (f : ℕ → ℕ) (n : ℕ) → f 0 ≡ 0 → follow 0 f n ≡ f n
 followed f zero e = sym e
 followed f (suc n) e = refl
 
-the-one : (ns : List Naming) → exactlyOnce ns ≡ true → (x : Naming) × (ns ≡ x ∷ [])
-the-one [] e = absurd (let z : _≡_ {A = ℕ} 0 1 = cc in omega arith)
-the-one (x ∷ []) e = (x, refl)
-the-one (x ∷ y ∷ ns) e = absurd (let z : _≡_ {A = ℕ} 0 1 = cc in omega arith)
+-- the first naming of a record that is well named
+record First (ns : List Naming) : Type 0 where
+  naming : Naming
+  rest : List Naming
+  is : ns ≡ naming ∷ rest
+  entry : summary ns ≡ 8 * naming .by + naming .at + 1
+
+the-first : (ns : List Naming) → wellNamed ns ≡ true → First ns
+the-first [] e = absurd (false≢true e)
+the-first (x ∷ ns) e = record { naming = x; rest = ns; is = refl; entry = rw e }
 
 -- what is known of the record that names rec
 pub record NamedBy (s : List ℕ) (rec v : ℕ) : Type 0 where
@@ -86,24 +92,27 @@ pub record NamedBy (s : List ℕ) (rec v : ℕ) : Type 0 where
 
 module _ {s : List ℕ} {n rec : ℕ} {namers depths nestings : List ℕ} (p : Placing s n rec namers depths nestings) (h : rec < n) where
   pub named-by : NamedBy s rec (getD namers rec 0)
-  named-by = let one = the-one (namings s rec) (p .once rec (p .some) below) in from-one (one .0) (one .1)
+  named-by = from-first (the-first (namings s rec) (p .well rec (p .some) below))
     where
       below : rec < count s
       below = let c = p .sized .counted in omega arith
 
-      from-one : (x : Naming) → namings s rec ≡ x ∷ [] → NamedBy s rec (getD namers rec 0)
-      from-one x e =
+      from-first : First (namings s rec) → NamedBy s rec (getD namers rec 0)
+      from-first f =
           let few = p .sized .few in
-          let names : Names s rec x = in-namings-names s rec x (rw e (List·Memᴰ·head refl)) in
+          let x = f .naming in
+          let names : Names s rec x = in-namings-names s rec x (rw (f .is) (List·Memᴰ·head refl)) in
           record {
             by = x .by;
             at = x .at;
-            value = p .named .entries rec (omega arith) ∙ ap summary e;
+            value = p .named .entries rec (omega arith) ∙ f .entry;
             lower = namer-lower (p .written) rec x (p .some) names .0;
             small = names .high;
-            deeper = depth-of (p .written) (p .once) rec x (p .some) names ∙ ap suc (followed (depth s) (x .by) (depth-of-header s));
+            deeper =
+                depth-of (p .written) rec x (f .rest) (p .some) (f .is)
+                ∙ ap suc (followed (depth s) (x .by) (depth-of-header s));
             nested =
-                nesting-of (p .written) (p .once) rec x (p .some) names
+                nesting-of (p .written) rec x (f .rest) (p .some) (f .is)
                 ∙ ap (λ (m : ℕ). cond (ofDefiningPart s x) (suc m) m) (followed (nesting s) (x .by) (nesting-of-header s));
           }
 

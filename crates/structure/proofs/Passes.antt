@@ -14,9 +14,9 @@ use Rattle.picoella.specs.Types.{leaves}
 use Rattle.records.specs.Words.{count, wordA, wordB}
 use Rattle.records.specs.Kinds.{sameSort, expressions, typeOf, pair, header, isPair, isHeader}
 use Rattle.records.specs.Says.{kindAt, sortAt, wellSaid}
-use Rattle.records.specs.Namings.{namings, exactlyOnce}
+use Rattle.records.specs.Namings.{namings, wellNamed}
 use Rattle.records.specs.TypeRecords.{typeAt, pairBelow}
-use Rattle.records.specs.Written.{Written, NamedOnce, TypesFit}
+use Rattle.records.specs.Written.{Written, WellNamed, TypesFit}
 use Rattle.records.proofs.Tests.{both-left, both-right, both-fails, neither-left, neither-right}
 use Rattle.records.proofs.Table.{is-header}
 use Rattle.structure.specs.Depth.{depth, nesting}
@@ -68,14 +68,14 @@ pub written : {s : List ℕ} → Passes s → Written s
 written {s} p = written-by (p .length) (p .header) (p .records)
 
 -- code 4
-pub once-by : (s : List ℕ) → lowest (wrongNaming s) (count s) ≡ none → NamedOnce s
+pub well-named-by : (s : List ℕ) → lowest (wrongNaming s) (count s) ≡ none → WellNamed s
 unfolding wrongNaming
-once-by s en r low high =
-    not-false (exactlyOnce (namings s r))
-    (both-fails (ltb 0 r) (not (exactlyOnce (namings s r))) (lowest-none-fails (wrongNaming s) (count s) en r high) (lt-ltb 0 r low))
+well-named-by s en r low high =
+    not-false (wellNamed (namings s r))
+    (both-fails (ltb 0 r) (not (wellNamed (namings s r))) (lowest-none-fails (wrongNaming s) (count s) en r high) (lt-ltb 0 r low))
 
-pub named-once : {s : List ℕ} → Passes s → NamedOnce s
-named-once {s} p = once-by s (p .namings)
+pub well-named : {s : List ℕ} → Passes s → WellNamed s
+well-named {s} p = well-named-by s (p .namings)
 
 -- code 5
 pub type-fits : (s : List ℕ) (r : ℕ) → kindAt s r ≡ typeOf pair → wrongType s r ≡ false

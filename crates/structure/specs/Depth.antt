@@ -1,7 +1,8 @@
 -- How deep an expression lies, and in how many feedbacks' defining parts (docs/SHEETS.md, "Limits": "An expression may lie at most
 -- 64 deep, the root being at depth 1 .. No expression lies in the defining parts of more than three feedbacks"). Both are read off
 -- the namings that lead from a record up to the header. A record that names is lower than the one it names, so as many steps as
--- the record's number are enough.
+-- the record's number are enough. From a pattern that several IFs share they go up by the first, which no rule asks about: no
+-- expression is a part of a pattern.
 use Prim.Native.Nat.{ℕ, zero, suc}
 use mathlib.Core.Bool.{Bool, true, false, cond, _&&_}
 use mathlib.Core.List.{List, [], _∷_}

@@ -6,7 +6,7 @@ use mathlib.Core.List.{List}
 use lib.ListN.{length, getD}
 use Rattle.records.specs.Sized.{Sized}
 use Rattle.records.specs.Namings.{namings}
-use Rattle.records.specs.Written.{Written, NamedOnce}
+use Rattle.records.specs.Written.{Written, WellNamed}
 use Rattle.structure.specs.Depth.{depth, nesting}
 use Rattle.structure.specs.NamerTable.{Holds}
 
@@ -23,7 +23,7 @@ pub record Placed (s : List ℕ) (m : ℕ) (depths nestings : List ℕ) : Type 0
 pub record Placing (s : List ℕ) (n m : ℕ) (namers depths nestings : List ℕ) : Type 0 where
   pub sized : Sized s n
   pub written : Written s
-  pub once : NamedOnce s
+  pub well : WellNamed s
   pub named : Holds (namings s) namers
   pub some : 0 < m
   pub placed : Placed s m depths nestings

@@ -1,20 +1,26 @@
--- A table of namings, one number a record: 0 where nothing names the record, 65,535 where more than one word does, and else the
--- one word that does.
+-- A table of namings, one number a record: 0 where nothing names the record, 65,535 where it is named but not well named, and else
+-- the word that names it, the first where several IFs share a pattern.
 use Prim.Native.Nat.{ℕ, _+_, _*_, _<_}
+use mathlib.Core.Bool.{cond}
 use mathlib.Core.Path.{_≡_}
 use mathlib.Core.List.{List, [], _∷_, _++_}
 use lib.ListN.{length, getD}
-use Rattle.records.specs.Namings.{Naming}
+use Rattle.records.specs.Namings.{Naming, wellNamed}
 
 abbrev pub summary : List Naming → ℕ
 summary [] = 0
-summary (n ∷ []) = 8 * n .by + n .at + 1
-summary (n ∷ m ∷ ns) = 65535
+summary (n ∷ ns) = cond (wellNamed (n ∷ ns)) (8 * n .by + n .at + 1) 65535
+
+-- the namings are by words of records
+abbrev pub ByWords : List Naming → Type 0
+ByWords [] = Unit {0}
+ByWords (n ∷ ns) = (n .at < 6) × ByWords ns
 
 -- each record's entry has the namings `more` beside those that it had
 pub record Adds (more : ℕ → List Naming) (before after : List ℕ) : Type 0 where
   pub long : length before ≡ 4096 → length after ≡ 4096
-  pub entries : (r : ℕ) (ns : List Naming) → r < 4096 → getD before r 0 ≡ summary ns → getD after r 0 ≡ summary (ns ++ more r)
+  pub entries : (r : ℕ) (ns : List Naming) → r < 4096 → ByWords ns → getD before r 0 ≡ summary ns
+      → getD after r 0 ≡ summary (ns ++ more r)
 
 -- the table holds each record's namings
 pub record Holds (all : ℕ → List Naming) (table : List ℕ) : Type 0 where

@@ -8,7 +8,7 @@ use Rattle.picoella.specs.Types.{leaves}
 use Rattle.records.specs.Words.{wordA, wordB}
 use Rattle.records.specs.Kinds.{sameSort, sortOf, expressions, isPair, isHeader}
 use Rattle.records.specs.Says.{kindAt, sortAt, wellSaid}
-use Rattle.records.specs.Namings.{namings, exactlyOnce}
+use Rattle.records.specs.Namings.{namings, wellNamed}
 use Rattle.records.specs.TypeRecords.{typeAt, pairBelow}
 use Rattle.structure.specs.Depth.{depth, nesting}
 
@@ -24,9 +24,9 @@ wrongHeader s = not (isHeader (kindAt s 0) && wellSaid s 0)
 unfoldable pub wrongRecord : List ℕ → ℕ → Bool
 wrongRecord s r = ltb 0 r && (isHeader (kindAt s r) || not (wellSaid s r))
 
--- 4: not named exactly once
+-- 4: not well named: by no word, or by several that are not all words d
 unfoldable pub wrongNaming : List ℕ → ℕ → Bool
-wrongNaming s r = ltb 0 r && not (exactlyOnce (namings s r))
+wrongNaming s r = ltb 0 r && not (wellNamed (namings s r))
 
 -- 5: pair type with the parts of a lower one, or over 64 leaves
 unfoldable pub wrongType : List ℕ → ℕ → Bool

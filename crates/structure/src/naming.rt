@@ -1,16 +1,16 @@
-// How often each record is named: code 4.
+// Which words name each record: code 4.
 ghost use mathlib.Core.Path.{_≡_};
 ghost use Prim.Native.Nat.{ℕ, _≤_, _<_};
 ghost use lib.ListN.{length};
-ghost use mathlib.Core.List.{List, []};
+ghost use mathlib.Core.List.{List, [], _∷_, _++_};
 ghost use Rattle.records.specs.Words.{kindWord};
 ghost use Rattle.records.specs.Kinds.{askNumbers, rowOf};
 ghost use Rattle.records.specs.Sized.{Sized};
-ghost use Rattle.records.specs.Namings.{namings, namingsIn, namesAt, ifNamed};
+ghost use Rattle.records.specs.Namings.{Naming, namings, namingsIn, namesAt, ifNamed};
 ghost use Rattle.answers.specs.Lowest.{lowest};
 ghost use Rattle.answers.specs.Searches.{found};
 ghost use Rattle.structure.specs.Rules.{wrongNaming};
-ghost use Rattle.structure.specs.NamerTable.{Adds, Holds};
+ghost use Rattle.structure.specs.NamerTable.{summary, ByWords, Adds, Holds};
 use answers::Found;
 use records::NAMED_SEVERAL;
 use records::NAMES;
@@ -26,7 +26,7 @@ use records::WORDS;
 use records::asks;
 use records::word;
 
-// The entry of a record that word k of record q names, and no other word, is this number times q, plus k + 1.
+// The entry of a record that is well named, first by word k of record q, is this number times q, plus k + 1.
 pub const NAMER_STEP: usize = 8;
 
 // A table of namings with no naming in it.
@@ -34,6 +34,23 @@ pub fn no_namings() -> Namers
     ensures { λ r. ⌜ Holds (λ _. []) r ⌝ }
 {
     [0; RECORDS]
+}
+
+// A record's entry where word k of record q names it too: several words d share a pattern and leave the first one's entry.
+fn with_naming(entry: u16, q: usize, k: usize) -> u16
+    requires { ⌜ (q < 4096) × (k < 6) ⌝ }
+    ensures { λ r. ⌜ ((ns : List Naming) → ByWords ns → entry ≡ summary ns → r ≡ summary (ns ++ (record { by = q; at = k } ∷ []))) ⌝ }
+{
+    if entry == 0 {
+        return (NAMER_STEP * q + k + 1) as u16;
+    }
+    if k < WORD_D {
+        return NAMED_SEVERAL;
+    }
+    if entry as usize % NAMER_STEP != k + 1 {
+        return NAMED_SEVERAL;
+    }
+    entry
 }
 
 // Adds to the table what word k of record q names, where `asks` is what the words of its kind ask.
@@ -44,11 +61,7 @@ fn note_word(sheet: &[u8], n: usize, q: usize, asks: &[usize; WORDS], k: usize, 
     if NAMES <= asks[k] {
         let w = word(sheet, n, q, k);
         if w < RECORDS {
-            if namers[w] == 0 {
-                namers[w] = (NAMER_STEP * q + k + 1) as u16;
-            } else {
-                namers[w] = NAMED_SEVERAL;
-            }
+            namers[w] = with_naming(namers[w], q, k);
         }
     }
 }
@@ -78,7 +91,7 @@ pub fn note_all(sheet: &[u8], n: usize, namers: &mut Namers)
     }
 }
 
-// The lowest record that is not named exactly once: code 4.
+// The lowest record that is not well named: code 4.
 pub fn first_wrong_naming(n: usize, namers: &Namers) -> Found
     requires { ⌜ (n ≤ 4096) × (length (now namers) ≡ 4096) ⌝ }
     ensures { λ r. ⌜ ((s : List ℕ) → Holds (namings s) (now (namers .entry)) → found r ≡ lowest (wrongNaming s) n) ⌝ }

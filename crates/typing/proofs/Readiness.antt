@@ -20,7 +20,7 @@ use Rattle.records.proofs.Asked.{part-of-kind, past-header}
 use Rattle.records.proofs.Grown.{grown-tree}
 use Rattle.records.proofs.TypeRecords.{type-word}
 use Rattle.structure.specs.Depth.{depth}
-use Rattle.structure.proofs.Passes.{written, named-once, not-deep}
+use Rattle.structure.proofs.Passes.{written, well-named, not-deep}
 use Rattle.structure.proofs.Depths.{depth-of-part}
 use Rattle.typing.specs.Judging.{Judging, Closing, Fitting, Context, scopeOf, PartAt, at-first, at-second}
 use Rattle.typing.proofs.Judged.{passed-judged}
@@ -44,7 +44,7 @@ module _ {s : List ℕ} {n : ℕ} {table stack : List ℕ} {names rec : ℕ} {wi
   module _ (k : Kind) (e : kindAt s rec ≡ k) (j : ℕ) (t : (ltb 0 j && ltb j 6) ≡ true) (a : askOfKind k j ≡ part expressions) (x : ℕ)
       (ex : x ≡ word s rec j) where
     deeper : depth s x ≡ suc (depth s rec)
-    deeper = rw ex (depth-of-part ready-written (named-once (r .ground .passes)) rec k expressions past ready-there e j t a)
+    deeper = rw ex (depth-of-part ready-written (well-named (r .ground .passes)) rec k expressions past ready-there e j t a refl)
 
     part-there : (rec < x) × (x < count s) × (sortAt s x ≡ expressions)
     part-there = rw ex (part-of-kind ready-written rec k expressions ready-there e j t a)

@@ -12,7 +12,7 @@ use lib.ListN.{length, getD, set, length-set}
 use lib.Seq.{getD-set-same, getD-set-other, ext-getD}
 use Rattle.meaning.specs.Undecided.{leafIf, agreedLeaf, agreedLeaves, undecidedRule}
 use Rattle.meaning.specs.Evaluation.{choose}
-use Rattle.values.specs.Answers.{decisionOf}
+use Rattle.values.specs.Answers.{decisionOf, told}
 use Rattle.values.specs.declared.Match.{Match}
 use Rattle.values.specs.declared.Match.the-variants as Matches
 
@@ -87,5 +87,5 @@ module _ (otherwise out₀ : List ℕ) where
 
 -- the value of an IF that is undecided
 pub undecided-chosen : (a : Match) (otherwise out out′ : List ℕ) → a ≡ Matches.Undecided → out′ ≡ undecidedRule out otherwise
-    → out′ ≡ choose undecidedRule (decisionOf a) out otherwise
-undecided-chosen a otherwise out out′ e g = g ∙ rw e refl
+    → (out′ ≡ choose undecidedRule (decisionOf a) out otherwise) × (0 ≡ told a)
+undecided-chosen a otherwise out out′ e g = (g ∙ rw e refl, rw e refl)

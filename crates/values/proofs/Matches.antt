@@ -45,7 +45,8 @@ use Rattle.meaning.specs.Matching.{Decision, Yes, No, Undecided, pairDecision, 
 use Rattle.values.specs.Matchings.{Matching, withRest, MatchedAll, MatchedOne, Chosen}
 use Rattle.meaning.specs.Evaluation.{choose}
 use Rattle.meaning.specs.Undecided.{undecidedRule}
-use Rattle.values.specs.Answers.{decisionOf}
+use Rattle.behaviour.specs.Firing.{orAfter, firstYes}
+use Rattle.values.specs.Answers.{decisionOf, told, Own}
 use Rattle.values.specs.declared.Match.{Match}
 use Rattle.values.specs.declared.Match.the-variants as Matched′
 
@@ -57,6 +58,31 @@ chain-associates Undecided No c = refl
 chain-associates Undecided Undecided Yes = refl
 chain-associates Undecided Undecided No = refl
 chain-associates Undecided Undecided Undecided = refl
+
+-- the first yes is told, also where what follows is taken in
+first-told : (a b : Decision) (r q m : ℕ) → orAfter a r (orAfter b q m) ≡ orAfter (chainDecision a b) (orAfter a r q) m
+first-told Yes b r q m = refl
+first-told No b r q m = refl
+first-told Undecided Yes r q m = refl
+first-told Undecided No r q m = refl
+first-told Undecided Undecided r q m = refl
+
+-- an answer tells its own alternative, whatever follows
+own-told : (a : Match) (d : Decision) (p m : ℕ) → Own p a d → orAfter d p m ≡ orAfter (decisionOf a) (told a) m
+own-told a Yes p m o = rw (o .decides, o .tells) refl
+own-told a No p m o = rw (o .decides) refl
+own-told a Undecided p m o = rw (o .decides) refl
+
+few-told : (d : Decision) (r q : ℕ) → r < 4096 → q < 4096 → orAfter d r q < 4096
+few-told Yes r q h k = h
+few-told No r q h k = k
+few-told Undecided r q h k = k
+
+-- and 0 where it says no yes
+told-alone : (a : Match) → orAfter (decisionOf a) (told a) 0 ≡ told a
+told-alone (Matched′.Yes r) = refl
+told-alone Matched′.No = refl
+told-alone Matched′.Undecided = refl
 
 -- the first of some alternatives, with the rest of them
 one-with-rest : (s : List ℕ) (p : Pattern) (m : Alternatives) (v : List ℕ)
@@ -104,6 +130,13 @@ module _ {s : List ℕ} {n : ℕ} {widths : List ℕ} {p : ℕ} {value : List �
   kind : (k : PatternKind) × (kindAt s p ≡ pattern k)
   kind = kind-of-sort patterns (kindAt s p) (m .against .sort)
 
+  -- the number of the record, and the alternatives after it
+  low : p < 4096
+  low = let h = m .against .there in let f = m .against .sized .few in omega arith
+
+  abbrev after : Alternatives
+  after = follow end (alternatives s) (nextWord s p)
+
   pub some-leaf : 0 < length value
   some-leaf = rw (m .long) (go (typeAt s (m .type)))
     where
@@ -148,22 +181,28 @@ module _ {s : List ℕ} {n : ℕ} {widths : List ℕ} {p : ℕ} {value : List �
       go parts e = rw (alternatives-of w p there (pattern parts) e) refl
 
   -- one more alternative taken in
-  pub taken-in : (so-far one now : Match) {x : ℕ} → MatchedOne s p value one → decisionOf now ≡ chainDecision (decisionOf so-far) (decisionOf one)
+  pub taken-in : (so-far one now : Match) {x : ℕ}
+      → matches (patternOf s (alternatives s p)) value ≡ withRest (decisionOf one) s after value → decisionOf now ≡ chainDecision (decisionOf so-far) (decisionOf one)
       → x ≡ word s p 1
       → withRest (decisionOf so-far) s (alternatives s p) value ≡ withRest (decisionOf now) s (follow end (alternatives s) x) value
   taken-in so-far one now o e ex =
       rest-is (decisionOf so-far) ∙ rw (o, e, ex) (chain-with-rest (decisionOf so-far) (decisionOf one) s (follow end (alternatives s) (nextWord s p)) value)
 
   module _ {k : ℕ} (ek : k ≡ word s p 0) where
-    pub whole-matches : k ≡ 48 → MatchedOne s p value Matched′.Yes
+    pub whole-matches : k ≡ 48 → MatchedOne s p value (Matched′.Yes p)
     whole-matches e =
-        rw (alternatives-of w p there (pattern whole) (pattern-kind s p k ek whole e)) (one-with-rest s _ (follow end (alternatives s) (nextWord s p)) value)
+        let is = alternatives-of w p there (pattern whole) (pattern-kind s p k ek whole e) in
+        record { decides = rw is (one-with-rest s _ after value); tells = rw is refl; few = low }
 
-    pub constructor-matches : {x : ℕ} (r : Match) → k ≡ 49 → x ≡ word s p 3 → decisionOf r ≡ constructorDecision x (getD value 0 0)
+    pub constructor-matches : {x : ℕ} (r : Match) → k ≡ 49 → x ≡ word s p 3 → Own p r (constructorDecision x (getD value 0 0))
         → MatchedOne s p value r
-    constructor-matches r e ex er =
-        rw (er, ex, alternatives-of w p there (pattern constructor) (pattern-kind s p k ek constructor e))
-        (one-with-rest s _ (follow end (alternatives s) (nextWord s p)) value)
+    constructor-matches {x} r e ex o =
+        let is = alternatives-of w p there (pattern constructor) (pattern-kind s p k ek constructor e) in
+        record {
+          decides = rw (o .decides, ex, is) (one-with-rest s _ after value);
+          tells = rw is (rw ex at (own-told r (constructorDecision x (getD value 0 0)) p (firstYes s after value) o));
+          few = rw (o .tells) (few-told (constructorDecision x (getD value 0 0)) p 0 low (omega arith));
+        }
 
     -- no other kind: a pair pattern
     module _ (no-whole : k ≡ 48 → ⊥) (no-constructor : k ≡ 49 → ⊥) where
@@ -276,29 +315,55 @@ module _ {s : List ℕ} {n : ℕ} {widths : List ℕ} {p : ℕ} {value : List �
           second-lent ey = rw whole-rest (second-matched ey)
 
           pub pair-matches : {y : ℕ} (a b r : Match) → y ≡ word s p 3 → MatchedAll s x (take (c - 0) value) a → MatchedAll s y (take (length value - c) (drop c value)) b
-              → decisionOf r ≡ pairDecision (decisionOf a) (decisionOf b) → MatchedOne s p value r
-          pair-matches a b r ey ea eb er =
-              rw (two-parts, er, rw from-front at ea, rw whole-rest at eb, ex, ey, ← wide)
-              (one-with-rest s (Parts (patternOf s (alternatives s (wordA s p))) (patternOf s (alternatives s (wordB s p)))) (follow end (alternatives s) (nextWord s p)) value)
+              → Own p r (pairDecision (decisionOf a) (decisionOf b)) → MatchedOne s p value r
+          pair-matches a b r ey ea eb o =
+              record {
+                decides =
+                    rw (two-parts, o .decides, ← parts-match)
+                    (one-with-rest s (Parts (patternOf s (alternatives s (wordA s p))) (patternOf s (alternatives s (wordB s p)))) after value);
+                tells = rw (two-parts, parts-match) (own-told r (pairDecision (decisionOf a) (decisionOf b)) p (firstYes s after value) o);
+                few = rw (o .tells) (few-told (pairDecision (decisionOf a) (decisionOf b)) p 0 low (omega arith));
+              }
             where
               wide : patternWidth (patternOf s (alternatives s (wordA s p))) ≡ c
               wide = rw (← ex) (width-leaves s (alternatives s x) (grown-pattern w x first-in (first-against .1 .sort)) ∙ first-leaves ∙ sym cut)
 
+              parts-match : matches (Parts (patternOf s (alternatives s (wordA s p))) (patternOf s (alternatives s (wordB s p)))) value
+                  ≡ pairDecision (decisionOf a) (decisionOf b)
+              parts-match = rw (rw from-front at (ea .decides), rw whole-rest at (eb .decides), ex, ey, ← wide) refl
+
 -- the whole chain from p is what was matched so far, with what is left from x
-abbrev pub Gathered : List ℕ → ℕ → List ℕ → Match → ℕ → Type 0
-Gathered s p v a x = matches (patternOf s (alternatives s p)) v ≡ withRest (decisionOf a) s (follow end (alternatives s) x) v
+pub record Gathered (s : List ℕ) (p : ℕ) (v : List ℕ) (a : Match) (x : ℕ) : Type 0 where
+  pub decides : matches (patternOf s (alternatives s p)) v ≡ withRest (decisionOf a) s (follow end (alternatives s) x) v
+  pub tells : firstYes s (alternatives s p) v ≡ orAfter (decisionOf a) (told a) (firstYes s (follow end (alternatives s) x) v)
+  pub few : told a < 4096
 
-pub begun : (s : List ℕ) (p : ℕ) (v : List ℕ) (a : Match) (x : ℕ) → MatchedOne s p v a → x ≡ word s p 1 → Gathered s p v a x
-begun s p v a x o e = rw e o
+module _ {s : List ℕ} {p : ℕ} {v : List ℕ} where
+  pub begun : {a : Match} {x : ℕ} → MatchedOne s p v a → x ≡ word s p 1 → Gathered s p v a x
+  begun o e = record { decides = rw e (o .decides); tells = rw e (o .tells); few = o .few }
 
-pub gone-on : {s : List ℕ} {n : ℕ} {widths : List ℕ} (p : ℕ) {v : List ℕ} {at : ℕ} → Matching s n widths at v
-    → (a b c : Match) {x : ℕ} → (at ≡ 0 → ⊥) → Gathered s p v a at → MatchedOne s at v b → decisionOf c ≡ chainDecision (decisionOf a) (decisionOf b)
-    → x ≡ word s at 1 → Gathered s p v c x
-gone-on p {at = zero} m a b c f h o e ex = absurd (f refl)
-gone-on p {at = suc at} m a b c f h o e ex = h ∙ taken-in m a b c o e ex
+  pub gone-on : {n : ℕ} {widths : List ℕ} {at : ℕ} → Matching s n widths at v → (a b c : Match) {x : ℕ} → (at ≡ 0 → ⊥)
+      → Gathered s p v a at → MatchedOne s at v b
+      → (decisionOf c ≡ chainDecision (decisionOf a) (decisionOf b)) × (told c ≡ orAfter (decisionOf a) (told a) (told b))
+      → x ≡ word s at 1 → Gathered s p v c x
+  gone-on {at = zero} m a b c f h o e ex = absurd (f refl)
+  gone-on {at = suc at} m a b c f h o e ex =
+      record {
+        decides = h .decides ∙ taken-in m a b c (o .decides) (e .0) ex;
+        tells =
+            h .tells
+            ∙ rw (o .tells, e .0, e .1, ex)
+            (first-told (decisionOf a) (decisionOf b) (told a) (told b) (firstYes s (follow end (alternatives s) (nextWord s (suc at))) v));
+        few = rw (e .1) (few-told (decisionOf a) (told a) (told b) (h .few) (o .few));
+      }
 
-pub ended : (s : List ℕ) (p : ℕ) (v : List ℕ) (a : Match) (x : ℕ) → Gathered s p v a x → x ≡ 0 → MatchedAll s p v a
-ended s p v a x h e = sym (rw e at h)
+  pub ended : (a : Match) {x : ℕ} → Gathered s p v a x → x ≡ 0 → MatchedAll s p v a
+  ended a h e = record { decides = sym (rw e at (h .decides)); tells = sym (rw e at (h .tells) ∙ told-alone a); few = h .few }
+
+  -- the value of an IF, by the answer of its match
+  pub by-match : (a : Match) {otherwise out out′ : List ℕ} {k : ℕ} → MatchedAll s p v a
+      → (out′ ≡ choose undecidedRule (decisionOf a) out otherwise) × (k ≡ told a) → Chosen s p v otherwise out out′ k
+  by-match a e g = record { chosen = rw (← e .decides) (g .0); tells = g .1 ∙ e .tells; few = rw (g .1) (e .few) }
 
 -- what is left of the records, and nothing at the end of a chain
 abbrev pub left : ℕ → ℕ → ℕ
@@ -309,8 +374,3 @@ pub left-falls : (n at x : ℕ) → (at ≡ 0 → ⊥) → at < n → ((x ≡ 0 
 left-falls n zero x f h g = absurd (f refl)
 left-falls n (suc at) zero f h g = omega arith
 left-falls n (suc at) (suc x) f h g = let q = g (λ z. omega arith) in omega (arith, q .0, q .1)
-
--- the value of an IF, by the answer of its match
-pub chosen : (s : List ℕ) (p : ℕ) (v otherwise out out′ : List ℕ) (a : Match) → MatchedAll s p v a
-    → out′ ≡ choose undecidedRule (decisionOf a) out otherwise → Chosen s p v otherwise out out′
-chosen s p v otherwise out out′ a e g = rw (← e) g

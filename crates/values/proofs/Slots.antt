@@ -8,13 +8,14 @@ use mathlib.Core.Logic.{_≢_}
 use native.Mathlib.Omega.{arith}
 use native.Mathlib.Numerals.{add-one}
 use borrow.Author.Tests.{eq-eqb, ne-eqb}
+use lib.Dec.{eqb}
 use lib.ListN.{length, getD, set, take, drop, length-drop}
 use lib.Seq.{take-length, take-all, take-take, take-suc, drop-length, length-take-le, getD-take, paste, paste-zero, paste-suc, length-paste}
 use Rattle.records.proofs.Tests.{never-both}
 use Rattle.meaning.specs.Matching.{Yes, No, constructorDecision}
 use Rattle.meaning.specs.Evaluation.{choose}
 use Rattle.meaning.specs.Undecided.{undecidedRule}
-use Rattle.values.specs.Answers.{decisionOf, Agrees}
+use Rattle.values.specs.Answers.{decisionOf, told, Own, Agrees}
 use Rattle.values.specs.declared.Match.{Match}
 use Rattle.values.specs.declared.Match.the-variants as Matches
 
@@ -72,13 +73,24 @@ module _ (value slot : List ℕ) (room : length value ≤ length slot) where
         other = λ _ e. d (sym (ap (λ v. getD v i 0) e ∙ getD-take (length value) slot i 0 h));
       }
 
-pub leaf-is : (k v : ℕ) → v ≢ 0 → v ≡ k → Yes ≡ constructorDecision k v
-leaf-is k zero n e = absurd (n refl)
-leaf-is k (suc v) n e = rw (eq-eqb (suc v) k e) refl
+-- the answer of constructor k at record p on a leaf
+module _ (p k v : ℕ) where
+  pub leaf-undefined : v ≡ 0 → Own p Matches.Undecided (constructorDecision k v)
+  leaf-undefined e = rw e (record { decides = refl; tells = refl })
 
-pub leaf-is-other : (k v : ℕ) → v ≢ 0 → v ≢ k → No ≡ constructorDecision k v
-leaf-is-other k zero n e = absurd (n refl)
-leaf-is-other k (suc v) n e = rw (ne-eqb (suc v) k e) refl
+  pub leaf-is : v ≢ 0 → v ≡ k → Own p (Matches.Yes p) (constructorDecision k v)
+  leaf-is n e = rw (named v n (eq-eqb v k e)) (record { decides = refl; tells = refl })
+    where
+      named : (v : ℕ) → v ≢ 0 → eqb v k ≡ true → constructorDecision k v ≡ Yes
+      named zero n e = absurd (n refl)
+      named (suc v) n e = rw e refl
+
+  pub leaf-is-other : v ≢ 0 → v ≢ k → Own p Matches.No (constructorDecision k v)
+  leaf-is-other n e = rw (unnamed v n (ne-eqb v k e)) (record { decides = refl; tells = refl })
+    where
+      unnamed : (v : ℕ) → v ≢ 0 → eqb v k ≡ false → constructorDecision k v ≡ No
+      unnamed zero n e = absurd (n refl)
+      unnamed (suc v) n e = rw e refl
 
 -- a value in front of what lies from a slot on
 pub entered-there : (a : ℕ) (xs v ys : List ℕ) → ys ≡ v ++ drop (length v) (take (length xs - a) (drop a xs))
@@ -107,5 +119,6 @@ module _ (n a : ℕ) (env r : List ℕ) (e : r ≡ take n (drop a env)) where
 
 -- the value of an IF by the answer of its match
 pub otherwise-chosen : (a : Match) (otherwise out out′ : List ℕ) → a ≡ Matches.No → length otherwise ≡ length out
-    → out′ ≡ otherwise ++ drop (length otherwise) out → out′ ≡ choose undecidedRule (decisionOf a) out otherwise
-otherwise-chosen a otherwise out out′ e l g = g ∙ rw (e, l, drop-length out) (append-nil otherwise)
+    → out′ ≡ otherwise ++ drop (length otherwise) out
+    → (out′ ≡ choose undecidedRule (decisionOf a) out otherwise) × (0 ≡ told a)
+otherwise-chosen a otherwise out out′ e l g = (g ∙ rw (e, l, drop-length out) (append-nil otherwise), rw e refl)

@@ -5,13 +5,25 @@ use mathlib.Core.Bool.{Bool, true, false}
 use mathlib.Core.List.{List}
 use Rattle.meaning.specs.Matching.{Decision}
 use Rattle.meaning.specs.Matching as Matching
+use Rattle.behaviour.specs.Firing.{orAfter}
 use Rattle.values.specs.declared.Match.{Match}
 use Rattle.values.specs.declared.Match.the-variants.{Yes, No, Undecided}
 
 abbrev pub decisionOf : Match → Decision
-decisionOf Yes = Matching.Yes
+decisionOf (Yes r) = Matching.Yes
 decisionOf No = Matching.No
 decisionOf Undecided = Matching.Undecided
+
+-- the record that a match tells: of an alternative that says yes, else 0
+abbrev pub told : Match → ℕ
+told (Yes r) = r
+told No = 0
+told Undecided = 0
+
+-- the answer of the one alternative at record p
+pub record Own (p : ℕ) (answer : Match) (decision : Decision) : Type 0 where
+  pub decides : decisionOf answer ≡ decision
+  pub tells : told answer ≡ orAfter decision p 0
 
 -- a test of whether two values are the same
 pub record Agrees (v w : List ℕ) (answer : Bool) : Type 0 where

@@ -26,7 +26,8 @@ use Rattle.verdict.specs.Widths.{patternEntry}
 use Rattle.meaning.specs.Matching.{Decision, chainDecision, matches}
 use Rattle.meaning.specs.Undecided.{undecidedRule}
 use Rattle.meaning.specs.Evaluation.{choose}
-use Rattle.values.specs.Answers.{decisionOf}
+use Rattle.behaviour.specs.Firing.{orAfter, firstYes}
+use Rattle.values.specs.Answers.{decisionOf, told}
 use Rattle.values.specs.declared.Match.{Match}
 
 pub record Matching (s : List ℕ) (n : ℕ) (widths : List ℕ) (p : ℕ) (value : List ℕ) : Type 0 where
@@ -44,14 +45,23 @@ withRest a s (wholeType r t m) v = chainDecision a (matches (patternOf s (wholeT
 withRest a s (oneConstructor r t k m) v = chainDecision a (matches (patternOf s (oneConstructor r t k m)) v)
 withRest a s (pairOfPatterns r p q m) v = chainDecision a (matches (patternOf s (pairOfPatterns r p q m)) v)
 
-abbrev pub MatchedAll : List ℕ → ℕ → List ℕ → Match → Type 0
-MatchedAll s p v r = decisionOf r ≡ matches (patternOf s (alternatives s p)) v
+-- a match of all alternatives from p: the answer, and the record of the first that says yes, 0 where none does
+pub record MatchedAll (s : List ℕ) (p : ℕ) (v : List ℕ) (answer : Match) : Type 0 where
+  pub decides : decisionOf answer ≡ matches (patternOf s (alternatives s p)) v
+  pub tells : told answer ≡ firstYes s (alternatives s p) v
+  pub few : told answer < 4096
 
-abbrev pub MatchedOne : List ℕ → ℕ → List ℕ → Match → Type 0
-MatchedOne s p v r =
-    matches (patternOf s (alternatives s p)) v ≡ withRest (decisionOf r) s (follow end (alternatives s) (nextWord s p)) v
+-- a match of the alternative at p, beside those after it
+pub record MatchedOne (s : List ℕ) (p : ℕ) (v : List ℕ) (answer : Match) : Type 0 where
+  pub decides : matches (patternOf s (alternatives s p)) v
+      ≡ withRest (decisionOf answer) s (follow end (alternatives s) (nextWord s p)) v
+  pub tells : firstYes s (alternatives s p) v
+      ≡ orAfter (decisionOf answer) (told answer) (firstYes s (follow end (alternatives s) (nextWord s p)) v)
+  pub few : told answer < 4096
 
--- the value of an IF whose pattern is at p, from the value tested and those of its branches
-abbrev pub Chosen : (sheet : List ℕ) (p : ℕ) (tested otherwise then value : List ℕ) → Type 0
-Chosen s p v otherwise then value =
-    value ≡ choose undecidedRule (matches (patternOf s (alternatives s p)) v) then otherwise
+-- the value of an IF whose pattern is at p, from the value tested and those of its branches, and the record of the first alternative
+-- that says yes
+pub record Chosen (s : List ℕ) (p : ℕ) (tested otherwise then value : List ℕ) (number : ℕ) : Type 0 where
+  pub chosen : value ≡ choose undecidedRule (matches (patternOf s (alternatives s p)) tested) then otherwise
+  pub tells : number ≡ firstYes s (alternatives s p) tested
+  pub few : number < 4096

@@ -9,11 +9,12 @@ ghost use Rattle.behaviour.specs.Delays.{assigned, putAll, enter};
 ghost use mathlib.Core.List.{List, [], _∷_, _++_};
 ghost use Rattle.meaning.specs.Matching.{constructorDecision, pairDecision, chainDecision};
 ghost use Rattle.values.specs.Chained.{Chained};
-ghost use Rattle.values.specs.Answers.{decisionOf, Agrees};
+ghost use Rattle.values.specs.Answers.{decisionOf, told, Own, Agrees};
 ghost use Rattle.values.specs.Matchings.{Matching, MatchedAll, MatchedOne, Chosen};
 ghost use Rattle.values.specs.Slots.{slot, entered};
 ghost use Rattle.meaning.specs.Evaluation.{choose};
 ghost use Rattle.meaning.specs.Undecided.{undecidedRule};
+ghost use Rattle.behaviour.specs.Firing.{orAfter};
 use records::KIND_CONSTRUCTOR_PATTERN;
 use records::KIND_WHOLE_PATTERN;
 use records::RECORDS;
@@ -26,6 +27,17 @@ use records::word;
 
 // A table of the delays' next values, one byte a record.
 pub type NextValues = [u8; RECORDS];
+
+// A table of the alternatives that fired, one number a record: at an IF that of the first alternative of its chain that says yes, 0
+// where none does.
+pub type Fired = [u16; RECORDS];
+
+// The table in which none has fired.
+pub fn none_fired() -> Fired
+    ensures { λ r. ⌜ r ≡ replicate 4096 0 ⌝ }
+{
+    [0; 4096]
+}
 
 // Reads the leaves from `first`.
 pub fn read_leaves(sheet: &[u8], n: usize, first: usize, out: &mut [u8])
@@ -147,50 +159,54 @@ fn undecided(otherwise: &[u8], out: &mut [u8])
     }
 }
 
-// The answer of a match.
+// The answer of a match: a yes tells the record of the alternative that says it.
 pub enum Match {
-    Yes,
+    Yes(usize),
     No,
     Undecided,
 }
 
-// The answer of constructor k on a leaf.
-fn on_leaf(k: usize, leaf: u8) -> Match
-    ensures { λ r. ⌜ decisionOf r ≡ constructorDecision k leaf ⌝ }
+// The answer of the alternative at p, of constructor k, on a leaf.
+fn on_leaf(p: usize, k: usize, leaf: u8) -> Match
+    ensures { λ r. ⌜ Own p r (constructorDecision k leaf) ⌝ }
 {
     if leaf == 0 {
         return Match::Undecided;
     }
     if leaf as usize == k {
-        return Match::Yes;
+        return Match::Yes(p);
     }
     Match::No
 }
 
-// The answer of a pair pattern, from those of its parts.
-fn both(a: Match, b: Match) -> Match
-    ensures { λ r. ⌜ decisionOf r ≡ pairDecision (decisionOf a) (decisionOf b) ⌝ }
+// The answer of the alternative at p, a pair pattern, from those of its parts.
+fn both(p: usize, a: Match, b: Match) -> Match
+    ensures { λ r. ⌜ Own p r (pairDecision (decisionOf a) (decisionOf b)) ⌝ }
 {
     match a {
         Match::No => Match::No,
-        Match::Yes => b,
+        Match::Yes(_) => match b {
+            Match::No => Match::No,
+            Match::Yes(_) => Match::Yes(p),
+            Match::Undecided => Match::Undecided,
+        },
         Match::Undecided => match b {
             Match::No => Match::No,
-            Match::Yes => Match::Undecided,
+            Match::Yes(_) => Match::Undecided,
             Match::Undecided => Match::Undecided,
         },
     }
 }
 
-// The answer of a chain, from that of its first alternatives and that of the next one.
+// The answer of a chain, from that of its first alternatives and that of the next one: the first yes is told.
 fn either(a: Match, b: Match) -> Match
-    ensures { λ r. ⌜ decisionOf r ≡ chainDecision (decisionOf a) (decisionOf b) ⌝ }
+    ensures { λ r. ⌜ (decisionOf r ≡ chainDecision (decisionOf a) (decisionOf b)) × (told r ≡ orAfter (decisionOf a) (told a) (told b)) ⌝ }
 {
     match a {
-        Match::Yes => Match::Yes,
+        Match::Yes(r) => Match::Yes(r),
         Match::No => b,
         Match::Undecided => match b {
-            Match::Yes => Match::Yes,
+            Match::Yes(r) => Match::Yes(r),
             Match::No => Match::Undecided,
             Match::Undecided => Match::Undecided,
         },
@@ -218,31 +234,33 @@ fn match_one(sheet: &[u8], n: usize, widths: &Widths, p: usize, value: &[u8]) ->
 {
     let kind = word(sheet, n, p, WORD_KIND);
     if kind == KIND_WHOLE_PATTERN {
-        return Match::Yes;
+        return Match::Yes(p);
     }
     if kind == KIND_CONSTRUCTOR_PATTERN {
-        return on_leaf(word(sheet, n, p, WORD_B), value[0]);
+        return on_leaf(p, word(sheet, n, p, WORD_B), value[0]);
     }
     let first = word(sheet, n, p, WORD_A);
     let w = widths[first] as usize;
     let a = match_all(sheet, n, widths, first, &value[0..w]);
     let b = match_all(sheet, n, widths, word(sheet, n, p, WORD_B), &value[w..]);
-    both(a, b)
+    both(p, a, b)
 }
 
-// The value of an IF by the answer of its match, where the then value is in `out`.
-fn by_answer(answer: Match, otherwise: &[u8], out: &mut [u8])
+// The value of an IF by the answer of its match, where the then value is in `out`; the record that the match tells is given back.
+fn by_answer(answer: Match, otherwise: &[u8], out: &mut [u8]) -> usize
     requires { ⌜ length (now otherwise) ≡ length (now out) ⌝ }
-    ensures { λ _. ⌜ now (out .exit) ≡ choose undecidedRule (decisionOf answer) (now (out .entry)) (now (otherwise .entry)) ⌝ }
+    ensures { λ r. ⌜ (now (out .exit) ≡ choose undecidedRule (decisionOf answer) (now (out .entry)) (now (otherwise .entry))) × (r ≡ told answer) ⌝ }
 {
     match answer {
-        Match::Yes => return,
+        Match::Yes(r) => return r,
         Match::No => put(otherwise, out),
         Match::Undecided => undecided(otherwise, out),
     }
+    0
 }
 
-// The value of an IF with the alternatives from p, where the then value is in `out`.
+// The value of an IF with the alternatives from p, where the then value is in `out`; given back is the record of the first
+// alternative that says yes, 0 where none does.
 pub fn choose_value(
     sheet: &[u8],
     n: usize,
@@ -251,9 +269,9 @@ pub fn choose_value(
     tested: &[u8],
     otherwise: &[u8],
     out: &mut [u8],
-)
+) -> usize
     requires { ⌜ Matching (now sheet) n (now widths) p (now tested) × (length (now otherwise) ≡ length (now out)) ⌝ }
-    ensures { λ _. ⌜ Chosen (now (sheet .entry)) p (now (tested .entry)) (now (otherwise .entry)) (now (out .entry)) (now (out .exit)) ⌝ }
+    ensures { λ r. ⌜ Chosen (now (sheet .entry)) p (now (tested .entry)) (now (otherwise .entry)) (now (out .entry)) (now (out .exit)) r ⌝ }
 {
-    by_answer(match_all(sheet, n, widths, p, tested), otherwise, out);
+    by_answer(match_all(sheet, n, widths, p, tested), otherwise, out)
 }

@@ -50,7 +50,7 @@ use Rattle.records.specs.Kinds.{
   isHeader,
 }
 use Rattle.records.specs.Says.{kindAt, sortAt, askAt}
-use Rattle.records.specs.Namings.{Naming, names, namings, exactlyOnce}
+use Rattle.records.specs.Namings.{Naming, names, namings, wellNamed}
 use Rattle.records.specs.Trees.{treeAt}
 use Rattle.records.specs.Written.{Written}
 use Rattle.records.proofs.Tests.{never-both, both-left, both-right}
@@ -58,7 +58,7 @@ use Rattle.records.proofs.Table.{askOfKind, ask-by-kind}
 use Rattle.records.proofs.Asked.{Means, as-asked, past-header}
 use Rattle.records.proofs.Namings.{in-namings-names, namer-lower}
 use Rattle.structure.specs.Passes.{Passes}
-use Rattle.structure.proofs.Passes.{written, named-once}
+use Rattle.structure.proofs.Passes.{written, well-named}
 use Rattle.typing.specs.Judgements.{typeRecordOf}
 use Rattle.verdict.specs.Verdict.{inputs}
 use Rattle.verdict.specs.Scopes.{
@@ -162,8 +162,8 @@ module _ (s : List ℕ) (q : ℕ) where
   named-through leaf e z c = by-word (Through leaf) no no no no no
   named-through unknown e z c = by-word (Through unknown) no no no no no
 
--- a record that is named once is named
-named : (ns : List Naming) → exactlyOnce ns ≡ true → (x : Naming) × List·Memᴰ x ns
+-- a record that is well named is named
+named : (ns : List Naming) → wellNamed ns ≡ true → (x : Naming) × List·Memᴰ x ns
 named [] e = no e
 named (x ∷ ns) e = (x, List·Memᴰ·head refl)
 
@@ -179,7 +179,7 @@ scoped {s} p = from-below (λ r. r < count s → sortAt s r ≡ expressions → 
     step r below h e =
         let w = written p in
         let past = past-header w r (rw e) in
-        let f = named (namings s r) (named-once p r past h) in
+        let f = named (namings s r) (well-named p r past h) in
         let x : Naming = f .0 in
         let n = in-namings-names s r x (f .1) in
         let lower = namer-lower w r x past n in

@@ -8,6 +8,7 @@ pub mod Kept
 pub mod Lending
 pub mod Noted
 pub mod OneScope
+pub mod OneWay
 pub mod PatternTested
 pub mod Places
 pub mod PlacesSmall

@@ -40,7 +40,7 @@ use Rattle.records.specs.Kinds.{
 use Rattle.records.specs.Says.{kindAt, sortAt}
 use Rattle.records.specs.Trees.{Tree, treeStep, treeAt, circuit}
 use Rattle.records.specs.Held.{expressionRecords}
-use Rattle.records.specs.Written.{Written, NamedOnce}
+use Rattle.records.specs.Written.{Written, WellNamed}
 use Rattle.records.proofs.Table.{askOfKind, kind-of-sort}
 use Rattle.records.proofs.Asked.{part-of-kind, root-is}
 use Rattle.records.proofs.Trees.{from-above, tree-of}
@@ -219,8 +219,8 @@ scope-noted {s} {q} {Γ} w c =
     (rw (tree-of w q (o .own .there) (expression (k .0)) (k .1)) (own-noted s Γ (k .0) q))
 
 -- what judging the circuit stores
-pub circuit-stored : {s : List ℕ} → Written s → NamedOnce s → (w : List ℕ) → length w ≡ 4096
+pub circuit-stored : {s : List ℕ} → Written s → WellNamed s → (w : List ℕ) → length w ≡ 4096
     → Stored (expressionRecords (circuit s)) (notes s (inputs s) (circuit s)) w (noted s (inputs s) (circuit s) w)
-circuit-stored {s} p once w l =
-    noted-stored s (inputs s) (circuit s) w (circuit-distinct p once _ _ _)
+circuit-stored {s} p well w l =
+    noted-stored s (inputs s) (circuit s) w (circuit-distinct p well _ _ _)
     (λ x m. let h = circuit-expressions p x m .there in let f = p .few in omega arith)

@@ -1,16 +1,12 @@
--- An expression record of a sheet that passes codes 1 to 6 has one scope: one word names it, so what it is a part of is one record,
--- whose scope is one. By induction on the records, from the lowest up.
+-- An expression record of a sheet that passes codes 1 to 6 has one scope: the names in scope are carried down from the root.
 -- Assumes nothing.
-use Prim.Native.Nat.{ℕ, _<_}
-use mathlib.Core.Bool.{true, _&&_, cond}
+use Prim.Native.Nat.{ℕ}
+use mathlib.Core.Bool.{cond}
 use mathlib.Core.List.{List, _∷_}
-use mathlib.Core.Path.{_≡_, refl, sym, ap, _∙_}
-use native.Mathlib.Omega.{arith}
-use lib.Dec.{eqb, ltb}
-use Rattle.records.specs.Words.{word, wordA, wordB}
+use mathlib.Core.Path.{_≡_, refl}
+use lib.Dec.{eqb}
+use Rattle.records.specs.Words.{wordA}
 use Rattle.records.specs.Kinds.{
-  expressions,
-  expression,
   ExpressionKind,
   constant,
   name,
@@ -21,17 +17,10 @@ use Rattle.records.specs.Kinds.{
   feedback,
   ifMatches,
   delay,
-  part,
 }
-use Rattle.records.specs.Says.{kindAt}
-use Rattle.records.specs.Namings.{Naming, names}
 use Rattle.records.specs.Trees.{treeAt}
 use Rattle.records.proofs.Table.{askOfKind}
-use Rattle.records.proofs.Asked.{part-of-kind, past-header}
-use Rattle.records.proofs.Namings.{Names, namer-lower, part-names, only-naming}
 use Rattle.structure.specs.Passes.{Passes}
-use Rattle.structure.proofs.Passes.{written, named-once}
-use Rattle.structure.proofs.Depths.{root-names}
 use Rattle.typing.specs.Judgements.{typeRecordOf}
 use Rattle.verdict.specs.Verdict.{inputs}
 use Rattle.verdict.specs.Scopes.{
@@ -51,11 +40,11 @@ use Rattle.verdict.specs.Scopes.{
   of-delay,
 }
 use Rattle.verdict.specs.Promises.{EveryScoped}
-use Rattle.verdict.proofs.Noted.{scope-noting}
-use Rattle.verdict.proofs.EveryScoped.{from-below, scoped}
+use Rattle.verdict.proofs.EveryScoped.{scoped}
+use Rattle.verdict.proofs.OneWay.{Carried, to-root, to-part, carried-only}
 
 -- the scope of the part in word j, from that of the record
-abbrev scopeOfPart : List ℕ → ℕ → ExpressionKind → ℕ → List ℕ → List ℕ
+abbrev pub scopeOfPart : List ℕ → ℕ → ExpressionKind → ℕ → List ℕ → List ℕ
 scopeOfPart s q constant j Γ = Γ
 scopeOfPart s q name j Γ = Γ
 scopeOfPart s q tuple j Γ = Γ
@@ -66,105 +55,23 @@ scopeOfPart s q feedback j Γ = wordA s q ∷ Γ
 scopeOfPart s q ifMatches j Γ = Γ
 scopeOfPart s q delay j Γ = Γ
 
--- a part of an expression that has a scope
-record OfPart (s : List ℕ) (r : ℕ) (Γ : List ℕ) : Type 0 where
-  by : ℕ
-  at : ℕ
-  kind : ExpressionKind
-  is : kindAt s by ≡ expression kind
-  word-number : (ltb 0 at && ltb at 6) ≡ true
-  asked : askOfKind (expression kind) at ≡ part expressions
-  around : List ℕ
-  scope : Scope s by around
-  part-is : word s by at ≡ r
-  names-are : Γ ≡ scopeOfPart s by kind at around
-
-data Came (s : List ℕ) (r : ℕ) (Γ : List ℕ) : Type 0 where
-  as-root : wordB s 0 ≡ r → Γ ≡ inputs s → Came s r Γ
-  as-part : OfPart s r Γ → Came s r Γ
-
-through : {s : List ℕ} {q : ℕ} {Γ : List ℕ} (k : ExpressionKind) (j : ℕ) → kindAt s q ≡ expression k → (ltb 0 j && ltb j 6) ≡ true
-    → askOfKind (expression k) j ≡ part expressions → Scope s q Γ → Came s (word s q j) (scopeOfPart s q k j Γ)
-through {s} {q} {Γ} k j e t a c = as-part (record {
-  by = q;
-  at = j;
-  kind = k;
-  is = e;
-  word-number = t;
-  asked = a;
-  around = Γ;
-  scope = c;
-  part-is = refl;
-  names-are = refl;
-})
-
-came : {s : List ℕ} {r : ℕ} {Γ : List ℕ} → Scope s r Γ → Came s r Γ
-came root = as-root refl refl
-came (tuple-first e c) = through tuple 2 e refl (unfold askOfKind in refl) c
-came (tuple-second e c) = through tuple 3 e refl (unfold askOfKind in refl) c
-came (of-first e c) = through first 2 e refl (unfold askOfKind in refl) c
-came (of-second e c) = through second 2 e refl (unfold askOfKind in refl) c
-came (let-defining e c) = through letIn 2 e refl (unfold askOfKind in refl) c
-came (let-body e c) = through letIn 3 e refl (unfold askOfKind in refl) c
-came (feedback-defining e c) = through feedback 3 e refl (unfold askOfKind in refl) c
-came (feedback-body e c) = through feedback 4 e refl (unfold askOfKind in refl) c
-came (if-tested e c) = through ifMatches 2 e refl (unfold askOfKind in refl) c
-came (if-then e c) = through ifMatches 3 e refl (unfold askOfKind in refl) c
-came (if-else e c) = through ifMatches 4 e refl (unfold askOfKind in refl) c
-came (of-delay e c) = through delay 4 e refl (unfold askOfKind in refl) c
-
-one-naming : {s : List ℕ} → Passes s → (r : ℕ) (x y : Naming) → 0 < r → Names s r x → Names s r y → x ≡ y
-one-naming {s} p r x y past n m =
-    let h = namer-lower (written p) r x past n .1 in
-    let a = only-naming s (named-once p) r x past h n in
-    let b = only-naming s (named-once p) r y past h m in
-    cc
-
-part-naming : {s : List ℕ} {r : ℕ} {Γ : List ℕ} → Passes s → (o : OfPart s r Γ) → (0 < r) × Names s r (record { by = o .by; at = o .at })
-part-naming {s} {r} p o =
-    let h = scope-noting (written p) (o .scope) .own .there in
-    let f = part-of-kind (written p) (o .by) (expression (o .kind)) expressions h (o .is) (o .at) (o .word-number) (o .asked) in
-    let e = o .part-is in (
-      omega arith,
-      rw (o .part-is) at (part-names s (o .by) (expression (o .kind)) expressions h (o .is) (o .at) (o .word-number) (o .asked)),
-    )
+scope-carried : {s : List ℕ} {r : ℕ} {Γ : List ℕ} → Scope s r Γ → Carried s (inputs s) (scopeOfPart s) r Γ
+scope-carried root = to-root
+scope-carried (tuple-first e c) = to-part tuple 2 e refl (unfold askOfKind in refl) (scope-carried c)
+scope-carried (tuple-second e c) = to-part tuple 3 e refl (unfold askOfKind in refl) (scope-carried c)
+scope-carried (of-first e c) = to-part first 2 e refl (unfold askOfKind in refl) (scope-carried c)
+scope-carried (of-second e c) = to-part second 2 e refl (unfold askOfKind in refl) (scope-carried c)
+scope-carried (let-defining e c) = to-part letIn 2 e refl (unfold askOfKind in refl) (scope-carried c)
+scope-carried (let-body e c) = to-part letIn 3 e refl (unfold askOfKind in refl) (scope-carried c)
+scope-carried (feedback-defining e c) = to-part feedback 3 e refl (unfold askOfKind in refl) (scope-carried c)
+scope-carried (feedback-body e c) = to-part feedback 4 e refl (unfold askOfKind in refl) (scope-carried c)
+scope-carried (if-tested e c) = to-part ifMatches 2 e refl (unfold askOfKind in refl) (scope-carried c)
+scope-carried (if-then e c) = to-part ifMatches 3 e refl (unfold askOfKind in refl) (scope-carried c)
+scope-carried (if-else e c) = to-part ifMatches 4 e refl (unfold askOfKind in refl) (scope-carried c)
+scope-carried (of-delay e c) = to-part delay 4 e refl (unfold askOfKind in refl) (scope-carried c)
 
 pub scope-only : {s : List ℕ} → Passes s → (r : ℕ) (Γ Δ : List ℕ) → Scope s r Γ → Scope s r Δ → Γ ≡ Δ
-scope-only {s} p = from-below (λ r. (Γ Δ : List ℕ) → Scope s r Γ → Scope s r Δ → Γ ≡ Δ) step
-  where
-    -- the root is no part: its naming is the header's
-    root-or-part : {r : ℕ} {Γ : List ℕ} → wordB s 0 ≡ r → OfPart s r Γ → ⊥
-    root-or-part {r} e o =
-        let n = part-naming p o in
-        let x : Naming = record { by = 0; at = 3 } in
-        let y : Naming = record { by = o .by; at = o .at } in
-        let same = one-naming p r x y (n .0) (rw e at (root-names (written p))) (n .1) in
-        let zero-is : 0 ≡ o .by = ap (λ (m : Naming). m .by) same in
-        let past : 0 < o .by = past-header (written p) (o .by) (rw (o .is)) in
-        omega arith
-
-    step : (r : ℕ) → ((q : ℕ) → q < r → (Γ Δ : List ℕ) → Scope s q Γ → Scope s q Δ → Γ ≡ Δ)
-        → (Γ Δ : List ℕ) → Scope s r Γ → Scope s r Δ → Γ ≡ Δ
-    step r below Γ Δ c d = go (came c) (came d)
-      where
-        go : Came s r Γ → Came s r Δ → Γ ≡ Δ
-        go (as-root e f) (as-root g h) = f ∙ sym h
-        go (as-root e f) (as-part o) = absurd (root-or-part e o)
-        go (as-part o) (as-root e f) = absurd (root-or-part e o)
-        go (as-part o) (as-part u) =
-            let n = part-naming p o in
-            let m = part-naming p u in
-            let x : Naming = record { by = o .by; at = o .at } in
-            let y : Naming = record { by = u .by; at = u .at } in
-            let same = one-naming p r x y (n .0) (n .1) (m .1) in
-            let by : o .by ≡ u .by = ap (λ (z : Naming). z .by) same in
-            let at : o .at ≡ u .at = ap (λ (z : Naming). z .at) same in
-            let kind : o .kind ≡ u .kind = let a = o .is in let b = u .is in cc in
-            let lower = namer-lower (written p) r x (n .0) (n .1) .0 in
-            let around : o .around ≡ u .around = below (o .by) lower (o .around) (u .around) (o .scope) (rw by (u .scope)) in
-            let a = o .names-are in
-            let b = u .names-are in
-            cc
+scope-only p r Γ Δ c d = carried-only p r Γ Δ (scope-carried c) (scope-carried d)
 
 pub every-scoped : EveryScoped
 every-scoped s p r h e =

@@ -9,7 +9,7 @@ use native.Mathlib.Omega.{arith}
 use lib.ListN.{length}
 use Rattle.records.specs.Words.{count, word, wordA, wordB}
 use Rattle.records.specs.Trees.{treeAt, circuit}
-use Rattle.records.specs.Written.{Written, NamedOnce}
+use Rattle.records.specs.Written.{Written}
 use Rattle.records.specs.Namings.{namings}
 use Rattle.records.proofs.Asked.{root-is}
 use Rattle.records.proofs.TypeRecords.{input-type}
@@ -23,7 +23,7 @@ use Rattle.structure.specs.LeafTable.{Counts}
 use Rattle.structure.specs.DepthTable.{Capped, Placed, Placing}
 use Rattle.answers.specs.declared.Found.{Found}
 use Rattle.answers.specs.declared.Found.the-variants.{At, Nothing}
-use Rattle.structure.proofs.Passes.{written, written-by, once-by, named-once}
+use Rattle.structure.proofs.Passes.{written, written-by, well-named-by, well-named}
 use Rattle.structure.proofs.Depths.{depth-of-root}
 use Rattle.structure.proofs.DepthCounts.{depth-of-header, nesting-of-header}
 use Rattle.typing.specs.Judgements.{judgements, typeRecordOf, firstFailing}
@@ -54,7 +54,7 @@ module _ (s : List ℕ) (n : ℕ) (table : List ℕ) (g : Ground s n table) (sta
       let w = written (g .passes) in
       let r = root-is w in
       let c = g .sized .counted in
-      let d = depth-of-root w (named-once (g .passes)) in
+      let d = depth-of-root w (well-named (g .passes)) in
       record {
         ground = g;
         wide = wide;
@@ -104,7 +104,7 @@ module _ (s : List ℕ) (n : ℕ) (f : CheckingDepths s n) where
   placing namers depths nestings h d m = record {
     sized = recorded .measured .sized;
     written = fitted-written;
-    once = once-by s (f .named .namings);
+    well = well-named-by s (f .named .namings);
     named = h;
     some = omega arith;
     placed = record { deep = d 65 (depth s) (depth-of-header s); nested = m 4 (nesting s) (nesting-of-header s) };

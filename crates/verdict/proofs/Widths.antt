@@ -42,7 +42,7 @@ use Rattle.records.proofs.Types.{few-leaves}
 use Rattle.records.proofs.TypeRecords.{type-word}
 use Rattle.structure.specs.LeafTable.{Counts}
 use Rattle.structure.specs.Passes.{Passes}
-use Rattle.structure.proofs.Passes.{written, named-once, types-fit}
+use Rattle.structure.proofs.Passes.{written, well-named, types-fit}
 use Rattle.typing.specs.Judging.{width, noted}
 use Rattle.verdict.specs.Verdict.{inputs}
 use Rattle.verdict.specs.Widths.{patternLeaves, patternEntry, hasEntry, Widths, PatternsFrom}
@@ -72,7 +72,7 @@ few-of p t r = few-leaves (types-fit p) t (r .there) (r .sort)
 -- after judging
 module _ (s : List ℕ) (n : ℕ) (w : List ℕ) (p : Passes s) (counted : n ≡ count s) (c : Counts s n w) where
   stored : Stored (expressionRecords (circuit s)) (notes s (inputs s) (circuit s)) w (noted s (inputs s) (circuit s) w)
-  stored = circuit-stored (written p) (named-once p) w (c .long)
+  stored = circuit-stored (written p) (well-named p) w (c .long)
 
   -- what is no expression record of the sheet keeps its entry
   kept : (x : ℕ) → (x < count s → sortAt s x ≡ expressions → ⊥) → getD (noted s (inputs s) (circuit s) w) x 0 ≡ getD w x 0

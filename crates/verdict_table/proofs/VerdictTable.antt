@@ -14,4 +14,4 @@ use Rattle.verdict_table.specs.VerdictTable.{TableHolds}
 
 table-holds : TableHolds
 unfolding verdict byRecords byTypes wrongLength wrongHeader wrongRecord wrongNaming wrongType tooDeep depth nesting ancestry ancestryWithin circuit treeAt treeWithin alternatives alternativesWithin chain chainWithin pairOf typeAt typeWithin namings wellSaid askOf kindOf rowOf word count
-table-holds = (refl, refl, refl, refl, refl, refl, refl, refl, refl, refl, refl, refl)
+table-holds = (refl, refl, refl, refl, refl, refl, refl, refl, refl, refl, refl, refl, refl)

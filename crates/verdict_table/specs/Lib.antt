@@ -5,6 +5,7 @@ pub mod HeaderRows
 pub mod WordRows
 pub mod NumberingRows
 pub mod NamingRows
+pub mod SharingRows
 pub mod TypeRecordRows
 pub mod DepthRows
 pub mod AcceptedRows

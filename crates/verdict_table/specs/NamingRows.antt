@@ -1,5 +1,5 @@
 -- Code 4 (docs/SHEETS.md, "Numbering and naming": "Every record but 0 is named exactly once; type words that aren't next do not
--- count as naming").
+-- count as naming"). `SharingRows` has what IFs may share.
 use mathlib.Core.List.{List, [], _∷_}
 use Rattle.records.specs.SheetOf.{words}
 use Rattle.verdict.specs.declared.Verdict.the-variants.{Accepted, WrongNaming}
@@ -40,10 +40,6 @@ namingRows =
     (words 1 1 1 2 7 0 ∷ words 16 0 2 0 0 0 ∷ words 34 0 3 4 0 0 ∷ words 32 0 1 5 0 0 ∷ words 32 0 1 6 0 0
     ∷ words 64 6 0 0 0 0 ∷ words 64 0 0 0 0 0 ∷ [])
     (WrongNaming 6)
-    ∷ gives "two IFs have the same pattern"
-    (words 1 1 1 2 10 0 ∷ words 16 0 2 0 0 0 ∷ words 39 0 3 4 8 9 ∷ words 33 0 0 0 0 0 ∷ words 39 0 5 6 7 9
-    ∷ words 33 0 0 0 0 0 ∷ words 33 0 0 0 0 0 ∷ words 33 0 0 0 0 0 ∷ words 33 0 0 0 0 0 ∷ words 48 0 1 0 0 0 ∷ [])
-    (WrongNaming 9)
     ∷ gives "a pair pattern has the same part twice"
     (words 1 1 2 3 9 0 ∷ words 16 2 2 0 0 0 ∷ words 17 0 1 1 0 0 ∷ words 39 0 4 5 6 7 ∷ words 33 0 0 0 0 0
     ∷ words 33 0 0 0 0 0 ∷ words 33 0 0 0 0 0 ∷ words 50 0 8 8 0 0 ∷ words 48 0 1 0 0 0 ∷ [])

@@ -10,6 +10,7 @@ use Rattle.verdict_table.specs.HeaderRows.{headerRows}
 use Rattle.verdict_table.specs.WordRows.{wordRows}
 use Rattle.verdict_table.specs.NumberingRows.{numberingRows}
 use Rattle.verdict_table.specs.NamingRows.{namingRows}
+use Rattle.verdict_table.specs.SharingRows.{sharingRows}
 use Rattle.verdict_table.specs.TypeRecordRows.{typeRecordRows}
 use Rattle.verdict_table.specs.DepthRows.{depthRows}
 use Rattle.verdict_table.specs.AcceptedRows.{acceptedRows}
@@ -21,6 +22,7 @@ TableHolds =
     × VerdictsHold wordRows
     × VerdictsHold numberingRows
     × VerdictsHold namingRows
+    × VerdictsHold sharingRows
     × VerdictsHold typeRecordRows
     × VerdictsHold depthRows
     × VerdictsHold (map byTyping nameRows)

@@ -54,9 +54,19 @@ wordRows =
     (words 1 1 1 2 7 0 ∷ words 16 0 2 0 0 0 ∷ words 39 1 3 4 5 6 ∷ words 33 0 0 0 0 0 ∷ words 33 0 0 0 0 0
     ∷ words 33 0 0 0 0 0 ∷ words 48 0 1 0 0 0 ∷ [])
     (WrongRecord 2)
-    ∷ gives "word d of a delay"
-    (words 1 1 1 2 5 0 ∷ words 16 0 2 0 0 0 ∷ words 40 0 1 3 4 1 ∷ words 64 0 0 0 0 0 ∷ words 33 0 0 0 0 0 ∷ [])
+    ∷ gives "next of a delay"
+    (words 1 1 1 2 5 0 ∷ words 16 0 2 0 0 0 ∷ words 40 1 1 3 4 0 ∷ words 64 0 0 0 0 0 ∷ words 33 0 0 0 0 0 ∷ [])
     (WrongRecord 2)
+    ∷ gives "word d of a delay is its label, and passes"
+    (words 1 1 1 2 5 0 ∷ words 16 0 2 0 0 0 ∷ words 40 0 1 3 4 1 ∷ words 64 0 0 0 0 0 ∷ words 33 0 0 0 0 0 ∷ [])
+    (Accepted 1)
+    ∷ gives "a label may be any number, and names nothing"
+    (words 1 1 1 2 5 0 ∷ words 16 0 2 0 0 0 ∷ words 40 0 1 3 4 65535 ∷ words 64 0 0 0 0 0 ∷ words 33 0 0 0 0 0 ∷ [])
+    (Accepted 1)
+    ∷ gives "two delays with the same label pass"
+    (words 1 1 1 2 7 0 ∷ words 16 0 2 0 0 0 ∷ words 40 0 1 3 4 9 ∷ words 64 0 0 0 0 0 ∷ words 40 0 1 5 6 9
+    ∷ words 64 0 0 0 0 0 ∷ words 33 0 0 0 0 0 ∷ [])
+    (Accepted 1)
     ∷ gives "word b of a whole-type pattern"
     (words 1 1 1 2 7 0 ∷ words 16 0 2 0 0 0 ∷ words 39 0 3 4 5 6 ∷ words 33 0 0 0 0 0 ∷ words 33 0 0 0 0 0
     ∷ words 33 0 0 0 0 0 ∷ words 48 0 1 1 0 0 ∷ [])

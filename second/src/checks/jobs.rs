@@ -7,9 +7,11 @@ use second::faults::category::{faulty, faulty_in, Category};
 use second::fuzz;
 use second::generate::boundary::{deepen, nest, nest_bodies, widen};
 use second::generate::circuits::{circuit, circuit_of_records};
+use second::labels::{labels, repeated};
 use second::layout::{layout, sheet};
 use second::random::Random;
 use second::records::{bytes, read, Record, KIND, KINDS};
+use second::structure::choices_on;
 
 use super::compare::{Comparer, Ended};
 use super::fixed_sheets;
@@ -80,8 +82,15 @@ fn share(name: &str) -> u64 {
     quota(name).div_ceil(SHARDS)
 }
 
-/// Counts the kinds in an accepted sheet with over 30 records.
+/// Counts the kinds in an accepted sheet with over 30 records, patterns that
+/// several IFs name, and labels.
 fn count_kinds(to: &mut Comparer, records: &[Record], verdict: Answer) {
+    let most = choices_on(records).into_iter().max().unwrap_or(0);
+    to.tally.add(tally::SHARED, verdict.code == 0 && most == 2);
+    to.tally.add(tally::SHARED_BY_MORE, verdict.code == 0 && most > 2);
+    let labels = labels(&bytes(records));
+    to.tally.add(tally::LABELLED, verdict.code == 0 && labels.iter().any(|&label| label != 0));
+    to.tally.add(tally::LABELLED_TWICE, verdict.code == 0 && !repeated(&labels).is_empty());
     let large = records.len() > 30;
     if !large {
         return;

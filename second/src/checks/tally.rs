@@ -47,6 +47,10 @@ const TWO_FAULTS: u64 = 10_000;
 const PERCENT_HIT: u64 = 90;
 
 pub const ACCEPTED: &str = "accepted, over 30 records";
+pub const SHARED: &str = "accepted, a pattern named by two IFs";
+pub const SHARED_BY_MORE: &str = "accepted, a pattern named by three IFs or more";
+pub const LABELLED: &str = "accepted, a delay with a label";
+pub const LABELLED_TWICE: &str = "accepted, two delays with one label";
 pub const HEADERS: &str = "damaged headers";
 pub const LENGTHS: &str = "every length from 0 to 64, and around 49,152";
 pub const PREFIXES: &str = "prefixes of T";
@@ -68,8 +72,12 @@ pub const RANDOM_BYTES: &str = "random bytes";
 
 /// The quotas of the named counts. Where the sheets aim at a code, those that
 /// hit it are counted; elsewhere all are.
-pub const QUOTAS: [(&str, u64); 19] = [
+pub const QUOTAS: [(&str, u64); 23] = [
     (ACCEPTED, 40_000),
+    (SHARED, 4_000),
+    (SHARED_BY_MORE, 4_000),
+    (LABELLED, 5_000),
+    (LABELLED_TWICE, 1_000),
     (HEADERS, 10_000),
     (LENGTHS, 70 * 20),
     (PREFIXES, 205),

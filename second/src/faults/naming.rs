@@ -9,6 +9,7 @@ use crate::records::{
     sort, words, Record, Sort, Word, A, B, C, FEEDBACK, FLAT, IF, KIND, LEAF, LET, NEXT, PAIR,
     PAIR_PATTERN, PAIR_TYPE, WHOLE, WORD_NAMES,
 };
+use crate::structure::choices_on;
 use crate::survey::{alternatives, expressions, some_kind};
 
 pub fn categories() -> Vec<Category> {
@@ -148,7 +149,8 @@ fn header_names(records: &mut [Record], random: &mut Random, word: usize, wanted
     true
 }
 
-/// Makes a random word of a role name another higher record of the sort.
+/// Makes a random word of a role, that shares what it names with no other,
+/// name another higher record of the sort.
 fn rename(records: &mut [Record], random: &mut Random, role: Word, wanted: Sort) -> bool {
     let mut places = Vec::new();
     for (number, record) in records.iter().enumerate().skip(1) {
@@ -157,6 +159,9 @@ fn rename(records: &mut [Record], random: &mut Random, role: Word, wanted: Sort)
     }
     let Some((number, word)) = random.pick(&places) else { return false };
     let now = usize::from(records[number][word]);
+    if choices_on(records)[now] > 1 {
+        return false;
+    }
     let other = |i: usize, r: &Record| i > number && i != now && sort(r[KIND]) == Some(wanted);
     let Some(named) = some_record(records, random, other) else { return false };
     records[number][word] = named as u16;

@@ -72,12 +72,18 @@ pub fn break_pattern(draft: &mut Draft, choice: usize, random: &mut Random) -> b
     }
 }
 
-/// Puts a wrong alternative in the place of one, with the same next.
+/// Puts a wrong alternative in the place of one, with the same next, for all
+/// that name it.
 fn put(draft: &mut Draft, spot: Alternative, wrong: Wrong, random: &mut Random) -> bool {
     let tested = draft.nodes[spot.node].of;
     let Some(node) = wrong_pattern(draft, tested, wrong, random) else { return false };
-    draft.nodes[node].words[NEXT] = draft.nodes[spot.node].words[NEXT];
-    draft.nodes[spot.holder].words[spot.word] = Term::Part(node);
+    let next = draft.nodes[spot.node].words[NEXT];
+    for word in draft.nodes.iter_mut().flat_map(|other| &mut other.words) {
+        if *word == Term::Part(spot.node) {
+            *word = Term::Part(node);
+        }
+    }
+    draft.nodes[node].words[NEXT] = next;
     true
 }
 

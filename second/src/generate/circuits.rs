@@ -1,7 +1,7 @@
 //! Random circuits of a size and form.
 
 use super::expressions::Grower;
-use super::types;
+use super::{labels, patterns, types};
 use crate::draft::{Draft, Term};
 use crate::layout::record_count;
 use crate::random::Random;
@@ -49,6 +49,8 @@ pub fn finish(draft: &mut Draft, profile: &Profile, random: &mut Random) {
     let mut grower = Grower::new(draft, random, vec![input], profile.limit);
     let root = grower.expression(output, 1, profile.room, profile.spine);
     draft.set_root(root);
+    patterns::share(draft, random);
+    labels::label(draft, random);
 }
 
 /// A circuit of exactly this many records, grown and then filled up with

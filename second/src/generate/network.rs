@@ -1,6 +1,8 @@
 //! One feedback of many leaves, each leaf a small expression of other leaves.
 //! Its type is a pair of equal parts, again and again.
 
+use super::labels::label;
+use super::patterns::share;
 use super::types::doubling;
 use crate::draft::Draft;
 use crate::random::Random;
@@ -72,6 +74,8 @@ fn wired(
     let body = draft.name(0, of);
     let root = draft.feedback(of, defining, body);
     draft.set_root(root);
+    share(&mut draft, random);
+    label(&mut draft, random);
     draft
 }
 

@@ -1,8 +1,11 @@
-//! Random patterns of a type.
+//! Random patterns of a type, and patterns that several IFs share.
 
-use crate::draft::Draft;
+use std::collections::BTreeMap;
+
+use crate::draft::{Draft, Term};
 use crate::random::Random;
-use crate::records::A;
+use crate::records::{A, D};
+use crate::survey::choices;
 
 /// A chain of one or more alternatives; the first of them.
 pub fn chain(draft: &mut Draft, of: usize, random: &mut Random) -> usize {
@@ -62,4 +65,23 @@ pub fn full(draft: &mut Draft, of: usize, random: &mut Random) -> usize {
 fn flat(draft: &mut Draft, of: usize, random: &mut Random) -> usize {
     let count = usize::from(draft.nodes[of].number(A));
     draft.constructor(of, random.range(1, count) as u16)
+}
+
+/// In half of the circuits IFs name the patterns of others with the same
+/// tested type. The patterns they had are then named by nothing.
+pub fn share(draft: &mut Draft, random: &mut Random) {
+    if random.one_in(2) {
+        return;
+    }
+    let mut kept: BTreeMap<usize, Vec<usize>> = BTreeMap::new();
+    for choice in choices(draft) {
+        let Some(own) = draft.nodes[choice].target(D) else { continue };
+        let of_type = kept.entry(draft.nodes[own].of).or_default();
+        match random.pick(of_type) {
+            Some(other) if !random.one_in(3) => {
+                draft.nodes[choice].words[D] = Term::Part(other);
+            }
+            _ => of_type.push(own),
+        }
+    }
 }

@@ -21,12 +21,14 @@ const TIME: Duration = Duration::from_millis(1500);
 
 /// The sheets, the cycles they are timed on, and whether the program is timed
 /// on them too.
-const SHEETS: [(&str, usize, bool); 5] = [
+const SHEETS: [(&str, usize, bool); 7] = [
     ("T", MAX_STIMULUS, true),
     ("T-64-times", MAX_STIMULUS / 64, true),
     ("random-4000", 200, true),
     ("slow-feedback-64", 1000, false),
     ("three-slow-feedbacks-64", 1, false),
+    ("shared-pattern", 10, false),
+    ("shared-nested-pattern", 10, false),
 ];
 
 /// Other work on the machine lengthens some calls, so the median counts.

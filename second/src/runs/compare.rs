@@ -13,7 +13,7 @@ use second::watch::Watch;
 
 use super::tally::Tally;
 use crate::external;
-use crate::memory::{Area, Placement};
+use crate::memory::{filling, Area, Placement};
 use crate::report::{self, hex};
 use crate::workers::{self, Halt};
 
@@ -184,14 +184,4 @@ impl Comparer<'_> {
         self.tally.codes[usize::from(answer.code)] += 1;
         self.tally.placements[placement.index()] += 1;
     }
-}
-
-/// Bytes for a lent slice to hold beforehand.
-pub fn filling(length: usize, fill: &mut Random) -> Vec<u8> {
-    let mut bytes = vec![0; length];
-    for eight in bytes.chunks_mut(8) {
-        let drawn = fill.draw().to_le_bytes();
-        eight.copy_from_slice(&drawn[..eight.len()]);
-    }
-    bytes
 }

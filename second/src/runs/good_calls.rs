@@ -1,10 +1,11 @@
 //! Compares calls that keep every rule, and counts what comes up in them.
 
+use second::labels::labels;
 use second::records::{read, KIND, KINDS, MAX_RECORDS};
 use second::rule::Rule;
 use second::run_mistakes::RunMistake;
 use second::simulator::{run_by, Outcome};
-use second::structure::{depths, nestings};
+use second::structure::{choices_on, depths, nestings};
 use second::watch::Watch;
 
 use super::cases::Frame;
@@ -23,6 +24,7 @@ pub fn compare_good(to: &mut Comparer, case: &Case, frame: &Frame, values: usize
         (tally::SHEETS, several(case, frame)),
         (tally::DEFINED, outputs.iter().any(|&leaf| leaf != 0)),
         (tally::CHANGED, *next != case.sheet),
+        (tally::LABELLED, *next != case.sheet && labels(next).iter().any(|&label| label != 0)),
         (tally::OUTPUTS_DIFFER, cycles.any(|cycle| Some(cycle) != first)),
         (tally::OTHERS, watch.others),
         (tally::SLOW, watch.most > 16),
@@ -32,6 +34,7 @@ pub fn compare_good(to: &mut Comparer, case: &Case, frame: &Frame, values: usize
         (tally::CHAINS, frame.longest_chain == 64),
         (tally::DEEP, depths(&records).contains(&64)),
         (tally::LONGEST, records.len() == MAX_RECORDS),
+        (tally::SHARED, choices_on(&records).into_iter().any(|count| count > 1)),
         (tally::NO_CYCLES, case.stimulus.is_empty()),
         (tally::MANY_CYCLES, case.stimulus.len() > 60_000),
     ];

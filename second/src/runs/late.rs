@@ -34,6 +34,7 @@ pub const LATE: Comparison = Comparison {
     ],
     make,
     counts,
+    faults: Pair::out_of_order,
 };
 
 /// The same call with lower leaves: in the stimulus, in the delays or in both.

@@ -1,5 +1,6 @@
-//! Two runs of which the first is to be at or below the second: every output
-//! leaf, and each delay leaf of the next sheets, which differ in these alone.
+//! Comparisons of two runs. Of most of them the first is to be at or below the
+//! second: every output leaf, and each delay leaf of the next sheets, which
+//! differ in these alone.
 
 use std::collections::BTreeMap;
 use std::fmt::Write;
@@ -14,9 +15,9 @@ use second::simulator::run_by;
 use second::values::at_or_below;
 use second::watch::Watch;
 
-use super::compare::{filling, Case, Left, Memory};
+use super::compare::{Case, Left, Memory};
 use super::plan::Options;
-use crate::memory::Placement;
+use crate::memory::{filling, Placement};
 use crate::report::{self, hex};
 use crate::workers::{self, Count, Halt};
 
@@ -31,7 +32,8 @@ pub struct Pair {
     pub altered: bool,
 }
 
-/// What is compared: how two runs are made, and what is counted of them.
+/// What is compared: how two runs are made, what is counted of them, and what
+/// is wrong with them, in words.
 pub struct Comparison {
     /// What the last line counts.
     pub what: &'static str,
@@ -39,6 +41,7 @@ pub struct Comparison {
     pub quotas: &'static [(&'static str, u64)],
     pub make: fn(&mut Lender, Option<RunMistake>, &mut Random) -> Option<Pair>,
     pub counts: fn(&Pair) -> Vec<(&'static str, bool)>,
+    pub faults: fn(&Pair) -> Vec<String>,
 }
 
 /// Lends slices to the archive, each call's placed otherwise.
@@ -77,8 +80,8 @@ impl Pair {
         self.left[0].next != self.left[1].next
     }
 
-    /// What is wrong, in words.
-    fn faults(&self) -> Vec<String> {
+    /// What is wrong where the first is to be at or below the second.
+    pub fn out_of_order(&self) -> Vec<String> {
         let [first, second] = &self.left;
         let plain = [
             (self.altered, "the archive's run altered bytes that it may not"),
@@ -160,8 +163,7 @@ impl Counts {
     }
 }
 
-/// Compares as many pairs as are asked for; the first that is not in order
-/// ends it.
+/// Compares as many pairs as are asked for; the first with a fault ends it.
 pub fn run(comparison: &Comparison, options: &Options) -> ExitCode {
     println!("seed {}", options.seed);
     let jobs = [options.least.max(comparison.least).div_ceil(SHARDS); SHARDS as usize];
@@ -175,7 +177,7 @@ pub fn run(comparison: &Comparison, options: &Options) -> ExitCode {
             }
             let made = (comparison.make)(&mut lender, options.mistake(), random);
             let Some(pair) = made else { continue };
-            let faults = pair.faults();
+            let faults = (comparison.faults)(&pair);
             if !faults.is_empty() {
                 return (counts, Err(Halt::Difference(Box::new(pair.report(&faults)))));
             }
@@ -185,7 +187,7 @@ pub fn run(comparison: &Comparison, options: &Options) -> ExitCode {
     });
     if let Some(report) = found {
         print!("{report}");
-        println!("after {} {} in order", counts.compared, comparison.what);
+        println!("after {} {} without one", counts.compared, comparison.what);
         return ExitCode::from(1);
     }
     workers::answer(options, &counts.print(comparison), counts.compared, comparison.what)

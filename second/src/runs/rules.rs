@@ -19,6 +19,7 @@ pub const RULES: Comparison = Comparison {
     quotas: &[(OUTPUTS, 2_000), (DELAYS, 500), (FEEDBACKS, 1_000)],
     make,
     counts,
+    faults: Pair::out_of_order,
 };
 
 /// Both runs of a call; a mistake is made in that by the earlier rule.

@@ -46,6 +46,8 @@ pub const WIDE: &str = "runs with an expression of 64 leaves";
 pub const CHAINS: &str = "runs with a constant or delay of 64 leaves";
 pub const DEEP: &str = "runs with an expression at depth 64";
 pub const LONGEST: &str = "accepted sheets of 4,096 records";
+pub const SHARED: &str = "runs with a pattern that several IFs name";
+pub const LABELLED: &str = "runs of labelled delays whose next sheet differs from the sheet";
 pub const NO_CYCLES: &str = "accepted runs of no cycles";
 pub const MANY_CYCLES: &str = "accepted stimuli of over 60,000 bytes";
 pub const SHAPES: &str = "runs of named sheets";
@@ -65,7 +67,7 @@ pub const NEXT_OF_NO_CYCLES: &str = "11: next slice of another length for no cyc
 pub const NEXT_NONE: &str = "11: next slice of 0 bytes";
 
 /// The quotas of the named counts.
-pub const QUOTAS: [(&str, u64); 32] = [
+pub const QUOTAS: [(&str, u64); 34] = [
     (SHEETS, 100_000),
     (DEFINED, 30_000),
     (CHANGED, 20_000),
@@ -81,6 +83,8 @@ pub const QUOTAS: [(&str, u64); 32] = [
     (CHAINS, 1_000),
     (DEEP, 1_000),
     (LONGEST, 40),
+    (SHARED, 20_000),
+    (LABELLED, 10_000),
     (NO_CYCLES, 2_000),
     (MANY_CYCLES, 40),
     (SHAPES, 100),

@@ -34,3 +34,29 @@ pub fn joined(
     let body = joined(draft, count - count / 2, scope + 1, make);
     draft.bind(defining, body)
 }
+
+/// One flat type of two constructors, which is the input's.
+pub fn with_bit() -> (Draft, usize) {
+    let mut draft = Draft::new();
+    let bit = draft.flat(2);
+    draft.set_input(bit);
+    (draft, bit)
+}
+
+/// A type of 64 leaves that grows by one leaf at a time; all its stages.
+pub fn ladder(draft: &mut Draft, bit: usize, left: bool) -> Vec<usize> {
+    let mut stages = vec![bit];
+    for k in 0..63 {
+        let of = stages[k];
+        let (first, second) = if left { (of, bit) } else { (bit, of) };
+        stages.push(draft.pair_type(first, second));
+    }
+    stages
+}
+
+/// The sheet of a root, filled up with types to 4,096 records.
+pub fn finish(mut draft: Draft, root: usize, order: Order) -> Vec<u8> {
+    draft.set_root(root);
+    fill(&mut draft);
+    laid(&draft, order)
+}

@@ -1,33 +1,9 @@
 //! Sheets of 4,096 records, each the worst for some way to check.
 
-use super::building::{fill, joined, laid};
+use super::building::{finish, joined, ladder, laid, with_bit};
 use crate::draft::Draft;
 use crate::generate::types::doubling;
 use crate::layout::{record_count, Order};
-
-fn with_bit() -> (Draft, usize) {
-    let mut draft = Draft::new();
-    let bit = draft.flat(2);
-    draft.set_input(bit);
-    (draft, bit)
-}
-
-/// A type of 64 leaves that grows by one leaf at a time; all its stages.
-fn ladder(draft: &mut Draft, bit: usize, left: bool) -> Vec<usize> {
-    let mut stages = vec![bit];
-    for k in 0..63 {
-        let of = stages[k];
-        let (first, second) = if left { (of, bit) } else { (bit, of) };
-        stages.push(draft.pair_type(first, second));
-    }
-    stages
-}
-
-fn finish(mut draft: Draft, root: usize, order: Order) -> Vec<u8> {
-    draft.set_root(root);
-    fill(&mut draft);
-    laid(&draft, order)
-}
 
 /// 64 expressions that each reach depth 64.
 pub fn deep() -> Vec<u8> {
@@ -192,55 +168,6 @@ pub fn one_leaf_chain() -> Vec<u8> {
     let of = doubling(&mut draft, 6);
     let leaf = draft.leaves(&vec![1; 4096 - 9]);
     let root = draft.constant(of, leaf);
-    finish(draft, root, Order::Random)
-}
-
-/// An IF of the input on a chain of alternatives.
-fn choice(draft: &mut Draft, pattern: usize) -> usize {
-    let of = draft.input();
-    let parts: Vec<usize> = (0..3).map(|_| draft.name(0, of)).collect();
-    draft.choice(parts[0], pattern, parts[1], parts[2])
-}
-
-/// An IF with 4,090 alternatives.
-pub fn pattern_chain() -> Vec<u8> {
-    let (mut draft, bit) = with_bit();
-    let chain: Vec<usize> = (0..4090).map(|k| draft.constructor(bit, 1 + k % 2)).collect();
-    let pattern = draft.alternatives(&chain);
-    let root = choice(&mut draft, pattern);
-    finish(draft, root, Order::Random)
-}
-
-/// Alternatives that each nest pair patterns 63 deep.
-pub fn nested_patterns() -> Vec<u8> {
-    let (mut draft, bit) = with_bit();
-    let stages = ladder(&mut draft, bit, true);
-    draft.set_input(stages[63]);
-    let mut chain = Vec::new();
-    for _ in 0..31 {
-        let mut node = draft.constructor(bit, 1);
-        for &stage in &stages[1..] {
-            let second = draft.constructor(bit, 2);
-            node = draft.pair_pattern(node, second, stage);
-        }
-        chain.push(node);
-    }
-    let pattern = draft.alternatives(&chain);
-    let root = choice(&mut draft, pattern);
-    finish(draft, root, Order::Random)
-}
-
-/// Pair patterns nested 1,990 deep, on a type of depth 64: code 7.
-pub fn deep_pattern() -> Vec<u8> {
-    let (mut draft, bit) = with_bit();
-    let stages = ladder(&mut draft, bit, false);
-    draft.set_input(stages[63]);
-    let mut node = draft.constructor(bit, 1);
-    for _ in 0..1990 {
-        let first = draft.constructor(bit, 2);
-        node = draft.pair_pattern(first, node, bit);
-    }
-    let root = choice(&mut draft, node);
     finish(draft, root, Order::Random)
 }
 

@@ -58,98 +58,98 @@ use Rattle.records.specs.Kinds.{expression, constant, name, tuple, first, secon
 use Rattle.records.proofs.Table.{askOfKind}
 use Rattle.accepted.proofs.Laws.{numbered, last-kind}
 use Rattle.evaluator.proofs.Frames.{from-none, to-the-end}
-use Rattle.evaluator.proofs.Readiness.{ready-word, ready-few, in-circuit, entry-few, entry-there, higher}
+use Rattle.evaluator.proofs.Readiness.{ready-word, ready-low, ready-few, in-circuit, entry-few, entry-there, higher}
 use Rattle.evaluator.proofs.Parts.{constant-chained, constant-done, pair-small, pair-cut, pair-first-ready, pair-rest, pair-second-ready, pair-done, fits-room, room-ready, first-scope, first-fits, first-inside, first-done, second-scope, second-few, second-from, second-inside, second-fits, second-done}
 use Rattle.evaluator.proofs.Names.{defining-scope, let-inside, let-room, let-body-ready, let-done}
 use Rattle.evaluator.proofs.Settling.{settle-few, settle-room, unchanged-settled, settling-again, fewer-undefined, changed-settled}
 use Rattle.evaluator.proofs.Feedbacks.{part-scope, feedback-fits, start-room, feedback-settling, few-undefined, feedback-body-ready, feedback-done}
 use Rattle.evaluator.proofs.Branches.{tested-scope, then-ready, else-fits, else-ready, tested-inside, otherwise-inside, as-long, pattern-matched, if-wide, if-done, delayed-ready, delay-chained, delay-done}
 
-abbrev μ-eval : Measures 5 eval-kinds.ps ℕ
-μ-eval κs a = 67 * (a .1 .0 - a .1 .1 .1 .1 .1 .1 .0) + 1
+abbrev μ-eval : Measures 6 eval-kinds.ps ℕ
+μ-eval κs a = 67 * (a .1 .0 - a .1 .1 .1 .1 .1 .1 .1 .0) + 1
 
-abbrev μ-of-delay : Measures 5 of-delay-kinds.ps ℕ
-μ-of-delay κs a = 67 * (a .1 .0 - a .1 .1 .1 .1 .1 .1 .0)
+abbrev μ-of-delay : Measures 6 of-delay-kinds.ps ℕ
+μ-of-delay κs a = 67 * (a .1 .0 - a .1 .1 .1 .1 .1 .1 .1 .0)
 
-abbrev μ-of-feedback : Measures 5 of-feedback-kinds.ps ℕ
-μ-of-feedback κs a = 67 * (a .1 .0 - a .1 .1 .1 .1 .1 .1 .0)
+abbrev μ-of-feedback : Measures 6 of-feedback-kinds.ps ℕ
+μ-of-feedback κs a = 67 * (a .1 .0 - a .1 .1 .1 .1 .1 .1 .1 .0)
 
-abbrev μ-of-first : Measures 5 of-first-kinds.ps ℕ
-μ-of-first κs a = 67 * (a .1 .0 - a .1 .1 .1 .1 .1 .1 .0)
+abbrev μ-of-first : Measures 6 of-first-kinds.ps ℕ
+μ-of-first κs a = 67 * (a .1 .0 - a .1 .1 .1 .1 .1 .1 .1 .0)
 
-abbrev μ-of-if : Measures 5 of-if-kinds.ps ℕ
-μ-of-if κs a = 67 * (a .1 .0 - a .1 .1 .1 .1 .1 .1 .0)
+abbrev μ-of-if : Measures 6 of-if-kinds.ps ℕ
+μ-of-if κs a = 67 * (a .1 .0 - a .1 .1 .1 .1 .1 .1 .1 .0)
 
-abbrev μ-of-let : Measures 5 of-let-kinds.ps ℕ
-μ-of-let κs a = 67 * (a .1 .0 - a .1 .1 .1 .1 .1 .1 .0)
+abbrev μ-of-let : Measures 6 of-let-kinds.ps ℕ
+μ-of-let κs a = 67 * (a .1 .0 - a .1 .1 .1 .1 .1 .1 .1 .0)
 
-abbrev μ-of-pair : Measures 5 of-pair-kinds.ps ℕ
-μ-of-pair κs a = 67 * (a .1 .0 - a .1 .1 .1 .1 .1 .1 .0)
+abbrev μ-of-pair : Measures 6 of-pair-kinds.ps ℕ
+μ-of-pair κs a = 67 * (a .1 .0 - a .1 .1 .1 .1 .1 .1 .1 .0)
 
-abbrev μ-of-second : Measures 5 of-second-kinds.ps ℕ
-μ-of-second κs a = 67 * (a .1 .0 - a .1 .1 .1 .1 .1 .1 .0)
+abbrev μ-of-second : Measures 6 of-second-kinds.ps ℕ
+μ-of-second κs a = 67 * (a .1 .0 - a .1 .1 .1 .1 .1 .1 .1 .0)
 
-abbrev μ-settle : Measures 5 settle-kinds.ps ℕ
-μ-settle κs a = 67 * (a .1 .0 - a .1 .1 .1 .1 .1 .1 .0) + 2 + zeros (slot (a .1 .1 .1 .1 .0) (length (now (a .1 .1 .1 .1 .1 .1 .1 .0))) (now (a .1 .1 .1 .0)))
+abbrev μ-settle : Measures 6 settle-kinds.ps ℕ
+μ-settle κs a = 67 * (a .1 .0 - a .1 .1 .1 .1 .1 .1 .1 .0) + 2 + zeros (slot (a .1 .1 .1 .1 .0) (length (now (a .1 .1 .1 .1 .1 .1 .1 .1 .0))) (now (a .1 .1 .1 .0)))
 
-abbrev eval-at : ℕ → In 5 eval-kinds.ps
-eval-at t = and 5 eval-kinds.ps (is 5 eval-kinds.ps μ-eval t) eval.Pre
+abbrev eval-at : ℕ → In 6 eval-kinds.ps
+eval-at t = and 6 eval-kinds.ps (is 6 eval-kinds.ps μ-eval t) eval.Pre
 
-abbrev eval-below : ℕ → In 5 eval-kinds.ps
-eval-below t = and 5 eval-kinds.ps (falls 5 eval-kinds.ps _<_ μ-eval t) eval.Pre
+abbrev eval-below : ℕ → In 6 eval-kinds.ps
+eval-below t = and 6 eval-kinds.ps (falls 6 eval-kinds.ps _<_ μ-eval t) eval.Pre
 
-abbrev of-delay-at : ℕ → In 5 of-delay-kinds.ps
-of-delay-at t = and 5 of-delay-kinds.ps (is 5 of-delay-kinds.ps μ-of-delay t) of-delay.Pre
+abbrev of-delay-at : ℕ → In 6 of-delay-kinds.ps
+of-delay-at t = and 6 of-delay-kinds.ps (is 6 of-delay-kinds.ps μ-of-delay t) of-delay.Pre
 
-abbrev of-delay-below : ℕ → In 5 of-delay-kinds.ps
+abbrev of-delay-below : ℕ → In 6 of-delay-kinds.ps
 of-delay-below t =
-    and 5 of-delay-kinds.ps (falls 5 of-delay-kinds.ps _<_ μ-of-delay t) of-delay.Pre
+    and 6 of-delay-kinds.ps (falls 6 of-delay-kinds.ps _<_ μ-of-delay t) of-delay.Pre
 
-abbrev of-feedback-at : ℕ → In 5 of-feedback-kinds.ps
+abbrev of-feedback-at : ℕ → In 6 of-feedback-kinds.ps
 of-feedback-at t =
-    and 5 of-feedback-kinds.ps (is 5 of-feedback-kinds.ps μ-of-feedback t) of-feedback.Pre
+    and 6 of-feedback-kinds.ps (is 6 of-feedback-kinds.ps μ-of-feedback t) of-feedback.Pre
 
-abbrev of-feedback-below : ℕ → In 5 of-feedback-kinds.ps
+abbrev of-feedback-below : ℕ → In 6 of-feedback-kinds.ps
 of-feedback-below t =
-    and 5 of-feedback-kinds.ps (falls 5 of-feedback-kinds.ps _<_ μ-of-feedback t) of-feedback.Pre
+    and 6 of-feedback-kinds.ps (falls 6 of-feedback-kinds.ps _<_ μ-of-feedback t) of-feedback.Pre
 
-abbrev of-first-at : ℕ → In 5 of-first-kinds.ps
-of-first-at t = and 5 of-first-kinds.ps (is 5 of-first-kinds.ps μ-of-first t) of-first.Pre
+abbrev of-first-at : ℕ → In 6 of-first-kinds.ps
+of-first-at t = and 6 of-first-kinds.ps (is 6 of-first-kinds.ps μ-of-first t) of-first.Pre
 
-abbrev of-first-below : ℕ → In 5 of-first-kinds.ps
+abbrev of-first-below : ℕ → In 6 of-first-kinds.ps
 of-first-below t =
-    and 5 of-first-kinds.ps (falls 5 of-first-kinds.ps _<_ μ-of-first t) of-first.Pre
+    and 6 of-first-kinds.ps (falls 6 of-first-kinds.ps _<_ μ-of-first t) of-first.Pre
 
-abbrev of-if-at : ℕ → In 5 of-if-kinds.ps
-of-if-at t = and 5 of-if-kinds.ps (is 5 of-if-kinds.ps μ-of-if t) of-if.Pre
+abbrev of-if-at : ℕ → In 6 of-if-kinds.ps
+of-if-at t = and 6 of-if-kinds.ps (is 6 of-if-kinds.ps μ-of-if t) of-if.Pre
 
-abbrev of-if-below : ℕ → In 5 of-if-kinds.ps
-of-if-below t = and 5 of-if-kinds.ps (falls 5 of-if-kinds.ps _<_ μ-of-if t) of-if.Pre
+abbrev of-if-below : ℕ → In 6 of-if-kinds.ps
+of-if-below t = and 6 of-if-kinds.ps (falls 6 of-if-kinds.ps _<_ μ-of-if t) of-if.Pre
 
-abbrev of-let-at : ℕ → In 5 of-let-kinds.ps
-of-let-at t = and 5 of-let-kinds.ps (is 5 of-let-kinds.ps μ-of-let t) of-let.Pre
+abbrev of-let-at : ℕ → In 6 of-let-kinds.ps
+of-let-at t = and 6 of-let-kinds.ps (is 6 of-let-kinds.ps μ-of-let t) of-let.Pre
 
-abbrev of-let-below : ℕ → In 5 of-let-kinds.ps
-of-let-below t = and 5 of-let-kinds.ps (falls 5 of-let-kinds.ps _<_ μ-of-let t) of-let.Pre
+abbrev of-let-below : ℕ → In 6 of-let-kinds.ps
+of-let-below t = and 6 of-let-kinds.ps (falls 6 of-let-kinds.ps _<_ μ-of-let t) of-let.Pre
 
-abbrev of-pair-at : ℕ → In 5 of-pair-kinds.ps
-of-pair-at t = and 5 of-pair-kinds.ps (is 5 of-pair-kinds.ps μ-of-pair t) of-pair.Pre
+abbrev of-pair-at : ℕ → In 6 of-pair-kinds.ps
+of-pair-at t = and 6 of-pair-kinds.ps (is 6 of-pair-kinds.ps μ-of-pair t) of-pair.Pre
 
-abbrev of-pair-below : ℕ → In 5 of-pair-kinds.ps
-of-pair-below t = and 5 of-pair-kinds.ps (falls 5 of-pair-kinds.ps _<_ μ-of-pair t) of-pair.Pre
+abbrev of-pair-below : ℕ → In 6 of-pair-kinds.ps
+of-pair-below t = and 6 of-pair-kinds.ps (falls 6 of-pair-kinds.ps _<_ μ-of-pair t) of-pair.Pre
 
-abbrev of-second-at : ℕ → In 5 of-second-kinds.ps
-of-second-at t = and 5 of-second-kinds.ps (is 5 of-second-kinds.ps μ-of-second t) of-second.Pre
+abbrev of-second-at : ℕ → In 6 of-second-kinds.ps
+of-second-at t = and 6 of-second-kinds.ps (is 6 of-second-kinds.ps μ-of-second t) of-second.Pre
 
-abbrev of-second-below : ℕ → In 5 of-second-kinds.ps
+abbrev of-second-below : ℕ → In 6 of-second-kinds.ps
 of-second-below t =
-    and 5 of-second-kinds.ps (falls 5 of-second-kinds.ps _<_ μ-of-second t) of-second.Pre
+    and 6 of-second-kinds.ps (falls 6 of-second-kinds.ps _<_ μ-of-second t) of-second.Pre
 
-abbrev settle-at : ℕ → In 5 settle-kinds.ps
-settle-at t = and 5 settle-kinds.ps (is 5 settle-kinds.ps μ-settle t) settle.Pre
+abbrev settle-at : ℕ → In 6 settle-kinds.ps
+settle-at t = and 6 settle-kinds.ps (is 6 settle-kinds.ps μ-settle t) settle.Pre
 
-abbrev settle-below : ℕ → In 5 settle-kinds.ps
-settle-below t = and 5 settle-kinds.ps (falls 5 settle-kinds.ps _<_ μ-settle t) settle.Pre
+abbrev settle-below : ℕ → In 6 settle-kinds.ps
+settle-below t = and 6 settle-kinds.ps (falls 6 settle-kinds.ps _<_ μ-settle t) settle.Pre
 
 abbrev eval-claims : ℕ → eval-lts.Claims
 eval-claims t = (word-reads.Asked, word-reads.Learnt, read-leaves-reads.Asked, read-leaves-reads.Learnt, of-name-reads.Asked, of-name-reads.Learnt, of-pair-below t, of-pair.Post, of-first-below t, of-first.Post, of-second-below t, of-second.Post, of-let-below t, of-let.Post, of-feedback-below t, of-feedback.Post, of-if-below t, of-if.Post, of-delay-below t, of-delay.Post)
@@ -203,10 +203,10 @@ eval-same-length-3 : (t : ℕ) → eval-lts.Need-same-length-3 (eval-claims t) (
 eval-same-length-3 t c = search needs
 
 eval-returns-2 : (t : ℕ) → eval-lts.Need-returns-2 (eval-claims t) (eval-at t) eval.Post
-eval-returns-2 t c = c .before .before .of-name .ensures (now (c .before .before .before .before .before .before .before .before .before .before .before .args .held))
+eval-returns-2 t c = c .before .before .of-name .ensures (now (c .before .before .before .before .before .before .before .before .before .before .before .args .held)) (now (c .before .before .before .before .before .before .before .before .before .before .before .args .fired))
 
 eval-of-pair-requires : (t : ℕ) → eval-lts.Need-of-pair-requires (eval-claims t) (eval-at t) eval.Post
-eval-of-pair-requires t c κs = (omega (arith, c .before .before .before .before .before .before .before .before .before .before .pre .0), (c .before .before .before .before .before .before .before .before .before .before .pre .1, (numbered _ _ _ 34 (expression tuple) (c .before .before .before .before .before .before .word .ensures .0) (c .before .before .before .if3 .taken) (unfold kindOf in refl))))
+eval-of-pair-requires t c κs = (omega (arith, c .before .before .before .before .before .before .before .before .before .before .before .pre .0), (c .before .before .before .before .before .before .before .before .before .before .before .pre .1, (numbered _ _ _ 34 (expression tuple) (c .before .before .before .before .before .before .before .word .ensures .0) (c .before .before .before .before .if3 .taken) (unfold kindOf in refl))))
 
 eval-same-length-4 : (t : ℕ) → eval-lts.Need-same-length-4 (eval-claims t) (eval-at t) eval.Post
 eval-same-length-4 t c = search needs
@@ -218,7 +218,7 @@ eval-returns-3 : (t : ℕ) → eval-lts.Need-returns-3 (eval-claims t) (eval-at 
 eval-returns-3 t c = c .before .before .before .before .of-pair .ensures
 
 eval-of-first-requires : (t : ℕ) → eval-lts.Need-of-first-requires (eval-claims t) (eval-at t) eval.Post
-eval-of-first-requires t c κs = (omega (arith, c .before .before .before .before .before .before .before .before .before .before .before .pre .0), (c .before .before .before .before .before .before .before .before .before .before .before .pre .1, (numbered _ _ _ 35 (expression first) (c .before .before .before .before .before .before .before .word .ensures .0) (c .before .before .before .if4 .taken) (unfold kindOf in refl))))
+eval-of-first-requires t c κs = (omega (arith, c .before .before .before .before .before .before .before .before .before .before .before .before .pre .0), (c .before .before .before .before .before .before .before .before .before .before .before .before .pre .1, (numbered _ _ _ 35 (expression first) (c .before .before .before .before .before .before .before .before .word .ensures .0) (c .before .before .before .before .if4 .taken) (unfold kindOf in refl))))
 
 eval-same-length-6 : (t : ℕ) → eval-lts.Need-same-length-6 (eval-claims t) (eval-at t) eval.Post
 eval-same-length-6 t c = search needs
@@ -230,7 +230,7 @@ eval-returns-4 : (t : ℕ) → eval-lts.Need-returns-4 (eval-claims t) (eval-at 
 eval-returns-4 t c = c .before .before .before .before .of-first .ensures
 
 eval-of-second-requires : (t : ℕ) → eval-lts.Need-of-second-requires (eval-claims t) (eval-at t) eval.Post
-eval-of-second-requires t c κs = (omega (arith, c .before .before .before .before .before .before .before .before .before .before .before .before .pre .0), (c .before .before .before .before .before .before .before .before .before .before .before .before .pre .1, (numbered _ _ _ 36 (expression second) (c .before .before .before .before .before .before .before .before .word .ensures .0) (c .before .before .before .if5 .taken) (unfold kindOf in refl))))
+eval-of-second-requires t c κs = (omega (arith, c .before .before .before .before .before .before .before .before .before .before .before .before .before .pre .0), (c .before .before .before .before .before .before .before .before .before .before .before .before .before .pre .1, (numbered _ _ _ 36 (expression second) (c .before .before .before .before .before .before .before .before .before .word .ensures .0) (c .before .before .before .before .if5 .taken) (unfold kindOf in refl))))
 
 eval-same-length-8 : (t : ℕ) → eval-lts.Need-same-length-8 (eval-claims t) (eval-at t) eval.Post
 eval-same-length-8 t c = search needs
@@ -242,7 +242,7 @@ eval-returns-5 : (t : ℕ) → eval-lts.Need-returns-5 (eval-claims t) (eval-at 
 eval-returns-5 t c = c .before .before .before .before .of-second .ensures
 
 eval-of-let-requires : (t : ℕ) → eval-lts.Need-of-let-requires (eval-claims t) (eval-at t) eval.Post
-eval-of-let-requires t c κs = (omega (arith, c .before .before .before .before .before .before .before .before .before .before .before .before .before .pre .0), (c .before .before .before .before .before .before .before .before .before .before .before .before .before .pre .1, (numbered _ _ _ 37 (expression letIn) (c .before .before .before .before .before .before .before .before .before .word .ensures .0) (c .before .before .before .if6 .taken) (unfold kindOf in refl))))
+eval-of-let-requires t c κs = (omega (arith, c .before .before .before .before .before .before .before .before .before .before .before .before .before .before .pre .0), (c .before .before .before .before .before .before .before .before .before .before .before .before .before .before .pre .1, (numbered _ _ _ 37 (expression letIn) (c .before .before .before .before .before .before .before .before .before .before .word .ensures .0) (c .before .before .before .before .if6 .taken) (unfold kindOf in refl))))
 
 eval-same-length-10 : (t : ℕ) → eval-lts.Need-same-length-10 (eval-claims t) (eval-at t) eval.Post
 eval-same-length-10 t c = search needs
@@ -254,7 +254,7 @@ eval-returns-6 : (t : ℕ) → eval-lts.Need-returns-6 (eval-claims t) (eval-at 
 eval-returns-6 t c = c .before .before .before .before .of-let .ensures
 
 eval-of-feedback-requires : (t : ℕ) → eval-lts.Need-of-feedback-requires (eval-claims t) (eval-at t) eval.Post
-eval-of-feedback-requires t c κs = (omega (arith, c .before .before .before .before .before .before .before .before .before .before .before .before .before .before .pre .0), (c .before .before .before .before .before .before .before .before .before .before .before .before .before .before .pre .1, (numbered _ _ _ 38 (expression feedback) (c .before .before .before .before .before .before .before .before .before .before .word .ensures .0) (c .before .before .before .if7 .taken) (unfold kindOf in refl))))
+eval-of-feedback-requires t c κs = (omega (arith, c .before .before .before .before .before .before .before .before .before .before .before .before .before .before .before .pre .0), (c .before .before .before .before .before .before .before .before .before .before .before .before .before .before .before .pre .1, (numbered _ _ _ 38 (expression feedback) (c .before .before .before .before .before .before .before .before .before .before .before .word .ensures .0) (c .before .before .before .before .if7 .taken) (unfold kindOf in refl))))
 
 eval-same-length-12 : (t : ℕ) → eval-lts.Need-same-length-12 (eval-claims t) (eval-at t) eval.Post
 eval-same-length-12 t c = search needs
@@ -266,7 +266,7 @@ eval-returns-7 : (t : ℕ) → eval-lts.Need-returns-7 (eval-claims t) (eval-at 
 eval-returns-7 t c = c .before .before .before .before .of-feedback .ensures
 
 eval-of-if-requires : (t : ℕ) → eval-lts.Need-of-if-requires (eval-claims t) (eval-at t) eval.Post
-eval-of-if-requires t c κs = (omega (arith, c .before .before .before .before .before .before .before .before .before .before .before .before .before .before .before .pre .0), (c .before .before .before .before .before .before .before .before .before .before .before .before .before .before .before .pre .1, (numbered _ _ _ 39 (expression ifMatches) (c .before .before .before .before .before .before .before .before .before .before .before .word .ensures .0) (c .before .before .before .if8 .taken) (unfold kindOf in refl))))
+eval-of-if-requires t c κs = (omega (arith, c .before .before .before .before .before .before .before .before .before .before .before .before .before .before .before .before .pre .0), (c .before .before .before .before .before .before .before .before .before .before .before .before .before .before .before .before .pre .1, (numbered _ _ _ 39 (expression ifMatches) (c .before .before .before .before .before .before .before .before .before .before .before .before .word .ensures .0) (c .before .before .before .before .if8 .taken) (unfold kindOf in refl))))
 
 eval-same-length-14 : (t : ℕ) → eval-lts.Need-same-length-14 (eval-claims t) (eval-at t) eval.Post
 eval-same-length-14 t c = search needs
@@ -278,7 +278,7 @@ eval-returns-8 : (t : ℕ) → eval-lts.Need-returns-8 (eval-claims t) (eval-at 
 eval-returns-8 t c = c .before .before .before .before .of-if .ensures
 
 eval-of-delay-requires : (t : ℕ) → eval-lts.Need-of-delay-requires (eval-claims t) (eval-at t) eval.Post
-eval-of-delay-requires t c κs = (omega (arith, c .before .before .before .before .before .before .before .before .before .before .before .before .before .before .before .pre .0), (c .before .before .before .before .before .before .before .before .before .before .before .before .before .before .before .pre .1, last-kind _ _ _ (in-circuit (c .before .before .before .before .before .before .before .before .before .before .before .before .before .before .before .pre .1 .1) (c .before .before .before .before .before .before .before .before .before .before .before .before .before .before .before .pre .1 .1 .scope) .sort) (c .before .before .before .before .before .before .before .before .before .before .before .word .ensures .0) (c .before .before .before .before .before .before .before .before .before .before .if1 .left) (c .before .before .before .before .before .before .before .before .before .if2 .left) (c .before .before .before .before .before .before .before .before .if3 .left) (c .before .before .before .before .before .before .before .if4 .left) (c .before .before .before .before .before .before .if5 .left) (c .before .before .before .before .before .if6 .left) (c .before .before .before .before .if7 .left) (c .before .before .before .if8 .left)))
+eval-of-delay-requires t c κs = (omega (arith, c .before .before .before .before .before .before .before .before .before .before .before .before .before .before .before .before .pre .0), (c .before .before .before .before .before .before .before .before .before .before .before .before .before .before .before .before .pre .1, last-kind _ _ _ (in-circuit (c .before .before .before .before .before .before .before .before .before .before .before .before .before .before .before .before .pre .1 .1) (c .before .before .before .before .before .before .before .before .before .before .before .before .before .before .before .before .pre .1 .1 .scope) .sort) (c .before .before .before .before .before .before .before .before .before .before .before .before .word .ensures .0) (c .before .before .before .before .before .before .before .before .before .before .before .if1 .left) (c .before .before .before .before .before .before .before .before .before .before .if2 .left) (c .before .before .before .before .before .before .before .before .before .if3 .left) (c .before .before .before .before .before .before .before .before .if4 .left) (c .before .before .before .before .before .before .before .if5 .left) (c .before .before .before .before .before .before .if6 .left) (c .before .before .before .before .before .if7 .left) (c .before .before .before .before .if8 .left)))
 
 eval-same-length-16 : (t : ℕ) → eval-lts.Need-same-length-16 (eval-claims t) (eval-at t) eval.Post
 eval-same-length-16 t c = search needs
@@ -293,16 +293,16 @@ of-delay-word-requires : (t : ℕ) → of-delay-lts.Need-word-requires (of-delay
 of-delay-word-requires t c κs = ready-word (c .before .before .before .pre .1 .0 .1) (omega arith)
 
 of-delay-eval-requires : (t : ℕ) → of-delay-lts.Need-eval-requires (of-delay-claims t) (of-delay-at t) of-delay.Post
-of-delay-eval-requires t c κs = let h = (higher (c .before .before .before .before .before .before .before .pre .1 .0 .1) delay (c .before .before .before .before .before .before .before .pre .1 .1) 4 refl (unfold askOfKind in refl) (c .before .before .before .word .ensures .0)) in (omega (arith, c .before .before .before .before .before .before .before .pre .0, h .0, h .1), (c .before .before .before .before .before .before .before .pre .1 .0 .0, delayed-ready (c .before .before .before .before .before .before .before .pre .1 .0 .1) (c .before .before .before .before .before .before .before .pre .1 .1) (c .before .before .before .word .ensures .0) refl))
+of-delay-eval-requires t c κs = let h = (higher (c .before .before .before .before .before .before .before .before .pre .1 .0 .1) delay (c .before .before .before .before .before .before .before .before .pre .1 .1) 4 refl (unfold askOfKind in refl) (c .before .before .before .before .word .ensures .0)) in (omega (arith, c .before .before .before .before .before .before .before .before .pre .0, h .0, h .1), (c .before .before .before .before .before .before .before .before .pre .1 .0 .0, delayed-ready (c .before .before .before .before .before .before .before .before .pre .1 .0 .1) (c .before .before .before .before .before .before .before .before .pre .1 .1) (c .before .before .before .before .word .ensures .0) refl))
 
 of-delay-word-requires-2 : (t : ℕ) → of-delay-lts.Need-word-requires-2 (of-delay-claims t) (of-delay-at t) of-delay.Post
-of-delay-word-requires-2 t c κs = ready-word (c .before .before .before .before .before .before .before .before .before .before .before .before .pre .1 .0 .1) (omega arith)
+of-delay-word-requires-2 t c κs = ready-word (c .before .before .before .before .before .before .before .before .before .before .before .before .before .pre .1 .0 .1) (omega arith)
 
 of-delay-hold-leaves-requires : (t : ℕ) → of-delay-lts.Need-hold-leaves-requires (of-delay-claims t) (of-delay-at t) of-delay.Post
-of-delay-hold-leaves-requires t c κs = delay-chained (c .before .before .before .before .before .before .before .before .before .before .before .before .before .before .before .pre .1 .0 .1) (c .before .before .before .before .before .before .before .before .before .before .before .before .before .before .before .pre .1 .1) (c .before .before .before .before .before .before .before .before .before .before .before .word .ensures .0) (c .before .before .word2 .ensures .0) (c .before .before .before .before .before .before .before .eval .ensures)
+of-delay-hold-leaves-requires t c κs = delay-chained (c .before .before .before .before .before .before .before .before .before .before .before .before .before .before .before .before .pre .1 .0 .1) (c .before .before .before .before .before .before .before .before .before .before .before .before .before .before .before .before .pre .1 .1) (c .before .before .before .before .before .before .before .before .before .before .before .before .word .ensures .0) (c .before .before .word2 .ensures .0) (c .before .before .before .before .before .before .before .eval .ensures)
 
 of-delay-read-leaves-requires : (t : ℕ) → of-delay-lts.Need-read-leaves-requires (of-delay-claims t) (of-delay-at t) of-delay.Post
-of-delay-read-leaves-requires t c κs = delay-chained (c .before .before .before .before .before .before .before .before .before .before .before .before .before .before .before .before .before .pre .1 .0 .1) (c .before .before .before .before .before .before .before .before .before .before .before .before .before .before .before .before .before .pre .1 .1) (c .before .before .before .before .before .before .before .before .before .before .before .before .before .word .ensures .0) (c .before .before .before .before .word2 .ensures .0) (c .before .before .before .before .before .before .before .before .before .eval .ensures)
+of-delay-read-leaves-requires t c κs = delay-chained (c .before .before .before .before .before .before .before .before .before .before .before .before .before .before .before .before .before .before .pre .1 .0 .1) (c .before .before .before .before .before .before .before .before .before .before .before .before .before .before .before .before .before .before .pre .1 .1) (c .before .before .before .before .before .before .before .before .before .before .before .before .before .before .word .ensures .0) (c .before .before .before .before .word2 .ensures .0) (c .before .before .before .before .before .before .before .before .before .eval .ensures)
 
 of-delay-same-length : (t : ℕ) → of-delay-lts.Need-same-length (of-delay-claims t) (of-delay-at t) of-delay.Post
 of-delay-same-length t c = search needs
@@ -311,7 +311,7 @@ of-delay-same-length-2 : (t : ℕ) → of-delay-lts.Need-same-length-2 (of-delay
 of-delay-same-length-2 t c = search needs
 
 of-delay-returns : (t : ℕ) → of-delay-lts.Need-returns (of-delay-claims t) (of-delay-at t) of-delay.Post
-of-delay-returns t c = record { done = λ Γ r. delay-done r (c .before .before .before .before .before .before .before .before .before .before .before .before .before .before .before .before .before .before .before .before .pre .1 .1) (c .before .before .before .before .before .before .before .before .before .before .before .before .before .before .before .before .word .ensures .0) (c .before .before .before .before .before .before .before .word2 .ensures .0) (c .before .before .before .before .before .before .before .before .before .before .before .before .eval .ensures) (c .before .before .before .before .hold-leaves .ensures) (c .before .before .read-leaves .ensures) }
+of-delay-returns t c = record { done = λ Γ r. delay-done r (c .before .before .before .before .before .before .before .before .before .before .before .before .before .before .before .before .before .before .before .before .before .pre .1 .1) (c .before .before .before .before .before .before .before .before .before .before .before .before .before .before .before .before .before .word .ensures .0) (c .before .before .before .before .before .before .before .word2 .ensures .0) (c .before .before .before .before .before .before .before .before .before .before .before .before .eval .ensures) (c .before .before .before .before .hold-leaves .ensures) (c .before .before .read-leaves .ensures) }
 
 of-feedback-word-requires : (t : ℕ) → of-feedback-lts.Need-word-requires (of-feedback-claims t) (of-feedback-at t) of-feedback.Post
 of-feedback-word-requires t c κs = ready-word (c .before .before .before .pre .1 .0 .1) (omega arith)
@@ -344,19 +344,19 @@ of-feedback-part-settled-start : (t : ℕ) → of-feedback-lts.Need-part-settled
 of-feedback-part-settled-start t c = from-none _
 
 of-feedback-part-settled-end : (t : ℕ) → of-feedback-lts.Need-part-settled-end (of-feedback-claims t) (of-feedback-at t) of-feedback.Post
-of-feedback-part-settled-end t c = feedback-fits (c .before .before .before .before .before .before .before .before .before .before .before .before .before .before .pre .1 .0 .1) (c .before .before .before .before .before .before .before .before .before .before .before .before .before .before .pre .1 .1) (c .before .before .before .before .before .before .before .before .before .before .word .ensures .0) refl refl (c .before .before .before .before .before .before .before .before .room .ensures)
+of-feedback-part-settled-end t c = feedback-fits (c .before .before .before .before .before .before .before .before .before .before .before .before .before .before .before .pre .1 .0 .1) (c .before .before .before .before .before .before .before .before .before .before .before .before .before .before .before .pre .1 .1) (c .before .before .before .before .before .before .before .before .before .before .before .word .ensures .0) refl refl (c .before .before .before .before .before .before .before .before .before .room .ensures)
 
 of-feedback-settle-requires : (t : ℕ) → of-feedback-lts.Need-settle-requires (of-feedback-claims t) (of-feedback-at t) of-feedback.Post
-of-feedback-settle-requires t c κs = let h = (higher (c .before .before .before .before .before .before .before .before .before .before .before .before .before .before .before .pre .1 .0 .1) feedback (c .before .before .before .before .before .before .before .before .before .before .before .before .before .before .before .pre .1 .1) 3 refl (unfold askOfKind in refl) (c .before .before .before .before .before .before .before .before .before .before .before .word .ensures .0)) in let z = few-undefined (c .before .before .before .before .before .before .before .before .before .before .before .before .before .before .before .pre .1 .0 .1) (c .before .before .before .before .before .before .before .before .before .before .before .before .before .before .before .pre .1 .1) (c .before .before .before .before .before .before .before .before .before .before .before .word .ensures .0) refl refl (c .before .before .before .before .before .before .before .before .before .room .ensures) (c .before .before .before .before .before .enter-value .ensures) in (omega (arith, c .before .before .before .before .before .before .before .before .before .before .before .before .before .before .before .pre .0, h .0, h .1), (_, _, feedback-settling (c .before .before .before .before .before .before .before .before .before .before .before .before .before .before .before .pre .1 .0 .1) (c .before .before .before .before .before .before .before .before .before .before .before .before .before .before .before .pre .1 .1) (c .before .before .before .before .before .before .before .before .before .before .before .word .ensures .0) refl refl (c .before .before .before .before .before .before .before .before .before .room .ensures) (c .before .before .before .before .before .enter-value .ensures)))
+of-feedback-settle-requires t c κs = let h = (higher (c .before .before .before .before .before .before .before .before .before .before .before .before .before .before .before .before .pre .1 .0 .1) feedback (c .before .before .before .before .before .before .before .before .before .before .before .before .before .before .before .before .pre .1 .1) 3 refl (unfold askOfKind in refl) (c .before .before .before .before .before .before .before .before .before .before .before .before .word .ensures .0)) in let z = few-undefined (c .before .before .before .before .before .before .before .before .before .before .before .before .before .before .before .before .pre .1 .0 .1) (c .before .before .before .before .before .before .before .before .before .before .before .before .before .before .before .before .pre .1 .1) (c .before .before .before .before .before .before .before .before .before .before .before .before .word .ensures .0) refl refl (c .before .before .before .before .before .before .before .before .before .before .room .ensures) (c .before .before .before .before .before .before .enter-value .ensures) in (omega (arith, c .before .before .before .before .before .before .before .before .before .before .before .before .before .before .before .before .pre .0, h .0, h .1), (_, _, feedback-settling (c .before .before .before .before .before .before .before .before .before .before .before .before .before .before .before .before .pre .1 .0 .1) (c .before .before .before .before .before .before .before .before .before .before .before .before .before .before .before .before .pre .1 .1) (c .before .before .before .before .before .before .before .before .before .before .before .before .word .ensures .0) refl refl (c .before .before .before .before .before .before .before .before .before .before .room .ensures) (c .before .before .before .before .before .before .enter-value .ensures)))
 
 of-feedback-word-requires-2 : (t : ℕ) → of-feedback-lts.Need-word-requires-2 (of-feedback-claims t) (of-feedback-at t) of-feedback.Post
-of-feedback-word-requires-2 t c κs = ready-word (c .before .before .before .before .before .before .before .before .before .before .before .before .before .before .before .before .before .before .before .pre .1 .0 .1) (omega arith)
+of-feedback-word-requires-2 t c κs = ready-word (c .before .before .before .before .before .before .before .before .before .before .before .before .before .before .before .before .before .before .before .before .pre .1 .0 .1) (omega arith)
 
 of-feedback-add-eval : (t : ℕ) → of-feedback-lts.Need-add-eval (of-feedback-claims t) (of-feedback-at t) of-feedback.Post
-of-feedback-add-eval t c = let f = ready-few (c .before .before .before .before .before .before .before .before .before .before .before .before .before .before .before .before .before .before .before .before .before .pre .1 .0 .1) in omega arith
+of-feedback-add-eval t c = let f = ready-few (c .before .before .before .before .before .before .before .before .before .before .before .before .before .before .before .before .before .before .before .before .before .before .pre .1 .0 .1) in omega arith
 
 of-feedback-eval-requires : (t : ℕ) → of-feedback-lts.Need-eval-requires (of-feedback-claims t) (of-feedback-at t) of-feedback.Post
-of-feedback-eval-requires t c κs = let h = (higher (c .before .before .before .before .before .before .before .before .before .before .before .before .before .before .before .before .before .before .before .before .before .before .before .pre .1 .0 .1) feedback (c .before .before .before .before .before .before .before .before .before .before .before .before .before .before .before .before .before .before .before .before .before .before .before .pre .1 .1) 4 refl (unfold askOfKind in refl) (c .before .before .before .word2 .ensures .0)) in (omega (arith, c .before .before .before .before .before .before .before .before .before .before .before .before .before .before .before .before .before .before .before .before .before .before .before .pre .0, h .0, h .1), (_, feedback-body-ready (c .before .before .before .before .before .before .before .before .before .before .before .before .before .before .before .before .before .before .before .before .before .before .before .pre .1 .0 .1) (c .before .before .before .before .before .before .before .before .before .before .before .before .before .before .before .before .before .before .before .before .before .before .before .pre .1 .1) (c .before .before .before .before .before .before .before .before .before .before .before .before .before .before .before .before .before .before .before .word .ensures .0) (c .before .before .before .word2 .ensures .0) refl (c .before .before .before .before .before .before .before .before .before .before .before .before .before .before .before .before .before .room .ensures) (c .before .before .before .before .before .before .before .before .before .before .before .before .before .enter-value .ensures) (c .before .before .before .before .before .before .before .settle .ensures)))
+of-feedback-eval-requires t c κs = let h = (higher (c .before .before .before .before .before .before .before .before .before .before .before .before .before .before .before .before .before .before .before .before .before .before .before .before .before .pre .1 .0 .1) feedback (c .before .before .before .before .before .before .before .before .before .before .before .before .before .before .before .before .before .before .before .before .before .before .before .before .before .pre .1 .1) 4 refl (unfold askOfKind in refl) (c .before .before .before .before .word2 .ensures .0)) in (omega (arith, c .before .before .before .before .before .before .before .before .before .before .before .before .before .before .before .before .before .before .before .before .before .before .before .before .before .pre .0, h .0, h .1), (_, feedback-body-ready (c .before .before .before .before .before .before .before .before .before .before .before .before .before .before .before .before .before .before .before .before .before .before .before .before .before .pre .1 .0 .1) (c .before .before .before .before .before .before .before .before .before .before .before .before .before .before .before .before .before .before .before .before .before .before .before .before .before .pre .1 .1) (c .before .before .before .before .before .before .before .before .before .before .before .before .before .before .before .before .before .before .before .before .before .word .ensures .0) (c .before .before .before .before .word2 .ensures .0) refl (c .before .before .before .before .before .before .before .before .before .before .before .before .before .before .before .before .before .before .before .room .ensures) (c .before .before .before .before .before .before .before .before .before .before .before .before .before .before .before .enter-value .ensures) (c .before .before .before .before .before .before .before .before .settle .ensures)))
 
 of-feedback-same-length : (t : ℕ) → of-feedback-lts.Need-same-length (of-feedback-claims t) (of-feedback-at t) of-feedback.Post
 of-feedback-same-length t c = search needs
@@ -365,7 +365,7 @@ of-feedback-same-length-2 : (t : ℕ) → of-feedback-lts.Need-same-length-2 (of
 of-feedback-same-length-2 t c = search needs
 
 of-feedback-returns : (t : ℕ) → of-feedback-lts.Need-returns (of-feedback-claims t) (of-feedback-at t) of-feedback.Post
-of-feedback-returns t c = record { done = λ Γ r. feedback-done r (c .before .before .before .before .before .before .before .before .before .before .before .before .before .before .before .before .before .before .before .before .before .before .before .before .before .before .before .before .pre .1 .1) (c .before .before .before .before .before .before .before .before .before .before .before .before .before .before .before .before .before .before .before .before .before .before .before .before .word .ensures .0) (c .before .before .before .before .before .before .before .before .word2 .ensures .0) refl (c .before .before .before .before .before .before .before .before .before .before .before .before .before .before .before .before .before .before .before .before .before .before .room .ensures) (c .before .before .before .before .before .before .before .before .before .before .before .before .before .before .before .before .before .before .enter-value .ensures) (c .before .before .before .before .before .before .before .before .before .before .before .before .settle .ensures) (c .before .before .before .before .eval .ensures) }
+of-feedback-returns t c = record { done = λ Γ r. feedback-done r (c .before .before .before .before .before .before .before .before .before .before .before .before .before .before .before .before .before .before .before .before .before .before .before .before .before .before .before .before .before .before .pre .1 .1) (c .before .before .before .before .before .before .before .before .before .before .before .before .before .before .before .before .before .before .before .before .before .before .before .before .before .before .word .ensures .0) (c .before .before .before .before .before .before .before .before .before .word2 .ensures .0) refl (c .before .before .before .before .before .before .before .before .before .before .before .before .before .before .before .before .before .before .before .before .before .before .before .before .room .ensures) (c .before .before .before .before .before .before .before .before .before .before .before .before .before .before .before .before .before .before .before .before .enter-value .ensures) (c .before .before .before .before .before .before .before .before .before .before .before .before .before .settle .ensures) (c .before .before .before .before .eval .ensures) }
 
 of-first-word-requires : (t : ℕ) → of-first-lts.Need-word-requires (of-first-claims t) (of-first-at t) of-first.Post
 of-first-word-requires t c κs = ready-word (c .before .before .before .pre .1 .0 .1) (omega arith)
@@ -386,10 +386,10 @@ of-first-part-whole-start : (t : ℕ) → of-first-lts.Need-part-whole-start (of
 of-first-part-whole-start t c = from-none _
 
 of-first-part-whole-end : (t : ℕ) → of-first-lts.Need-part-whole-end (of-first-claims t) (of-first-at t) of-first.Post
-of-first-part-whole-end t c = fits-room (c .before .before .before .before .before .before .before .before .pre .1 .0 .1) (first-scope (c .before .before .before .before .before .before .before .before .pre .1 .0 .1) (c .before .before .before .before .before .before .before .before .pre .1 .1) (c .before .before .before .before .word .ensures .0) refl refl) refl (c .before .before .room .ensures)
+of-first-part-whole-end t c = fits-room (c .before .before .before .before .before .before .before .before .before .pre .1 .0 .1) (first-scope (c .before .before .before .before .before .before .before .before .before .pre .1 .0 .1) (c .before .before .before .before .before .before .before .before .before .pre .1 .1) (c .before .before .before .before .before .word .ensures .0) refl refl) refl (c .before .before .before .room .ensures)
 
 of-first-eval-requires : (t : ℕ) → of-first-lts.Need-eval-requires (of-first-claims t) (of-first-at t) of-first.Post
-of-first-eval-requires t c κs = let h = (higher (c .before .before .before .before .before .before .before .before .before .pre .1 .0 .1) first (c .before .before .before .before .before .before .before .before .before .pre .1 .1) 2 refl (unfold askOfKind in refl) (c .before .before .before .before .before .word .ensures .0)) in (omega (arith, c .before .before .before .before .before .before .before .before .before .pre .0, h .0, h .1), (c .before .before .before .before .before .before .before .before .before .pre .1 .0 .0, room-ready (c .before .before .before .before .before .before .before .before .before .pre .1 .0 .1) (first-scope (c .before .before .before .before .before .before .before .before .before .pre .1 .0 .1) (c .before .before .before .before .before .before .before .before .before .pre .1 .1) (c .before .before .before .before .before .word .ensures .0) refl refl) refl (c .before .before .before .room .ensures)))
+of-first-eval-requires t c κs = let h = (higher (c .before .before .before .before .before .before .before .before .before .before .pre .1 .0 .1) first (c .before .before .before .before .before .before .before .before .before .before .pre .1 .1) 2 refl (unfold askOfKind in refl) (c .before .before .before .before .before .before .word .ensures .0)) in (omega (arith, c .before .before .before .before .before .before .before .before .before .before .pre .0, h .0, h .1), (c .before .before .before .before .before .before .before .before .before .before .pre .1 .0 .0, room-ready (c .before .before .before .before .before .before .before .before .before .before .pre .1 .0 .1) (first-scope (c .before .before .before .before .before .before .before .before .before .before .pre .1 .0 .1) (c .before .before .before .before .before .before .before .before .before .before .pre .1 .1) (c .before .before .before .before .before .before .word .ensures .0) refl refl) refl (c .before .before .before .before .room .ensures)))
 
 of-first-sub-put : (t : ℕ) → of-first-lts.Need-sub-put (of-first-claims t) (of-first-at t) of-first.Post
 of-first-sub-put t c = from-none _
@@ -398,10 +398,10 @@ of-first-part-put-start : (t : ℕ) → of-first-lts.Need-part-put-start (of-fir
 of-first-part-put-start t c = from-none _
 
 of-first-part-put-end : (t : ℕ) → of-first-lts.Need-part-put-end (of-first-claims t) (of-first-at t) of-first.Post
-of-first-part-put-end t c = first-inside (c .before .before .before .before .before .before .before .before .before .before .before .before .before .before .pre .1 .0 .1) (c .before .before .before .before .before .before .before .before .before .before .before .before .before .before .pre .1 .1) (c .before .before .before .before .before .before .before .before .before .before .word .ensures .0) refl (c .before .before .before .before .before .before .before .before .room .ensures) (c .before .before .before .before .eval .ensures)
+of-first-part-put-end t c = first-inside (c .before .before .before .before .before .before .before .before .before .before .before .before .before .before .before .pre .1 .0 .1) (c .before .before .before .before .before .before .before .before .before .before .before .before .before .before .before .pre .1 .1) (c .before .before .before .before .before .before .before .before .before .before .before .word .ensures .0) refl (c .before .before .before .before .before .before .before .before .before .room .ensures) (c .before .before .before .before .eval .ensures)
 
 of-first-put-requires : (t : ℕ) → of-first-lts.Need-put-requires (of-first-claims t) (of-first-at t) of-first.Post
-of-first-put-requires t c κs = let l = first-fits (c .before .before .before .before .before .before .before .before .before .before .before .before .before .before .before .before .pre .1 .0 .1) (c .before .before .before .before .before .before .before .before .before .before .before .before .before .before .before .before .pre .1 .1) (c .before .before .before .before .before .before .before .before .before .before .before .before .word .ensures .0) refl (c .before .before .before .before .before .before .before .before .before .before .room .ensures) (c .before .before .before .before .before .before .eval .ensures) in omega arith
+of-first-put-requires t c κs = let l = first-fits (c .before .before .before .before .before .before .before .before .before .before .before .before .before .before .before .before .before .pre .1 .0 .1) (c .before .before .before .before .before .before .before .before .before .before .before .before .before .before .before .before .before .pre .1 .1) (c .before .before .before .before .before .before .before .before .before .before .before .before .before .word .ensures .0) refl (c .before .before .before .before .before .before .before .before .before .before .before .room .ensures) (c .before .before .before .before .before .before .eval .ensures) in omega arith
 
 of-first-same-length : (t : ℕ) → of-first-lts.Need-same-length (of-first-claims t) (of-first-at t) of-first.Post
 of-first-same-length t c = search needs
@@ -410,7 +410,7 @@ of-first-same-length-2 : (t : ℕ) → of-first-lts.Need-same-length-2 (of-first
 of-first-same-length-2 t c = search needs
 
 of-first-returns : (t : ℕ) → of-first-lts.Need-returns (of-first-claims t) (of-first-at t) of-first.Post
-of-first-returns t c = record { done = λ Γ r. first-done r (c .before .before .before .before .before .before .before .before .before .before .before .before .before .before .before .before .before .before .before .pre .1 .1) (c .before .before .before .before .before .before .before .before .before .before .before .before .before .before .before .word .ensures .0) refl (c .before .before .before .before .before .before .before .before .before .before .before .before .before .room .ensures) (c .before .before .before .before .before .before .before .before .before .eval .ensures) (c .before .before .put .ensures) }
+of-first-returns t c = record { done = λ Γ r. first-done r (c .before .before .before .before .before .before .before .before .before .before .before .before .before .before .before .before .before .before .before .before .pre .1 .1) (c .before .before .before .before .before .before .before .before .before .before .before .before .before .before .before .before .word .ensures .0) refl (c .before .before .before .before .before .before .before .before .before .before .before .before .before .before .room .ensures) (c .before .before .before .before .before .before .before .before .before .eval .ensures) (c .before .before .put .ensures) }
 
 of-if-word-requires : (t : ℕ) → of-if-lts.Need-word-requires (of-if-claims t) (of-if-at t) of-if.Post
 of-if-word-requires t c κs = ready-word (c .before .before .before .pre .1 .0 .1) (omega arith)
@@ -431,19 +431,19 @@ of-if-part-tested-start : (t : ℕ) → of-if-lts.Need-part-tested-start (of-if-
 of-if-part-tested-start t c = from-none _
 
 of-if-part-tested-end : (t : ℕ) → of-if-lts.Need-part-tested-end (of-if-claims t) (of-if-at t) of-if.Post
-of-if-part-tested-end t c = fits-room (c .before .before .before .before .before .before .before .before .pre .1 .0 .1) (tested-scope (c .before .before .before .before .before .before .before .before .pre .1 .0 .1) (c .before .before .before .before .before .before .before .before .pre .1 .1) (c .before .before .before .before .word .ensures .0) refl refl refl refl refl) refl (c .before .before .room .ensures)
+of-if-part-tested-end t c = fits-room (c .before .before .before .before .before .before .before .before .before .pre .1 .0 .1) (tested-scope (c .before .before .before .before .before .before .before .before .before .pre .1 .0 .1) (c .before .before .before .before .before .before .before .before .before .pre .1 .1) (c .before .before .before .before .before .word .ensures .0) refl refl refl refl refl) refl (c .before .before .before .room .ensures)
 
 of-if-eval-requires : (t : ℕ) → of-if-lts.Need-eval-requires (of-if-claims t) (of-if-at t) of-if.Post
-of-if-eval-requires t c κs = let h = (higher (c .before .before .before .before .before .before .before .before .before .pre .1 .0 .1) ifMatches (c .before .before .before .before .before .before .before .before .before .pre .1 .1) 2 refl (unfold askOfKind in refl) (c .before .before .before .before .before .word .ensures .0)) in (omega (arith, c .before .before .before .before .before .before .before .before .before .pre .0, h .0, h .1), (c .before .before .before .before .before .before .before .before .before .pre .1 .0 .0, room-ready (c .before .before .before .before .before .before .before .before .before .pre .1 .0 .1) (tested-scope (c .before .before .before .before .before .before .before .before .before .pre .1 .0 .1) (c .before .before .before .before .before .before .before .before .before .pre .1 .1) (c .before .before .before .before .before .word .ensures .0) refl refl refl refl refl) refl (c .before .before .before .room .ensures)))
+of-if-eval-requires t c κs = let h = (higher (c .before .before .before .before .before .before .before .before .before .before .pre .1 .0 .1) ifMatches (c .before .before .before .before .before .before .before .before .before .before .pre .1 .1) 2 refl (unfold askOfKind in refl) (c .before .before .before .before .before .before .word .ensures .0)) in (omega (arith, c .before .before .before .before .before .before .before .before .before .before .pre .0, h .0, h .1), (c .before .before .before .before .before .before .before .before .before .before .pre .1 .0 .0, room-ready (c .before .before .before .before .before .before .before .before .before .before .pre .1 .0 .1) (tested-scope (c .before .before .before .before .before .before .before .before .before .before .pre .1 .0 .1) (c .before .before .before .before .before .before .before .before .before .before .pre .1 .1) (c .before .before .before .before .before .before .word .ensures .0) refl refl refl refl refl) refl (c .before .before .before .before .room .ensures)))
 
 of-if-word-requires-2 : (t : ℕ) → of-if-lts.Need-word-requires-2 (of-if-claims t) (of-if-at t) of-if.Post
-of-if-word-requires-2 t c κs = ready-word (c .before .before .before .before .before .before .before .before .before .before .before .before .before .pre .1 .0 .1) (omega arith)
+of-if-word-requires-2 t c κs = ready-word (c .before .before .before .before .before .before .before .before .before .before .before .before .before .before .pre .1 .0 .1) (omega arith)
 
 of-if-eval-requires-2 : (t : ℕ) → of-if-lts.Need-eval-requires-2 (of-if-claims t) (of-if-at t) of-if.Post
-of-if-eval-requires-2 t c κs = let h = (higher (c .before .before .before .before .before .before .before .before .before .before .before .before .before .before .before .before .before .pre .1 .0 .1) ifMatches (c .before .before .before .before .before .before .before .before .before .before .before .before .before .before .before .before .before .pre .1 .1) 3 refl (unfold askOfKind in refl) (c .before .before .before .word2 .ensures .0)) in (omega (arith, c .before .before .before .before .before .before .before .before .before .before .before .before .before .before .before .before .before .pre .0, h .0, h .1), (c .before .before .before .before .before .before .before .before .before .before .before .before .before .before .before .before .before .pre .1 .0 .0, then-ready (c .before .before .before .before .before .before .before .before .before .before .before .before .before .before .before .before .before .pre .1 .0 .1) (c .before .before .before .before .before .before .before .before .before .before .before .before .before .before .before .before .before .pre .1 .1) (c .before .before .before .before .before .before .before .before .before .before .before .before .before .word .ensures .0) (c .before .before .before .word2 .ensures .0) refl refl refl (c .before .before .before .before .before .before .before .before .before .before .before .room .ensures) (c .before .before .before .before .before .before .before .eval .ensures)))
+of-if-eval-requires-2 t c κs = let h = (higher (c .before .before .before .before .before .before .before .before .before .before .before .before .before .before .before .before .before .before .before .pre .1 .0 .1) ifMatches (c .before .before .before .before .before .before .before .before .before .before .before .before .before .before .before .before .before .before .before .pre .1 .1) 3 refl (unfold askOfKind in refl) (c .before .before .before .before .word2 .ensures .0)) in (omega (arith, c .before .before .before .before .before .before .before .before .before .before .before .before .before .before .before .before .before .before .before .pre .0, h .0, h .1), (c .before .before .before .before .before .before .before .before .before .before .before .before .before .before .before .before .before .before .before .pre .1 .0 .0, then-ready (c .before .before .before .before .before .before .before .before .before .before .before .before .before .before .before .before .before .before .before .pre .1 .0 .1) (c .before .before .before .before .before .before .before .before .before .before .before .before .before .before .before .before .before .before .before .pre .1 .1) (c .before .before .before .before .before .before .before .before .before .before .before .before .before .before .before .word .ensures .0) (c .before .before .before .before .word2 .ensures .0) refl refl refl (c .before .before .before .before .before .before .before .before .before .before .before .before .before .room .ensures) (c .before .before .before .before .before .before .before .before .eval .ensures)))
 
 of-if-word-requires-3 : (t : ℕ) → of-if-lts.Need-word-requires-3 (of-if-claims t) (of-if-at t) of-if.Post
-of-if-word-requires-3 t c κs = ready-word (c .before .before .before .before .before .before .before .before .before .before .before .before .before .before .before .before .before .before .before .before .before .before .pre .1 .0 .1) (omega arith)
+of-if-word-requires-3 t c κs = ready-word (c .before .before .before .before .before .before .before .before .before .before .before .before .before .before .before .before .before .before .before .before .before .before .before .before .pre .1 .0 .1) (omega arith)
 
 of-if-room-requires-2 : (t : ℕ) → of-if-lts.Need-room-requires-2 (of-if-claims t) (of-if-at t) of-if.Post
 of-if-room-requires-2 t c κs = tt
@@ -455,13 +455,13 @@ of-if-part-otherwise-start : (t : ℕ) → of-if-lts.Need-part-otherwise-start (
 of-if-part-otherwise-start t c = from-none _
 
 of-if-part-otherwise-end : (t : ℕ) → of-if-lts.Need-part-otherwise-end (of-if-claims t) (of-if-at t) of-if.Post
-of-if-part-otherwise-end t c = else-fits (c .before .before .before .before .before .before .before .before .before .before .before .before .before .before .before .before .before .before .before .before .before .before .before .before .before .before .pre .1 .0 .1) (c .before .before .before .before .before .before .before .before .before .before .before .before .before .before .before .before .before .before .before .before .before .before .before .before .before .before .pre .1 .1) (c .before .before .before .before .before .before .before .before .before .before .before .before .before .before .before .before .before .before .before .before .before .before .word .ensures .0) (c .before .before .before .before .before .before .before .before .before .before .before .before .word2 .ensures .0) (c .before .before .before .word3 .ensures .0) refl refl (c .before .before .before .before .before .before .before .before .before .before .before .before .before .before .before .before .before .before .before .before .room .ensures) (c .before .before .before .before .before .before .before .before .before .before .before .before .before .before .before .before .eval .ensures) (c .before .before .before .before .before .before .before .before .eval2 .ensures) (c .before .before .room2 .ensures)
+of-if-part-otherwise-end t c = else-fits (c .before .before .before .before .before .before .before .before .before .before .before .before .before .before .before .before .before .before .before .before .before .before .before .before .before .before .before .before .before .pre .1 .0 .1) (c .before .before .before .before .before .before .before .before .before .before .before .before .before .before .before .before .before .before .before .before .before .before .before .before .before .before .before .before .before .pre .1 .1) (c .before .before .before .before .before .before .before .before .before .before .before .before .before .before .before .before .before .before .before .before .before .before .before .before .before .word .ensures .0) (c .before .before .before .before .before .before .before .before .before .before .before .before .before .before .word2 .ensures .0) (c .before .before .before .before .word3 .ensures .0) refl refl (c .before .before .before .before .before .before .before .before .before .before .before .before .before .before .before .before .before .before .before .before .before .before .before .room .ensures) (c .before .before .before .before .before .before .before .before .before .before .before .before .before .before .before .before .before .before .eval .ensures) (c .before .before .before .before .before .before .before .before .before .eval2 .ensures) (c .before .before .before .room2 .ensures)
 
 of-if-eval-requires-3 : (t : ℕ) → of-if-lts.Need-eval-requires-3 (of-if-claims t) (of-if-at t) of-if.Post
-of-if-eval-requires-3 t c κs = let h = (higher (c .before .before .before .before .before .before .before .before .before .before .before .before .before .before .before .before .before .before .before .before .before .before .before .before .before .before .before .pre .1 .0 .1) ifMatches (c .before .before .before .before .before .before .before .before .before .before .before .before .before .before .before .before .before .before .before .before .before .before .before .before .before .before .before .pre .1 .1) 4 refl (unfold askOfKind in refl) (c .before .before .before .before .word3 .ensures .0)) in (omega (arith, c .before .before .before .before .before .before .before .before .before .before .before .before .before .before .before .before .before .before .before .before .before .before .before .before .before .before .before .pre .0, h .0, h .1), (c .before .before .before .before .before .before .before .before .before .before .before .before .before .before .before .before .before .before .before .before .before .before .before .before .before .before .before .pre .1 .0 .0, else-ready (c .before .before .before .before .before .before .before .before .before .before .before .before .before .before .before .before .before .before .before .before .before .before .before .before .before .before .before .pre .1 .0 .1) (c .before .before .before .before .before .before .before .before .before .before .before .before .before .before .before .before .before .before .before .before .before .before .before .before .before .before .before .pre .1 .1) (c .before .before .before .before .before .before .before .before .before .before .before .before .before .before .before .before .before .before .before .before .before .before .before .word .ensures .0) (c .before .before .before .before .before .before .before .before .before .before .before .before .before .word2 .ensures .0) (c .before .before .before .before .word3 .ensures .0) refl refl (c .before .before .before .before .before .before .before .before .before .before .before .before .before .before .before .before .before .before .before .before .before .room .ensures) (c .before .before .before .before .before .before .before .before .before .before .before .before .before .before .before .before .before .eval .ensures) (c .before .before .before .before .before .before .before .before .before .eval2 .ensures) (c .before .before .before .room2 .ensures)))
+of-if-eval-requires-3 t c κs = let h = (higher (c .before .before .before .before .before .before .before .before .before .before .before .before .before .before .before .before .before .before .before .before .before .before .before .before .before .before .before .before .before .before .pre .1 .0 .1) ifMatches (c .before .before .before .before .before .before .before .before .before .before .before .before .before .before .before .before .before .before .before .before .before .before .before .before .before .before .before .before .before .before .pre .1 .1) 4 refl (unfold askOfKind in refl) (c .before .before .before .before .before .word3 .ensures .0)) in (omega (arith, c .before .before .before .before .before .before .before .before .before .before .before .before .before .before .before .before .before .before .before .before .before .before .before .before .before .before .before .before .before .before .pre .0, h .0, h .1), (c .before .before .before .before .before .before .before .before .before .before .before .before .before .before .before .before .before .before .before .before .before .before .before .before .before .before .before .before .before .before .pre .1 .0 .0, else-ready (c .before .before .before .before .before .before .before .before .before .before .before .before .before .before .before .before .before .before .before .before .before .before .before .before .before .before .before .before .before .before .pre .1 .0 .1) (c .before .before .before .before .before .before .before .before .before .before .before .before .before .before .before .before .before .before .before .before .before .before .before .before .before .before .before .before .before .before .pre .1 .1) (c .before .before .before .before .before .before .before .before .before .before .before .before .before .before .before .before .before .before .before .before .before .before .before .before .before .before .word .ensures .0) (c .before .before .before .before .before .before .before .before .before .before .before .before .before .before .before .word2 .ensures .0) (c .before .before .before .before .before .word3 .ensures .0) refl refl (c .before .before .before .before .before .before .before .before .before .before .before .before .before .before .before .before .before .before .before .before .before .before .before .before .room .ensures) (c .before .before .before .before .before .before .before .before .before .before .before .before .before .before .before .before .before .before .before .eval .ensures) (c .before .before .before .before .before .before .before .before .before .before .eval2 .ensures) (c .before .before .before .before .room2 .ensures)))
 
 of-if-word-requires-4 : (t : ℕ) → of-if-lts.Need-word-requires-4 (of-if-claims t) (of-if-at t) of-if.Post
-of-if-word-requires-4 t c κs = ready-word (c .before .before .before .before .before .before .before .before .before .before .before .before .before .before .before .before .before .before .before .before .before .before .before .before .before .before .before .before .before .before .before .pre .1 .0 .1) (omega arith)
+of-if-word-requires-4 t c κs = ready-word (c .before .before .before .before .before .before .before .before .before .before .before .before .before .before .before .before .before .before .before .before .before .before .before .before .before .before .before .before .before .before .before .before .before .before .pre .1 .0 .1) (omega arith)
 
 of-if-sub-choose-value : (t : ℕ) → of-if-lts.Need-sub-choose-value (of-if-claims t) (of-if-at t) of-if.Post
 of-if-sub-choose-value t c = from-none _
@@ -470,7 +470,7 @@ of-if-part-choose-value-start : (t : ℕ) → of-if-lts.Need-part-choose-value-s
 of-if-part-choose-value-start t c = from-none _
 
 of-if-part-choose-value-end : (t : ℕ) → of-if-lts.Need-part-choose-value-end (of-if-claims t) (of-if-at t) of-if.Post
-of-if-part-choose-value-end t c = tested-inside (c .before .before .before .before .before .before .before .before .before .before .before .before .before .before .before .before .before .before .before .before .before .before .before .before .before .before .before .before .before .before .before .before .before .pre .1 .0 .1) (c .before .before .before .before .before .before .before .before .before .before .before .before .before .before .before .before .before .before .before .before .before .before .before .before .before .before .before .before .before .before .before .before .before .pre .1 .1) (c .before .before .before .before .before .before .before .before .before .before .before .before .before .before .before .before .before .before .before .before .before .before .before .before .before .before .before .before .before .word .ensures .0) (c .before .before .before .before .before .before .before .before .before .before .before .before .before .before .before .before .before .before .before .word2 .ensures .0) (c .before .before .before .before .before .before .before .before .before .before .word3 .ensures .0) (c .before .word4 .ensures .0) refl (c .before .before .before .before .before .before .before .before .before .before .before .before .before .before .before .before .before .before .before .before .before .before .before .before .before .before .before .room .ensures) (c .before .before .before .before .before .before .before .before .before .before .before .before .before .before .before .before .before .before .before .before .before .before .before .eval .ensures) (c .before .before .before .before .before .before .before .before .before .before .before .before .before .before .before .eval2 .ensures) (c .before .before .before .before .before .before .before .before .before .room2 .ensures) (c .before .before .before .before .before .eval3 .ensures)
+of-if-part-choose-value-end t c = tested-inside (c .before .before .before .before .before .before .before .before .before .before .before .before .before .before .before .before .before .before .before .before .before .before .before .before .before .before .before .before .before .before .before .before .before .before .before .before .pre .1 .0 .1) (c .before .before .before .before .before .before .before .before .before .before .before .before .before .before .before .before .before .before .before .before .before .before .before .before .before .before .before .before .before .before .before .before .before .before .before .before .pre .1 .1) (c .before .before .before .before .before .before .before .before .before .before .before .before .before .before .before .before .before .before .before .before .before .before .before .before .before .before .before .before .before .before .before .before .word .ensures .0) (c .before .before .before .before .before .before .before .before .before .before .before .before .before .before .before .before .before .before .before .before .before .word2 .ensures .0) (c .before .before .before .before .before .before .before .before .before .before .before .word3 .ensures .0) (c .before .word4 .ensures .0) refl (c .before .before .before .before .before .before .before .before .before .before .before .before .before .before .before .before .before .before .before .before .before .before .before .before .before .before .before .before .before .before .room .ensures) (c .before .before .before .before .before .before .before .before .before .before .before .before .before .before .before .before .before .before .before .before .before .before .before .before .before .eval .ensures) (c .before .before .before .before .before .before .before .before .before .before .before .before .before .before .before .before .eval2 .ensures) (c .before .before .before .before .before .before .before .before .before .before .room2 .ensures) (c .before .before .before .before .before .eval3 .ensures)
 
 of-if-sub-choose-value-2 : (t : ℕ) → of-if-lts.Need-sub-choose-value-2 (of-if-claims t) (of-if-at t) of-if.Post
 of-if-sub-choose-value-2 t c = from-none _
@@ -479,19 +479,28 @@ of-if-part-choose-value-start-2 : (t : ℕ) → of-if-lts.Need-part-choose-value
 of-if-part-choose-value-start-2 t c = from-none _
 
 of-if-part-choose-value-end-2 : (t : ℕ) → of-if-lts.Need-part-choose-value-end-2 (of-if-claims t) (of-if-at t) of-if.Post
-of-if-part-choose-value-end-2 t c = otherwise-inside (c .before .before .before .before .before .before .before .before .before .before .before .before .before .before .before .before .before .before .before .before .before .before .before .before .before .before .before .before .before .before .before .before .before .before .before .pre .1 .0 .1) (c .before .before .before .before .before .before .before .before .before .before .before .before .before .before .before .before .before .before .before .before .before .before .before .before .before .before .before .before .before .before .before .before .before .before .before .pre .1 .1) (c .before .before .before .before .before .before .before .before .before .before .before .before .before .before .before .before .before .before .before .before .before .before .before .before .before .before .before .before .before .before .before .word .ensures .0) (c .before .before .before .before .before .before .before .before .before .before .before .before .before .before .before .before .before .before .before .before .before .word2 .ensures .0) (c .before .before .before .before .before .before .before .before .before .before .before .before .word3 .ensures .0) (c .before .before .before .word4 .ensures .0) refl (c .before .before .before .before .before .before .before .before .before .before .before .before .before .before .before .before .before .before .before .before .before .before .before .before .before .before .before .before .before .room .ensures) (c .before .before .before .before .before .before .before .before .before .before .before .before .before .before .before .before .before .before .before .before .before .before .before .before .before .eval .ensures) (c .before .before .before .before .before .before .before .before .before .before .before .before .before .before .before .before .before .eval2 .ensures) (c .before .before .before .before .before .before .before .before .before .before .before .room2 .ensures) (c .before .before .before .before .before .before .before .eval3 .ensures)
+of-if-part-choose-value-end-2 t c = otherwise-inside (c .before .before .before .before .before .before .before .before .before .before .before .before .before .before .before .before .before .before .before .before .before .before .before .before .before .before .before .before .before .before .before .before .before .before .before .before .before .before .pre .1 .0 .1) (c .before .before .before .before .before .before .before .before .before .before .before .before .before .before .before .before .before .before .before .before .before .before .before .before .before .before .before .before .before .before .before .before .before .before .before .before .before .before .pre .1 .1) (c .before .before .before .before .before .before .before .before .before .before .before .before .before .before .before .before .before .before .before .before .before .before .before .before .before .before .before .before .before .before .before .before .before .before .word .ensures .0) (c .before .before .before .before .before .before .before .before .before .before .before .before .before .before .before .before .before .before .before .before .before .before .before .word2 .ensures .0) (c .before .before .before .before .before .before .before .before .before .before .before .before .before .word3 .ensures .0) (c .before .before .before .word4 .ensures .0) refl (c .before .before .before .before .before .before .before .before .before .before .before .before .before .before .before .before .before .before .before .before .before .before .before .before .before .before .before .before .before .before .before .before .room .ensures) (c .before .before .before .before .before .before .before .before .before .before .before .before .before .before .before .before .before .before .before .before .before .before .before .before .before .before .before .eval .ensures) (c .before .before .before .before .before .before .before .before .before .before .before .before .before .before .before .before .before .before .eval2 .ensures) (c .before .before .before .before .before .before .before .before .before .before .before .before .room2 .ensures) (c .before .before .before .before .before .before .before .eval3 .ensures)
 
 of-if-choose-value-requires : (t : ℕ) → of-if-lts.Need-choose-value-requires (of-if-claims t) (of-if-at t) of-if.Post
-of-if-choose-value-requires t c κs = (pattern-matched (c .before .before .before .before .before .before .before .before .before .before .before .before .before .before .before .before .before .before .before .before .before .before .before .before .before .before .before .before .before .before .before .before .before .before .before .before .before .pre .1 .0 .1) (c .before .before .before .before .before .before .before .before .before .before .before .before .before .before .before .before .before .before .before .before .before .before .before .before .before .before .before .before .before .before .before .before .before .before .before .before .before .pre .1 .1) (c .before .before .before .before .before .before .before .before .before .before .before .before .before .before .before .before .before .before .before .before .before .before .before .before .before .before .before .before .before .before .before .before .before .word .ensures .0) (c .before .before .before .before .before .before .before .before .before .before .before .before .before .before .before .before .before .before .before .before .before .before .before .word2 .ensures .0) (c .before .before .before .before .before .before .before .before .before .before .before .before .before .before .word3 .ensures .0) (c .before .before .before .before .before .word4 .ensures .0) refl (c .before .before .before .before .before .before .before .before .before .before .before .before .before .before .before .before .before .before .before .before .before .before .before .before .before .before .before .before .before .before .before .room .ensures) (c .before .before .before .before .before .before .before .before .before .before .before .before .before .before .before .before .before .before .before .before .before .before .before .before .before .before .before .eval .ensures) (c .before .before .before .before .before .before .before .before .before .before .before .before .before .before .before .before .before .before .before .eval2 .ensures) (c .before .before .before .before .before .before .before .before .before .before .before .before .before .room2 .ensures) (c .before .before .before .before .before .before .before .before .before .eval3 .ensures), as-long (c .before .before .before .before .before .before .before .before .before .before .before .before .before .before .before .before .before .before .before .before .before .before .before .before .before .before .before .before .before .before .before .before .before .before .before .before .before .pre .1 .0 .1) (c .before .before .before .before .before .before .before .before .before .before .before .before .before .before .before .before .before .before .before .before .before .before .before .before .before .before .before .before .before .before .before .before .before .before .before .before .before .pre .1 .1) (c .before .before .before .before .before .before .before .before .before .before .before .before .before .before .before .before .before .before .before .before .before .before .before .before .before .before .before .before .before .before .before .before .before .word .ensures .0) (c .before .before .before .before .before .before .before .before .before .before .before .before .before .before .before .before .before .before .before .before .before .before .before .word2 .ensures .0) (c .before .before .before .before .before .before .before .before .before .before .before .before .before .before .word3 .ensures .0) (c .before .before .before .before .before .word4 .ensures .0) refl (c .before .before .before .before .before .before .before .before .before .before .before .before .before .before .before .before .before .before .before .before .before .before .before .before .before .before .before .before .before .before .before .room .ensures) (c .before .before .before .before .before .before .before .before .before .before .before .before .before .before .before .before .before .before .before .before .before .before .before .before .before .before .before .eval .ensures) (c .before .before .before .before .before .before .before .before .before .before .before .before .before .before .before .before .before .before .before .eval2 .ensures) (c .before .before .before .before .before .before .before .before .before .before .before .before .before .room2 .ensures) (c .before .before .before .before .before .before .before .before .before .eval3 .ensures))
+of-if-choose-value-requires t c κs = (pattern-matched (c .before .before .before .before .before .before .before .before .before .before .before .before .before .before .before .before .before .before .before .before .before .before .before .before .before .before .before .before .before .before .before .before .before .before .before .before .before .before .before .before .pre .1 .0 .1) (c .before .before .before .before .before .before .before .before .before .before .before .before .before .before .before .before .before .before .before .before .before .before .before .before .before .before .before .before .before .before .before .before .before .before .before .before .before .before .before .before .pre .1 .1) (c .before .before .before .before .before .before .before .before .before .before .before .before .before .before .before .before .before .before .before .before .before .before .before .before .before .before .before .before .before .before .before .before .before .before .before .before .word .ensures .0) (c .before .before .before .before .before .before .before .before .before .before .before .before .before .before .before .before .before .before .before .before .before .before .before .before .before .word2 .ensures .0) (c .before .before .before .before .before .before .before .before .before .before .before .before .before .before .before .word3 .ensures .0) (c .before .before .before .before .before .word4 .ensures .0) refl (c .before .before .before .before .before .before .before .before .before .before .before .before .before .before .before .before .before .before .before .before .before .before .before .before .before .before .before .before .before .before .before .before .before .before .room .ensures) (c .before .before .before .before .before .before .before .before .before .before .before .before .before .before .before .before .before .before .before .before .before .before .before .before .before .before .before .before .before .eval .ensures) (c .before .before .before .before .before .before .before .before .before .before .before .before .before .before .before .before .before .before .before .before .eval2 .ensures) (c .before .before .before .before .before .before .before .before .before .before .before .before .before .before .room2 .ensures) (c .before .before .before .before .before .before .before .before .before .eval3 .ensures), as-long (c .before .before .before .before .before .before .before .before .before .before .before .before .before .before .before .before .before .before .before .before .before .before .before .before .before .before .before .before .before .before .before .before .before .before .before .before .before .before .before .before .pre .1 .0 .1) (c .before .before .before .before .before .before .before .before .before .before .before .before .before .before .before .before .before .before .before .before .before .before .before .before .before .before .before .before .before .before .before .before .before .before .before .before .before .before .before .before .pre .1 .1) (c .before .before .before .before .before .before .before .before .before .before .before .before .before .before .before .before .before .before .before .before .before .before .before .before .before .before .before .before .before .before .before .before .before .before .before .before .word .ensures .0) (c .before .before .before .before .before .before .before .before .before .before .before .before .before .before .before .before .before .before .before .before .before .before .before .before .before .word2 .ensures .0) (c .before .before .before .before .before .before .before .before .before .before .before .before .before .before .before .word3 .ensures .0) (c .before .before .before .before .before .word4 .ensures .0) refl (c .before .before .before .before .before .before .before .before .before .before .before .before .before .before .before .before .before .before .before .before .before .before .before .before .before .before .before .before .before .before .before .before .before .before .room .ensures) (c .before .before .before .before .before .before .before .before .before .before .before .before .before .before .before .before .before .before .before .before .before .before .before .before .before .before .before .before .before .eval .ensures) (c .before .before .before .before .before .before .before .before .before .before .before .before .before .before .before .before .before .before .before .before .eval2 .ensures) (c .before .before .before .before .before .before .before .before .before .before .before .before .before .before .room2 .ensures) (c .before .before .before .before .before .before .before .before .before .eval3 .ensures))
+
+of-if-cast-fired : (t : ℕ) → of-if-lts.Need-cast-fired (of-if-claims t) (of-if-at t) of-if.Post
+of-if-cast-fired t c = let f = c .before .before .choose-value .ensures .few in omega arith
+
+of-if-mul-fired : (t : ℕ) → of-if-lts.Need-mul-fired (of-if-claims t) (of-if-at t) of-if.Post
+of-if-mul-fired t c = let h = ready-low (c .before .before .before .before .before .before .before .before .before .before .before .before .before .before .before .before .before .before .before .before .before .before .before .before .before .before .before .before .before .before .before .before .before .before .before .before .before .before .before .before .before .before .before .pre .1 .0 .1) in omega arith
+
+of-if-element-write-fired : (t : ℕ) → of-if-lts.Need-element-write-fired (of-if-claims t) (of-if-at t) of-if.Post
+of-if-element-write-fired t c = ready-low (c .before .before .before .before .before .before .before .before .before .before .before .before .before .before .before .before .before .before .before .before .before .before .before .before .before .before .before .before .before .before .before .before .before .before .before .before .before .before .before .before .before .before .before .pre .1 .0 .1)
 
 of-if-same-length : (t : ℕ) → of-if-lts.Need-same-length (of-if-claims t) (of-if-at t) of-if.Post
-of-if-same-length t c = if-wide (c .before .before .before .before .before .before .before .before .before .before .before .before .before .before .before .before .before .before .before .before .before .before .before .before .before .before .before .before .before .before .before .before .before .before .before .before .before .before .before .before .pre .1 .0 .1) (c .before .before .before .before .before .before .before .before .before .before .before .before .before .before .before .before .before .before .before .before .before .before .before .before .before .before .before .before .before .before .before .before .before .before .before .before .before .before .before .before .pre .1 .1) (c .before .before .before .before .before .before .before .before .before .before .before .before .before .before .before .before .before .before .before .before .before .before .before .before .before .before .before .before .before .before .before .before .before .before .before .before .word .ensures .0) (c .before .before .before .before .before .before .before .before .before .before .before .before .before .before .before .before .before .before .before .before .before .before .before .before .before .before .word2 .ensures .0) (c .before .before .before .before .before .before .before .before .before .before .before .before .before .before .before .before .before .word3 .ensures .0) (c .before .before .before .before .before .before .before .before .word4 .ensures .0) refl (c .before .before .before .before .before .before .before .before .before .before .before .before .before .before .before .before .before .before .before .before .before .before .before .before .before .before .before .before .before .before .before .before .before .before .room .ensures) (c .before .before .before .before .before .before .before .before .before .before .before .before .before .before .before .before .before .before .before .before .before .before .before .before .before .before .before .before .before .before .eval .ensures) (c .before .before .before .before .before .before .before .before .before .before .before .before .before .before .before .before .before .before .before .before .before .before .eval2 .ensures) (c .before .before .before .before .before .before .before .before .before .before .before .before .before .before .before .before .room2 .ensures) (c .before .before .before .before .before .before .before .before .before .before .before .before .eval3 .ensures)
+of-if-same-length t c = if-wide (c .before .before .before .before .before .before .before .before .before .before .before .before .before .before .before .before .before .before .before .before .before .before .before .before .before .before .before .before .before .before .before .before .before .before .before .before .before .before .before .before .before .before .before .pre .1 .0 .1) (c .before .before .before .before .before .before .before .before .before .before .before .before .before .before .before .before .before .before .before .before .before .before .before .before .before .before .before .before .before .before .before .before .before .before .before .before .before .before .before .before .before .before .before .pre .1 .1) (c .before .before .before .before .before .before .before .before .before .before .before .before .before .before .before .before .before .before .before .before .before .before .before .before .before .before .before .before .before .before .before .before .before .before .before .before .before .before .before .word .ensures .0) (c .before .before .before .before .before .before .before .before .before .before .before .before .before .before .before .before .before .before .before .before .before .before .before .before .before .before .before .before .word2 .ensures .0) (c .before .before .before .before .before .before .before .before .before .before .before .before .before .before .before .before .before .before .word3 .ensures .0) (c .before .before .before .before .before .before .before .before .word4 .ensures .0) refl (c .before .before .before .before .before .before .before .before .before .before .before .before .before .before .before .before .before .before .before .before .before .before .before .before .before .before .before .before .before .before .before .before .before .before .before .before .before .room .ensures) (c .before .before .before .before .before .before .before .before .before .before .before .before .before .before .before .before .before .before .before .before .before .before .before .before .before .before .before .before .before .before .before .before .eval .ensures) (c .before .before .before .before .before .before .before .before .before .before .before .before .before .before .before .before .before .before .before .before .before .before .before .eval2 .ensures) (c .before .before .before .before .before .before .before .before .before .before .before .before .before .before .before .before .before .room2 .ensures) (c .before .before .before .before .before .before .before .before .before .before .before .before .eval3 .ensures)
 
 of-if-same-length-2 : (t : ℕ) → of-if-lts.Need-same-length-2 (of-if-claims t) (of-if-at t) of-if.Post
 of-if-same-length-2 t c = search needs
 
 of-if-returns : (t : ℕ) → of-if-lts.Need-returns (of-if-claims t) (of-if-at t) of-if.Post
-of-if-returns t c = record { done = λ Γ r. if-done r (c .before .before .before .before .before .before .before .before .before .before .before .before .before .before .before .before .before .before .before .before .before .before .before .before .before .before .before .before .before .before .before .before .before .before .before .before .before .before .before .before .pre .1 .1) (c .before .before .before .before .before .before .before .before .before .before .before .before .before .before .before .before .before .before .before .before .before .before .before .before .before .before .before .before .before .before .before .before .before .before .before .before .word .ensures .0) (c .before .before .before .before .before .before .before .before .before .before .before .before .before .before .before .before .before .before .before .before .before .before .before .before .before .before .word2 .ensures .0) (c .before .before .before .before .before .before .before .before .before .before .before .before .before .before .before .before .before .word3 .ensures .0) (c .before .before .before .before .before .before .before .before .word4 .ensures .0) refl (c .before .before .before .before .before .before .before .before .before .before .before .before .before .before .before .before .before .before .before .before .before .before .before .before .before .before .before .before .before .before .before .before .before .before .room .ensures) (c .before .before .before .before .before .before .before .before .before .before .before .before .before .before .before .before .before .before .before .before .before .before .before .before .before .before .before .before .before .before .eval .ensures) (c .before .before .before .before .before .before .before .before .before .before .before .before .before .before .before .before .before .before .before .before .before .before .eval2 .ensures) (c .before .before .before .before .before .before .before .before .before .before .before .before .before .before .before .before .room2 .ensures) (c .before .before .before .before .before .before .before .before .before .before .before .before .eval3 .ensures) (c .before .before .choose-value .ensures) }
+of-if-returns t c = record { done = λ Γ r. if-done r (c .before .before .before .before .before .before .before .before .before .before .before .before .before .before .before .before .before .before .before .before .before .before .before .before .before .before .before .before .before .before .before .before .before .before .before .before .before .before .before .before .before .before .before .pre .1 .1) (c .before .before .before .before .before .before .before .before .before .before .before .before .before .before .before .before .before .before .before .before .before .before .before .before .before .before .before .before .before .before .before .before .before .before .before .before .before .before .before .word .ensures .0) (c .before .before .before .before .before .before .before .before .before .before .before .before .before .before .before .before .before .before .before .before .before .before .before .before .before .before .before .before .word2 .ensures .0) (c .before .before .before .before .before .before .before .before .before .before .before .before .before .before .before .before .before .before .word3 .ensures .0) (c .before .before .before .before .before .before .before .before .word4 .ensures .0) refl (c .before .before .before .before .before .before .before .before .before .before .before .before .before .before .before .before .before .before .before .before .before .before .before .before .before .before .before .before .before .before .before .before .before .before .before .before .before .room .ensures) (c .before .before .before .before .before .before .before .before .before .before .before .before .before .before .before .before .before .before .before .before .before .before .before .before .before .before .before .before .before .before .before .before .eval .ensures) (c .before .before .before .before .before .before .before .before .before .before .before .before .before .before .before .before .before .before .before .before .before .before .before .eval2 .ensures) (c .before .before .before .before .before .before .before .before .before .before .before .before .before .before .before .before .before .room2 .ensures) (c .before .before .before .before .before .before .before .before .before .before .before .before .eval3 .ensures) (c .before .before .choose-value .ensures) }
 
 of-let-word-requires : (t : ℕ) → of-let-lts.Need-word-requires (of-let-claims t) (of-let-at t) of-let.Post
 of-let-word-requires t c κs = ready-word (c .before .before .before .pre .1 .0 .1) (omega arith)
@@ -512,10 +521,10 @@ of-let-part-value-start : (t : ℕ) → of-let-lts.Need-part-value-start (of-let
 of-let-part-value-start t c = from-none _
 
 of-let-part-value-end : (t : ℕ) → of-let-lts.Need-part-value-end (of-let-claims t) (of-let-at t) of-let.Post
-of-let-part-value-end t c = fits-room (c .before .before .before .before .before .before .before .before .pre .1 .0 .1) (defining-scope (c .before .before .before .before .before .before .before .before .pre .1 .0 .1) (c .before .before .before .before .before .before .before .before .pre .1 .1) (c .before .before .before .before .word .ensures .0) refl refl refl) refl (c .before .before .room .ensures)
+of-let-part-value-end t c = fits-room (c .before .before .before .before .before .before .before .before .before .pre .1 .0 .1) (defining-scope (c .before .before .before .before .before .before .before .before .before .pre .1 .0 .1) (c .before .before .before .before .before .before .before .before .before .pre .1 .1) (c .before .before .before .before .before .word .ensures .0) refl refl refl) refl (c .before .before .before .room .ensures)
 
 of-let-eval-requires : (t : ℕ) → of-let-lts.Need-eval-requires (of-let-claims t) (of-let-at t) of-let.Post
-of-let-eval-requires t c κs = let h = (higher (c .before .before .before .before .before .before .before .before .before .pre .1 .0 .1) letIn (c .before .before .before .before .before .before .before .before .before .pre .1 .1) 2 refl (unfold askOfKind in refl) (c .before .before .before .before .before .word .ensures .0)) in (omega (arith, c .before .before .before .before .before .before .before .before .before .pre .0, h .0, h .1), (c .before .before .before .before .before .before .before .before .before .pre .1 .0 .0, room-ready (c .before .before .before .before .before .before .before .before .before .pre .1 .0 .1) (defining-scope (c .before .before .before .before .before .before .before .before .before .pre .1 .0 .1) (c .before .before .before .before .before .before .before .before .before .pre .1 .1) (c .before .before .before .before .before .word .ensures .0) refl refl refl) refl (c .before .before .before .room .ensures)))
+of-let-eval-requires t c κs = let h = (higher (c .before .before .before .before .before .before .before .before .before .before .pre .1 .0 .1) letIn (c .before .before .before .before .before .before .before .before .before .before .pre .1 .1) 2 refl (unfold askOfKind in refl) (c .before .before .before .before .before .before .word .ensures .0)) in (omega (arith, c .before .before .before .before .before .before .before .before .before .before .pre .0, h .0, h .1), (c .before .before .before .before .before .before .before .before .before .before .pre .1 .0 .0, room-ready (c .before .before .before .before .before .before .before .before .before .before .pre .1 .0 .1) (defining-scope (c .before .before .before .before .before .before .before .before .before .before .pre .1 .0 .1) (c .before .before .before .before .before .before .before .before .before .before .pre .1 .1) (c .before .before .before .before .before .before .word .ensures .0) refl refl refl) refl (c .before .before .before .before .room .ensures)))
 
 of-let-sub-enter-value : (t : ℕ) → of-let-lts.Need-sub-enter-value (of-let-claims t) (of-let-at t) of-let.Post
 of-let-sub-enter-value t c = from-none _
@@ -524,19 +533,19 @@ of-let-part-enter-value-start : (t : ℕ) → of-let-lts.Need-part-enter-value-s
 of-let-part-enter-value-start t c = from-none _
 
 of-let-part-enter-value-end : (t : ℕ) → of-let-lts.Need-part-enter-value-end (of-let-claims t) (of-let-at t) of-let.Post
-of-let-part-enter-value-end t c = let-inside (c .before .before .before .before .before .before .before .before .before .before .before .before .before .before .before .pre .1 .0 .1) (c .before .before .before .before .before .before .before .before .before .before .before .before .before .before .before .pre .1 .1) (c .before .before .before .before .before .before .before .before .before .before .before .word .ensures .0) refl refl (c .before .before .before .before .before .before .before .before .before .room .ensures) (c .before .before .before .before .before .eval .ensures)
+of-let-part-enter-value-end t c = let-inside (c .before .before .before .before .before .before .before .before .before .before .before .before .before .before .before .before .pre .1 .0 .1) (c .before .before .before .before .before .before .before .before .before .before .before .before .before .before .before .before .pre .1 .1) (c .before .before .before .before .before .before .before .before .before .before .before .before .word .ensures .0) refl refl (c .before .before .before .before .before .before .before .before .before .before .room .ensures) (c .before .before .before .before .before .eval .ensures)
 
 of-let-enter-value-requires : (t : ℕ) → of-let-lts.Need-enter-value-requires (of-let-claims t) (of-let-at t) of-let.Post
-of-let-enter-value-requires t c κs = let-room (c .before .before .before .before .before .before .before .before .before .before .before .before .before .before .before .before .pre .1 .0 .1) (c .before .before .before .before .before .before .before .before .before .before .before .before .before .before .before .before .pre .1 .1) (c .before .before .before .before .before .before .before .before .before .before .before .before .word .ensures .0) refl refl (c .before .before .before .before .before .before .before .before .before .before .room .ensures) (c .before .before .before .before .before .before .eval .ensures)
+of-let-enter-value-requires t c κs = let-room (c .before .before .before .before .before .before .before .before .before .before .before .before .before .before .before .before .before .pre .1 .0 .1) (c .before .before .before .before .before .before .before .before .before .before .before .before .before .before .before .before .before .pre .1 .1) (c .before .before .before .before .before .before .before .before .before .before .before .before .before .word .ensures .0) refl refl (c .before .before .before .before .before .before .before .before .before .before .before .room .ensures) (c .before .before .before .before .before .before .eval .ensures)
 
 of-let-word-requires-2 : (t : ℕ) → of-let-lts.Need-word-requires-2 (of-let-claims t) (of-let-at t) of-let.Post
-of-let-word-requires-2 t c κs = ready-word (c .before .before .before .before .before .before .before .before .before .before .before .before .before .before .before .before .before .before .before .pre .1 .0 .1) (omega arith)
+of-let-word-requires-2 t c κs = ready-word (c .before .before .before .before .before .before .before .before .before .before .before .before .before .before .before .before .before .before .before .before .pre .1 .0 .1) (omega arith)
 
 of-let-add-eval : (t : ℕ) → of-let-lts.Need-add-eval (of-let-claims t) (of-let-at t) of-let.Post
-of-let-add-eval t c = let f = ready-few (c .before .before .before .before .before .before .before .before .before .before .before .before .before .before .before .before .before .before .before .before .before .pre .1 .0 .1) in omega arith
+of-let-add-eval t c = let f = ready-few (c .before .before .before .before .before .before .before .before .before .before .before .before .before .before .before .before .before .before .before .before .before .before .pre .1 .0 .1) in omega arith
 
 of-let-eval-requires-2 : (t : ℕ) → of-let-lts.Need-eval-requires-2 (of-let-claims t) (of-let-at t) of-let.Post
-of-let-eval-requires-2 t c κs = let h = (higher (c .before .before .before .before .before .before .before .before .before .before .before .before .before .before .before .before .before .before .before .before .before .before .before .pre .1 .0 .1) letIn (c .before .before .before .before .before .before .before .before .before .before .before .before .before .before .before .before .before .before .before .before .before .before .before .pre .1 .1) 3 refl (unfold askOfKind in refl) (c .before .before .before .word2 .ensures .0)) in (omega (arith, c .before .before .before .before .before .before .before .before .before .before .before .before .before .before .before .before .before .before .before .before .before .before .before .pre .0, h .0, h .1), (_, let-body-ready (c .before .before .before .before .before .before .before .before .before .before .before .before .before .before .before .before .before .before .before .before .before .before .before .pre .1 .0 .1) (c .before .before .before .before .before .before .before .before .before .before .before .before .before .before .before .before .before .before .before .before .before .before .before .pre .1 .1) (c .before .before .before .before .before .before .before .before .before .before .before .before .before .before .before .before .before .before .before .word .ensures .0) (c .before .before .before .word2 .ensures .0) refl (c .before .before .before .before .before .before .before .before .before .before .before .before .before .before .before .before .before .room .ensures) (c .before .before .before .before .before .before .before .before .before .before .before .before .before .eval .ensures) (c .before .before .before .before .before .before .enter-value .ensures)))
+of-let-eval-requires-2 t c κs = let h = (higher (c .before .before .before .before .before .before .before .before .before .before .before .before .before .before .before .before .before .before .before .before .before .before .before .before .before .pre .1 .0 .1) letIn (c .before .before .before .before .before .before .before .before .before .before .before .before .before .before .before .before .before .before .before .before .before .before .before .before .before .pre .1 .1) 3 refl (unfold askOfKind in refl) (c .before .before .before .before .word2 .ensures .0)) in (omega (arith, c .before .before .before .before .before .before .before .before .before .before .before .before .before .before .before .before .before .before .before .before .before .before .before .before .before .pre .0, h .0, h .1), (_, let-body-ready (c .before .before .before .before .before .before .before .before .before .before .before .before .before .before .before .before .before .before .before .before .before .before .before .before .before .pre .1 .0 .1) (c .before .before .before .before .before .before .before .before .before .before .before .before .before .before .before .before .before .before .before .before .before .before .before .before .before .pre .1 .1) (c .before .before .before .before .before .before .before .before .before .before .before .before .before .before .before .before .before .before .before .before .before .word .ensures .0) (c .before .before .before .before .word2 .ensures .0) refl (c .before .before .before .before .before .before .before .before .before .before .before .before .before .before .before .before .before .before .before .room .ensures) (c .before .before .before .before .before .before .before .before .before .before .before .before .before .before .eval .ensures) (c .before .before .before .before .before .before .before .enter-value .ensures)))
 
 of-let-same-length : (t : ℕ) → of-let-lts.Need-same-length (of-let-claims t) (of-let-at t) of-let.Post
 of-let-same-length t c = search needs
@@ -545,7 +554,7 @@ of-let-same-length-2 : (t : ℕ) → of-let-lts.Need-same-length-2 (of-let-claim
 of-let-same-length-2 t c = search needs
 
 of-let-returns : (t : ℕ) → of-let-lts.Need-returns (of-let-claims t) (of-let-at t) of-let.Post
-of-let-returns t c = record { done = λ Γ r. let-done r (c .before .before .before .before .before .before .before .before .before .before .before .before .before .before .before .before .before .before .before .before .before .before .before .before .before .before .before .before .pre .1 .1) (c .before .before .before .before .before .before .before .before .before .before .before .before .before .before .before .before .before .before .before .before .before .before .before .before .word .ensures .0) (c .before .before .before .before .before .before .before .before .word2 .ensures .0) refl (c .before .before .before .before .before .before .before .before .before .before .before .before .before .before .before .before .before .before .before .before .before .before .room .ensures) (c .before .before .before .before .before .before .before .before .before .before .before .before .before .before .before .before .before .before .eval .ensures) (c .before .before .before .before .before .before .before .before .before .before .before .enter-value .ensures) (c .before .before .before .before .eval2 .ensures) }
+of-let-returns t c = record { done = λ Γ r. let-done r (c .before .before .before .before .before .before .before .before .before .before .before .before .before .before .before .before .before .before .before .before .before .before .before .before .before .before .before .before .before .before .pre .1 .1) (c .before .before .before .before .before .before .before .before .before .before .before .before .before .before .before .before .before .before .before .before .before .before .before .before .before .before .word .ensures .0) (c .before .before .before .before .before .before .before .before .before .word2 .ensures .0) refl (c .before .before .before .before .before .before .before .before .before .before .before .before .before .before .before .before .before .before .before .before .before .before .before .before .room .ensures) (c .before .before .before .before .before .before .before .before .before .before .before .before .before .before .before .before .before .before .before .eval .ensures) (c .before .before .before .before .before .before .before .before .before .before .before .before .enter-value .ensures) (c .before .before .before .before .eval2 .ensures) }
 
 of-pair-word-requires : (t : ℕ) → of-pair-lts.Need-word-requires (of-pair-claims t) (of-pair-at t) of-pair.Post
 of-pair-word-requires t c κs = ready-word (c .before .before .before .pre .1 .0 .1) (omega arith)
@@ -563,25 +572,25 @@ of-pair-part-eval-start : (t : ℕ) → of-pair-lts.Need-part-eval-start (of-pai
 of-pair-part-eval-start t c = from-none _
 
 of-pair-part-eval-end : (t : ℕ) → of-pair-lts.Need-part-eval-end (of-pair-claims t) (of-pair-at t) of-pair.Post
-of-pair-part-eval-end t c = pair-cut (c .before .before .before .before .before .before .before .pre .1 .0 .1) (c .before .before .before .before .before .before .before .pre .1 .1) (c .before .before .before .word .ensures .0) refl refl
+of-pair-part-eval-end t c = pair-cut (c .before .before .before .before .before .before .before .before .pre .1 .0 .1) (c .before .before .before .before .before .before .before .before .pre .1 .1) (c .before .before .before .before .word .ensures .0) refl refl
 
 of-pair-eval-requires : (t : ℕ) → of-pair-lts.Need-eval-requires (of-pair-claims t) (of-pair-at t) of-pair.Post
-of-pair-eval-requires t c κs = let h = (higher (c .before .before .before .before .before .before .before .before .pre .1 .0 .1) tuple (c .before .before .before .before .before .before .before .before .pre .1 .1) 2 refl (unfold askOfKind in refl) (c .before .before .before .before .word .ensures .0)) in (omega (arith, c .before .before .before .before .before .before .before .before .pre .0, h .0, h .1), (c .before .before .before .before .before .before .before .before .pre .1 .0 .0, pair-first-ready (c .before .before .before .before .before .before .before .before .pre .1 .0 .1) (c .before .before .before .before .before .before .before .before .pre .1 .1) (c .before .before .before .before .word .ensures .0) refl refl))
+of-pair-eval-requires t c κs = let h = (higher (c .before .before .before .before .before .before .before .before .before .pre .1 .0 .1) tuple (c .before .before .before .before .before .before .before .before .before .pre .1 .1) 2 refl (unfold askOfKind in refl) (c .before .before .before .before .before .word .ensures .0)) in (omega (arith, c .before .before .before .before .before .before .before .before .before .pre .0, h .0, h .1), (c .before .before .before .before .before .before .before .before .before .pre .1 .0 .0, pair-first-ready (c .before .before .before .before .before .before .before .before .before .pre .1 .0 .1) (c .before .before .before .before .before .before .before .before .before .pre .1 .1) (c .before .before .before .before .before .word .ensures .0) refl refl))
 
 of-pair-word-requires-2 : (t : ℕ) → of-pair-lts.Need-word-requires-2 (of-pair-claims t) (of-pair-at t) of-pair.Post
-of-pair-word-requires-2 t c κs = ready-word (c .before .before .before .before .before .before .before .before .before .before .before .before .before .pre .1 .0 .1) (omega arith)
+of-pair-word-requires-2 t c κs = ready-word (c .before .before .before .before .before .before .before .before .before .before .before .before .before .before .pre .1 .0 .1) (omega arith)
 
 of-pair-sub-eval-2 : (t : ℕ) → of-pair-lts.Need-sub-eval-2 (of-pair-claims t) (of-pair-at t) of-pair.Post
-of-pair-sub-eval-2 t c = pair-rest (c .before .before .before .before .before .before .before .before .before .before .before .before .before .before .before .before .pre .1 .0 .1) (c .before .before .before .before .before .before .before .before .before .before .before .before .before .before .before .before .pre .1 .1) (c .before .before .before .before .before .before .before .before .before .before .before .before .word .ensures .0) refl refl (c .before .before .before .before .before .before .before .eval .ensures)
+of-pair-sub-eval-2 t c = pair-rest (c .before .before .before .before .before .before .before .before .before .before .before .before .before .before .before .before .before .before .pre .1 .0 .1) (c .before .before .before .before .before .before .before .before .before .before .before .before .before .before .before .before .before .before .pre .1 .1) (c .before .before .before .before .before .before .before .before .before .before .before .before .before .before .word .ensures .0) refl refl (c .before .before .before .before .before .before .before .before .eval .ensures)
 
 of-pair-part-eval-start-2 : (t : ℕ) → of-pair-lts.Need-part-eval-start-2 (of-pair-claims t) (of-pair-at t) of-pair.Post
-of-pair-part-eval-start-2 t c = pair-rest (c .before .before .before .before .before .before .before .before .before .before .before .before .before .before .before .before .pre .1 .0 .1) (c .before .before .before .before .before .before .before .before .before .before .before .before .before .before .before .before .pre .1 .1) (c .before .before .before .before .before .before .before .before .before .before .before .before .word .ensures .0) refl refl (c .before .before .before .before .before .before .before .eval .ensures)
+of-pair-part-eval-start-2 t c = pair-rest (c .before .before .before .before .before .before .before .before .before .before .before .before .before .before .before .before .before .before .pre .1 .0 .1) (c .before .before .before .before .before .before .before .before .before .before .before .before .before .before .before .before .before .before .pre .1 .1) (c .before .before .before .before .before .before .before .before .before .before .before .before .before .before .word .ensures .0) refl refl (c .before .before .before .before .before .before .before .before .eval .ensures)
 
 of-pair-part-eval-end-2 : (t : ℕ) → of-pair-lts.Need-part-eval-end-2 (of-pair-claims t) (of-pair-at t) of-pair.Post
 of-pair-part-eval-end-2 t c = to-the-end _
 
 of-pair-eval-requires-2 : (t : ℕ) → of-pair-lts.Need-eval-requires-2 (of-pair-claims t) (of-pair-at t) of-pair.Post
-of-pair-eval-requires-2 t c κs = let h = (higher (c .before .before .before .before .before .before .before .before .before .before .before .before .before .before .before .before .before .pre .1 .0 .1) tuple (c .before .before .before .before .before .before .before .before .before .before .before .before .before .before .before .before .before .pre .1 .1) 3 refl (unfold askOfKind in refl) (c .before .before .before .word2 .ensures .0)) in (omega (arith, c .before .before .before .before .before .before .before .before .before .before .before .before .before .before .before .before .before .pre .0, h .0, h .1), (c .before .before .before .before .before .before .before .before .before .before .before .before .before .before .before .before .before .pre .1 .0 .0, pair-second-ready (c .before .before .before .before .before .before .before .before .before .before .before .before .before .before .before .before .before .pre .1 .0 .1) (c .before .before .before .before .before .before .before .before .before .before .before .before .before .before .before .before .before .pre .1 .1) (c .before .before .before .before .before .before .before .before .before .before .before .before .before .word .ensures .0) (c .before .before .before .word2 .ensures .0) refl (c .before .before .before .before .before .before .before .before .eval .ensures)))
+of-pair-eval-requires-2 t c κs = let h = (higher (c .before .before .before .before .before .before .before .before .before .before .before .before .before .before .before .before .before .before .before .pre .1 .0 .1) tuple (c .before .before .before .before .before .before .before .before .before .before .before .before .before .before .before .before .before .before .before .pre .1 .1) 3 refl (unfold askOfKind in refl) (c .before .before .before .before .word2 .ensures .0)) in (omega (arith, c .before .before .before .before .before .before .before .before .before .before .before .before .before .before .before .before .before .before .before .pre .0, h .0, h .1), (c .before .before .before .before .before .before .before .before .before .before .before .before .before .before .before .before .before .before .before .pre .1 .0 .0, pair-second-ready (c .before .before .before .before .before .before .before .before .before .before .before .before .before .before .before .before .before .before .before .pre .1 .0 .1) (c .before .before .before .before .before .before .before .before .before .before .before .before .before .before .before .before .before .before .before .pre .1 .1) (c .before .before .before .before .before .before .before .before .before .before .before .before .before .before .before .word .ensures .0) (c .before .before .before .before .word2 .ensures .0) refl (c .before .before .before .before .before .before .before .before .before .eval .ensures)))
 
 of-pair-same-length : (t : ℕ) → of-pair-lts.Need-same-length (of-pair-claims t) (of-pair-at t) of-pair.Post
 of-pair-same-length t c = search needs
@@ -590,7 +599,7 @@ of-pair-same-length-2 : (t : ℕ) → of-pair-lts.Need-same-length-2 (of-pair-cl
 of-pair-same-length-2 t c = search needs
 
 of-pair-returns : (t : ℕ) → of-pair-lts.Need-returns (of-pair-claims t) (of-pair-at t) of-pair.Post
-of-pair-returns t c = record { done = λ Γ r. pair-done r (c .before .before .before .before .before .before .before .before .before .before .before .before .before .before .before .before .before .before .before .before .before .before .pre .1 .1) (c .before .before .before .before .before .before .before .before .before .before .before .before .before .before .before .before .before .before .word .ensures .0) (c .before .before .before .before .before .before .before .before .word2 .ensures .0) refl (c .before .before .before .before .before .before .before .before .before .before .before .before .before .eval .ensures) (c .before .before .before .before .eval2 .ensures) }
+of-pair-returns t c = record { done = λ Γ r. pair-done r (c .before .before .before .before .before .before .before .before .before .before .before .before .before .before .before .before .before .before .before .before .before .before .before .before .pre .1 .1) (c .before .before .before .before .before .before .before .before .before .before .before .before .before .before .before .before .before .before .before .before .word .ensures .0) (c .before .before .before .before .before .before .before .before .before .word2 .ensures .0) refl (c .before .before .before .before .before .before .before .before .before .before .before .before .before .before .eval .ensures) (c .before .before .before .before .eval2 .ensures) }
 
 of-second-word-requires : (t : ℕ) → of-second-lts.Need-word-requires (of-second-claims t) (of-second-at t) of-second.Post
 of-second-word-requires t c κs = ready-word (c .before .before .before .pre .1 .0 .1) (omega arith)
@@ -611,25 +620,25 @@ of-second-part-whole-start : (t : ℕ) → of-second-lts.Need-part-whole-start (
 of-second-part-whole-start t c = from-none _
 
 of-second-part-whole-end : (t : ℕ) → of-second-lts.Need-part-whole-end (of-second-claims t) (of-second-at t) of-second.Post
-of-second-part-whole-end t c = fits-room (c .before .before .before .before .before .before .before .before .pre .1 .0 .1) (second-scope (c .before .before .before .before .before .before .before .before .pre .1 .0 .1) (c .before .before .before .before .before .before .before .before .pre .1 .1) (c .before .before .before .before .word .ensures .0) refl refl) refl (c .before .before .room .ensures)
+of-second-part-whole-end t c = fits-room (c .before .before .before .before .before .before .before .before .before .pre .1 .0 .1) (second-scope (c .before .before .before .before .before .before .before .before .before .pre .1 .0 .1) (c .before .before .before .before .before .before .before .before .before .pre .1 .1) (c .before .before .before .before .before .word .ensures .0) refl refl) refl (c .before .before .before .room .ensures)
 
 of-second-eval-requires : (t : ℕ) → of-second-lts.Need-eval-requires (of-second-claims t) (of-second-at t) of-second.Post
-of-second-eval-requires t c κs = let h = (higher (c .before .before .before .before .before .before .before .before .before .pre .1 .0 .1) second (c .before .before .before .before .before .before .before .before .before .pre .1 .1) 2 refl (unfold askOfKind in refl) (c .before .before .before .before .before .word .ensures .0)) in (omega (arith, c .before .before .before .before .before .before .before .before .before .pre .0, h .0, h .1), (c .before .before .before .before .before .before .before .before .before .pre .1 .0 .0, room-ready (c .before .before .before .before .before .before .before .before .before .pre .1 .0 .1) (second-scope (c .before .before .before .before .before .before .before .before .before .pre .1 .0 .1) (c .before .before .before .before .before .before .before .before .before .pre .1 .1) (c .before .before .before .before .before .word .ensures .0) refl refl) refl (c .before .before .before .room .ensures)))
+of-second-eval-requires t c κs = let h = (higher (c .before .before .before .before .before .before .before .before .before .before .pre .1 .0 .1) second (c .before .before .before .before .before .before .before .before .before .before .pre .1 .1) 2 refl (unfold askOfKind in refl) (c .before .before .before .before .before .before .word .ensures .0)) in (omega (arith, c .before .before .before .before .before .before .before .before .before .before .pre .0, h .0, h .1), (c .before .before .before .before .before .before .before .before .before .before .pre .1 .0 .0, room-ready (c .before .before .before .before .before .before .before .before .before .before .pre .1 .0 .1) (second-scope (c .before .before .before .before .before .before .before .before .before .before .pre .1 .0 .1) (c .before .before .before .before .before .before .before .before .before .before .pre .1 .1) (c .before .before .before .before .before .before .word .ensures .0) refl refl) refl (c .before .before .before .before .room .ensures)))
 
 of-second-sub-put : (t : ℕ) → of-second-lts.Need-sub-put (of-second-claims t) (of-second-at t) of-second.Post
-of-second-sub-put t c = second-few (c .before .before .before .before .before .before .before .before .before .before .before .before .before .pre .1 .0 .1) (c .before .before .before .before .before .before .before .before .before .before .before .before .before .pre .1 .1) (c .before .before .before .before .before .before .before .before .before .word .ensures .0) refl (c .before .before .before .before .before .before .before .room .ensures) (c .before .before .before .eval .ensures)
+of-second-sub-put t c = second-few (c .before .before .before .before .before .before .before .before .before .before .before .before .before .before .pre .1 .0 .1) (c .before .before .before .before .before .before .before .before .before .before .before .before .before .before .pre .1 .1) (c .before .before .before .before .before .before .before .before .before .before .word .ensures .0) refl (c .before .before .before .before .before .before .before .before .room .ensures) (c .before .before .before .eval .ensures)
 
 of-second-sub-put-2 : (t : ℕ) → of-second-lts.Need-sub-put-2 (of-second-claims t) (of-second-at t) of-second.Post
-of-second-sub-put-2 t c = second-from (c .before .before .before .before .before .before .before .before .before .before .before .before .before .pre .1 .0 .1) (c .before .before .before .before .before .before .before .before .before .before .before .before .before .pre .1 .1) (c .before .before .before .before .before .before .before .before .before .word .ensures .0) refl (c .before .before .before .before .before .before .before .room .ensures) (c .before .before .before .eval .ensures)
+of-second-sub-put-2 t c = second-from (c .before .before .before .before .before .before .before .before .before .before .before .before .before .before .pre .1 .0 .1) (c .before .before .before .before .before .before .before .before .before .before .before .before .before .before .pre .1 .1) (c .before .before .before .before .before .before .before .before .before .before .word .ensures .0) refl (c .before .before .before .before .before .before .before .before .room .ensures) (c .before .before .before .eval .ensures)
 
 of-second-part-put-start : (t : ℕ) → of-second-lts.Need-part-put-start (of-second-claims t) (of-second-at t) of-second.Post
-of-second-part-put-start t c = second-from (c .before .before .before .before .before .before .before .before .before .before .before .before .before .before .pre .1 .0 .1) (c .before .before .before .before .before .before .before .before .before .before .before .before .before .before .pre .1 .1) (c .before .before .before .before .before .before .before .before .before .before .word .ensures .0) refl (c .before .before .before .before .before .before .before .before .room .ensures) (c .before .before .before .before .eval .ensures)
+of-second-part-put-start t c = second-from (c .before .before .before .before .before .before .before .before .before .before .before .before .before .before .before .pre .1 .0 .1) (c .before .before .before .before .before .before .before .before .before .before .before .before .before .before .before .pre .1 .1) (c .before .before .before .before .before .before .before .before .before .before .before .word .ensures .0) refl (c .before .before .before .before .before .before .before .before .before .room .ensures) (c .before .before .before .before .eval .ensures)
 
 of-second-part-put-end : (t : ℕ) → of-second-lts.Need-part-put-end (of-second-claims t) (of-second-at t) of-second.Post
-of-second-part-put-end t c = second-inside (c .before .before .before .before .before .before .before .before .before .before .before .before .before .before .pre .1 .0 .1) (c .before .before .before .before .before .before .before .before .before .before .before .before .before .before .pre .1 .1) (c .before .before .before .before .before .before .before .before .before .before .word .ensures .0) refl (c .before .before .before .before .before .before .before .before .room .ensures) (c .before .before .before .before .eval .ensures)
+of-second-part-put-end t c = second-inside (c .before .before .before .before .before .before .before .before .before .before .before .before .before .before .before .pre .1 .0 .1) (c .before .before .before .before .before .before .before .before .before .before .before .before .before .before .before .pre .1 .1) (c .before .before .before .before .before .before .before .before .before .before .before .word .ensures .0) refl (c .before .before .before .before .before .before .before .before .before .room .ensures) (c .before .before .before .before .eval .ensures)
 
 of-second-put-requires : (t : ℕ) → of-second-lts.Need-put-requires (of-second-claims t) (of-second-at t) of-second.Post
-of-second-put-requires t c κs = let l = second-fits (c .before .before .before .before .before .before .before .before .before .before .before .before .before .before .before .before .pre .1 .0 .1) (c .before .before .before .before .before .before .before .before .before .before .before .before .before .before .before .before .pre .1 .1) (c .before .before .before .before .before .before .before .before .before .before .before .before .word .ensures .0) refl (c .before .before .before .before .before .before .before .before .before .before .room .ensures) (c .before .before .before .before .before .before .eval .ensures) in omega arith
+of-second-put-requires t c κs = let l = second-fits (c .before .before .before .before .before .before .before .before .before .before .before .before .before .before .before .before .before .pre .1 .0 .1) (c .before .before .before .before .before .before .before .before .before .before .before .before .before .before .before .before .before .pre .1 .1) (c .before .before .before .before .before .before .before .before .before .before .before .before .before .word .ensures .0) refl (c .before .before .before .before .before .before .before .before .before .before .before .room .ensures) (c .before .before .before .before .before .before .eval .ensures) in omega arith
 
 of-second-same-length : (t : ℕ) → of-second-lts.Need-same-length (of-second-claims t) (of-second-at t) of-second.Post
 of-second-same-length t c = search needs
@@ -638,16 +647,16 @@ of-second-same-length-2 : (t : ℕ) → of-second-lts.Need-same-length-2 (of-sec
 of-second-same-length-2 t c = search needs
 
 of-second-returns : (t : ℕ) → of-second-lts.Need-returns (of-second-claims t) (of-second-at t) of-second.Post
-of-second-returns t c = record { done = λ Γ r. second-done r (c .before .before .before .before .before .before .before .before .before .before .before .before .before .before .before .before .before .before .before .pre .1 .1) (c .before .before .before .before .before .before .before .before .before .before .before .before .before .before .before .word .ensures .0) refl (c .before .before .before .before .before .before .before .before .before .before .before .before .before .room .ensures) (c .before .before .before .before .before .before .before .before .before .eval .ensures) (c .before .before .put .ensures) }
+of-second-returns t c = record { done = λ Γ r. second-done r (c .before .before .before .before .before .before .before .before .before .before .before .before .before .before .before .before .before .before .before .before .pre .1 .1) (c .before .before .before .before .before .before .before .before .before .before .before .before .before .before .before .before .word .ensures .0) refl (c .before .before .before .before .before .before .before .before .before .before .before .before .before .before .room .ensures) (c .before .before .before .before .before .before .before .before .before .eval .ensures) (c .before .before .put .ensures) }
 
 settle-add-eval : (t : ℕ) → settle-lts.Need-add-eval (settle-claims t) (settle-at t) settle.Post
 settle-add-eval t c = let f = settle-few (c .before .before .before .before .pre .1 .2) in omega arith
 
 settle-eval-requires : (t : ℕ) → settle-lts.Need-eval-requires (settle-claims t) (settle-at t) settle.Post
-settle-eval-requires t c κs = (omega (arith, c .before .before .before .before .before .before .pre .0), (_, c .before .before .before .before .before .before .pre .1 .2 .ready))
+settle-eval-requires t c κs = (omega (arith, c .before .before .before .before .before .before .before .pre .0), (_, c .before .before .before .before .before .before .before .pre .1 .2 .ready))
 
 settle-stands-at-requires : (t : ℕ) → settle-lts.Need-stands-at-requires (settle-claims t) (settle-at t) settle.Post
-settle-stands-at-requires t c κs = settle-room (c .before .before .before .before .before .before .before .before .before .before .before .before .before .pre .1 .2) (c .before .before .before .before .before .before .eval .ensures)
+settle-stands-at-requires t c κs = settle-room (c .before .before .before .before .before .before .before .before .before .before .before .before .before .before .pre .1 .2) (c .before .before .before .before .before .before .eval .ensures)
 
 settle-same-length : (t : ℕ) → settle-lts.Need-same-length (settle-claims t) (settle-at t) settle.Post
 settle-same-length t c = search needs
@@ -659,10 +668,10 @@ settle-returns : (t : ℕ) → settle-lts.Need-returns (settle-claims t) (settle
 settle-returns t c = record { settled = λ t Γ g. unchanged-settled g (c .before .before .before .before .before .before .before .before .eval .ensures) (c .before .stands-at .ensures) (c .if1 .taken) }
 
 settle-enter-value-requires : (t : ℕ) → settle-lts.Need-enter-value-requires (settle-claims t) (settle-at t) settle.Post
-settle-enter-value-requires t c κs = settle-room (c .before .before .before .before .before .before .before .before .before .before .before .before .before .before .before .before .before .pre .1 .2) (c .before .before .before .before .before .before .before .before .before .before .eval .ensures)
+settle-enter-value-requires t c κs = settle-room (c .before .before .before .before .before .before .before .before .before .before .before .before .before .before .before .before .before .before .pre .1 .2) (c .before .before .before .before .before .before .before .before .before .before .eval .ensures)
 
 settle-settle-requires : (t : ℕ) → settle-lts.Need-settle-requires (settle-claims t) (settle-at t) settle.Post
-settle-settle-requires t c κs = let h = fewer-undefined (c .before .before .before .before .before .before .before .before .before .before .before .before .before .before .before .before .before .before .before .before .before .before .before .pre .1 .2) (c .before .before .before .before .before .before .before .before .before .before .before .before .before .before .before .before .eval .ensures) (c .before .before .before .before .before .before .before .before .before .stands-at .ensures) (c .before .before .before .before .before .before .before .before .if1 .left) (c .before .before .before .before .before .enter-value .ensures) in (omega (arith, c .before .before .before .before .before .before .before .before .before .before .before .before .before .before .before .before .before .before .before .before .before .before .before .pre .0, h), (_, _, settling-again (c .before .before .before .before .before .before .before .before .before .before .before .before .before .before .before .before .before .before .before .before .before .before .before .pre .1 .2) (c .before .before .before .before .before .before .before .before .before .before .before .before .before .before .before .before .eval .ensures) (c .before .before .before .before .before .before .before .before .before .stands-at .ensures) (c .before .before .before .before .before .before .before .before .if1 .left) (c .before .before .before .before .before .enter-value .ensures)))
+settle-settle-requires t c κs = let h = fewer-undefined (c .before .before .before .before .before .before .before .before .before .before .before .before .before .before .before .before .before .before .before .before .before .before .before .before .before .pre .1 .2) (c .before .before .before .before .before .before .before .before .before .before .before .before .before .before .before .before .before .eval .ensures) (c .before .before .before .before .before .before .before .before .before .before .stands-at .ensures) (c .before .before .before .before .before .before .before .before .before .if1 .left) (c .before .before .before .before .before .before .enter-value .ensures) in (omega (arith, c .before .before .before .before .before .before .before .before .before .before .before .before .before .before .before .before .before .before .before .before .before .before .before .before .before .pre .0, h), (_, _, settling-again (c .before .before .before .before .before .before .before .before .before .before .before .before .before .before .before .before .before .before .before .before .before .before .before .before .before .pre .1 .2) (c .before .before .before .before .before .before .before .before .before .before .before .before .before .before .before .before .before .eval .ensures) (c .before .before .before .before .before .before .before .before .before .before .stands-at .ensures) (c .before .before .before .before .before .before .before .before .before .if1 .left) (c .before .before .before .before .before .before .enter-value .ensures)))
 
 settle-same-length-3 : (t : ℕ) → settle-lts.Need-same-length-3 (settle-claims t) (settle-at t) settle.Post
 settle-same-length-3 t c = search needs
@@ -671,7 +680,7 @@ settle-same-length-4 : (t : ℕ) → settle-lts.Need-same-length-4 (settle-claim
 settle-same-length-4 t c = search needs
 
 settle-returns-2 : (t : ℕ) → settle-lts.Need-returns-2 (settle-claims t) (settle-at t) settle.Post
-settle-returns-2 t c = record { settled = λ t Γ g. changed-settled g (c .before .before .before .before .before .before .before .before .before .before .before .before .before .before .before .before .before .before .before .before .before .eval .ensures) (c .before .before .before .before .before .before .before .before .before .before .before .before .before .before .stands-at .ensures) (c .before .before .before .before .before .before .before .before .before .before .before .before .before .if1 .left) (c .before .before .before .before .before .before .before .before .before .before .enter-value .ensures) (c .before .before .before .before .settle .ensures) }
+settle-returns-2 t c = record { settled = λ t Γ g. changed-settled g (c .before .before .before .before .before .before .before .before .before .before .before .before .before .before .before .before .before .before .before .before .before .before .eval .ensures) (c .before .before .before .before .before .before .before .before .before .before .before .before .before .before .before .stands-at .ensures) (c .before .before .before .before .before .before .before .before .before .before .before .before .before .before .if1 .left) (c .before .before .before .before .before .before .before .before .before .before .before .enter-value .ensures) (c .before .before .before .before .settle .ensures) }
 
 pub +eval+of-delay+of-feedback+of-first+of-if+of-let+of-pair+of-second+settle-spec :
     {M : Type 1} → statement M
@@ -803,6 +812,9 @@ pub +eval+of-delay+of-feedback+of-first+of-if+of-let+of-pair+of-second+settle-sp
     (of-if-part-choose-value-start-2 t)
     (of-if-part-choose-value-end-2 t)
     (of-if-choose-value-requires t)
+    (of-if-cast-fired t)
+    (of-if-mul-fired t)
+    (of-if-element-write-fired t)
     (of-if-same-length t)
     (of-if-same-length-2 t)
     (of-if-returns t))

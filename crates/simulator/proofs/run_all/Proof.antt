@@ -7,31 +7,31 @@ use Rattle.simulator.proofs.run_all.Statement.{statement}
 use Rattle.simulator.proofs.run_all.Tie as tie
 
 abbrev Inv-loop : tie.InvT-loop
-Inv-loop sheet n widths env₀ held₀ stim wi wo count current₀ out₀ from₀ at₀ k₀ env held current out from at k = Before sheet stim wi wo count out₀ k from at env held current out
+Inv-loop sheet n widths env₀ held₀ fired₀ stim wi wo count current₀ out₀ from₀ at₀ k₀ env held fired current out from at k = Before sheet stim wi wo count out₀ k from at env held current out
 
 abbrev μ-loop : tie.MeasureT-loop
-μ-loop sheet n widths env₀ held₀ stim wi wo count current₀ out₀ from₀ at₀ k₀ env held current out from at k = count - k
+μ-loop sheet n widths env₀ held₀ fired₀ stim wi wo count current₀ out₀ from₀ at₀ k₀ env held fired current out from at k = count - k
 
 loop-holds : tie.Need-loop-holds Inv-loop μ-loop
 loop-holds c = at-first (c .before .before .before .before .before .pre .0) (c .before .before .before .before .before .pre .1) (c .before .before .before .before .before .pre .2)
 
 run-cycle-requires : tie.Need-run-cycle-requires Inv-loop μ-loop
-run-cycle-requires c κs = lending (c .before .before .before .before .before .before .before .before .before .before .before .pre .0) (c .before .before .before .before .before .loop .inv) (c .before .before .before .before .loop-test .taken)
+run-cycle-requires c κs = lending (c .before .before .before .before .before .before .before .before .before .before .before .before .pre .0) (c .before .before .before .before .before .before .loop .inv) (c .before .before .before .before .before .loop-test .taken)
 
 add-from : tie.Need-add-from Inv-loop μ-loop
-add-from c = let l = lending (c .before .before .before .before .before .before .before .before .before .before .before .before .before .before .before .before .before .before .pre .0) (c .before .before .before .before .before .before .before .before .before .before .before .before .loop .inv) (c .before .before .before .before .before .before .before .before .before .before .before .loop-test .taken) in let i = l .inside in let f = l .few in omega arith
+add-from c = let l = lending (c .before .before .before .before .before .before .before .before .before .before .before .before .before .before .before .before .before .before .before .pre .0) (c .before .before .before .before .before .before .before .before .before .before .before .before .before .loop .inv) (c .before .before .before .before .before .before .before .before .before .before .before .before .loop-test .taken) in let i = l .inside in let f = l .few in omega arith
 
 add-at : tie.Need-add-at Inv-loop μ-loop
-add-at c = let l = lending (c .before .before .before .before .before .before .before .before .before .before .before .before .before .before .before .before .before .before .pre .0) (c .before .before .before .before .before .before .before .before .before .before .before .before .loop .inv) (c .before .before .before .before .before .before .before .before .before .before .before .loop-test .taken) in let i = l .room in let f = l .small in omega arith
+add-at c = let l = lending (c .before .before .before .before .before .before .before .before .before .before .before .before .before .before .before .before .before .before .before .pre .0) (c .before .before .before .before .before .before .before .before .before .before .before .before .before .loop .inv) (c .before .before .before .before .before .before .before .before .before .before .before .before .loop-test .taken) in let i = l .room in let f = l .small in omega arith
 
 add-k : tie.Need-add-k Inv-loop μ-loop
-add-k c = let m = count-small (c .before .before .before .before .before .before .before .before .before .before .before .before .before .before .before .before .before .before .pre .0) in let h = c .before .before .before .before .before .before .before .before .before .before .before .loop-test .taken in omega arith
+add-k c = let m = count-small (c .before .before .before .before .before .before .before .before .before .before .before .before .before .before .before .before .before .before .before .pre .0) in let h = c .before .before .before .before .before .before .before .before .before .before .before .before .loop-test .taken in omega arith
 
 loop-less : tie.Need-loop-less Inv-loop μ-loop
-loop-less c = let h = c .before .before .before .before .before .before .before .before .before .before .before .loop-test .taken in omega arith
+loop-less c = let h = c .before .before .before .before .before .before .before .before .before .before .before .before .loop-test .taken in omega arith
 
 loop-again : tie.Need-loop-again Inv-loop μ-loop
-loop-again c = gone-on (c .before .before .before .before .before .before .before .before .before .before .before .before .before .before .before .before .before .before .pre .0) (c .before .before .before .before .before .before .before .before .before .before .before .before .loop .inv) (c .before .before .before .before .before .before .before .before .before .before .before .loop-test .taken) refl refl (c .before .before .before .before .before .before .run-cycle .ensures)
+loop-again c = gone-on (c .before .before .before .before .before .before .before .before .before .before .before .before .before .before .before .before .before .before .before .pre .0) (c .before .before .before .before .before .before .before .before .before .before .before .before .before .loop .inv) (c .before .before .before .before .before .before .before .before .before .before .before .before .loop-test .taken) refl refl (c .before .before .before .before .before .before .run-cycle .ensures)
 
 same-length : tie.Need-same-length Inv-loop μ-loop
 same-length c = c .before .loop .inv .wide ∙ sym (c .before .before .before .before .before .before .before .pre .1)

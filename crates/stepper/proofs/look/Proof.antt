@@ -11,7 +11,7 @@ word-requires : tie.Need-word-requires
 word-requires c κs = first-sized (c .before .before .before .before .before .before .before .before .before .pre)
 
 eval-requires : tie.Need-eval-requires
-eval-requires c κs = (_, root-ready (c .before .before .before .before .before .before .before .before .before .before .before .before .before .pre) (c .before .before .before .word .ensures .0) (c .before .before .before .before .before .before .enter-value .ensures))
+eval-requires c κs = (_, root-ready (c .before .before .before .before .before .before .before .before .before .before .before .before .before .before .pre) (c .before .before .before .before .word .ensures .0) (c .before .before .before .before .before .before .before .enter-value .ensures))
 
 same-length : tie.Need-same-length
 same-length c = search needs
@@ -20,7 +20,7 @@ same-length-2 : tie.Need-same-length-2
 same-length-2 c = search needs
 
 returns : tie.Need-returns
-returns c = look-done (c .before .before .before .before .before .before .before .before .before .before .before .before .before .before .before .before .before .before .pre) (c .before .before .before .before .before .before .before .before .word .ensures .0) (c .before .before .before .before .before .before .before .before .before .before .before .enter-value .ensures) (c .before .before .before .before .eval .ensures)
+returns c = look-done (c .before .before .before .before .before .before .before .before .before .before .before .before .before .before .before .before .before .before .before .pre) (c .before .before .before .before .before .before .before .before .before .word .ensures .0) (c .before .before .before .before .before .before .before .before .before .before .before .before .enter-value .ensures) (c .before .before .before .before .eval .ensures)
 
 pub look-spec : {M : Type 1} → statement M
 look-spec =

@@ -65,7 +65,7 @@ match-all-word-requires t c κs = (c .before .before .before .pre .1 .against .s
 
 match-all-loop-holds : (t : ℕ) → match-all-lts.Need-loop-holds (match-all-claims t) (match-all-at t) match-all.Post match-all-Inv-loop match-all-μ-loop
 match-all-loop-holds t c =
-    (begun _ _ _ (c .before .match-one .result) _ (c .before .match-one .ensures) (c .word .ensures .0), λ f. next-matched (c .before .before .before .before .pre .1) (c .word .ensures .0) f)
+    (begun (c .before .match-one .ensures) (c .word .ensures .0), λ f. next-matched (c .before .before .before .before .pre .1) (c .word .ensures .0) f)
 
 match-all-match-one-requires-2 : (t : ℕ) → match-all-lts.Need-match-one-requires-2 (match-all-claims t) (match-all-at t) match-all.Post match-all-Inv-loop match-all-μ-loop
 match-all-match-one-requires-2 t c κs =
@@ -86,12 +86,12 @@ match-all-loop-less t c =
 match-all-loop-again : (t : ℕ) → match-all-lts.Need-loop-again (match-all-claims t) (match-all-at t) match-all.Post match-all-Inv-loop match-all-μ-loop
 match-all-loop-again t c =
     let v = c .before .before .before .before .loop .inv .1 (search needs) in (
-      gone-on _ (v .1) (c .before .before .before .before .loop .answer) (c .before .before .match-one2 .result) (c .before .either .result) (search needs) (c .before .before .before .before .loop .inv .0) (c .before .before .match-one2 .ensures) (c .before .either .ensures) (c .word2 .ensures .0),
+      gone-on (v .1) (c .before .before .before .before .loop .answer) (c .before .before .match-one2 .result) (c .before .either .result) (search needs) (c .before .before .before .before .loop .inv .0) (c .before .before .match-one2 .ensures) (c .before .either .ensures) (c .word2 .ensures .0),
       λ f. let q = next-matched (v .1) (c .word2 .ensures .0) f in (omega (arith, v .0, q .0), q .1),
     )
 
 match-all-returns : (t : ℕ) → match-all-lts.Need-returns (match-all-claims t) (match-all-at t) match-all.Post match-all-Inv-loop match-all-μ-loop
-match-all-returns t c = ended _ _ _ (c .before .loop .answer) (c .before .loop .at) (c .before .loop .inv .0) (search needs)
+match-all-returns t c = ended (c .before .loop .answer) (c .before .loop .inv .0) (search needs)
 
 match-one-word-requires : (t : ℕ) → match-one-lts.Need-word-requires (match-one-claims t) (match-one-at t) match-one.Post
 match-one-word-requires t c κs = (c .before .before .pre .1 .against .sized, c .before .before .pre .1 .against .there, search needs)

@@ -1,5 +1,5 @@
 -- Assumes nothing.
-use Rattle.values.proofs.Matches.{chosen}
+use Rattle.values.proofs.Matches.{by-match}
 use borrow.Author.Needs.{needs}
 use Rattle.values.proofs.choose_value.Statement.{statement}
 use Rattle.values.proofs.choose_value.Tie as tie
@@ -14,7 +14,7 @@ same-length : tie.Need-same-length
 same-length c = search needs
 
 returns : tie.Need-returns
-returns c = chosen _ _ _ _ _ _ (c .before .before .before .before .match-all .result) (c .before .before .before .before .match-all .ensures) (c .before .before .by-answer .ensures)
+returns c = by-match (c .before .before .before .before .match-all .result) (c .before .before .before .before .match-all .ensures) (c .before .before .by-answer .ensures)
 
 pub choose-value-spec : {M : Type 1} → statement M
 choose-value-spec = tie.close (tie.spec match-all-requires by-answer-requires same-length returns)

@@ -19,7 +19,7 @@ loop-holds : tie.Need-loop-holds Inv-loop μ-loop
 loop-holds c = (search needs, search needs, c .before .pre .placed)
 
 place-requires : tie.Need-place-requires Inv-loop μ-loop
-place-requires c κs = (record { sized = c .before .before .before .before .before .pre .sized; written = c .before .before .before .before .before .pre .written; once = c .before .before .before .before .before .pre .once; named = c .before .before .before .before .before .pre .named; some = c .before .before .before .loop .inv .0; placed = c .before .before .before .loop .inv .2 }, search needs)
+place-requires c κs = (record { sized = c .before .before .before .before .before .pre .sized; written = c .before .before .before .before .before .pre .written; well = c .before .before .before .before .before .pre .well; named = c .before .before .before .before .before .pre .named; some = c .before .before .before .loop .inv .0; placed = c .before .before .before .loop .inv .2 }, search needs)
 
 add-rec : tie.Need-add-rec Inv-loop μ-loop
 add-rec c = search needs

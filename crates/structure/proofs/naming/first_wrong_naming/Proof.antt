@@ -12,7 +12,7 @@ use Rattle.records.specs.Namings.{namings}
 use Rattle.structure.specs.Rules.{wrongNaming}
 use Rattle.structure.specs.NamerTable.{Holds}
 use Rattle.answers.proofs.Lowest.{lowest-is, lowest-none}
-use Rattle.structure.proofs.Namers.{first-naming, unnamed, named-once, named-twice}
+use Rattle.structure.proofs.Namers.{first-naming, unnamed, named-well, named-badly}
 
 abbrev Inv-loop : tie.InvT-loop
 Inv-loop n namers rec₀ rec =
@@ -41,7 +41,7 @@ returns-2 : tie.Need-returns-2 Inv-loop μ-loop
 returns-2 c = λ s all.
     sym
     (lowest-is (wrongNaming s) (c .before .before .before .before .before .args .n) (c .before .before .before .before .loop .rec) (search needs)
-    (named-twice s _ all (c .before .before .before .before .loop .rec) (search needs) (search needs) (c .if2 .taken)) (c .before .before .before .before .loop .inv .1 s all))
+    (named-badly s _ all (c .before .before .before .before .loop .rec) (search needs) (search needs) (c .if2 .taken)) (c .before .before .before .before .loop .inv .1 s all))
 
 add-rec : tie.Need-add-rec Inv-loop μ-loop
 add-rec c = search needs
@@ -54,7 +54,7 @@ loop-again c = (
   search needs,
   λ s all.
       below-more _ _ (c .before .before .before .before .loop .inv .1 s all)
-      (named-once s _ all (c .before .before .before .before .loop .rec) (search needs) (search needs) (c .before .if1 .left) (c .if2 .left)),
+      (named-well s _ all (c .before .before .before .before .loop .rec) (search needs) (search needs) (c .before .if1 .left) (c .if2 .left)),
 )
 
 returns-3 : tie.Need-returns-3 Inv-loop μ-loop

@@ -6,7 +6,7 @@ use borrow.Author.Needs.{needs}
 use Prim.Native.Nat.{_+_, _-_, _≤_}
 use Rattle.records.specs.Namings.{namingsBelow, namingsIn}
 use Rattle.structure.specs.NamerTable.{Holds}
-use Rattle.structure.proofs.Namers.{adds-to, one-record-more, all-records}
+use Rattle.structure.proofs.Namers.{adds-to, words-below, one-record-more, all-records}
 
 abbrev Inv-loop : tie.InvT-loop
 Inv-loop sheet n namers₀ q₀ namers q = (q ≤ n) × Holds (λ r. namingsBelow sheet r q) namers
@@ -32,7 +32,7 @@ loop-again c =
     let q = c .before .before .before .loop .q in (
       search needs,
       adds-to (λ r. namingsBelow s r q) (λ r. namingsIn s r q 5) (λ r. namingsBelow s r (q + 1)) _ _
-          (λ r. one-record-more s r q) (c .before .before .before .loop .inv .1) (c .note-record .ensures),
+          (λ r. one-record-more s r q) (λ r. words-below s r q) (c .before .before .before .loop .inv .1) (c .note-record .ensures),
     )
 
 returns : tie.Need-returns Inv-loop μ-loop

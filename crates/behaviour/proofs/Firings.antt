@@ -1,0 +1,149 @@
+-- Which alternative fired, by the kind of a record, from what its parts enter: a law a kind. A second evaluation of a record replaces
+-- what the first one entered, since both enter at the same IFs; so the round that finds a feedback's value unchanged leaves the numbers
+-- of the settled value.
+-- Assumes nothing.
+use Prim.Native.Nat.{ℕ, _<_}
+use mathlib.Core.List.{List, [], _∷_, _++_}
+use mathlib.Core.Path.{_≡_, refl, sym, ap, ap₂, _∙_}
+use lib.ListN.{length, set, length-set}
+use Rattle.records.specs.Words.{count, wordA, wordB, wordC, wordD}
+use Rattle.records.specs.Kinds.{
+  expression,
+  constant,
+  name,
+  tuple,
+  first,
+  second,
+  letIn,
+  feedback,
+  ifMatches,
+  delay,
+}
+use Rattle.records.specs.Says.{kindAt}
+use Rattle.records.specs.Trees.{
+  Tree,
+  noExpression,
+  constantOf,
+  nameOf,
+  tupleOf,
+  firstOf,
+  secondOf,
+  letOf,
+  feedbackOf,
+  ifOf,
+  delayOf,
+  alternatives,
+  treeAt,
+}
+use Rattle.records.specs.Written.{Written}
+use Rattle.records.proofs.Trees.{tree-of}
+use Rattle.typing.specs.Judgements.{typeRecordOf}
+use Rattle.behaviour.specs.Delays.{enter}
+use Rattle.behaviour.specs.Evaluated.{valueAt}
+use Rattle.behaviour.specs.Firing.{firstYes, firings, firedAt}
+use Rattle.behaviour.proofs.Entries.{placesOf, places-append, put-append, put-leaves}
+use Rattle.behaviour.proofs.Stores.{entered-again}
+use Rattle.behaviour.proofs.Evaluated.{settledAt}
+
+-- the IFs of a tree, in the order of evaluation
+abbrev ifsOf : Tree → List ℕ
+ifsOf noExpression = []
+ifsOf (constantOf r t ls) = []
+ifsOf (nameOf r k) = []
+ifsOf (tupleOf r a b) = ifsOf a ++ ifsOf b
+ifsOf (firstOf r a) = ifsOf a
+ifsOf (secondOf r a) = ifsOf a
+ifsOf (letOf r a b) = ifsOf a ++ ifsOf b
+ifsOf (feedbackOf r t a b) = ifsOf a ++ ifsOf b
+ifsOf (ifOf r a p b c) = ifsOf a ++ (ifsOf b ++ (ifsOf c ++ (r ∷ [])))
+ifsOf (delayOf r t ls a) = ifsOf a
+
+module _ (undecided : List ℕ → List ℕ → List ℕ) where
+  -- the numbers stand there, whatever the names' values are
+  pub firing-places : (s Γ : List ℕ) (ρ : List (List ℕ)) (t : Tree) → placesOf (firings undecided s Γ ρ t) ≡ ifsOf t
+  firing-places s Γ ρ noExpression = refl
+  firing-places s Γ ρ (constantOf r t ls) = refl
+  firing-places s Γ ρ (nameOf r k) = refl
+  firing-places s Γ ρ (tupleOf r a b) =
+      places-append (firings undecided s Γ ρ a) _ ∙ ap₂ _++_ (firing-places s Γ ρ a) (firing-places s Γ ρ b)
+  firing-places s Γ ρ (firstOf r a) = firing-places s Γ ρ a
+  firing-places s Γ ρ (secondOf r a) = firing-places s Γ ρ a
+  firing-places s Γ ρ (letOf r a b) =
+      places-append (firings undecided s Γ ρ a) _ ∙ ap₂ _++_ (firing-places s Γ ρ a) (firing-places s _ _ b)
+  firing-places s Γ ρ (feedbackOf r t a b) =
+      places-append (firings undecided s (t ∷ Γ) _ a) _ ∙ ap₂ _++_ (firing-places s (t ∷ Γ) _ a) (firing-places s (t ∷ Γ) _ b)
+  firing-places s Γ ρ (ifOf r a p b c) =
+      places-append (firings undecided s Γ ρ a) _
+      ∙ ap₂ _++_ (firing-places s Γ ρ a)
+      (places-append (firings undecided s Γ ρ b) _
+      ∙ ap₂ _++_ (firing-places s Γ ρ b)
+      (places-append (firings undecided s Γ ρ c) _ ∙ ap (λ ls. ls ++ (r ∷ [])) (firing-places s Γ ρ c)))
+  firing-places s Γ ρ (delayOf r t ls a) = firing-places s Γ ρ a
+
+  pub fired-long : (s Γ : List ℕ) (ρ : List (List ℕ)) (r : ℕ) (f : List ℕ) → length (firedAt undecided s Γ ρ r f) ≡ length f
+  unfolding firedAt
+  fired-long s Γ ρ r f = put-leaves enter length (firings undecided s Γ ρ (treeAt s r)) (λ l m v a. length-set a l v) f
+
+  module _ (s : List ℕ) (w : Written s) (Γ : List ℕ) (ρ : List (List ℕ)) (r : ℕ) (b : r < count s) where
+    pub constant-fired : kindAt s r ≡ expression constant → (f : List ℕ) → firedAt undecided s Γ ρ r f ≡ f
+    unfolding firedAt
+    constant-fired e f = rw (tree-of w r b (expression constant) e) refl
+
+    pub name-fired : kindAt s r ≡ expression name → (f : List ℕ) → firedAt undecided s Γ ρ r f ≡ f
+    unfolding firedAt
+    name-fired e f = rw (tree-of w r b (expression name) e) refl
+
+    pub tuple-fired : kindAt s r ≡ expression tuple → (f : List ℕ)
+        → firedAt undecided s Γ ρ r f ≡ firedAt undecided s Γ ρ (wordB s r) (firedAt undecided s Γ ρ (wordA s r) f)
+    unfolding firedAt
+    tuple-fired e f =
+        rw (tree-of w r b (expression tuple) e) (put-append enter (firings undecided s Γ ρ (treeAt s (wordA s r))) _ f)
+
+    pub first-fired : kindAt s r ≡ expression first → (f : List ℕ) → firedAt undecided s Γ ρ r f ≡ firedAt undecided s Γ ρ (wordA s r) f
+    unfolding firedAt
+    first-fired e f = rw (tree-of w r b (expression first) e) refl
+
+    pub second-fired : kindAt s r ≡ expression second → (f : List ℕ)
+        → firedAt undecided s Γ ρ r f ≡ firedAt undecided s Γ ρ (wordA s r) f
+    unfolding firedAt
+    second-fired e f = rw (tree-of w r b (expression second) e) refl
+
+    pub let-fired : kindAt s r ≡ expression letIn → (f : List ℕ)
+        → firedAt undecided s Γ ρ r f
+        ≡ firedAt undecided s (typeRecordOf s Γ (treeAt s (wordA s r)) ∷ Γ) (valueAt undecided s Γ ρ (wordA s r) ∷ ρ) (wordB s r)
+        (firedAt undecided s Γ ρ (wordA s r) f)
+    unfolding firedAt valueAt
+    let-fired e f =
+        rw (tree-of w r b (expression letIn) e) (put-append enter (firings undecided s Γ ρ (treeAt s (wordA s r))) _ f)
+
+    pub feedback-fired : kindAt s r ≡ expression feedback → (f : List ℕ)
+        → firedAt undecided s Γ ρ r f
+        ≡ firedAt undecided s (wordA s r ∷ Γ) (settledAt undecided s w Γ ρ r b ∷ ρ) (wordC s r)
+        (firedAt undecided s (wordA s r ∷ Γ) (settledAt undecided s w Γ ρ r b ∷ ρ) (wordB s r) f)
+    unfolding firedAt
+    feedback-fired e f =
+        rw (tree-of w r b (expression feedback) e)
+        (put-append enter (firings undecided s (wordA s r ∷ Γ) (settledAt undecided s w Γ ρ r b ∷ ρ) (treeAt s (wordB s r))) _ f)
+
+    pub if-fired : kindAt s r ≡ expression ifMatches → (f : List ℕ)
+        → firedAt undecided s Γ ρ r f
+        ≡ set (firedAt undecided s Γ ρ (wordC s r) (firedAt undecided s Γ ρ (wordB s r) (firedAt undecided s Γ ρ (wordA s r) f))) r
+        (firstYes s (alternatives s (wordD s r)) (valueAt undecided s Γ ρ (wordA s r)))
+    unfolding firedAt valueAt
+    if-fired e f =
+        rw (tree-of w r b (expression ifMatches) e)
+        (put-append enter (firings undecided s Γ ρ (treeAt s (wordA s r))) _ f
+        ∙ put-append enter (firings undecided s Γ ρ (treeAt s (wordB s r))) _ _
+        ∙ put-append enter (firings undecided s Γ ρ (treeAt s (wordC s r))) _ _)
+
+    pub delay-fired : kindAt s r ≡ expression delay → (f : List ℕ) → firedAt undecided s Γ ρ r f ≡ firedAt undecided s Γ ρ (wordC s r) f
+    unfolding firedAt
+    delay-fired e f = rw (tree-of w r b (expression delay) e) refl
+
+    -- a second evaluation of a record replaces what the first one entered
+    pub fired-again : (π : List (List ℕ)) (f : List ℕ)
+        → firedAt undecided s Γ ρ r (firedAt undecided s Γ π r f) ≡ firedAt undecided s Γ ρ r f
+    unfolding firedAt
+    fired-again π f =
+        entered-again (firings undecided s Γ ρ (treeAt s r)) (firings undecided s Γ π (treeAt s r)) f
+        (firing-places s Γ ρ (treeAt s r) ∙ sym (firing-places s Γ π (treeAt s r)))

@@ -1,0 +1,44 @@
+-- Labels and shapes (docs/SHEETS.md, "Carrying": "Word d of a delay is its label, 0 for none"; "both types have the same shape: pairs,
+-- and flats of equal counts, in the same places").
+use Prim.Native.Nat.{ℕ}
+use mathlib.Core.Bool.{Bool, true, false, cond, _&&_}
+use mathlib.Core.List.{List}
+use mathlib.Core.Option.{Option, none, some}
+use lib.Dec.{eqb, ltb}
+use Rattle.picoella.specs.Types.{Ty, Flat, TyTuple}
+use Rattle.records.specs.Words.{count, wordA, wordD}
+use Rattle.records.specs.Kinds.{isDelay}
+use Rattle.records.specs.Says.{kindAt}
+use Rattle.records.specs.TypeRecords.{typeAt}
+use Rattle.answers.specs.Lowest.{lowest}
+
+-- the label of record r, 0 where it has none or is no delay
+abbrev pub label : List ℕ → ℕ → ℕ
+label s r = cond (isDelay (kindAt s r)) (wordD s r) 0
+
+-- record q bears the label l; nothing bears 0
+abbrev pub bears : List ℕ → ℕ → ℕ → Bool
+bears s l q = ltb 0 l && eqb (label s q) l
+
+-- the delay of the sheet with this label, the lowest where several have it
+unfoldable pub bearer : List ℕ → ℕ → Option ℕ
+bearer s l = lowest (bears s l) (count s)
+
+abbrev pub isSome : Option ℕ → Bool
+isSome none = false
+isSome (some r) = true
+
+-- a lower-numbered delay of the sheet bears the label of r
+unfoldable pub labelTwice : List ℕ → ℕ → Bool
+labelTwice s r = isSome (lowest (bears s (label s r)) r)
+
+-- the type of delay r
+abbrev pub delayType : List ℕ → ℕ → Ty
+delayType s r = typeAt s (wordA s r)
+
+-- pairs, and flats of equal counts, in the same places
+abbrev pub sameShape : Ty → Ty → Bool
+sameShape (Flat t n) (Flat u m) = eqb n m
+sameShape (Flat t n) (TyTuple υ ω) = false
+sameShape (TyTuple σ τ) (Flat u m) = false
+sameShape (TyTuple σ τ) (TyTuple υ ω) = sameShape σ υ && sameShape τ ω

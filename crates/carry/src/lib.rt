@@ -1,0 +1,279 @@
+// Carrying held values from a running sheet into a new one: each labelled delay of the new sheet takes the value of the old
+// sheet's delay with that label.
+ghost use mathlib.Core.Path.{_≡_};
+ghost use Prim.Native.Nat.{ℕ, _/_, _<_};
+ghost use mathlib.Core.List.{List};
+ghost use lib.ListN.{length};
+ghost use Rattle.records.specs.Sized.{Sized};
+ghost use Rattle.records.specs.Written.{Written};
+ghost use Rattle.records.specs.Trees.{chain};
+ghost use Rattle.records.specs.TypeRecords.{typeAt};
+ghost use Rattle.records.specs.Decoding.{leafValues};
+ghost use Rattle.answers.specs.Lowest.{lowest};
+ghost use Rattle.answers.specs.Searches.{found};
+ghost use Rattle.answers.specs.Answers.{code};
+ghost use Rattle.verdict.specs.Verdict.{verdict, verdictAnswer};
+ghost use Rattle.behaviour.specs.Delays.{assigned, putAll};
+ghost use Rattle.behaviour.specs.Sheets.{putWord};
+ghost use Rattle.carry.specs.Labels.{label, labelTwice, sameShape};
+ghost use Rattle.carry.specs.Bearers.{Bearers, Labelling, Labelled, AllLabelled};
+ghost use Rattle.carry.specs.Carrying.{Comparing, Taking, IsAccepted, Carrying, CarryingAll};
+ghost use Rattle.carry.specs.Carried.{giver, takenFrom, takenBelow};
+ghost use Rattle.carry.specs.Carry.{CarryGives};
+use answers::Found;
+use answers::ILL_TYPED;
+use answers::LABEL_TWICE;
+use answers::NEW_SHEET_REFUSED;
+use answers::TOO_DEEP;
+use answers::WRONG_HEADER;
+use answers::WRONG_LENGTH;
+use answers::WRONG_NAMING;
+use answers::WRONG_NEXT;
+use answers::WRONG_RECORD;
+use answers::WRONG_TYPE;
+use answers::in_one;
+use records::KIND_DELAY;
+use records::KIND_FLAT_TYPE;
+use records::WORD_A;
+use records::WORD_B;
+use records::WORD_D;
+use records::WORD_KIND;
+use records::WORD_NEXT;
+use records::offset;
+use records::records_in;
+use records::word;
+use values::put;
+use verdict::Verdict;
+use verdict::check_into;
+use verdict::no_widths;
+use verdict::packed_verdict;
+
+// The labels that there are, 0 for none among them.
+pub const LABELS: usize = 65536;
+
+// A table of delays by their labels.
+pub type LabelTable = [u16; LABELS];
+
+// The label of rec, 0 where it has none or is no delay.
+fn label_of(sheet: &[u8], n: usize, rec: usize) -> usize
+    requires { ⌜ Sized (now sheet) n × (rec < n) ⌝ }
+    ensures { λ r. ⌜ (r ≡ label (now (sheet .entry)) rec) × (r < 65536) ⌝ }
+{
+    if word(sheet, n, rec, WORD_KIND) != KIND_DELAY {
+        return 0;
+    }
+    word(sheet, n, rec, WORD_D)
+}
+
+// A table with no delay in it.
+fn no_bearers() -> LabelTable
+    ensures { λ r. ⌜ ((s : List ℕ) → Bearers s 0 r) ⌝ }
+{
+    [0; LABELS]
+}
+
+// Whether a lower delay bears the label of rec; where none does rec is entered.
+fn note_bearer(sheet: &[u8], n: usize, rec: usize, table: &mut LabelTable) -> bool
+    requires { ⌜ Labelling (now sheet) n rec (now table) ⌝ }
+    ensures { λ r. ⌜ Labelled (now (sheet .entry)) rec r (now (table .exit)) ⌝ }
+{
+    let l = label_of(sheet, n, rec);
+    if l == 0 {
+        return false;
+    }
+    if table[l] != 0 {
+        return true;
+    }
+    table[l] = rec as u16;
+    false
+}
+
+// Enters every delay under its label, up to the first whose label a lower one bears.
+fn note_bearers(sheet: &[u8], n: usize, table: &mut LabelTable) -> Found
+    requires { ⌜ Sized (now sheet) n × Written (now sheet) × Bearers (now sheet) 0 (now table) ⌝ }
+    ensures { λ r. ⌜ AllLabelled (now (sheet .entry)) n r (now (table .exit)) ⌝ }
+{
+    let mut rec = 0;
+    while rec < n {
+        if note_bearer(sheet, n, rec, table) {
+            return Found::At(rec);
+        }
+        rec += 1;
+    }
+    Found::Nothing
+}
+
+// The lowest delay whose label a lower one bears: code 19.
+fn first_repeated(sheet: &[u8], n: usize) -> Found
+    requires { ⌜ Sized (now sheet) n × Written (now sheet) ⌝ }
+    ensures { λ r. ⌜ found r ≡ lowest (labelTwice (now (sheet .entry))) n ⌝ }
+{
+    let mut table = no_bearers();
+    note_bearers(sheet, n, &mut table)
+}
+
+// Whether the types t of the old sheet and u of the new one have the same shape.
+fn same_shape(old: &[u8], n: usize, t: usize, new: &[u8], m: usize, u: usize) -> bool
+    requires { ⌜ Comparing (now old) n t (now new) m u ⌝ }
+    ensures { λ r. ⌜ r ≡ sameShape (typeAt (now (old .entry)) t) (typeAt (now (new .entry)) u) ⌝ }
+{
+    let kind = word(old, n, t, WORD_KIND);
+    if word(new, m, u, WORD_KIND) != kind {
+        return false;
+    }
+    let a = word(old, n, t, WORD_A);
+    let b = word(new, m, u, WORD_A);
+    if kind == KIND_FLAT_TYPE {
+        return a == b;
+    }
+    if !same_shape(old, n, a, new, m, b) {
+        return false;
+    }
+    same_shape(
+        old,
+        n,
+        word(old, n, t, WORD_B),
+        new,
+        m,
+        word(new, m, u, WORD_B),
+    )
+}
+
+// The leaves of the new sheet from `to` take those of the old one from `from`.
+fn take_leaves(old: &[u8], n: usize, from: usize, new: &[u8], m: usize, to: usize, next: &mut [u8])
+    requires { ⌜ Taking (now old) n from (now new) m to (now next) ⌝ }
+    ensures { λ _. ⌜ now (next .exit) ≡ putAll putWord (assigned (chain (now (new .entry)) to) (leafValues (now (old .entry)) (chain (now (old .entry)) from))) (now (next .entry)) ⌝ }
+{
+    let mut giving = from;
+    let mut taking = to;
+    while taking != 0 {
+        let at = offset(taking, WORD_A);
+        next[at] = word(old, n, giving, WORD_A) as u8;
+        next[at + 1] = 0;
+        giving = word(old, n, giving, WORD_NEXT);
+        taking = word(new, m, taking, WORD_NEXT);
+    }
+}
+
+// Record rec of the new sheet takes what it takes.
+fn take_record(
+    old: &[u8],
+    n: usize,
+    new: &[u8],
+    m: usize,
+    table: &LabelTable,
+    rec: usize,
+    next: &mut [u8],
+)
+    requires { ⌜ Carrying (now old) n (now new) m (now table) (now next) × (rec < m) ⌝ }
+    ensures { λ _. ⌜ now (next .exit) ≡ putAll putWord (takenFrom (now (old .entry)) (now (new .entry)) rec (giver (now (old .entry)) (now (new .entry)) rec)) (now (next .entry)) ⌝ }
+{
+    let q = table[label_of(new, m, rec)] as usize;
+    if q == 0 {
+        return;
+    }
+    if !same_shape(
+        old,
+        n,
+        word(old, n, q, WORD_A),
+        new,
+        m,
+        word(new, m, rec, WORD_A),
+    ) {
+        return;
+    }
+    take_leaves(
+        old,
+        n,
+        word(old, n, q, WORD_B),
+        new,
+        m,
+        word(new, m, rec, WORD_B),
+        next,
+    );
+}
+
+// All records of the new sheet, by the table of the old sheet's labels.
+fn take_all(old: &[u8], n: usize, new: &[u8], m: usize, table: &LabelTable, next: &mut [u8])
+    requires { ⌜ Carrying (now old) n (now new) m (now table) (now next) ⌝ }
+    ensures { λ _. ⌜ now (next .exit) ≡ putAll putWord (takenBelow (now (old .entry)) (now (new .entry)) m) (now (next .entry)) ⌝ }
+{
+    let mut rec = 0;
+    while rec < m {
+        take_record(old, n, new, m, table, rec, next);
+        rec += 1;
+    }
+}
+
+// The delays of the new sheet, whose bytes stand in `next`, take those of the old one.
+fn carry_values(old: &[u8], n: usize, new: &[u8], m: usize, next: &mut [u8])
+    requires { ⌜ CarryingAll (now old) n (now new) m (now next) ⌝ }
+    ensures { λ _. ⌜ now (next .exit) ≡ putAll putWord (takenBelow (now (old .entry)) (now (new .entry)) m) (now (next .entry)) ⌝ }
+{
+    let mut table = no_bearers();
+    note_bearers(old, n, &mut table);
+    take_all(old, n, new, m, &table, next);
+}
+
+// An accepted sheet carried into another: codes 19 and 11, and then the values.
+fn carry_accepted(old: &[u8], n: usize, new: &[u8], m: usize, next: &mut [u8]) -> u64
+    requires { ⌜ IsAccepted (now old) n × IsAccepted (now new) m ⌝ }
+    ensures { λ r. ⌜ CarryGives (now (old .entry)) (now (new .entry)) (now (next .entry)) r (now (next .exit)) ⌝ }
+{
+    let before = first_repeated(old, n);
+    if let Found::At(r) = before {
+        return in_one(LABEL_TWICE, r as u64);
+    }
+    let after = first_repeated(new, m);
+    if let Found::At(r) = after {
+        return in_one(LABEL_TWICE, r as u64);
+    }
+    if next.len() != new.len() {
+        return in_one(WRONG_NEXT, new.len() as u64);
+    }
+    put(new, next);
+    carry_values(old, n, new, m, next);
+    0
+}
+
+// The verdict on a sheet of n records.
+fn verdict_on(sheet: &[u8], n: usize) -> Verdict
+    requires { ⌜ n ≡ length (now sheet) / 12 ⌝ }
+    ensures { λ r. ⌜ r ≡ verdict (now (sheet .entry)) ⌝ }
+{
+    let mut widths = no_widths();
+    check_into(sheet, n, &mut widths)
+}
+
+// The code of a verdict, 0 where it accepts.
+fn code_of(v: Verdict) -> u64
+    ensures { λ r. ⌜ r ≡ code (verdictAnswer v) ⌝ }
+{
+    match v {
+        Verdict::Accepted(_) => 0,
+        Verdict::WrongLength => WRONG_LENGTH,
+        Verdict::WrongHeader => WRONG_HEADER,
+        Verdict::WrongRecord(_) => WRONG_RECORD,
+        Verdict::WrongNaming(_) => WRONG_NAMING,
+        Verdict::WrongType(_) => WRONG_TYPE,
+        Verdict::TooDeep(_) => TOO_DEEP,
+        Verdict::IllTyped(_) => ILL_TYPED,
+    }
+}
+
+// The call: the answer's code and place in one number. The old sheet by codes 1 to 7, the new one by 18, then the rest.
+pub fn carry(old: &[u8], new: &[u8], next: &mut [u8]) -> u64
+    ensures { λ r. ⌜ CarryGives (now (old .entry)) (now (new .entry)) (now (next .entry)) r (now (next .exit)) ⌝ }
+{
+    let n = records_in(old.len());
+    let before = verdict_on(old, n);
+    if code_of(before) != 0 {
+        return packed_verdict(before);
+    }
+    let m = records_in(new.len());
+    let refused = code_of(verdict_on(new, m));
+    if refused != 0 {
+        return in_one(NEW_SHEET_REFUSED, refused);
+    }
+    carry_accepted(old, n, new, m, next)
+}

@@ -1,0 +1,3 @@
+-- What the call gives that tells which alternative fired, and what is promised of it.
+pub mod Telling
+pub mod Promises

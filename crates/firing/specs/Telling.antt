@@ -1,0 +1,47 @@
+-- Which alternative fired, as a call (docs/SHEETS.md, "Which alternative fired"): "A single-cycle call fills a lent slice with one 16-bit
+-- word per record: at an IF this number, taken from the evaluation with every enclosing feedback at its settled value, and 0
+-- elsewhere. It writes nothing else." "Checks: 1 to 9, with 8 also for a stimulus that is not exactly one cycle, then 16 (slice not
+-- one word per record, place: words needed)." Where nothing refuses, it gives 0 at place 0. The slice is a list of words here, so its
+-- length and 16's place count words, not bytes.
+use Prim.Native.Nat.{ℕ}
+use mathlib.Core.Path.{_≡_}
+use mathlib.Core.Bool.{not}
+use mathlib.Core.List.{List, [], _∷_, _++_}
+use lib.ListN.{length}
+use lib.Dec.{eqb}
+use Rattle.picoella.specs.Types.{OfType}
+use Rattle.records.specs.Words.{count}
+use Rattle.answers.specs.Answers.{packed, whenDone}
+use Rattle.answers.specs.Checks.{Check, check, when, firstApplying}
+use Rattle.answers.specs.declared.Answer.{Answer}
+use Rattle.answers.specs.declared.Answer.the-variants.{Done}
+use Rattle.verdict.specs.Verdict.{sheetChecks, verdict}
+use Rattle.verdict.specs.declared.Verdict.the-variants.{Accepted}
+use Rattle.accepted.specs.Accepting.{Accepting}
+use Rattle.stimulus.specs.Stimulus.{inputType}
+use Rattle.stimulus.specs.OneCycle.{oneCycleChecks}
+use Rattle.behaviour.specs.Firing.{fired}
+
+-- 1 to 7, 8 and 9 for exactly one cycle, and 16
+abbrev pub firedChecks : (sheet stimulus words : List ℕ) → List Check
+firedChecks s stim words =
+    sheetChecks s ++ (oneCycleChecks s stim ++ (check 16 (when (not (eqb (length words) (count s))) (count s)) ∷ []))
+
+unfoldable pub firedAnswer : (sheet stimulus words : List ℕ) → Answer
+firedAnswer s stim words = firstApplying (firedChecks s stim words) (Done 0)
+
+-- the slice at the end: a word for each record, and on a refusal what was there
+unfoldable pub finalFired : (sheet stimulus words : List ℕ) → List ℕ
+finalFired s stim words = whenDone (firedAnswer s stim words) (fired s stim) words
+
+-- what a call gives, for every content and length of the three slices: the number returned and the final words
+pub record ToldFired (sheet stimulus words : List ℕ) (result : ℕ) (words′ : List ℕ) : Type 0 where
+  pub result-is : result ≡ packed (firedAnswer sheet stimulus words)
+  pub words-is : words′ ≡ finalFired sheet stimulus words
+
+-- the words of one cycle of an accepted sheet with output type t are told, into a slice of one a record
+pub record TellingFired (s : List ℕ) (n : ℕ) (widths : List ℕ) (t : ℕ) (input words : List ℕ) : Type 0 where
+  pub accepting : Accepting s n widths
+  pub accepted : verdict s ≡ Accepted t
+  pub typed : OfType (inputType s) input
+  pub room : length words ≡ count s

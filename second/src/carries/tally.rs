@@ -1,0 +1,145 @@
+//! What was compared, and the quotas it has to meet.
+
+use std::collections::BTreeMap;
+
+use crate::memory::PLACEMENTS;
+use crate::workers::Count;
+
+/// One more than the greatest code.
+pub const CODES: usize = 20;
+
+#[derive(Clone, Default)]
+pub struct Tally {
+    pub compared: u64,
+    /// Calls by code.
+    pub codes: [u64; CODES],
+    /// Calls refused with 18, by the new sheet's code.
+    pub new_codes: [u64; 8],
+    /// Calls by the placement of the lent slices.
+    pub placements: [u64; PLACEMENTS],
+    /// Everything else, by name.
+    pub named: BTreeMap<&'static str, u64>,
+}
+
+const CARRIES: u64 = 100_000;
+pub const PER_CODE: u64 = 1_000;
+pub const PER_NEW_CODE: u64 = 1_000;
+const PER_PLACEMENT: u64 = 20_000;
+
+pub const CARRIED: &str = "carried values that differ from the new sheet's own";
+pub const UNDEFINED: &str = "carried values with an undefined leaf";
+pub const ALIKE: &str = "one label on two equal shapes";
+pub const ALIKE_PAIRS: &str = "one label on two equal shapes of pairs";
+pub const ALIKE_ELSEWHERE: &str = "one label on equal shapes by other records";
+pub const UNLIKE: &str = "one label on two unequal shapes";
+pub const OTHER_COUNTS: &str = "one label on shapes that differ in counts alone";
+pub const OTHER_PAIRS: &str = "one label on the same leaves in other pairs";
+pub const PAIR_AND_FLAT: &str = "one label on a pair and a flat";
+pub const NO_PARTNER: &str = "labels that the old sheet lacks";
+pub const ZEROS: &str = "accepted, delays without a label in both sheets";
+pub const ZERO_TWICE: &str = "accepted, label 0 twice in one sheet";
+pub const RUNNING: &str = "running sheets carried into those they began as";
+pub const OLD_TWICE: &str = "19: a label twice in the old sheet";
+pub const NEW_TWICE: &str = "19: a label twice in the new sheet";
+pub const BOTH_TWICE: &str = "19: a label twice in both sheets";
+pub const SEVERAL_TWICE: &str = "19: several labels twice in one sheet";
+pub const NEXT_NONE: &str = "11: next slice of 0 bytes";
+pub const NEXT_SHORTER: &str = "11: next slice shorter";
+pub const NEXT_LONGER: &str = "11: next slice longer";
+pub const NEXT_OF_OLD: &str = "11: next slice as long as the old sheet";
+pub const BOTH_REFUSED: &str = "faults in both sheets";
+pub const REFUSED_AND_TWICE: &str = "faults of 18 and 19";
+pub const REFUSED_AND_LENGTH: &str = "faults of 18 and 11";
+pub const TWICE_AND_LENGTH: &str = "faults of 19 and 11";
+pub const OLD_AND_LENGTH: &str = "faults of the old sheet and 11";
+pub const FUZZED: &str = "sheets changed at random";
+pub const LARGE: &str = "two sheets of many labelled delays";
+
+/// The quotas of the named counts.
+pub const QUOTAS: [(&str, u64); 28] = [
+    (CARRIED, 20_000),
+    (UNDEFINED, 5_000),
+    (ALIKE, 20_000),
+    (ALIKE_PAIRS, 5_000),
+    (ALIKE_ELSEWHERE, 5_000),
+    (UNLIKE, 20_000),
+    (OTHER_COUNTS, 5_000),
+    (OTHER_PAIRS, 2_000),
+    (PAIR_AND_FLAT, 5_000),
+    (NO_PARTNER, 5_000),
+    (ZEROS, 5_000),
+    (ZERO_TWICE, 5_000),
+    (RUNNING, 10_000),
+    (OLD_TWICE, 3_000),
+    (NEW_TWICE, 3_000),
+    (BOTH_TWICE, 2_000),
+    (SEVERAL_TWICE, 500),
+    (NEXT_NONE, 500),
+    (NEXT_SHORTER, 500),
+    (NEXT_LONGER, 500),
+    (NEXT_OF_OLD, 500),
+    (BOTH_REFUSED, 2_000),
+    (REFUSED_AND_TWICE, 1_000),
+    (REFUSED_AND_LENGTH, 1_000),
+    (TWICE_AND_LENGTH, 1_000),
+    (OLD_AND_LENGTH, 1_000),
+    (FUZZED, 5_000),
+    (LARGE, 32),
+];
+
+/// The quota of a named count.
+pub fn quota(name: &str) -> u64 {
+    QUOTAS.iter().find(|(n, _)| *n == name).map_or(0, |(_, need)| *need)
+}
+
+impl Tally {
+    pub fn add(&mut self, name: &'static str, count: u64) {
+        *self.named.entry(name).or_default() += count;
+    }
+
+    pub fn got(&self, name: &str) -> u64 {
+        self.named.get(name).copied().unwrap_or(0)
+    }
+
+    /// Prints every quota; hands back those that are not met.
+    pub fn print(&self) -> Vec<String> {
+        let mut unmet = Vec::new();
+        let mut line = |name: String, got: u64, need: u64| {
+            println!("quota {name}: {got} of {need}");
+            if got < need {
+                unmet.push(format!("{name}: {got} of {need}"));
+            }
+        };
+        line("carries in all".into(), self.compared, CARRIES);
+        line("carries with code 0".into(), self.codes[0], CARRIES / 2);
+        for (name, need) in QUOTAS {
+            line(name.into(), self.got(name), need);
+        }
+        for code in (1..=7).chain([11, 18, 19]) {
+            line(format!("carries with code {code}"), self.codes[code], PER_CODE);
+        }
+        for (code, count) in self.new_codes.iter().enumerate().skip(1) {
+            line(format!("18: new sheet refused with {code}"), *count, PER_NEW_CODE);
+        }
+        let names = ["before a closed page", "after a closed page", "between kept bytes"];
+        for (name, count) in names.iter().zip(self.placements) {
+            line(format!("carries with slices {name}"), count, PER_PLACEMENT);
+        }
+        unmet
+    }
+}
+
+impl Count for Tally {
+    fn merge(&mut self, other: &Tally) {
+        self.compared += other.compared;
+        let sum = |mine: &mut [u64], theirs: &[u64]| {
+            mine.iter_mut().zip(theirs).for_each(|(m, t)| *m += t);
+        };
+        sum(&mut self.codes, &other.codes);
+        sum(&mut self.new_codes, &other.new_codes);
+        sum(&mut self.placements, &other.placements);
+        for (name, count) in &other.named {
+            self.add(name, *count);
+        }
+    }
+}

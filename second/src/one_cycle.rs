@@ -1,0 +1,9 @@
+//! What comparisons of calls have in common that take a sheet and one cycle of
+//! input and fill one slice.
+
+pub mod cases;
+pub mod compare;
+mod faults;
+mod jobs;
+pub mod plan;
+pub mod tally;

@@ -1,0 +1,117 @@
+//! Calls with faults: in the sheet, the stimulus or the slice's length.
+
+use second::draft::Draft;
+use second::faults::category::Category;
+use second::generate::circuits::circuit;
+use second::layout::sheet;
+use second::random::Random;
+use second::stimulus::MAX_STIMULUS;
+
+use super::cases::{Case, Ground, Kind};
+use super::tally;
+use crate::runs::faults::break_sheet;
+
+/// A circuit that faults are put into, mostly not a large one.
+pub fn base(random: &mut Random) -> Draft {
+    loop {
+        let draft = circuit(random);
+        if draft.nodes.len() <= 160 || random.one_in(20) {
+            return draft;
+        }
+    }
+}
+
+/// A call with faults of some codes; the ways in which those from 8 on were
+/// made. None if the circuit has no place for a fault.
+pub fn broken<M>(
+    kind: &Kind<M>,
+    codes: &[u8],
+    categories: &[Category],
+    random: &mut Random,
+) -> Option<(Case, Vec<&'static str>)> {
+    let draft = base(random);
+    let whole = sheet(&draft, random);
+    let ground = Ground::of(kind, &whole)?;
+    let mut case = ground.good("one call", whole, random);
+    for &code in codes.iter().filter(|&&code| code <= 7) {
+        (case.source, case.sheet) = break_sheet(&draft, code, categories, random)?;
+    }
+    let mut ways = Vec::new();
+    // The stimulus gets its length first, and then bytes that are too great.
+    for &code in codes.iter().filter(|&&code| code >= 8) {
+        let way = match code {
+            8 => break_stimulus(&mut case, &ground, random)?,
+            9 => break_bytes(&mut case, &ground, random)?,
+            _ => break_length(&mut case, &ground, random)?,
+        };
+        case.source = format!("{}; {way}", case.source);
+        ways.push(way);
+    }
+    Some((case, ways))
+}
+
+/// Code 8: not exactly one cycle. The slice is as long as one cycle asks for,
+/// or as so many cycles.
+fn break_stimulus(case: &mut Case, ground: &Ground, random: &mut Random) -> Option<&'static str> {
+    let leaves = ground.counts.len();
+    let way = random.pick(tally::ways(8))?;
+    let length = match way {
+        tally::EMPTY => 0,
+        tally::PART => random.range(1, leaves.checked_sub(1).filter(|&most| most > 0)?),
+        tally::TWO => 2 * leaves,
+        tally::MORE if random.one_in(20) => MAX_STIMULUS / leaves * leaves,
+        tally::MORE => leaves * random.range(3, 9),
+        tally::NOT_WHOLE => {
+            leaves + random.range(1, leaves.checked_sub(1).filter(|&most| most > 0)?)
+        }
+        _ => MAX_STIMULUS + random.range(1, 2 * leaves),
+    };
+    case.stimulus = ground.stimulus(length / leaves + 1, random);
+    case.stimulus.truncate(length);
+    if random.one_in(2) {
+        case.slice_length = (length / leaves * ground.items).min(1 << 16);
+    }
+    Some(way)
+}
+
+/// Code 9: one byte or some, at the first place, the last or any.
+fn break_bytes(case: &mut Case, ground: &Ground, random: &mut Random) -> Option<&'static str> {
+    let leaves = ground.counts.len();
+    let breakable: Vec<usize> =
+        (0..case.stimulus.len()).filter(|k| ground.counts[k % leaves] < 255).collect();
+    let several = breakable.len() > 1 && random.one_in(2);
+    let times = if several { random.range(2, 5) } else { 1 };
+    for _ in 0..times {
+        let place = match random.below(6) {
+            0 => breakable.first().copied()?,
+            1 => breakable.last().copied()?,
+            _ => random.pick(&breakable)?,
+        };
+        let above = usize::from(ground.counts[place % leaves]) + 1;
+        case.stimulus[place] = match random.below(3) {
+            0 => above as u8,
+            1 => 255,
+            _ => random.range(above, 255) as u8,
+        };
+    }
+    Some(if several { tally::SOME_ABOVE } else { tally::ABOVE })
+}
+
+/// The slice's length is another one than one cycle asks for.
+fn break_length(case: &mut Case, ground: &Ground, random: &mut Random) -> Option<&'static str> {
+    let needed = ground.items;
+    let by = if random.one_in(2) { 1 } else { random.range(1, 2 * needed) };
+    let way = random.pick(tally::ways(u8::MAX))?;
+    let length = match way {
+        tally::NONE => 0,
+        tally::SHORTER => needed.checked_sub(by)?,
+        tally::LONGER => needed + by,
+        tally::OF_INPUT => ground.counts.len(),
+        _ => 2 * needed,
+    };
+    if length == needed {
+        return None;
+    }
+    case.slice_length = length;
+    Some(way)
+}

@@ -1,0 +1,56 @@
+//! The whole comparison: jobs, threads, quotas and the answer.
+
+use std::process::ExitCode;
+
+use second::faults::categories;
+use second::faults::category::Category;
+use second::random::Random;
+
+use super::cases::Kind;
+use super::compare::{Comparer, Difference, Memory};
+use super::jobs::{in_order, Job, SHARDS};
+use super::tally::Tally;
+use crate::workers::{self, Count, Options};
+
+/// Runs every job; the tally of all, or the first difference.
+fn run_jobs<M: Copy + Sync>(
+    kind: &Kind<M>,
+    jobs: Vec<Job>,
+    round: u64,
+    categories: &[Category],
+    options: &Options<M>,
+) -> (Tally, Option<Box<Difference>>) {
+    workers::run_jobs(&jobs, round, options, |job, random, stop| {
+        let mut comparer = Comparer {
+            kind,
+            mistake: options.mistake(),
+            stop,
+            tally: Tally::default(),
+            memory: Memory::new(),
+            fill: Random::new(random.draw()),
+        };
+        let ended = job.run(&mut comparer, categories, random);
+        (comparer.tally, ended)
+    })
+}
+
+/// Compares the two implementations of a kind of call.
+pub fn run<M: Copy + Sync>(kind: &Kind<M>, options: &Options<M>) -> ExitCode {
+    let categories = categories();
+    let what = kind.what;
+    println!("seed {}", options.seed);
+    let (mut tally, mut difference) = run_jobs(kind, in_order(kind), 1, &categories, options);
+    let missing = options.least.saturating_sub(tally.compared);
+    if difference.is_none() && missing > 0 {
+        let jobs = (0..SHARDS).map(|_| Job::Accepted(missing.div_ceil(SHARDS))).collect();
+        let (more, found) = run_jobs(kind, jobs, 2, &categories, options);
+        tally.merge(&more);
+        difference = found;
+    }
+    if let Some(difference) = difference {
+        print!("{}", difference.report());
+        println!("after {} equal {what}", tally.compared);
+        return ExitCode::from(1);
+    }
+    workers::answer(options, &tally.print(kind), tally.compared, what)
+}
