@@ -49,7 +49,8 @@ fn of_name(
     copy_value(env, names - 1 - k, out);
 }
 
-// Evaluates an expression: its value goes to `out`, its delays' next values to `held`, and the numbers of its IFs to `fired`.
+// Evaluates an expression: its value goes to `out`, its delays' next values to `held`, and the numbers of its IFs to `fired`,
+// which stands last so that the record's number is passed in a register.
 pub fn eval(
     sheet: &[u8],
     n: usize,
@@ -57,9 +58,9 @@ pub fn eval(
     env: &mut [u8],
     names: usize,
     held: &mut NextValues,
-    fired: &mut Fired,
     rec: usize,
     out: &mut [u8],
+    fired: &mut Fired,
 )
     requires { ⌜ ((Γ : List ℕ) × EvaluatingIn (now sheet) n (now widths) (now env) names rec (now out) Γ) ⌝ }
     ensures { λ _. ⌜ Evaluated (now (sheet .entry)) n (now (widths .entry)) (now (env .entry)) names rec (now (held .entry)) (now (fired .entry)) (now (out .entry)) (now (env .exit)) (now (held .exit)) (now (fired .exit)) (now (out .exit)) ⌝ }
@@ -74,30 +75,30 @@ pub fn eval(
         return;
     }
     if kind == KIND_PAIR {
-        of_pair(sheet, n, widths, env, names, held, fired, rec, out);
+        of_pair(sheet, n, widths, env, names, held, rec, out, fired);
         return;
     }
     if kind == KIND_FIRST {
-        of_first(sheet, n, widths, env, names, held, fired, rec, out);
+        of_first(sheet, n, widths, env, names, held, rec, out, fired);
         return;
     }
     if kind == KIND_SECOND {
-        of_second(sheet, n, widths, env, names, held, fired, rec, out);
+        of_second(sheet, n, widths, env, names, held, rec, out, fired);
         return;
     }
     if kind == KIND_LET {
-        of_let(sheet, n, widths, env, names, held, fired, rec, out);
+        of_let(sheet, n, widths, env, names, held, rec, out, fired);
         return;
     }
     if kind == KIND_FEEDBACK {
-        of_feedback(sheet, n, widths, env, names, held, fired, rec, out);
+        of_feedback(sheet, n, widths, env, names, held, rec, out, fired);
         return;
     }
     if kind == KIND_IF {
-        of_if(sheet, n, widths, env, names, held, fired, rec, out);
+        of_if(sheet, n, widths, env, names, held, rec, out, fired);
         return;
     }
-    of_delay(sheet, n, widths, env, names, held, fired, rec, out);
+    of_delay(sheet, n, widths, env, names, held, rec, out, fired);
 }
 
 fn of_pair(
@@ -107,18 +108,18 @@ fn of_pair(
     env: &mut [u8],
     names: usize,
     held: &mut NextValues,
-    fired: &mut Fired,
     rec: usize,
     out: &mut [u8],
+    fired: &mut Fired,
 )
     requires { ⌜ ((Γ : List ℕ) × EvaluatingIn (now sheet) n (now widths) (now env) names rec (now out) Γ) × (kindAt (now sheet) rec ≡ expression tuple) ⌝ }
     ensures { λ _. ⌜ Evaluated (now (sheet .entry)) n (now (widths .entry)) (now (env .entry)) names rec (now (held .entry)) (now (fired .entry)) (now (out .entry)) (now (env .exit)) (now (held .exit)) (now (fired .exit)) (now (out .exit)) ⌝ }
 {
     let a = word(sheet, n, rec, WORD_A);
     let w = widths[a] as usize;
-    eval(sheet, n, widths, env, names, held, fired, a, &mut out[0..w]);
+    eval(sheet, n, widths, env, names, held, a, &mut out[0..w], fired);
     let b = word(sheet, n, rec, WORD_B);
-    eval(sheet, n, widths, env, names, held, fired, b, &mut out[w..]);
+    eval(sheet, n, widths, env, names, held, b, &mut out[w..], fired);
 }
 
 fn of_first(
@@ -128,9 +129,9 @@ fn of_first(
     env: &mut [u8],
     names: usize,
     held: &mut NextValues,
-    fired: &mut Fired,
     rec: usize,
     out: &mut [u8],
+    fired: &mut Fired,
 )
     requires { ⌜ ((Γ : List ℕ) × EvaluatingIn (now sheet) n (now widths) (now env) names rec (now out) Γ) × (kindAt (now sheet) rec ≡ expression first) ⌝ }
     ensures { λ _. ⌜ Evaluated (now (sheet .entry)) n (now (widths .entry)) (now (env .entry)) names rec (now (held .entry)) (now (fired .entry)) (now (out .entry)) (now (env .exit)) (now (held .exit)) (now (fired .exit)) (now (out .exit)) ⌝ }
@@ -145,9 +146,9 @@ fn of_first(
         env,
         names,
         held,
-        fired,
         a,
         &mut whole[0..w],
+        fired,
     );
     put(&whole[0..out.len()], out);
 }
@@ -159,9 +160,9 @@ fn of_second(
     env: &mut [u8],
     names: usize,
     held: &mut NextValues,
-    fired: &mut Fired,
     rec: usize,
     out: &mut [u8],
+    fired: &mut Fired,
 )
     requires { ⌜ ((Γ : List ℕ) × EvaluatingIn (now sheet) n (now widths) (now env) names rec (now out) Γ) × (kindAt (now sheet) rec ≡ expression second) ⌝ }
     ensures { λ _. ⌜ Evaluated (now (sheet .entry)) n (now (widths .entry)) (now (env .entry)) names rec (now (held .entry)) (now (fired .entry)) (now (out .entry)) (now (env .exit)) (now (held .exit)) (now (fired .exit)) (now (out .exit)) ⌝ }
@@ -176,9 +177,9 @@ fn of_second(
         env,
         names,
         held,
-        fired,
         a,
         &mut whole[0..w],
+        fired,
     );
     put(&whole[w - out.len()..w], out);
 }
@@ -190,9 +191,9 @@ fn of_let(
     env: &mut [u8],
     names: usize,
     held: &mut NextValues,
-    fired: &mut Fired,
     rec: usize,
     out: &mut [u8],
+    fired: &mut Fired,
 )
     requires { ⌜ ((Γ : List ℕ) × EvaluatingIn (now sheet) n (now widths) (now env) names rec (now out) Γ) × (kindAt (now sheet) rec ≡ expression letIn) ⌝ }
     ensures { λ _. ⌜ Evaluated (now (sheet .entry)) n (now (widths .entry)) (now (env .entry)) names rec (now (held .entry)) (now (fired .entry)) (now (out .entry)) (now (env .exit)) (now (held .exit)) (now (fired .exit)) (now (out .exit)) ⌝ }
@@ -207,13 +208,13 @@ fn of_let(
         env,
         names,
         held,
-        fired,
         a,
         &mut value[0..w],
+        fired,
     );
     enter_value(env, names, &value[0..w]);
     let b = word(sheet, n, rec, WORD_B);
-    eval(sheet, n, widths, env, names + 1, held, fired, b, out);
+    eval(sheet, n, widths, env, names + 1, held, b, out, fired);
 }
 
 fn of_feedback(
@@ -223,9 +224,9 @@ fn of_feedback(
     env: &mut [u8],
     names: usize,
     held: &mut NextValues,
-    fired: &mut Fired,
     rec: usize,
     out: &mut [u8],
+    fired: &mut Fired,
 )
     requires { ⌜ ((Γ : List ℕ) × EvaluatingIn (now sheet) n (now widths) (now env) names rec (now out) Γ) × (kindAt (now sheet) rec ≡ expression feedback) ⌝ }
     ensures { λ _. ⌜ Evaluated (now (sheet .entry)) n (now (widths .entry)) (now (env .entry)) names rec (now (held .entry)) (now (fired .entry)) (now (out .entry)) (now (env .exit)) (now (held .exit)) (now (fired .exit)) (now (out .exit)) ⌝ }
@@ -241,12 +242,12 @@ fn of_feedback(
         env,
         names,
         held,
-        fired,
         d,
         &mut settled[0..w],
+        fired,
     );
     let b = word(sheet, n, rec, WORD_C);
-    eval(sheet, n, widths, env, names + 1, held, fired, b, out);
+    eval(sheet, n, widths, env, names + 1, held, b, out, fired);
 }
 
 // Evaluates a feedback's defining part until it gives back unchanged what the feedback's name holds.
@@ -257,19 +258,19 @@ fn settle(
     env: &mut [u8],
     names: usize,
     held: &mut NextValues,
-    fired: &mut Fired,
     d: usize,
     value: &mut [u8],
+    fired: &mut Fired,
 )
     requires { ⌜ ((t : ℕ) × (Γ : List ℕ) × SettlingIn (now sheet) n (now widths) (now env) names d (now value) t Γ) ⌝ }
     ensures { λ _. ⌜ Settled (now (sheet .entry)) n (now (widths .entry)) (now (env .entry)) names d (now (held .entry)) (now (fired .entry)) (now (value .entry)) (now (env .exit)) (now (held .exit)) (now (fired .exit)) ⌝ }
 {
-    eval(sheet, n, widths, env, names + 1, held, fired, d, value);
+    eval(sheet, n, widths, env, names + 1, held, d, value, fired);
     if stands_at(env, names, value) {
         return;
     }
     enter_value(env, names, value);
-    settle(sheet, n, widths, env, names, held, fired, d, value);
+    settle(sheet, n, widths, env, names, held, d, value, fired);
 }
 
 fn of_if(
@@ -279,9 +280,9 @@ fn of_if(
     env: &mut [u8],
     names: usize,
     held: &mut NextValues,
-    fired: &mut Fired,
     rec: usize,
     out: &mut [u8],
+    fired: &mut Fired,
 )
     requires { ⌜ ((Γ : List ℕ) × EvaluatingIn (now sheet) n (now widths) (now env) names rec (now out) Γ) × (kindAt (now sheet) rec ≡ expression ifMatches) ⌝ }
     ensures { λ _. ⌜ Evaluated (now (sheet .entry)) n (now (widths .entry)) (now (env .entry)) names rec (now (held .entry)) (now (fired .entry)) (now (out .entry)) (now (env .exit)) (now (held .exit)) (now (fired .exit)) (now (out .exit)) ⌝ }
@@ -296,12 +297,12 @@ fn of_if(
         env,
         names,
         held,
-        fired,
         a,
         &mut tested[0..w],
+        fired,
     );
     let b = word(sheet, n, rec, WORD_B);
-    eval(sheet, n, widths, env, names, held, fired, b, out);
+    eval(sheet, n, widths, env, names, held, b, out, fired);
     let other = word(sheet, n, rec, WORD_C);
     let all = out.len();
     let mut otherwise = room();
@@ -312,9 +313,9 @@ fn of_if(
         env,
         names,
         held,
-        fired,
         other,
         &mut otherwise[0..all],
+        fired,
     );
     let p = word(sheet, n, rec, WORD_D);
     let number = choose_value(sheet, n, widths, p, &tested[0..w], &otherwise[0..all], out);
@@ -328,15 +329,15 @@ fn of_delay(
     env: &mut [u8],
     names: usize,
     held: &mut NextValues,
-    fired: &mut Fired,
     rec: usize,
     out: &mut [u8],
+    fired: &mut Fired,
 )
     requires { ⌜ ((Γ : List ℕ) × EvaluatingIn (now sheet) n (now widths) (now env) names rec (now out) Γ) × (kindAt (now sheet) rec ≡ expression delay) ⌝ }
     ensures { λ _. ⌜ Evaluated (now (sheet .entry)) n (now (widths .entry)) (now (env .entry)) names rec (now (held .entry)) (now (fired .entry)) (now (out .entry)) (now (env .exit)) (now (held .exit)) (now (fired .exit)) (now (out .exit)) ⌝ }
 {
     let c = word(sheet, n, rec, WORD_C);
-    eval(sheet, n, widths, env, names, held, fired, c, out);
+    eval(sheet, n, widths, env, names, held, c, out, fired);
     let first = word(sheet, n, rec, WORD_B);
     hold_leaves(sheet, n, first, out, held);
     read_leaves(sheet, n, first, out);

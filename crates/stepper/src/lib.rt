@@ -84,7 +84,7 @@ pub fn look(
 {
     enter_value(env, 0, input);
     let root = word(sheet, n, 0, WORD_B);
-    eval(current, n, widths, env, 1, held, fired, root, out);
+    eval(current, n, widths, env, 1, held, root, out, fired);
 }
 
 // One cycle from the sheet in `current`: the output goes to `out`, and the sheet after the cycle to `current`.

@@ -12,7 +12,7 @@ use lib.Dec.{eqb}
 use lib.ListN.{length, getD, set, take, drop, length-drop}
 use lib.Seq.{take-length, take-all, take-take, take-suc, drop-length, length-take-le, getD-take, paste, paste-zero, paste-suc, length-paste}
 use Rattle.records.proofs.Tests.{never-both}
-use Rattle.meaning.specs.Matching.{Yes, No, constructorDecision}
+use Rattle.meaning.specs.Matching.{Yes, No, constructorDecision, pairDecision}
 use Rattle.meaning.specs.Evaluation.{choose}
 use Rattle.meaning.specs.Undecided.{undecidedRule}
 use Rattle.values.specs.Answers.{decisionOf, told, Own, Agrees}
@@ -91,6 +91,11 @@ module _ (p k v : ℕ) where
       unnamed : (v : ℕ) → v ≢ 0 → eqb v k ≡ false → constructorDecision k v ≡ No
       unnamed zero n e = absurd (n refl)
       unnamed (suc v) n e = rw e refl
+
+-- where the first part of a pair pattern says yes, the second decides
+pub second-decides : {p q : ℕ} {r : Match} (a b : Match) → a ≡ Matches.Yes q → Own p r (decisionOf b)
+    → Own p r (pairDecision (decisionOf a) (decisionOf b))
+second-decides a b e o = rw e o
 
 -- a value in front of what lies from a slot on
 pub entered-there : (a : ℕ) (xs v ys : List ℕ) → ys ≡ v ++ drop (length v) (take (length xs - a) (drop a xs))

@@ -179,17 +179,24 @@ fn on_leaf(p: usize, k: usize, leaf: u8) -> Match
     Match::No
 }
 
+// An answer as that of the alternative at p, whose record a yes tells.
+fn own(p: usize, answer: Match) -> Match
+    ensures { λ r. ⌜ Own p r (decisionOf answer) ⌝ }
+{
+    match answer {
+        Match::Yes(_) => Match::Yes(p),
+        Match::No => Match::No,
+        Match::Undecided => Match::Undecided,
+    }
+}
+
 // The answer of the alternative at p, a pair pattern, from those of its parts.
 fn both(p: usize, a: Match, b: Match) -> Match
     ensures { λ r. ⌜ Own p r (pairDecision (decisionOf a) (decisionOf b)) ⌝ }
 {
     match a {
         Match::No => Match::No,
-        Match::Yes(_) => match b {
-            Match::No => Match::No,
-            Match::Yes(_) => Match::Yes(p),
-            Match::Undecided => Match::Undecided,
-        },
+        Match::Yes(_) => own(p, b),
         Match::Undecided => match b {
             Match::No => Match::No,
             Match::Yes(_) => Match::Undecided,

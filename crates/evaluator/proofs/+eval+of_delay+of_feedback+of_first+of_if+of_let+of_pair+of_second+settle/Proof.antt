@@ -66,31 +66,31 @@ use Rattle.evaluator.proofs.Feedbacks.{part-scope, feedback-fits, start
 use Rattle.evaluator.proofs.Branches.{tested-scope, then-ready, else-fits, else-ready, tested-inside, otherwise-inside, as-long, pattern-matched, if-wide, if-done, delayed-ready, delay-chained, delay-done}
 
 abbrev μ-eval : Measures 6 eval-kinds.ps ℕ
-μ-eval κs a = 67 * (a .1 .0 - a .1 .1 .1 .1 .1 .1 .1 .0) + 1
+μ-eval κs a = 67 * (a .1 .0 - a .1 .1 .1 .1 .1 .1 .0) + 1
 
 abbrev μ-of-delay : Measures 6 of-delay-kinds.ps ℕ
-μ-of-delay κs a = 67 * (a .1 .0 - a .1 .1 .1 .1 .1 .1 .1 .0)
+μ-of-delay κs a = 67 * (a .1 .0 - a .1 .1 .1 .1 .1 .1 .0)
 
 abbrev μ-of-feedback : Measures 6 of-feedback-kinds.ps ℕ
-μ-of-feedback κs a = 67 * (a .1 .0 - a .1 .1 .1 .1 .1 .1 .1 .0)
+μ-of-feedback κs a = 67 * (a .1 .0 - a .1 .1 .1 .1 .1 .1 .0)
 
 abbrev μ-of-first : Measures 6 of-first-kinds.ps ℕ
-μ-of-first κs a = 67 * (a .1 .0 - a .1 .1 .1 .1 .1 .1 .1 .0)
+μ-of-first κs a = 67 * (a .1 .0 - a .1 .1 .1 .1 .1 .1 .0)
 
 abbrev μ-of-if : Measures 6 of-if-kinds.ps ℕ
-μ-of-if κs a = 67 * (a .1 .0 - a .1 .1 .1 .1 .1 .1 .1 .0)
+μ-of-if κs a = 67 * (a .1 .0 - a .1 .1 .1 .1 .1 .1 .0)
 
 abbrev μ-of-let : Measures 6 of-let-kinds.ps ℕ
-μ-of-let κs a = 67 * (a .1 .0 - a .1 .1 .1 .1 .1 .1 .1 .0)
+μ-of-let κs a = 67 * (a .1 .0 - a .1 .1 .1 .1 .1 .1 .0)
 
 abbrev μ-of-pair : Measures 6 of-pair-kinds.ps ℕ
-μ-of-pair κs a = 67 * (a .1 .0 - a .1 .1 .1 .1 .1 .1 .1 .0)
+μ-of-pair κs a = 67 * (a .1 .0 - a .1 .1 .1 .1 .1 .1 .0)
 
 abbrev μ-of-second : Measures 6 of-second-kinds.ps ℕ
-μ-of-second κs a = 67 * (a .1 .0 - a .1 .1 .1 .1 .1 .1 .1 .0)
+μ-of-second κs a = 67 * (a .1 .0 - a .1 .1 .1 .1 .1 .1 .0)
 
 abbrev μ-settle : Measures 6 settle-kinds.ps ℕ
-μ-settle κs a = 67 * (a .1 .0 - a .1 .1 .1 .1 .1 .1 .1 .0) + 2 + zeros (slot (a .1 .1 .1 .1 .0) (length (now (a .1 .1 .1 .1 .1 .1 .1 .1 .0))) (now (a .1 .1 .1 .0)))
+μ-settle κs a = 67 * (a .1 .0 - a .1 .1 .1 .1 .1 .1 .0) + 2 + zeros (slot (a .1 .1 .1 .1 .0) (length (now (a .1 .1 .1 .1 .1 .1 .1 .0))) (now (a .1 .1 .1 .0)))
 
 abbrev eval-at : ℕ → In 6 eval-kinds.ps
 eval-at t = and 6 eval-kinds.ps (is 6 eval-kinds.ps μ-eval t) eval.Pre
@@ -344,7 +344,7 @@ of-feedback-part-settled-start : (t : ℕ) → of-feedback-lts.Need-part-settled
 of-feedback-part-settled-start t c = from-none _
 
 of-feedback-part-settled-end : (t : ℕ) → of-feedback-lts.Need-part-settled-end (of-feedback-claims t) (of-feedback-at t) of-feedback.Post
-of-feedback-part-settled-end t c = feedback-fits (c .before .before .before .before .before .before .before .before .before .before .before .before .before .before .before .pre .1 .0 .1) (c .before .before .before .before .before .before .before .before .before .before .before .before .before .before .before .pre .1 .1) (c .before .before .before .before .before .before .before .before .before .before .before .word .ensures .0) refl refl (c .before .before .before .before .before .before .before .before .before .room .ensures)
+of-feedback-part-settled-end t c = feedback-fits (c .before .before .before .before .before .before .before .before .before .before .before .before .before .before .pre .1 .0 .1) (c .before .before .before .before .before .before .before .before .before .before .before .before .before .before .pre .1 .1) (c .before .before .before .before .before .before .before .before .before .before .word .ensures .0) refl refl (c .before .before .before .before .before .before .before .before .room .ensures)
 
 of-feedback-settle-requires : (t : ℕ) → of-feedback-lts.Need-settle-requires (of-feedback-claims t) (of-feedback-at t) of-feedback.Post
 of-feedback-settle-requires t c κs = let h = (higher (c .before .before .before .before .before .before .before .before .before .before .before .before .before .before .before .before .pre .1 .0 .1) feedback (c .before .before .before .before .before .before .before .before .before .before .before .before .before .before .before .before .pre .1 .1) 3 refl (unfold askOfKind in refl) (c .before .before .before .before .before .before .before .before .before .before .before .before .word .ensures .0)) in let z = few-undefined (c .before .before .before .before .before .before .before .before .before .before .before .before .before .before .before .before .pre .1 .0 .1) (c .before .before .before .before .before .before .before .before .before .before .before .before .before .before .before .before .pre .1 .1) (c .before .before .before .before .before .before .before .before .before .before .before .before .word .ensures .0) refl refl (c .before .before .before .before .before .before .before .before .before .before .room .ensures) (c .before .before .before .before .before .before .enter-value .ensures) in (omega (arith, c .before .before .before .before .before .before .before .before .before .before .before .before .before .before .before .before .pre .0, h .0, h .1), (_, _, feedback-settling (c .before .before .before .before .before .before .before .before .before .before .before .before .before .before .before .before .pre .1 .0 .1) (c .before .before .before .before .before .before .before .before .before .before .before .before .before .before .before .before .pre .1 .1) (c .before .before .before .before .before .before .before .before .before .before .before .before .word .ensures .0) refl refl (c .before .before .before .before .before .before .before .before .before .before .room .ensures) (c .before .before .before .before .before .before .enter-value .ensures)))
@@ -386,7 +386,7 @@ of-first-part-whole-start : (t : ℕ) → of-first-lts.Need-part-whole-start (of
 of-first-part-whole-start t c = from-none _
 
 of-first-part-whole-end : (t : ℕ) → of-first-lts.Need-part-whole-end (of-first-claims t) (of-first-at t) of-first.Post
-of-first-part-whole-end t c = fits-room (c .before .before .before .before .before .before .before .before .before .pre .1 .0 .1) (first-scope (c .before .before .before .before .before .before .before .before .before .pre .1 .0 .1) (c .before .before .before .before .before .before .before .before .before .pre .1 .1) (c .before .before .before .before .before .word .ensures .0) refl refl) refl (c .before .before .before .room .ensures)
+of-first-part-whole-end t c = fits-room (c .before .before .before .before .before .before .before .before .pre .1 .0 .1) (first-scope (c .before .before .before .before .before .before .before .before .pre .1 .0 .1) (c .before .before .before .before .before .before .before .before .pre .1 .1) (c .before .before .before .before .word .ensures .0) refl refl) refl (c .before .before .room .ensures)
 
 of-first-eval-requires : (t : ℕ) → of-first-lts.Need-eval-requires (of-first-claims t) (of-first-at t) of-first.Post
 of-first-eval-requires t c κs = let h = (higher (c .before .before .before .before .before .before .before .before .before .before .pre .1 .0 .1) first (c .before .before .before .before .before .before .before .before .before .before .pre .1 .1) 2 refl (unfold askOfKind in refl) (c .before .before .before .before .before .before .word .ensures .0)) in (omega (arith, c .before .before .before .before .before .before .before .before .before .before .pre .0, h .0, h .1), (c .before .before .before .before .before .before .before .before .before .before .pre .1 .0 .0, room-ready (c .before .before .before .before .before .before .before .before .before .before .pre .1 .0 .1) (first-scope (c .before .before .before .before .before .before .before .before .before .before .pre .1 .0 .1) (c .before .before .before .before .before .before .before .before .before .before .pre .1 .1) (c .before .before .before .before .before .before .word .ensures .0) refl refl) refl (c .before .before .before .before .room .ensures)))
@@ -431,7 +431,7 @@ of-if-part-tested-start : (t : ℕ) → of-if-lts.Need-part-tested-start (of-if-
 of-if-part-tested-start t c = from-none _
 
 of-if-part-tested-end : (t : ℕ) → of-if-lts.Need-part-tested-end (of-if-claims t) (of-if-at t) of-if.Post
-of-if-part-tested-end t c = fits-room (c .before .before .before .before .before .before .before .before .before .pre .1 .0 .1) (tested-scope (c .before .before .before .before .before .before .before .before .before .pre .1 .0 .1) (c .before .before .before .before .before .before .before .before .before .pre .1 .1) (c .before .before .before .before .before .word .ensures .0) refl refl refl refl refl) refl (c .before .before .before .room .ensures)
+of-if-part-tested-end t c = fits-room (c .before .before .before .before .before .before .before .before .pre .1 .0 .1) (tested-scope (c .before .before .before .before .before .before .before .before .pre .1 .0 .1) (c .before .before .before .before .before .before .before .before .pre .1 .1) (c .before .before .before .before .word .ensures .0) refl refl refl refl refl) refl (c .before .before .room .ensures)
 
 of-if-eval-requires : (t : ℕ) → of-if-lts.Need-eval-requires (of-if-claims t) (of-if-at t) of-if.Post
 of-if-eval-requires t c κs = let h = (higher (c .before .before .before .before .before .before .before .before .before .before .pre .1 .0 .1) ifMatches (c .before .before .before .before .before .before .before .before .before .before .pre .1 .1) 2 refl (unfold askOfKind in refl) (c .before .before .before .before .before .before .word .ensures .0)) in (omega (arith, c .before .before .before .before .before .before .before .before .before .before .pre .0, h .0, h .1), (c .before .before .before .before .before .before .before .before .before .before .pre .1 .0 .0, room-ready (c .before .before .before .before .before .before .before .before .before .before .pre .1 .0 .1) (tested-scope (c .before .before .before .before .before .before .before .before .before .before .pre .1 .0 .1) (c .before .before .before .before .before .before .before .before .before .before .pre .1 .1) (c .before .before .before .before .before .before .word .ensures .0) refl refl refl refl refl) refl (c .before .before .before .before .room .ensures)))
@@ -455,7 +455,7 @@ of-if-part-otherwise-start : (t : ℕ) → of-if-lts.Need-part-otherwise-start (
 of-if-part-otherwise-start t c = from-none _
 
 of-if-part-otherwise-end : (t : ℕ) → of-if-lts.Need-part-otherwise-end (of-if-claims t) (of-if-at t) of-if.Post
-of-if-part-otherwise-end t c = else-fits (c .before .before .before .before .before .before .before .before .before .before .before .before .before .before .before .before .before .before .before .before .before .before .before .before .before .before .before .before .before .pre .1 .0 .1) (c .before .before .before .before .before .before .before .before .before .before .before .before .before .before .before .before .before .before .before .before .before .before .before .before .before .before .before .before .before .pre .1 .1) (c .before .before .before .before .before .before .before .before .before .before .before .before .before .before .before .before .before .before .before .before .before .before .before .before .before .word .ensures .0) (c .before .before .before .before .before .before .before .before .before .before .before .before .before .before .word2 .ensures .0) (c .before .before .before .before .word3 .ensures .0) refl refl (c .before .before .before .before .before .before .before .before .before .before .before .before .before .before .before .before .before .before .before .before .before .before .before .room .ensures) (c .before .before .before .before .before .before .before .before .before .before .before .before .before .before .before .before .before .before .eval .ensures) (c .before .before .before .before .before .before .before .before .before .eval2 .ensures) (c .before .before .before .room2 .ensures)
+of-if-part-otherwise-end t c = else-fits (c .before .before .before .before .before .before .before .before .before .before .before .before .before .before .before .before .before .before .before .before .before .before .before .before .before .before .before .before .pre .1 .0 .1) (c .before .before .before .before .before .before .before .before .before .before .before .before .before .before .before .before .before .before .before .before .before .before .before .before .before .before .before .before .pre .1 .1) (c .before .before .before .before .before .before .before .before .before .before .before .before .before .before .before .before .before .before .before .before .before .before .before .before .word .ensures .0) (c .before .before .before .before .before .before .before .before .before .before .before .before .before .word2 .ensures .0) (c .before .before .before .word3 .ensures .0) refl refl (c .before .before .before .before .before .before .before .before .before .before .before .before .before .before .before .before .before .before .before .before .before .before .room .ensures) (c .before .before .before .before .before .before .before .before .before .before .before .before .before .before .before .before .before .eval .ensures) (c .before .before .before .before .before .before .before .before .eval2 .ensures) (c .before .before .room2 .ensures)
 
 of-if-eval-requires-3 : (t : ℕ) → of-if-lts.Need-eval-requires-3 (of-if-claims t) (of-if-at t) of-if.Post
 of-if-eval-requires-3 t c κs = let h = (higher (c .before .before .before .before .before .before .before .before .before .before .before .before .before .before .before .before .before .before .before .before .before .before .before .before .before .before .before .before .before .before .pre .1 .0 .1) ifMatches (c .before .before .before .before .before .before .before .before .before .before .before .before .before .before .before .before .before .before .before .before .before .before .before .before .before .before .before .before .before .before .pre .1 .1) 4 refl (unfold askOfKind in refl) (c .before .before .before .before .before .word3 .ensures .0)) in (omega (arith, c .before .before .before .before .before .before .before .before .before .before .before .before .before .before .before .before .before .before .before .before .before .before .before .before .before .before .before .before .before .before .pre .0, h .0, h .1), (c .before .before .before .before .before .before .before .before .before .before .before .before .before .before .before .before .before .before .before .before .before .before .before .before .before .before .before .before .before .before .pre .1 .0 .0, else-ready (c .before .before .before .before .before .before .before .before .before .before .before .before .before .before .before .before .before .before .before .before .before .before .before .before .before .before .before .before .before .before .pre .1 .0 .1) (c .before .before .before .before .before .before .before .before .before .before .before .before .before .before .before .before .before .before .before .before .before .before .before .before .before .before .before .before .before .before .pre .1 .1) (c .before .before .before .before .before .before .before .before .before .before .before .before .before .before .before .before .before .before .before .before .before .before .before .before .before .before .word .ensures .0) (c .before .before .before .before .before .before .before .before .before .before .before .before .before .before .before .word2 .ensures .0) (c .before .before .before .before .before .word3 .ensures .0) refl refl (c .before .before .before .before .before .before .before .before .before .before .before .before .before .before .before .before .before .before .before .before .before .before .before .before .room .ensures) (c .before .before .before .before .before .before .before .before .before .before .before .before .before .before .before .before .before .before .before .eval .ensures) (c .before .before .before .before .before .before .before .before .before .before .eval2 .ensures) (c .before .before .before .before .room2 .ensures)))
@@ -485,7 +485,7 @@ of-if-choose-value-requires : (t : ℕ) → of-if-lts.Need-choose-value-requires
 of-if-choose-value-requires t c κs = (pattern-matched (c .before .before .before .before .before .before .before .before .before .before .before .before .before .before .before .before .before .before .before .before .before .before .before .before .before .before .before .before .before .before .before .before .before .before .before .before .before .before .before .before .pre .1 .0 .1) (c .before .before .before .before .before .before .before .before .before .before .before .before .before .before .before .before .before .before .before .before .before .before .before .before .before .before .before .before .before .before .before .before .before .before .before .before .before .before .before .before .pre .1 .1) (c .before .before .before .before .before .before .before .before .before .before .before .before .before .before .before .before .before .before .before .before .before .before .before .before .before .before .before .before .before .before .before .before .before .before .before .before .word .ensures .0) (c .before .before .before .before .before .before .before .before .before .before .before .before .before .before .before .before .before .before .before .before .before .before .before .before .before .word2 .ensures .0) (c .before .before .before .before .before .before .before .before .before .before .before .before .before .before .before .word3 .ensures .0) (c .before .before .before .before .before .word4 .ensures .0) refl (c .before .before .before .before .before .before .before .before .before .before .before .before .before .before .before .before .before .before .before .before .before .before .before .before .before .before .before .before .before .before .before .before .before .before .room .ensures) (c .before .before .before .before .before .before .before .before .before .before .before .before .before .before .before .before .before .before .before .before .before .before .before .before .before .before .before .before .before .eval .ensures) (c .before .before .before .before .before .before .before .before .before .before .before .before .before .before .before .before .before .before .before .before .eval2 .ensures) (c .before .before .before .before .before .before .before .before .before .before .before .before .before .before .room2 .ensures) (c .before .before .before .before .before .before .before .before .before .eval3 .ensures), as-long (c .before .before .before .before .before .before .before .before .before .before .before .before .before .before .before .before .before .before .before .before .before .before .before .before .before .before .before .before .before .before .before .before .before .before .before .before .before .before .before .before .pre .1 .0 .1) (c .before .before .before .before .before .before .before .before .before .before .before .before .before .before .before .before .before .before .before .before .before .before .before .before .before .before .before .before .before .before .before .before .before .before .before .before .before .before .before .before .pre .1 .1) (c .before .before .before .before .before .before .before .before .before .before .before .before .before .before .before .before .before .before .before .before .before .before .before .before .before .before .before .before .before .before .before .before .before .before .before .before .word .ensures .0) (c .before .before .before .before .before .before .before .before .before .before .before .before .before .before .before .before .before .before .before .before .before .before .before .before .before .word2 .ensures .0) (c .before .before .before .before .before .before .before .before .before .before .before .before .before .before .before .word3 .ensures .0) (c .before .before .before .before .before .word4 .ensures .0) refl (c .before .before .before .before .before .before .before .before .before .before .before .before .before .before .before .before .before .before .before .before .before .before .before .before .before .before .before .before .before .before .before .before .before .before .room .ensures) (c .before .before .before .before .before .before .before .before .before .before .before .before .before .before .before .before .before .before .before .before .before .before .before .before .before .before .before .before .before .eval .ensures) (c .before .before .before .before .before .before .before .before .before .before .before .before .before .before .before .before .before .before .before .before .eval2 .ensures) (c .before .before .before .before .before .before .before .before .before .before .before .before .before .before .room2 .ensures) (c .before .before .before .before .before .before .before .before .before .eval3 .ensures))
 
 of-if-cast-fired : (t : ℕ) → of-if-lts.Need-cast-fired (of-if-claims t) (of-if-at t) of-if.Post
-of-if-cast-fired t c = let f = c .before .before .choose-value .ensures .few in omega arith
+of-if-cast-fired t c = search needs
 
 of-if-mul-fired : (t : ℕ) → of-if-lts.Need-mul-fired (of-if-claims t) (of-if-at t) of-if.Post
 of-if-mul-fired t c = let h = ready-low (c .before .before .before .before .before .before .before .before .before .before .before .before .before .before .before .before .before .before .before .before .before .before .before .before .before .before .before .before .before .before .before .before .before .before .before .before .before .before .before .before .before .before .before .pre .1 .0 .1) in omega arith
@@ -521,7 +521,7 @@ of-let-part-value-start : (t : ℕ) → of-let-lts.Need-part-value-start (of-let
 of-let-part-value-start t c = from-none _
 
 of-let-part-value-end : (t : ℕ) → of-let-lts.Need-part-value-end (of-let-claims t) (of-let-at t) of-let.Post
-of-let-part-value-end t c = fits-room (c .before .before .before .before .before .before .before .before .before .pre .1 .0 .1) (defining-scope (c .before .before .before .before .before .before .before .before .before .pre .1 .0 .1) (c .before .before .before .before .before .before .before .before .before .pre .1 .1) (c .before .before .before .before .before .word .ensures .0) refl refl refl) refl (c .before .before .before .room .ensures)
+of-let-part-value-end t c = fits-room (c .before .before .before .before .before .before .before .before .pre .1 .0 .1) (defining-scope (c .before .before .before .before .before .before .before .before .pre .1 .0 .1) (c .before .before .before .before .before .before .before .before .pre .1 .1) (c .before .before .before .before .word .ensures .0) refl refl refl) refl (c .before .before .room .ensures)
 
 of-let-eval-requires : (t : ℕ) → of-let-lts.Need-eval-requires (of-let-claims t) (of-let-at t) of-let.Post
 of-let-eval-requires t c κs = let h = (higher (c .before .before .before .before .before .before .before .before .before .before .pre .1 .0 .1) letIn (c .before .before .before .before .before .before .before .before .before .before .pre .1 .1) 2 refl (unfold askOfKind in refl) (c .before .before .before .before .before .before .word .ensures .0)) in (omega (arith, c .before .before .before .before .before .before .before .before .before .before .pre .0, h .0, h .1), (c .before .before .before .before .before .before .before .before .before .before .pre .1 .0 .0, room-ready (c .before .before .before .before .before .before .before .before .before .before .pre .1 .0 .1) (defining-scope (c .before .before .before .before .before .before .before .before .before .before .pre .1 .0 .1) (c .before .before .before .before .before .before .before .before .before .before .pre .1 .1) (c .before .before .before .before .before .before .word .ensures .0) refl refl refl) refl (c .before .before .before .before .room .ensures)))
@@ -572,7 +572,7 @@ of-pair-part-eval-start : (t : ℕ) → of-pair-lts.Need-part-eval-start (of-pai
 of-pair-part-eval-start t c = from-none _
 
 of-pair-part-eval-end : (t : ℕ) → of-pair-lts.Need-part-eval-end (of-pair-claims t) (of-pair-at t) of-pair.Post
-of-pair-part-eval-end t c = pair-cut (c .before .before .before .before .before .before .before .before .pre .1 .0 .1) (c .before .before .before .before .before .before .before .before .pre .1 .1) (c .before .before .before .before .word .ensures .0) refl refl
+of-pair-part-eval-end t c = pair-cut (c .before .before .before .before .before .before .before .pre .1 .0 .1) (c .before .before .before .before .before .before .before .pre .1 .1) (c .before .before .before .word .ensures .0) refl refl
 
 of-pair-eval-requires : (t : ℕ) → of-pair-lts.Need-eval-requires (of-pair-claims t) (of-pair-at t) of-pair.Post
 of-pair-eval-requires t c κs = let h = (higher (c .before .before .before .before .before .before .before .before .before .pre .1 .0 .1) tuple (c .before .before .before .before .before .before .before .before .before .pre .1 .1) 2 refl (unfold askOfKind in refl) (c .before .before .before .before .before .word .ensures .0)) in (omega (arith, c .before .before .before .before .before .before .before .before .before .pre .0, h .0, h .1), (c .before .before .before .before .before .before .before .before .before .pre .1 .0 .0, pair-first-ready (c .before .before .before .before .before .before .before .before .before .pre .1 .0 .1) (c .before .before .before .before .before .before .before .before .before .pre .1 .1) (c .before .before .before .before .before .word .ensures .0) refl refl))
@@ -581,10 +581,10 @@ of-pair-word-requires-2 : (t : ℕ) → of-pair-lts.Need-word-requires-2 (of-pai
 of-pair-word-requires-2 t c κs = ready-word (c .before .before .before .before .before .before .before .before .before .before .before .before .before .before .pre .1 .0 .1) (omega arith)
 
 of-pair-sub-eval-2 : (t : ℕ) → of-pair-lts.Need-sub-eval-2 (of-pair-claims t) (of-pair-at t) of-pair.Post
-of-pair-sub-eval-2 t c = pair-rest (c .before .before .before .before .before .before .before .before .before .before .before .before .before .before .before .before .before .before .pre .1 .0 .1) (c .before .before .before .before .before .before .before .before .before .before .before .before .before .before .before .before .before .before .pre .1 .1) (c .before .before .before .before .before .before .before .before .before .before .before .before .before .before .word .ensures .0) refl refl (c .before .before .before .before .before .before .before .before .eval .ensures)
+of-pair-sub-eval-2 t c = pair-rest (c .before .before .before .before .before .before .before .before .before .before .before .before .before .before .before .before .before .pre .1 .0 .1) (c .before .before .before .before .before .before .before .before .before .before .before .before .before .before .before .before .before .pre .1 .1) (c .before .before .before .before .before .before .before .before .before .before .before .before .before .word .ensures .0) refl refl (c .before .before .before .before .before .before .before .eval .ensures)
 
 of-pair-part-eval-start-2 : (t : ℕ) → of-pair-lts.Need-part-eval-start-2 (of-pair-claims t) (of-pair-at t) of-pair.Post
-of-pair-part-eval-start-2 t c = pair-rest (c .before .before .before .before .before .before .before .before .before .before .before .before .before .before .before .before .before .before .pre .1 .0 .1) (c .before .before .before .before .before .before .before .before .before .before .before .before .before .before .before .before .before .before .pre .1 .1) (c .before .before .before .before .before .before .before .before .before .before .before .before .before .before .word .ensures .0) refl refl (c .before .before .before .before .before .before .before .before .eval .ensures)
+of-pair-part-eval-start-2 t c = pair-rest (c .before .before .before .before .before .before .before .before .before .before .before .before .before .before .before .before .before .pre .1 .0 .1) (c .before .before .before .before .before .before .before .before .before .before .before .before .before .before .before .before .before .pre .1 .1) (c .before .before .before .before .before .before .before .before .before .before .before .before .before .word .ensures .0) refl refl (c .before .before .before .before .before .before .before .eval .ensures)
 
 of-pair-part-eval-end-2 : (t : ℕ) → of-pair-lts.Need-part-eval-end-2 (of-pair-claims t) (of-pair-at t) of-pair.Post
 of-pair-part-eval-end-2 t c = to-the-end _
@@ -620,7 +620,7 @@ of-second-part-whole-start : (t : ℕ) → of-second-lts.Need-part-whole-start (
 of-second-part-whole-start t c = from-none _
 
 of-second-part-whole-end : (t : ℕ) → of-second-lts.Need-part-whole-end (of-second-claims t) (of-second-at t) of-second.Post
-of-second-part-whole-end t c = fits-room (c .before .before .before .before .before .before .before .before .before .pre .1 .0 .1) (second-scope (c .before .before .before .before .before .before .before .before .before .pre .1 .0 .1) (c .before .before .before .before .before .before .before .before .before .pre .1 .1) (c .before .before .before .before .before .word .ensures .0) refl refl) refl (c .before .before .before .room .ensures)
+of-second-part-whole-end t c = fits-room (c .before .before .before .before .before .before .before .before .pre .1 .0 .1) (second-scope (c .before .before .before .before .before .before .before .before .pre .1 .0 .1) (c .before .before .before .before .before .before .before .before .pre .1 .1) (c .before .before .before .before .word .ensures .0) refl refl) refl (c .before .before .room .ensures)
 
 of-second-eval-requires : (t : ℕ) → of-second-lts.Need-eval-requires (of-second-claims t) (of-second-at t) of-second.Post
 of-second-eval-requires t c κs = let h = (higher (c .before .before .before .before .before .before .before .before .before .before .pre .1 .0 .1) second (c .before .before .before .before .before .before .before .before .before .before .pre .1 .1) 2 refl (unfold askOfKind in refl) (c .before .before .before .before .before .before .word .ensures .0)) in (omega (arith, c .before .before .before .before .before .before .before .before .before .before .pre .0, h .0, h .1), (c .before .before .before .before .before .before .before .before .before .before .pre .1 .0 .0, room-ready (c .before .before .before .before .before .before .before .before .before .before .pre .1 .0 .1) (second-scope (c .before .before .before .before .before .before .before .before .before .before .pre .1 .0 .1) (c .before .before .before .before .before .before .before .before .before .before .pre .1 .1) (c .before .before .before .before .before .before .word .ensures .0) refl refl) refl (c .before .before .before .before .room .ensures)))
