@@ -1,0 +1,120 @@
+-- One term of each promise.
+-- Assumes nothing.
+use Prim.Native.Nat.{ℕ, zero, suc}
+use mathlib.Core.Path.{_≡_, refl, ap, ap₂, sym, subst, _∙_}
+use mathlib.Core.List.{List, [], _∷_, _++_, map}
+use mathlib.Core.Option.{Option, some}
+use lib.ListN.{length, take, drop}
+use lib.Seq.{take-at, drop-at}
+use Rattle.picoella.specs.Types.{Ty, leaves}
+use Rattle.picoella.specs.Expressions.{Expr}
+use Rattle.picoella.specs.Typing.{Typed}
+use Rattle.records.specs.TypeRecords.{typeAt, Declared}
+use Rattle.records.specs.Decoding.{decode}
+use Rattle.grammar.specs.Tokens.{Token}
+use Rattle.grammar.specs.Source.{Identifier, identifier, Declaration, Expression, Text, text}
+use Rattle.grammar.specs.Grammar.{ReadsText}
+use Rattle.naming.specs.Declared.{atFirst}
+use Rattle.naming.specs.Checks.{AllPass}
+use Rattle.naming.specs.Constants.{constantsOfText, constantChecks}
+use Rattle.naming.specs.Names.{afterAll, nameChecks, textChecks, declarationsChecks, expressionChecks}
+use Rattle.accepted.proofs.Laws.{exact}
+use Rattle.meaning.specs.Undecided.{undecidedConstant}
+use Rattle.meaning.specs.Constants.{ConstantTree, ConstantOf, of-none, of-more, AllConstantsOf, of-all-none, of-all-more, flatten}
+use Rattle.meaning.specs.Rules.{ReducesSeq, s-end, s-cycle}
+use Rattle.meaning.proofs.Order.{value-length}
+use Rattle.meaning.proofs.FlattenOneToOne.{flatten-typed}
+use Rattle.stimulus.specs.Stimulus.{inputType, cycleCount, cycles, pieces, endToEnd}
+use Rattle.behaviour.specs.Run.{Gives}
+use Rattle.behaviour.specs.Afterwards.{WellFormed}
+use Rattle.behaviour.specs.ByRules.{RunsByRules}
+use Rattle.behaviour.proofs.ByRules.{call-by-rules}
+use Rattle.translation.specs.Layout.{sheetOfText}
+use Rattle.translation.specs.Distances.{byDistances, expressionMeant, unplaced}
+use Rattle.translation.proofs.Tables.{pass-both}
+use Rattle.translation.proofs.Kept as Translation
+use Rattle.translation.proofs.Kept.{names-good}
+use Rattle.text_meaning.specs.NamedValues.{NamedValue, valueOf}
+use Rattle.text_meaning.specs.Circuits.{Circuit, circuitOf}
+use Rattle.text_meaning.specs.NamedRules.{GivesSeq, no-cycle, one-cycle}
+use Rattle.text_meaning.specs.TextPromises.{declarations, Means, OneMeaning, RunGivesMeaning, TextPromises}
+use Rattle.text_meaning.proofs.OneMeaning.{run-one}
+use Rattle.text_meaning.proofs.Naming.{nameTree, KnownType, value-of}
+use Rattle.text_meaning.proofs.Simulates.{Related, scoped-input, none-known, one-known, follows}
+use Rattle.text_meaning.proofs.NamesStand.{all-differ, numbered, type-known}
+use Rattle.text_meaning.proofs.Begins.{begins, placed}
+
+one-meaning : OneMeaning
+one-meaning t inputs outputs others x y = run-one _ (x .1) (y .1) .0
+
+-- values of a list of constants
+all-values : (ds : List Declaration) {τ : Ty} {cs : List ConstantTree} → AllConstantsOf τ cs
+    → map (valueOf ds τ) (map flatten cs) ≡ map (nameTree ds) cs
+all-values ds of-all-none = refl
+all-values ds (of-all-more h hs) = ap₂ (λ v vs. v ∷ vs) (value-of ds h) (all-values ds hs)
+
+-- constants laid end to end, taken in pieces
+pieces-back : {τ : Ty} {cs : List ConstantTree} → AllConstantsOf τ cs → pieces (leaves τ) (length cs) (endToEnd (map flatten cs)) ≡ map flatten cs
+pieces-back of-all-none = refl
+pieces-back {τ} (of-all-more {c = c} {cs = cs} h hs) =
+    let l = value-length τ (flatten-typed h) in
+    ap₂ (λ v vs. v ∷ vs) (take-at (flatten c) (endToEnd (map flatten cs)) (leaves τ) l)
+    (ap (pieces (leaves τ) (length cs)) (drop-at (flatten c) (endToEnd (map flatten cs)) (leaves τ) l) ∙ pieces-back hs)
+
+-- bytes that are constants laid end to end, read as values
+in-pieces : (ds : List Declaration) {τ : Ty} {cs : List ConstantTree} (n : ℕ) (bytes : List ℕ) → AllConstantsOf τ cs → length cs ≡ n
+    → bytes ≡ endToEnd (map flatten cs) → map (valueOf ds τ) (pieces (leaves τ) n bytes) ≡ map (nameTree ds) cs
+in-pieces ds {τ} n bytes h l e =
+    rw (e, ← l) (ap (map (valueOf ds τ)) (pieces-back h) ∙ all-values ds h)
+
+as-pieces : (s stim : List ℕ) → cycles s stim ≡ pieces (leaves (inputType s)) (cycleCount s stim) stim
+unfolding cycles
+as-pieces s stim = refl
+
+-- a run of 000's rules is a run over names
+runs : (ds : List Declaration) (declared : Ty → Type 0) {e f : Expr} {c : Circuit} {σ τ : Ty} {is os : List ConstantTree}
+    → ReducesSeq undecidedConstant [] e is os f → Typed declared (σ ∷ []) e τ → AllConstantsOf σ is → KnownType ds σ → Related ds [] e c
+    → (after : Circuit) × GivesSeq (afterAll atFirst ds) c (map (nameTree ds) is) (map (nameTree ds) os) after
+runs ds declared {c = c} s-end t env k r = (c, no-cycle)
+runs ds declared (s-cycle x y) t (of-all-more h hs) k r =
+    let u = follows ds declared (numbered ds) x t (of-more h of-none) (one-known k none-known) scoped-input r in
+    let v = runs ds declared y (u .typed) hs k (u .related) in
+    (v .0, one-cycle (u .gives) (v .1))
+
+-- a text whose names and constants are good
+constants-good : (d : Declaration) (ds : List Declaration) (n : Identifier) (e : Expression) → AllPass (textChecks (text d ds n e))
+    → AllPass (constantChecks (d ∷ ds) e)
+constants-good d ds n e h = pass-both (nameChecks (text d ds n e)) (constantsOfText (text d ds n e)) h .1
+
+same-expression : {o : Option Expr} {e f : Expr} → o ≡ some e → o ≡ some f → e ≡ f
+same-expression p q = cc
+
+run-gives-meaning : RunGivesMeaning
+run-gives-meaning ts (text d ds (identifier w p) e) rd h stim out next τ result out′ next′ formed gave =
+    let t = text d ds (identifier w p) e in
+    let s = sheetOfText t in
+    let good = names-good d ds w p e h in
+    let rules = call-by-rules s stim out next τ result out′ next′ gave formed in
+    let typed = exact s τ .0 (formed .accepted) .1 .1 in
+    let meant = Translation.kept .decodes-to-text ts t rd h in
+    let same : typed .0 ≡ rules .expression = same-expression (typed .1) (rules .decoded) in
+    let also : meant .0 ≡ rules .expression = same-expression (meant .1) (rules .decoded) in
+    let related =
+    placed (rules .expression)
+    (subst (λ f. Related (d ∷ ds) [] f (circuitOf (d ∷ ds) e)) (sym (ap unplaced (sym also) ∙ meant .2))
+    (begins (d ∷ ds) (good .0) [] e (good .1) (constants-good d ds (identifier w p) e h))) in
+    let known =
+    subst (KnownType (d ∷ ds)) (sym (Translation.kept .input-as-declared t h))
+    (type-known (d ∷ ds) (all-differ atFirst (d ∷ ds) (good .0)) w) in
+    let run =
+    runs (d ∷ ds) (Declared s) (rules .reduces) (subst (λ f. Typed (Declared s) (inputType s ∷ []) f (typeAt s τ)) same (typed .2))
+    (rules .inputs-typed) known related in
+    let inputs =
+    ap (map (valueOf (d ∷ ds) (inputType s))) (as-pieces s stim)
+    ∙ in-pieces (d ∷ ds) (cycleCount s stim) stim (rules .inputs-typed) (rules .one-each) (rules .stimulus-is) in
+    let outputs =
+    in-pieces (d ∷ ds) (cycleCount s stim) out′ (rules .outputs-typed) (rules .equally-many ∙ rules .one-each) (rules .out-is) in
+    (run .0, rw (inputs, outputs) (run .1))
+
+pub kept : TextPromises
+kept = record { one-meaning = one-meaning; run-gives-meaning = run-gives-meaning }

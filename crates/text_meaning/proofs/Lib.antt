@@ -1,0 +1,9 @@
+-- The theorems, a file each.
+pub mod OneMeaning
+pub mod Naming
+pub mod Matched
+pub mod Simulates
+pub mod NamesStand
+pub mod ConstantsStand
+pub mod Begins
+pub mod Kept

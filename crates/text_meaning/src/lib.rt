@@ -1,0 +1,1 @@
+// The meaning of a text over its names. No code: definitions in specs/, theorems in proofs/.
