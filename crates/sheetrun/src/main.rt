@@ -1,7 +1,7 @@
 // Runs sheet.bin on stim.bin: prints the listing and writes next.bin, or prints only the refusal (docs/SHEETS.md, "Listing").
 ghost use Prim.Native.Nat.{_≤_, _<_};
 ghost use mathlib.Core.Path.{_≡_};
-ghost use lib.ListN.{length};
+ghost use lib.ListN.{length, take};
 ghost use Rattle.printout.specs.Printout.{runSheet};
 use files::read_named;
 use files::replace;
@@ -58,6 +58,14 @@ fn write_next(sheet: &[u8], stim: &[u8], next: &[u8])
     replace(b"next.bin", next);
 }
 
+// The same from room that the sheet fills the front of.
+fn keep_next(sheet: &[u8], stim: &[u8], room: &[u8])
+    requires { ⌜ (length (now sheet) ≤ length (now room)) × (take (length (now sheet)) (now room) ≡ runSheet (now sheet) (now stim)) ⌝ }
+{
+    let long = sheet.len();
+    write_next(sheet, stim, &room[0..long]);
+}
+
 fn run_files(sheet: &[u8], stim: &[u8])
     requires { ⌜ length (now sheet) ≤ 49153 ⌝ }
 {
@@ -69,8 +77,7 @@ fn run_files(sheet: &[u8], stim: &[u8])
     if told.code != 0 {
         return;
     }
-    let long = sheet.len();
-    write_next(sheet, stim, &next[0..long]);
+    keep_next(sheet, stim, &next);
 }
 
 // Prints the line for a file that could not be opened.

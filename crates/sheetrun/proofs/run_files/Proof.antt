@@ -1,5 +1,4 @@
 -- Assumes nothing.
-use native.Mathlib.Nat.{sub-zero}
 use borrow.Author.Needs.{needs}
 use Rattle.sheetrun.proofs.run_files.Statement.{statement}
 use Rattle.sheetrun.proofs.run_files.Tie as tie
@@ -34,17 +33,11 @@ print-requires c κs = search needs
 returns : tie.Need-returns
 returns c = search needs
 
-sub-write-next : tie.Need-sub-write-next
-sub-write-next c = search needs
+slice-aggregate-keep-next : tie.Need-slice-aggregate-keep-next
+slice-aggregate-keep-next c = search needs
 
-part-write-next-start : tie.Need-part-write-next-start
-part-write-next-start c = search needs
-
-part-write-next-end : tie.Need-part-write-next-end
-part-write-next-end c = search needs
-
-write-next-requires : tie.Need-write-next-requires
-write-next-requires c κs = rw sub-zero (c .before .before .before .before .before .before .before .before .before .tell .ensures .next (c .before .before .if1 .left))
+keep-next-requires : tie.Need-keep-next-requires
+keep-next-requires c κs = (search needs, c .before .before .before .before .before .before .before .before .tell .ensures .next (c .before .if1 .left))
 
 returns-2 : tie.Need-returns-2
 returns-2 c = search needs
@@ -63,8 +56,6 @@ run-files-spec =
     part-print-end
     print-requires
     returns
-    sub-write-next
-    part-write-next-start
-    part-write-next-end
-    write-next-requires
+    slice-aggregate-keep-next
+    keep-next-requires
     returns-2)
