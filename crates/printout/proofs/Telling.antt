@@ -80,8 +80,8 @@ module _ (s stim : List ℕ) (i o many : ℕ) (m : Measured s i o) (q : OutputsL
     over-same : 65535 < length stim → answer s stim lo ln ≡ runAnswer s stim
     unfolding runAnswer
     over-same h =
-        stimulus-refused s stim lo ln t v 8 0 (over-refused s stim h)
-        ∙ sym (stimulus-refused s stim (replicate (outputNeeded s (outputRecord s) stim) 0) (replicate (length s) 0) t v 8 0 (over-refused s stim h))
+        stimulus-refused s stim lo ln v (over-refused s stim h)
+        ∙ sym (stimulus-refused s stim (replicate (outputNeeded s (outputRecord s) stim) 0) (replicate (length s) 0) v (over-refused s stim h))
 
     needed : length stim ≤ 65535 → many ≡ outputNeeded s (outputRecord s) stim
     needed h =
