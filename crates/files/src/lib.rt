@@ -1,12 +1,8 @@
-// Files and standard output for programs: a file read whole or past its limit, a file replaced, a refusal printed, and text
-// printed in pieces.
-ghost use Prim.Native.Nat.{_+_, _≤_};
+// Files for programs: a file read whole or past its limit, and a file replaced.
+ghost use Prim.Native.Nat.{_≤_};
 ghost use mathlib.Core.Path.{_≡_};
 ghost use lib.ListN.{length};
 ghost use Rattle.io.specs.Counts.{Counts};
-use libc::STDOUT_FILENO;
-use listing::LINE_BYTES;
-use listing::put_refused;
 
 // What reading gave: so many bytes, unless it failed.
 pub struct Got {
@@ -55,25 +51,6 @@ pub fn read_named(path: &[u8], buffer: &mut [u8]) -> Got
     let got = read_file(fd, buffer);
     libc::close(fd);
     got
-}
-
-// Prints the line of a refusal.
-pub fn refuse(code: u64, place: u64) {
-    let mut line = [0u8; LINE_BYTES];
-    let end = put_refused(&mut line, 0, code, place);
-    io::write_all(STDOUT_FILENO, &line[0..end]);
-}
-
-// Writes out the text before `at` where a line more might not fit, and gives the place for the next one.
-pub fn flush(buffer: &[u8], at: usize) -> usize
-    requires { ⌜ (280 ≤ length (now buffer)) × (at ≤ length (now buffer)) ⌝ }
-    ensures { λ r. ⌜ r + 280 ≤ length (now (buffer .entry)) ⌝ }
-{
-    if LINE_BYTES <= buffer.len() - at {
-        return at;
-    }
-    io::write_all(STDOUT_FILENO, &buffer[0..at]);
-    0
 }
 
 // Replaces a file, and says whether it could be opened for that.

@@ -1,9 +1,10 @@
--- At most 65,535 cycles of 64 leaves. Assumes nothing.
+-- Assumes nothing.
 use native.Mathlib.Omega.{arith}
 use native.Mathlib.Nat.{div-le-self, mul-le-mul-left, mul-le-mul-right}
+use mathlib.Core.Path.{refl}
 use borrow.Author.Needs.{needs}
-use Rattle.sheetrun.proofs.outputs_length.Statement.{statement}
-use Rattle.sheetrun.proofs.outputs_length.Tie as tie
+use Rattle.printout.proofs.outputs_length.Statement.{statement}
+use Rattle.printout.proofs.outputs_length.Tie as tie
 
 returns : tie.Need-returns
 returns c = search needs
@@ -18,7 +19,7 @@ mul-result : tie.Need-mul-result
 mul-result c = let a = c .before .before .args in let d = div-le-self (a .all) (a .input) in let m = mul-le-mul-right (a .output) d in let k = mul-le-mul-left (a .all) (c .before .before .pre) in omega arith
 
 returns-3 : tie.Need-returns-3
-returns-3 c = let a = c .before .before .args in let d = div-le-self (a .all) (a .input) in let m = mul-le-mul-right (a .output) d in let k = mul-le-mul-left (a .all) (c .before .before .pre) in omega arith
+returns-3 c = let a = c .before .before .args in let d = div-le-self (a .all) (a .input) in let m = mul-le-mul-right (a .output) d in let k = mul-le-mul-left (a .all) (c .before .before .pre) in record { needed = λ some few. refl; small = omega arith }
 
 pub outputs-length-spec : {M : Type 1} → statement M
 outputs-length-spec = tie.close (tie.spec returns returns-2 div-result mul-result returns-3)

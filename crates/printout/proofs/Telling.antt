@@ -1,0 +1,199 @@
+-- What is told: the run's answer with the slices that the code lends is the one with slices of the right lengths, and the numbers that
+-- it is taken apart into give the text of the answer.
+-- Assumes nothing.
+use Prim.Native.Nat.{ℕ, zero, suc, _+_, _*_, _-_, _/_, _%_, _^_, _≤_, _<_}
+use mathlib.Core.Path.{_≡_, refl, sym, ap, subst, _∙_}
+use mathlib.Core.Bool.{true}
+use mathlib.Core.List.{List, [], _∷_, _++_}
+use native.Mathlib.Omega.{arith}
+use native.Mathlib.Decide.{decLt}
+use lib.ListN.{length, take, drop, replicate, length-append, length-replicate}
+use lib.Seq.{take-at, length-take-le}
+use borrow.Author.Tests.{lt-ltb}
+use Rattle.picoella.specs.Types.{leaves}
+use Rattle.records.specs.TypeRecords.{typeAt}
+use Rattle.records.proofs.Types.{some-leaves}
+use Rattle.answers.specs.Answers.{code, place, packed}
+use Rattle.answers.specs.Checks.{Check, firstApplying, Refuses, SaysOf}
+use Rattle.answers.specs.declared.Answer.{Answer}
+use Rattle.answers.specs.declared.Answer.the-variants.{Done, Refused}
+use Rattle.answers.proofs.First.{first-says}
+use Rattle.answers.proofs.Kept as Answers
+use Rattle.verdict.specs.Verdict.{verdictAnswer, sheetChecks, outputType, verdict}
+use Rattle.verdict.specs.declared.Verdict.the-variants.{Accepted}
+use Rattle.accepted.proofs.Laws.{verdict-first, verdict-place, first-accepted}
+use Rattle.accepted.proofs.Small.{accepted-few}
+use Rattle.stimulus.specs.Stimulus.{inputType, wrongStimulus, stimulusChecks, cycleCount}
+use Rattle.behaviour.specs.Run.{outputNeeded, callChecks, bySlices, answer, finalOut, finalNext, Gives}
+use Rattle.behaviour.specs.Promises.{SaysOfCall}
+use Rattle.behaviour.proofs.Answers.{lowest-first, places-small, refused-by-verdict, stimulus-refused}
+use Rattle.simulator.specs.Running.{Measured, Ran}
+use Rattle.listing.specs.Lines.{refusedLine}
+use Rattle.printout.specs.Printout.{outputRecord, runAnswer, runOutputs, runSheet, printed, toldText, Tells, OutputsLong}
+
+-- an answer depends on the slices' lengths alone
+answer-by-lengths : (s stim out out₂ next next₂ : List ℕ) → length out ≡ length out₂ → length next ≡ length next₂
+    → answer s stim out next ≡ answer s stim out₂ next₂
+unfolding answer bySlices
+answer-by-lengths s stim out out₂ next next₂ e f = rw (e, f) refl
+
+over-long : (s stim : List ℕ) → 65535 < length stim → wrongStimulus s stim ≡ true
+unfolding wrongStimulus
+over-long s stim h = rw (lt-ltb 65535 (length stim) h) refl
+
+over-refused : (s stim : List ℕ) → 65535 < length stim → firstApplying (stimulusChecks s stim) (Done (cycleCount s stim)) ≡ Refused 8 0
+over-refused s stim h = rw (over-long s stim h) refl
+
+-- every code of a call is above 0
+abbrev Numbered : List Check → Type 0
+Numbered [] = Unit {0}
+Numbered (k ∷ ks) = (0 < k .number) × Numbered ks
+
+numbered-in : (before : List Check) (k : Check) (after : List Check) → Numbered (before ++ (k ∷ after)) → 0 < k .number
+numbered-in [] k after h = h .0
+numbered-in (j ∷ js) k after h = numbered-in js k after (h .1)
+
+call-numbered : (s stim out next : List ℕ) → Numbered (callChecks s stim out next)
+call-numbered s stim out next =
+    (omega arith, (omega arith, (omega arith, (omega arith, (omega arith, (omega arith, (omega arith, (omega arith, (omega arith, (omega arith, (omega arith, tt)))))))))))
+
+refused-code : (s stim out next : List ℕ) (c p : ℕ) → answer s stim out next ≡ Refused c p → 0 < c
+refused-code s stim out next c p e =
+    let r : Refuses (callChecks s stim out next) c p = lowest-first s stim out next (Refused c p) .0 e in
+    let n = numbered-in (r .before) (r .applying) (r .after) (subst Numbered (r .split) (call-numbered s stim out next)) in
+    let m = r .numbered in
+    omega arith
+
+refusal-text : (c p t w : ℕ) (outputs : List ℕ) → 0 < c → toldText c p t w outputs ≡ refusedLine c p
+refusal-text zero p t w outputs h = absurd (omega arith)
+refusal-text (suc c) p t w outputs h = refl
+
+module _ (s stim : List ℕ) (i o many : ℕ) (m : Measured s i o) (q : OutputsLong i o (length stim) many) (lo ln : List ℕ) (eo : length lo ≡ many) (en : length ln ≡ length s) where
+  -- by the verdict and the stimulus' length
+  same-refused : (c p : ℕ) → verdictAnswer (verdict s) ≡ Refused c p → answer s stim lo ln ≡ runAnswer s stim
+  unfolding runAnswer
+  same-refused c p e =
+      refused-by-verdict s stim lo ln c p e
+      ∙ sym (refused-by-verdict s stim (replicate (outputNeeded s (outputRecord s) stim) 0) (replicate (length s) 0) c p e)
+
+  module _ (t : ℕ) (v : verdict s ≡ Accepted t) where
+    over-same : 65535 < length stim → answer s stim lo ln ≡ runAnswer s stim
+    unfolding runAnswer
+    over-same h =
+        stimulus-refused s stim lo ln v (over-refused s stim h)
+        ∙ sym (stimulus-refused s stim (replicate (outputNeeded s (outputRecord s) stim) 0) (replicate (length s) 0) v (over-refused s stim h))
+
+    needed : length stim ≤ 65535 → many ≡ outputNeeded s (outputRecord s) stim
+    needed h =
+        let l = m .leaves-of t v in
+        let some = some-leaves (inputType s) in
+        q .needed (let e = l .0 in omega arith) h ∙ rw (l .0, l .1, v) refl
+
+    within-same : length stim ≤ 65535 → answer s stim lo ln ≡ runAnswer s stim
+    unfolding runAnswer
+    within-same h =
+        answer-by-lengths s stim lo (replicate (outputNeeded s (outputRecord s) stim) 0) ln (replicate (length s) 0)
+        (eo ∙ needed h ∙ sym (length-replicate (outputNeeded s (outputRecord s) stim) 0)) (en ∙ sym (length-replicate (length s) 0))
+
+    accepted-same : Dec (65535 < length stim) → answer s stim lo ln ≡ runAnswer s stim
+    accepted-same (yes h) = over-same h
+    accepted-same (no h) = within-same (omega arith)
+
+  same-answer : answer s stim lo ln ≡ runAnswer s stim
+  same-answer = go (verdictAnswer (verdict s)) refl
+    where
+      go : (a : Answer) → verdictAnswer (verdict s) ≡ a → answer s stim lo ln ≡ runAnswer s stim
+      go (Done t) e =
+          let says : SaysOf (sheetChecks s) (outputType s) (Done t) =
+          subst (λ (a : Answer). SaysOf (sheetChecks s) (outputType s) a) (sym (verdict-first s) ∙ e) (first-says (sheetChecks s) (outputType s))
+          in
+          accepted-same (outputType s) (first-accepted s (says .0)) (decLt 65535 (length stim))
+      go (Refused c p) e = same-refused c p e
+
+  module _ {r v w : ℕ} {ro rn : List ℕ} (ran : Ran s stim lo ln r ro rn) (ev : v ≡ packed (verdictAnswer (verdict s)))
+      (ew : (0 < w) × (w ≤ 64) × (0 < o → o ≤ 64 → w ≡ o)) where
+    apart : (r / 2 ^ 32 ≡ code (answer s stim lo ln)) × (r % 2 ^ 32 ≡ place (answer s stim lo ln))
+    apart = rw (ran .gives .result-is) (Answers.kept .taken-apart (code (answer s stim lo ln)) (place (answer s stim lo ln)) (places-small s stim lo ln))
+
+    record-of : v % 2 ^ 32 ≡ outputRecord s
+    record-of =
+        rw ev (Answers.kept .taken-apart (code (verdictAnswer (verdict s))) (place (verdictAnswer (verdict s))) (let h = verdict-place s in omega arith) .1)
+
+    -- done: the outputs and the sheet after them
+    module _ (n : ℕ) (e : answer s stim lo ln ≡ Done n) where
+      formed : SaysOfCall s stim lo ln (Done n)
+      formed = lowest-first s stim lo ln (Done n) .0 e
+
+      done-outputs : ro ≡ runOutputs s stim
+      unfolding finalOut runOutputs
+      done-outputs = ran .gives .out-is ∙ rw e refl
+
+      done-sheet : rn ≡ runSheet s stim
+      unfolding finalNext runSheet
+      done-sheet = ran .gives .next-is ∙ rw e refl
+
+      done-width : w ≡ leaves (typeAt s (outputRecord s))
+      done-width =
+          let t = formed .0 in
+          let a : verdict s ≡ Accepted t = formed .1 .accepted in
+          let l : o ≡ leaves (typeAt s t) = m .leaves-of t a .1 in
+          let some = some-leaves (typeAt s t) in
+          let few = accepted-few s t a in
+          ew .2 (omega arith) (omega arith) ∙ l ∙ rw a refl
+
+      done-text : printed s stim ≡ toldText (r / 2 ^ 32) (r % 2 ^ 32) (v % 2 ^ 32) w ro
+      unfolding printed
+      done-text =
+          let z : r / 2 ^ 32 ≡ 0 = apart .0 ∙ ap code e in
+          rw (z, ← same-answer, e, record-of, done-width, done-outputs) refl
+
+    refused-text : (c p : ℕ) → answer s stim lo ln ≡ Refused c p
+        → printed s stim ≡ toldText (r / 2 ^ 32) (r % 2 ^ 32) (v % 2 ^ 32) w ro
+    unfolding printed
+    refused-text c p e =
+        let z : r / 2 ^ 32 ≡ c = apart .0 ∙ ap code e in
+        let y : r % 2 ^ 32 ≡ p = apart .1 ∙ ap place e in
+        rw (← same-answer, e, z, y) (sym (refusal-text c p (v % 2 ^ 32) w ro (refused-code s stim lo ln c p e)))
+
+    pub told : (out′ next′ : List ℕ) → take many out′ ≡ ro → many ≤ length out′ → take (length s) next′ ≡ rn
+        → Tells s stim (r / 2 ^ 32) (r % 2 ^ 32) (v % 2 ^ 32) w many out′ next′
+    told out′ next′ eo′ inside en′ =
+        record {
+          coded = apart .0 ∙ ap code same-answer;
+          text = rw eo′ (sym (go (answer s stim lo ln) refl));
+          inside = inside;
+          some = ew .0;
+          few = ew .1;
+          next = λ z. en′ ∙ after (answer s stim lo ln) refl z;
+        }
+      where
+        go : (a : Answer) → answer s stim lo ln ≡ a → printed s stim ≡ toldText (r / 2 ^ 32) (r % 2 ^ 32) (v % 2 ^ 32) w ro
+        go (Done n) e = done-text n e
+        go (Refused c p) e = refused-text c p e
+
+        after : (a : Answer) → answer s stim lo ln ≡ a → r / 2 ^ 32 ≡ 0 → rn ≡ runSheet s stim
+        after (Done n) e z = done-sheet n e
+        after (Refused c p) e z =
+            let h = refused-code s stim lo ln c p e in
+            let y : r / 2 ^ 32 ≡ c = apart .0 ∙ ap code e in
+            absurd (omega arith)
+
+-- the same of the front parts of the rooms lent
+module _ (s stim : List ℕ) (i o many : ℕ) (m : Measured s i o) (q : OutputsLong i o (length stim) many) (out next : List ℕ)
+    (room : (4194240 ≤ length out) × (length s ≤ length next)) where
+  out-long : length (take (many - 0) out) ≡ many
+  out-long = let h = q .small in let r = room .0 in length-take-le (many - 0) out (omega arith) ∙ omega arith
+
+  next-long : length (take (length s - 0) next) ≡ length s
+  next-long = let r = room .1 in length-take-le (length s - 0) next (omega arith) ∙ omega arith
+
+  pub told-lent : {r v w : ℕ} {ro rn : List ℕ} → Ran s stim (take (many - 0) out) (take (length s - 0) next) r ro rn
+      → length ro ≡ length (take (many - 0) out) → length rn ≡ length (take (length s - 0) next)
+      → v ≡ packed (verdictAnswer (verdict s)) → (0 < w) × (w ≤ 64) × (0 < o → o ≤ 64 → w ≡ o)
+      → Tells s stim (r / 2 ^ 32) (r % 2 ^ 32) (v % 2 ^ 32) w many (ro ++ drop (many - 0) out) (rn ++ drop (length s - 0) next)
+  told-lent {ro = ro} {rn = rn} ran lo ln ev ew =
+      told s stim i o many m q (take (many - 0) out) (take (length s - 0) next) out-long next-long ran ev ew
+      (ro ++ drop (many - 0) out) (rn ++ drop (length s - 0) next)
+      (take-at ro (drop (many - 0) out) many (lo ∙ out-long))
+      (let l = length-append ro (drop (many - 0) out) in let e = out-long in omega arith)
+      (take-at rn (drop (length s - 0) next) (length s) (ln ∙ next-long))

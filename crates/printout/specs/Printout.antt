@@ -1,0 +1,68 @@
+-- What the program prints and writes (docs/SHEETS.md, "Listing"), for the answer of the run with slices of the right lengths: the
+-- listing of its outputs, or the one line of a refusal. For a file that cannot be opened it is the line of code 12, whose place
+-- names the sheet before the stimulus.
+use Prim.Native.Nat.{ℕ, zero, suc, _/_, _*_, _≤_, _<_}
+use mathlib.Core.Path.{_≡_}
+use mathlib.Core.Bool.{Bool, true, false}
+use mathlib.Core.List.{List}
+use lib.ListN.{length, take, replicate}
+use Rattle.picoella.specs.Types.{leaves}
+use Rattle.records.specs.TypeRecords.{typeAt}
+use Rattle.answers.specs.Answers.{code, place}
+use Rattle.answers.specs.declared.Answer.{Answer}
+use Rattle.answers.specs.declared.Answer.the-variants.{Done, Refused}
+use Rattle.verdict.specs.Verdict.{verdictAnswer, verdict}
+use Rattle.meaning.specs.Undecided.{undecidedRule}
+use Rattle.stimulus.specs.Stimulus.{endToEnd, cycles}
+use Rattle.behaviour.specs.Run.{outputsBy, sheetAfter, outputNeeded, answer}
+use Rattle.listing.specs.Lines.{listing, refusedLine}
+
+-- "the record of the output type": the place of the check's answer
+abbrev pub outputRecord : (sheet : List ℕ) → ℕ
+outputRecord s = place (verdictAnswer (verdict s))
+
+-- the run's answer, with slices of the right lengths
+unfoldable pub runAnswer : (sheet stimulus : List ℕ) → Answer
+runAnswer s stim =
+    answer s stim (replicate (outputNeeded s (outputRecord s) stim) 0) (replicate (length s) 0)
+
+-- the outputs of all cycles, and the sheet after the last
+unfoldable pub runOutputs : (sheet stimulus : List ℕ) → List ℕ
+runOutputs s stim = endToEnd (outputsBy undecidedRule s (cycles s stim))
+
+unfoldable pub runSheet : (sheet stimulus : List ℕ) → List ℕ
+runSheet s stim = sheetAfter undecidedRule s (cycles s stim)
+
+-- the listing of outputs of w leaves each, or the line of a refusal
+abbrev pub answerText : Answer → (t w : ℕ) (outputs : List ℕ) → List ℕ
+answerText (Done n) t w outputs = listing t w outputs
+answerText (Refused c p) t w outputs = refusedLine c p
+
+unfoldable pub printed : (sheet stimulus : List ℕ) → List ℕ
+printed s stim =
+    answerText (runAnswer s stim) (outputRecord s) (leaves (typeAt s (outputRecord s))) (runOutputs s stim)
+
+-- "12: a file that the program cannot open; the sheet's is tried first"
+abbrev pub noFileLine : (sheetOpened : Bool) → List ℕ
+noFileLine false = refusedLine 12 1
+noFileLine true = refusedLine 12 2
+
+-- the same text by the numbers that the code has: a code of 0 is none
+abbrev pub toldText : (code place t w : ℕ) (outputs : List ℕ) → List ℕ
+toldText zero p t w outputs = listing t w outputs
+toldText (suc c) p t w outputs = refusedLine (suc c) p
+
+-- what is told of a sheet and a stimulus: the text to print by these numbers and the first so many bytes of the outputs' room, and
+-- where nothing is refused the sheet for next.bin
+pub record Tells (s stim : List ℕ) (c p t w many : ℕ) (out′ next′ : List ℕ) : Type 0 where
+  pub coded : c ≡ code (runAnswer s stim)
+  pub text : toldText c p t w (take many out′) ≡ printed s stim
+  pub inside : many ≤ length out′
+  pub some : 0 < w
+  pub few : w ≤ 64
+  pub next : c ≡ 0 → take (length s) next′ ≡ runSheet s stim
+
+-- the length of outputs, from the leaves of input and output and the length of a stimulus
+pub record OutputsLong (input output all many : ℕ) : Type 0 where
+  pub needed : 0 < input → all ≤ 65535 → many ≡ all / input * output
+  pub small : many ≤ 4194240
