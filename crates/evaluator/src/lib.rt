@@ -101,6 +101,33 @@ pub fn eval(
     of_delay(sheet, n, widths, env, names, held, rec, out, fired);
 }
 
+// Evaluates a part of an expression, which most often is a name or a constant: these at once, every other kind by `eval`.
+fn eval_part(
+    sheet: &[u8],
+    n: usize,
+    widths: &Widths,
+    env: &mut [u8],
+    names: usize,
+    held: &mut NextValues,
+    rec: usize,
+    out: &mut [u8],
+    fired: &mut Fired,
+)
+    requires { ⌜ ((Γ : List ℕ) × EvaluatingIn (now sheet) n (now widths) (now env) names rec (now out) Γ) ⌝ }
+    ensures { λ _. ⌜ Evaluated (now (sheet .entry)) n (now (widths .entry)) (now (env .entry)) names rec (now (held .entry)) (now (fired .entry)) (now (out .entry)) (now (env .exit)) (now (held .exit)) (now (fired .exit)) (now (out .exit)) ⌝ }
+{
+    let kind = word(sheet, n, rec, WORD_KIND);
+    if kind == KIND_CONSTANT {
+        read_leaves(sheet, n, word(sheet, n, rec, WORD_B), out);
+        return;
+    }
+    if kind == KIND_NAME {
+        of_name(sheet, n, widths, env, names, rec, out);
+        return;
+    }
+    eval(sheet, n, widths, env, names, held, rec, out, fired);
+}
+
 fn of_pair(
     sheet: &[u8],
     n: usize,
@@ -117,9 +144,9 @@ fn of_pair(
 {
     let a = word(sheet, n, rec, WORD_A);
     let w = widths[a] as usize;
-    eval(sheet, n, widths, env, names, held, a, &mut out[0..w], fired);
+    eval_part(sheet, n, widths, env, names, held, a, &mut out[0..w], fired);
     let b = word(sheet, n, rec, WORD_B);
-    eval(sheet, n, widths, env, names, held, b, &mut out[w..], fired);
+    eval_part(sheet, n, widths, env, names, held, b, &mut out[w..], fired);
 }
 
 fn of_first(
@@ -139,7 +166,7 @@ fn of_first(
     let a = word(sheet, n, rec, WORD_A);
     let w = widths[a] as usize;
     let mut whole = room();
-    eval(
+    eval_part(
         sheet,
         n,
         widths,
@@ -170,7 +197,7 @@ fn of_second(
     let a = word(sheet, n, rec, WORD_A);
     let w = widths[a] as usize;
     let mut whole = room();
-    eval(
+    eval_part(
         sheet,
         n,
         widths,
@@ -201,7 +228,7 @@ fn of_let(
     let a = word(sheet, n, rec, WORD_A);
     let w = widths[a] as usize;
     let mut value = room();
-    eval(
+    eval_part(
         sheet,
         n,
         widths,
@@ -214,7 +241,7 @@ fn of_let(
     );
     enter_value(env, names, &value[0..w]);
     let b = word(sheet, n, rec, WORD_B);
-    eval(sheet, n, widths, env, names + 1, held, b, out, fired);
+    eval_part(sheet, n, widths, env, names + 1, held, b, out, fired);
 }
 
 fn of_feedback(
@@ -247,7 +274,7 @@ fn of_feedback(
         fired,
     );
     let b = word(sheet, n, rec, WORD_C);
-    eval(sheet, n, widths, env, names + 1, held, b, out, fired);
+    eval_part(sheet, n, widths, env, names + 1, held, b, out, fired);
 }
 
 // Evaluates a feedback's defining part until it gives back unchanged what the feedback's name holds.
@@ -265,7 +292,7 @@ fn settle(
     requires { ⌜ ((t : ℕ) × (Γ : List ℕ) × SettlingIn (now sheet) n (now widths) (now env) names d (now value) t Γ) ⌝ }
     ensures { λ _. ⌜ Settled (now (sheet .entry)) n (now (widths .entry)) (now (env .entry)) names d (now (held .entry)) (now (fired .entry)) (now (value .entry)) (now (env .exit)) (now (held .exit)) (now (fired .exit)) ⌝ }
 {
-    eval(sheet, n, widths, env, names + 1, held, d, value, fired);
+    eval_part(sheet, n, widths, env, names + 1, held, d, value, fired);
     if stands_at(env, names, value) {
         return;
     }
@@ -290,7 +317,7 @@ fn of_if(
     let a = word(sheet, n, rec, WORD_A);
     let w = widths[a] as usize;
     let mut tested = room();
-    eval(
+    eval_part(
         sheet,
         n,
         widths,
@@ -302,11 +329,11 @@ fn of_if(
         fired,
     );
     let b = word(sheet, n, rec, WORD_B);
-    eval(sheet, n, widths, env, names, held, b, out, fired);
+    eval_part(sheet, n, widths, env, names, held, b, out, fired);
     let other = word(sheet, n, rec, WORD_C);
     let all = out.len();
     let mut otherwise = room();
-    eval(
+    eval_part(
         sheet,
         n,
         widths,
@@ -337,7 +364,7 @@ fn of_delay(
     ensures { λ _. ⌜ Evaluated (now (sheet .entry)) n (now (widths .entry)) (now (env .entry)) names rec (now (held .entry)) (now (fired .entry)) (now (out .entry)) (now (env .exit)) (now (held .exit)) (now (fired .exit)) (now (out .exit)) ⌝ }
 {
     let c = word(sheet, n, rec, WORD_C);
-    eval(sheet, n, widths, env, names, held, c, out, fired);
+    eval_part(sheet, n, widths, env, names, held, c, out, fired);
     let first = word(sheet, n, rec, WORD_B);
     hold_leaves(sheet, n, first, out, held);
     read_leaves(sheet, n, first, out);

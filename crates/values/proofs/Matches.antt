@@ -32,6 +32,7 @@ use Rattle.records.proofs.Tests.{both-left, both-right}
 use Rattle.records.proofs.Table.{kind-of-sort, is-pair}
 use Rattle.records.proofs.CodeTable.{pair-number}
 use Rattle.records.proofs.Types.{pair-type, few-leaves}
+use Rattle.records.proofs.Asked.{past-header}
 use Rattle.records.proofs.Trees.{alternatives-of}
 use Rattle.records.proofs.Grown.{GrownPattern, grown-pattern}
 use Rattle.verdict.specs.Widths.{patternLeaves}
@@ -84,6 +85,20 @@ told-alone (Matched′.Yes r) = refl
 told-alone Matched′.No = refl
 told-alone Matched′.Undecided = refl
 
+-- after a yes the rest changes nothing
+yes-stays : (s : List ℕ) (m : Alternatives) (v : List ℕ) → withRest Yes s m v ≡ Yes
+yes-stays s end v = refl
+yes-stays s noPattern v = refl
+yes-stays s (wholeType r t m) v = refl
+yes-stays s (oneConstructor r t k m) v = refl
+yes-stays s (pairOfPatterns r p q m) v = refl
+
+-- what is matched next follows, unless it is nothing
+pub goes-on : (a : Match) {x y : ℕ} → x ≡ orAfter (decisionOf a) 0 y → (x ≡ 0 → ⊥) → x ≡ y
+goes-on (Matched′.Yes r) e f = absurd (f e)
+goes-on Matched′.No e f = e
+goes-on Matched′.Undecided e f = e
+
 -- the first of some alternatives, with the rest of them
 one-with-rest : (s : List ℕ) (p : Pattern) (m : Alternatives) (v : List ℕ)
     → matches (orElse p m (patternOf s m)) v ≡ withRest (matches p v) s m v
@@ -130,7 +145,10 @@ module _ {s : List ℕ} {n : ℕ} {widths : List ℕ} {p : ℕ} {value : List �
   kind : (k : PatternKind) × (kindAt s p ≡ pattern k)
   kind = kind-of-sort patterns (kindAt s p) (m .against .sort)
 
-  -- the number of the record, and the alternatives after it
+  -- the number of the record, which is not the header, and the alternatives after it
+  past : 0 < p
+  past = past-header w p (rw (kind .1) refl)
+
   low : p < 4096
   low = let h = m .against .there in let f = m .against .sized .few in omega arith
 
@@ -314,23 +332,35 @@ module _ {s : List ℕ} {n : ℕ} {widths : List ℕ} {p : ℕ} {value : List �
           pub second-lent : {y : ℕ} → y ≡ word s p 3 → (p < y) × Matching s n widths y (take (length value - c) (drop c value))
           second-lent ey = rw whole-rest (second-matched ey)
 
-          pub pair-matches : {y : ℕ} (a b r : Match) → y ≡ word s p 3 → MatchedAll s x (take (c - 0) value) a → MatchedAll s y (take (length value - c) (drop c value)) b
-              → Own p r (pairDecision (decisionOf a) (decisionOf b)) → MatchedOne s p value r
-          pair-matches a b r ey ea eb o =
+          -- by the answers of both parts
+          parts-decide : (a r : Match) (d : Decision) → MatchedAll s x (take (c - 0) value) a
+              → d ≡ matches (patternOf s (alternatives s (wordB s p))) (drop c value) → Own p r (pairDecision (decisionOf a) d)
+              → MatchedOne s p value r
+          parts-decide a r d ea ed o =
               record {
                 decides =
                     rw (two-parts, o .decides, ← parts-match)
                     (one-with-rest s (Parts (patternOf s (alternatives s (wordA s p))) (patternOf s (alternatives s (wordB s p)))) after value);
-                tells = rw (two-parts, parts-match) (own-told r (pairDecision (decisionOf a) (decisionOf b)) p (firstYes s after value) o);
-                few = rw (o .tells) (few-told (pairDecision (decisionOf a) (decisionOf b)) p 0 low (omega arith));
+                tells = rw (two-parts, parts-match) (own-told r (pairDecision (decisionOf a) d) p (firstYes s after value) o);
+                few = rw (o .tells) (few-told (pairDecision (decisionOf a) d) p 0 low (omega arith));
               }
             where
               wide : patternWidth (patternOf s (alternatives s (wordA s p))) ≡ c
               wide = rw (← ex) (width-leaves s (alternatives s x) (grown-pattern w x first-in (first-against .1 .sort)) ∙ first-leaves ∙ sym cut)
 
               parts-match : matches (Parts (patternOf s (alternatives s (wordA s p))) (patternOf s (alternatives s (wordB s p)))) value
-                  ≡ pairDecision (decisionOf a) (decisionOf b)
-              parts-match = rw (rw from-front at (ea .decides), rw whole-rest at (eb .decides), ex, ey, ← wide) refl
+                  ≡ pairDecision (decisionOf a) d
+              parts-match = rw (rw from-front at (ea .decides), ed, ex, ← wide) refl
+
+          pub pair-matches : {y : ℕ} (a b r : Match) → y ≡ word s p 3 → MatchedAll s x (take (c - 0) value) a → MatchedAll s y (take (length value - c) (drop c value)) b
+              → Own p r (pairDecision (decisionOf a) (decisionOf b)) → MatchedOne s p value r
+          pair-matches a b r ey ea eb o = parts-decide a r (decisionOf b) ea (rw (whole-rest, ey) at (eb .decides)) o
+
+          -- a no of the first part is that of the pair
+          pub first-refuses : (a : Match) → a ≡ Matched′.No → MatchedAll s x (take (c - 0) value) a → MatchedOne s p value Matched′.No
+          first-refuses a e ea =
+              parts-decide a Matched′.No (matches (patternOf s (alternatives s (wordB s p))) (drop c value)) ea refl
+              (record { decides = rw e refl; tells = rw e refl })
 
 -- the whole chain from p is what was matched so far, with what is left from x
 pub record Gathered (s : List ℕ) (p : ℕ) (v : List ℕ) (a : Match) (x : ℕ) : Type 0 where
@@ -338,10 +368,12 @@ pub record Gathered (s : List ℕ) (p : ℕ) (v : List ℕ) (a : Match) (x : ℕ
   pub tells : firstYes s (alternatives s p) v ≡ orAfter (decisionOf a) (told a) (firstYes s (follow end (alternatives s) x) v)
   pub few : told a < 4096
 
-module _ {s : List ℕ} {p : ℕ} {v : List ℕ} where
-  pub begun : {a : Match} {x : ℕ} → MatchedOne s p v a → x ≡ word s p 1 → Gathered s p v a x
-  begun o e = record { decides = rw e (o .decides); tells = rw e (o .tells); few = o .few }
+-- at first nothing is matched, and the whole chain is left
+pub begun : {s : List ℕ} {n : ℕ} {widths : List ℕ} {p : ℕ} {v : List ℕ} → Matching s n widths p v → Gathered s p v Matched′.No p
+begun {p = zero} m = absurd (let h = past m in omega arith)
+begun {p = suc p} m = record { decides = sym (rest-is m No); tells = refl; few = omega arith }
 
+module _ {s : List ℕ} {p : ℕ} {v : List ℕ} where
   pub gone-on : {n : ℕ} {widths : List ℕ} {at : ℕ} → Matching s n widths at v → (a b c : Match) {x : ℕ} → (at ≡ 0 → ⊥)
       → Gathered s p v a at → MatchedOne s at v b
       → (decisionOf c ≡ chainDecision (decisionOf a) (decisionOf b)) × (told c ≡ orAfter (decisionOf a) (told a) (told b))
@@ -356,6 +388,13 @@ module _ {s : List ℕ} {p : ℕ} {v : List ℕ} where
             (first-told (decisionOf a) (decisionOf b) (told a) (told b) (firstYes s (follow end (alternatives s) (nextWord s (suc at))) v));
         few = rw (e .1) (few-told (decisionOf a) (told a) (told b) (h .few) (o .few));
       }
+
+  -- and after a yes nothing more
+  pub up-to-yes : (a : Match) {x y : ℕ} → Gathered s p v a y → x ≡ orAfter (decisionOf a) 0 y → Gathered s p v a x
+  up-to-yes (Matched′.Yes r) {x} {y} h e =
+      record { decides = h .decides ∙ rw e (yes-stays s (follow end (alternatives s) y) v); tells = h .tells; few = h .few }
+  up-to-yes Matched′.No h e = rw e h
+  up-to-yes Matched′.Undecided h e = rw e h
 
   pub ended : (a : Match) {x : ℕ} → Gathered s p v a x → x ≡ 0 → MatchedAll s p v a
   ended a h e = record { decides = sym (rw e at (h .decides)); tells = sym (rw e at (h .tells) ∙ told-alone a); few = h .few }

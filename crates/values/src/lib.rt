@@ -220,21 +220,32 @@ fn either(a: Match, b: Match) -> Match
     }
 }
 
-// Matches a value against the alternatives from p.
+// The alternative that is matched after an answer, where `next` follows: none after a yes.
+fn after(answer: Match, next: usize) -> usize
+    ensures { λ r. ⌜ r ≡ orAfter (decisionOf answer) 0 next ⌝ }
+{
+    match answer {
+        Match::Yes(_) => 0,
+        Match::No => next,
+        Match::Undecided => next,
+    }
+}
+
+// Matches a value against the alternatives from p, up to the first yes.
 pub fn match_all(sheet: &[u8], n: usize, widths: &Widths, p: usize, value: &[u8]) -> Match
     requires { ⌜ Matching (now sheet) n (now widths) p (now value) ⌝ }
     ensures { λ r. ⌜ MatchedAll (now (sheet .entry)) p (now (value .entry)) r ⌝ }
 {
-    let mut answer = match_one(sheet, n, widths, p, value);
-    let mut at = word(sheet, n, p, WORD_NEXT);
+    let mut answer = Match::No;
+    let mut at = p;
     while at != 0 {
         answer = either(answer, match_one(sheet, n, widths, at, value));
-        at = word(sheet, n, at, WORD_NEXT);
+        at = after(answer, word(sheet, n, at, WORD_NEXT));
     }
     answer
 }
 
-// Matches a value against the alternative at p, a pair pattern part by part.
+// Matches a value against the alternative at p, a pair pattern part by part, up to the first no.
 fn match_one(sheet: &[u8], n: usize, widths: &Widths, p: usize, value: &[u8]) -> Match
     requires { ⌜ Matching (now sheet) n (now widths) p (now value) ⌝ }
     ensures { λ r. ⌜ MatchedOne (now (sheet .entry)) p (now (value .entry)) r ⌝ }
@@ -249,6 +260,9 @@ fn match_one(sheet: &[u8], n: usize, widths: &Widths, p: usize, value: &[u8]) ->
     let first = word(sheet, n, p, WORD_A);
     let w = widths[first] as usize;
     let a = match_all(sheet, n, widths, first, &value[0..w]);
+    if let Match::No = a {
+        return Match::No;
+    }
     let b = match_all(sheet, n, widths, word(sheet, n, p, WORD_B), &value[w..]);
     both(p, a, b)
 }

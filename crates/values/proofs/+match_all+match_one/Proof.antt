@@ -2,10 +2,10 @@
 -- matched so far, with what is left. Assumes nothing.
 use borrow.Author.Needs.{needs}
 use native.Mathlib.Omega.{arith}
-use Prim.Native.Nat.{_+_, _*_, _-_}
-use mathlib.Core.Path.{_≡_, refl}
+use Prim.Native.Nat.{_+_, _*_, _-_, _≤_}
+use mathlib.Core.Path.{_≡_, refl, _∙_}
 use Rattle.values.specs.Matchings.{Matching}
-use Rattle.values.proofs.Matches.{Gathered, begun, gone-on, ended, left, left-falls, next-matched, some-leaf, to-the-end, whole-matches, constructor-matches, first-in, cut-small, from-none, cut-inside, first-lent, second-lent, pair-matches}
+use Rattle.values.proofs.Matches.{Gathered, begun, goes-on, gone-on, up-to-yes, ended, left, left-falls, next-matched, some-leaf, to-the-end, whole-matches, constructor-matches, first-in, cut-small, from-none, cut-inside, first-lent, second-lent, pair-matches, first-refuses}
 use Prim.Native.Nat.{ℕ, _<_}
 use borrow.Fn.Kinds.{In}
 use borrow.Fn.PlainCycle.{Measures, is, falls, and}
@@ -16,6 +16,7 @@ use Rattle.values.proofs.match_one.Reads as match-one
 use Rattle.values.proofs.match_one.Kinds as match-one-kinds
 use Rattle.values.proofs.+match_all+match_one.Lts-match_one as match-one-lts
 use Rattle.records.proofs.word.Reads as word-reads
+use Rattle.values.proofs.after.Reads as after-reads
 use Rattle.values.proofs.both.Reads as both-reads
 use Rattle.values.proofs.either.Reads as either-reads
 use Rattle.values.proofs.on_leaf.Reads as on-leaf-reads
@@ -43,7 +44,7 @@ match-one-below t =
     and 3 match-one-kinds.ps (falls 3 match-one-kinds.ps _<_ μ-match-one t) match-one.Pre
 
 abbrev match-all-claims : ℕ → match-all-lts.Claims
-match-all-claims t = (match-one-below t, match-one.Post, word-reads.Asked, word-reads.Learnt, either-reads.Asked, either-reads.Learnt)
+match-all-claims t = (match-one-below t, match-one.Post, either-reads.Asked, either-reads.Learnt, word-reads.Asked, word-reads.Learnt, after-reads.Asked, after-reads.Learnt)
 
 abbrev match-one-claims : ℕ → match-one-lts.Claims
 match-one-claims t =
@@ -51,43 +52,38 @@ match-one-claims t =
 
 abbrev match-all-Inv-loop : match-all-lts.InvT-loop
 match-all-Inv-loop sheet n widths p value answer₀ at₀ answer at =
-    Gathered sheet p value answer at × ((at ≡ 0 → ⊥) → (p < at) × Matching sheet n widths at value)
+    Gathered sheet p value answer at × ((at ≡ 0 → ⊥) → (p ≤ at) × Matching sheet n widths at value)
 
 abbrev match-all-μ-loop : match-all-lts.MeasureT-loop
 match-all-μ-loop sheet n widths p value answer₀ at₀ answer at = left n at
 
+match-all-loop-holds : (t : ℕ) → match-all-lts.Need-loop-holds (match-all-claims t) (match-all-at t) match-all.Post match-all-Inv-loop match-all-μ-loop
+match-all-loop-holds t c = (begun (c .before .before .pre .1), λ f. (omega arith, c .before .before .pre .1))
+
 match-all-match-one-requires : (t : ℕ) → match-all-lts.Need-match-one-requires (match-all-claims t) (match-all-at t) match-all.Post match-all-Inv-loop match-all-μ-loop
 match-all-match-one-requires t c κs =
-    let h = c .before .before .pre .1 .against .there in (omega (arith, c .before .before .pre .0), c .before .before .pre .1)
-
-match-all-word-requires : (t : ℕ) → match-all-lts.Need-word-requires (match-all-claims t) (match-all-at t) match-all.Post match-all-Inv-loop match-all-μ-loop
-match-all-word-requires t c κs = (c .before .before .before .pre .1 .against .sized, c .before .before .before .pre .1 .against .there, search needs)
-
-match-all-loop-holds : (t : ℕ) → match-all-lts.Need-loop-holds (match-all-claims t) (match-all-at t) match-all.Post match-all-Inv-loop match-all-μ-loop
-match-all-loop-holds t c =
-    (begun (c .before .match-one .ensures) (c .word .ensures .0), λ f. next-matched (c .before .before .before .before .pre .1) (c .word .ensures .0) f)
-
-match-all-match-one-requires-2 : (t : ℕ) → match-all-lts.Need-match-one-requires-2 (match-all-claims t) (match-all-at t) match-all.Post match-all-Inv-loop match-all-μ-loop
-match-all-match-one-requires-2 t c κs =
-    let v = c .before .loop .inv .1 (search needs) in let h = v .1 .against .there in (omega (arith, c .before .before .before .before .before .before .pre .0, v .0), v .1)
+    let v = c .before .loop .inv .1 (search needs) in let h = v .1 .against .there in (omega (arith, c .before .before .before .before .pre .0, v .0), v .1)
 
 match-all-either-requires : (t : ℕ) → match-all-lts.Need-either-requires (match-all-claims t) (match-all-at t) match-all.Post match-all-Inv-loop match-all-μ-loop
 match-all-either-requires t c κs = tt
 
-match-all-word-requires-2 : (t : ℕ) → match-all-lts.Need-word-requires-2 (match-all-claims t) (match-all-at t) match-all.Post match-all-Inv-loop match-all-μ-loop
-match-all-word-requires-2 t c κs =
+match-all-word-requires : (t : ℕ) → match-all-lts.Need-word-requires (match-all-claims t) (match-all-at t) match-all.Post match-all-Inv-loop match-all-μ-loop
+match-all-word-requires t c κs =
     let v = c .before .before .before .loop .inv .1 (search needs) in (v .1 .against .sized, v .1 .against .there, search needs)
+
+match-all-after-requires : (t : ℕ) → match-all-lts.Need-after-requires (match-all-claims t) (match-all-at t) match-all.Post match-all-Inv-loop match-all-μ-loop
+match-all-after-requires t c κs = tt
 
 match-all-loop-less : (t : ℕ) → match-all-lts.Need-loop-less (match-all-claims t) (match-all-at t) match-all.Post match-all-Inv-loop match-all-μ-loop
 match-all-loop-less t c =
-    let v = c .before .before .before .before .loop .inv .1 (search needs) in
-    left-falls _ _ _ (search needs) (v .1 .against .there) (λ f. let q = next-matched (v .1) (c .word2 .ensures .0) f in (q .0, q .1 .against .there))
+    let v = c .before .before .before .before .before .loop .inv .1 (search needs) in
+    left-falls _ _ _ (search needs) (v .1 .against .there) (λ f. let q = next-matched (v .1) (goes-on (c .before .before .either .result) (c .after .ensures) f ∙ c .before .word .ensures .0) f in (q .0, q .1 .against .there))
 
 match-all-loop-again : (t : ℕ) → match-all-lts.Need-loop-again (match-all-claims t) (match-all-at t) match-all.Post match-all-Inv-loop match-all-μ-loop
 match-all-loop-again t c =
-    let v = c .before .before .before .before .loop .inv .1 (search needs) in (
-      gone-on (v .1) (c .before .before .before .before .loop .answer) (c .before .before .match-one2 .result) (c .before .either .result) (search needs) (c .before .before .before .before .loop .inv .0) (c .before .before .match-one2 .ensures) (c .before .either .ensures) (c .word2 .ensures .0),
-      λ f. let q = next-matched (v .1) (c .word2 .ensures .0) f in (omega (arith, v .0, q .0), q .1),
+    let v = c .before .before .before .before .before .loop .inv .1 (search needs) in (
+      up-to-yes (c .before .before .either .result) (gone-on (v .1) (c .before .before .before .before .before .loop .answer) (c .before .before .before .match-one .result) (c .before .before .either .result) (search needs) (c .before .before .before .before .before .loop .inv .0) (c .before .before .before .match-one .ensures) (c .before .before .either .ensures) (c .before .word .ensures .0)) (c .after .ensures),
+      λ f. let q = next-matched (v .1) (goes-on (c .before .before .either .result) (c .after .ensures) f ∙ c .before .word .ensures .0) f in (omega (arith, v .0, q .0), q .1),
     )
 
 match-all-returns : (t : ℕ) → match-all-lts.Need-returns (match-all-claims t) (match-all-at t) match-all.Post match-all-Inv-loop match-all-μ-loop
@@ -135,28 +131,34 @@ match-one-match-all-requires : (t : ℕ) → match-one-lts.Need-match-all-requir
 match-one-match-all-requires t c κs =
     let q = first-lent (c .before .before .before .before .before .before .before .before .pre .1) (c .before .before .before .before .before .word .ensures .0) (c .before .before .before .before .if1 .left) (c .before .before .before .if2 .left) (c .before .before .word3 .ensures .0) refl in let h = q .1 .against .there in (omega (arith, c .before .before .before .before .before .before .before .before .pre .0, q .0), q .1)
 
+match-one-enum-told : (t : ℕ) → match-one-lts.Need-enum-told (match-one-claims t) (match-one-at t) match-one.Post
+match-one-enum-told t c = search needs
+
+match-one-returns-3 : (t : ℕ) → match-one-lts.Need-returns-3 (match-one-claims t) (match-one-at t) match-one.Post
+match-one-returns-3 t c = first-refuses (c .before .before .before .before .before .before .before .before .before .before .before .pre .1) (c .before .before .before .before .before .before .before .before .word .ensures .0) (c .before .before .before .before .before .before .before .if1 .left) (c .before .before .before .before .before .before .if2 .left) (c .before .before .before .before .before .word3 .ensures .0) refl (c .before .before .match-all .result) (c .enum-told .given .1) (c .before .before .match-all .ensures)
+
 match-one-word-requires-4 : (t : ℕ) → match-one-lts.Need-word-requires-4 (match-one-claims t) (match-one-at t) match-one.Post
-match-one-word-requires-4 t c κs = (c .before .before .before .before .before .before .before .before .before .pre .1 .against .sized, c .before .before .before .before .before .before .before .before .before .pre .1 .against .there, search needs)
+match-one-word-requires-4 t c κs = (c .before .before .before .before .before .before .before .before .before .before .pre .1 .against .sized, c .before .before .before .before .before .before .before .before .before .before .pre .1 .against .there, search needs)
 
 match-one-sub-match-all-2 : (t : ℕ) → match-one-lts.Need-sub-match-all-2 (match-one-claims t) (match-one-at t) match-one.Post
-match-one-sub-match-all-2 t c = cut-inside (c .before .before .before .before .before .before .before .before .before .before .pre .1) (c .before .before .before .before .before .before .before .word .ensures .0) (c .before .before .before .before .before .before .if1 .left) (c .before .before .before .before .before .if2 .left) (c .before .before .before .before .word3 .ensures .0) refl
+match-one-sub-match-all-2 t c = cut-inside (c .before .before .before .before .before .before .before .before .before .before .before .pre .1) (c .before .before .before .before .before .before .before .before .word .ensures .0) (c .before .before .before .before .before .before .before .if1 .left) (c .before .before .before .before .before .before .if2 .left) (c .before .before .before .before .before .word3 .ensures .0) refl
 
 match-one-part-match-all-start-2 : (t : ℕ) → match-one-lts.Need-part-match-all-start-2 (match-one-claims t) (match-one-at t) match-one.Post
-match-one-part-match-all-start-2 t c = cut-inside (c .before .before .before .before .before .before .before .before .before .before .pre .1) (c .before .before .before .before .before .before .before .word .ensures .0) (c .before .before .before .before .before .before .if1 .left) (c .before .before .before .before .before .if2 .left) (c .before .before .before .before .word3 .ensures .0) refl
+match-one-part-match-all-start-2 t c = cut-inside (c .before .before .before .before .before .before .before .before .before .before .before .pre .1) (c .before .before .before .before .before .before .before .before .word .ensures .0) (c .before .before .before .before .before .before .before .if1 .left) (c .before .before .before .before .before .before .if2 .left) (c .before .before .before .before .before .word3 .ensures .0) refl
 
 match-one-part-match-all-end-2 : (t : ℕ) → match-one-lts.Need-part-match-all-end-2 (match-one-claims t) (match-one-at t) match-one.Post
-match-one-part-match-all-end-2 t c = to-the-end (c .before .before .before .before .before .before .before .before .before .before .pre .1)
+match-one-part-match-all-end-2 t c = to-the-end (c .before .before .before .before .before .before .before .before .before .before .before .pre .1)
 
 match-one-match-all-requires-2 : (t : ℕ) → match-one-lts.Need-match-all-requires-2 (match-one-claims t) (match-one-at t) match-one.Post
 match-one-match-all-requires-2 t c κs =
-    let q = second-lent (c .before .before .before .before .before .before .before .before .before .before .before .pre .1) (c .before .before .before .before .before .before .before .before .word .ensures .0) (c .before .before .before .before .before .before .before .if1 .left) (c .before .before .before .before .before .before .if2 .left) (c .before .before .before .before .before .word3 .ensures .0) refl (c .before .word4 .ensures .0) in let h = q .1 .against .there in (omega (arith, c .before .before .before .before .before .before .before .before .before .before .before .pre .0, q .0), q .1)
+    let q = second-lent (c .before .before .before .before .before .before .before .before .before .before .before .before .pre .1) (c .before .before .before .before .before .before .before .before .before .word .ensures .0) (c .before .before .before .before .before .before .before .before .if1 .left) (c .before .before .before .before .before .before .before .if2 .left) (c .before .before .before .before .before .before .word3 .ensures .0) refl (c .before .word4 .ensures .0) in let h = q .1 .against .there in (omega (arith, c .before .before .before .before .before .before .before .before .before .before .before .before .pre .0, q .0), q .1)
 
 match-one-both-requires : (t : ℕ) → match-one-lts.Need-both-requires (match-one-claims t) (match-one-at t) match-one.Post
 match-one-both-requires t c κs = tt
 
-match-one-returns-3 : (t : ℕ) → match-one-lts.Need-returns-3 (match-one-claims t) (match-one-at t) match-one.Post
-match-one-returns-3 t c =
-    pair-matches (c .before .before .before .before .before .before .before .before .before .before .before .before .before .pre .1) (c .before .before .before .before .before .before .before .before .before .before .word .ensures .0) (c .before .before .before .before .before .before .before .before .before .if1 .left) (c .before .before .before .before .before .before .before .before .if2 .left) (c .before .before .before .before .before .before .before .word3 .ensures .0) refl (c .before .before .before .before .match-all .result) (c .before .match-all2 .result) (c .both .result) (c .before .before .before .word4 .ensures .0) (c .before .before .before .before .match-all .ensures) (c .before .match-all2 .ensures) (c .both .ensures)
+match-one-returns-4 : (t : ℕ) → match-one-lts.Need-returns-4 (match-one-claims t) (match-one-at t) match-one.Post
+match-one-returns-4 t c =
+    pair-matches (c .before .before .before .before .before .before .before .before .before .before .before .before .before .before .pre .1) (c .before .before .before .before .before .before .before .before .before .before .before .word .ensures .0) (c .before .before .before .before .before .before .before .before .before .before .if1 .left) (c .before .before .before .before .before .before .before .before .before .if2 .left) (c .before .before .before .before .before .before .before .before .word3 .ensures .0) refl (c .before .before .before .before .before .match-all .result) (c .before .match-all2 .result) (c .both .result) (c .before .before .before .word4 .ensures .0) (c .before .before .before .before .before .match-all .ensures) (c .before .match-all2 .ensures) (c .both .ensures)
 
 pub +match-all+match-one-spec : {M : Type 1} → statement M
 +match-all+match-one-spec = close μ-match-all μ-match-one (λ t. match-all-lts.spec (match-all-claims t)
@@ -164,12 +166,11 @@ pub +match-all+match-one-spec : {M : Type 1} → statement M
     match-all.Post
     match-all-Inv-loop
     match-all-μ-loop
-    (match-all-match-one-requires t)
-    (match-all-word-requires t)
     (match-all-loop-holds t)
-    (match-all-match-one-requires-2 t)
+    (match-all-match-one-requires t)
     (match-all-either-requires t)
-    (match-all-word-requires-2 t)
+    (match-all-word-requires t)
+    (match-all-after-requires t)
     (match-all-loop-less t)
     (match-all-loop-again t)
     (match-all-returns t))
@@ -189,10 +190,12 @@ pub +match-all+match-one-spec : {M : Type 1} → statement M
     (match-one-part-match-all-start t)
     (match-one-part-match-all-end t)
     (match-one-match-all-requires t)
+    (match-one-enum-told t)
+    (match-one-returns-3 t)
     (match-one-word-requires-4 t)
     (match-one-sub-match-all-2 t)
     (match-one-part-match-all-start-2 t)
     (match-one-part-match-all-end-2 t)
     (match-one-match-all-requires-2 t)
     (match-one-both-requires t)
-    (match-one-returns-3 t)
+    (match-one-returns-4 t)
