@@ -170,7 +170,7 @@ uint64_t sheet_check(const uint8_t *sheet, size_t length);
  * host/tests.c on the deepest sheets and on sheets of 4,096 records: the stack is filled with a pattern before the call, and after
  * it the lowest byte that changed is looked for. The tests fail where a call uses more than this figure, or never half of it.
  */
-#define SHEET_CHECK_STACK 98304
+#define SHEET_CHECK_STACK 114688
 
 /*
  * The run: what the sheet puts out for a stimulus, and the sheet after it. It begins with the check. Codes 0 to 11.
@@ -206,7 +206,7 @@ uint64_t sheet_run(const uint8_t *sheet, size_t sheet_length, const uint8_t *sti
  * bounds above, a feedback is applied at most 65 times, once more than a type has leaves, and lies in the defining parts of at
  * most two others.
  */
-#define SHEET_RUN_STACK 114688
+#define SHEET_RUN_STACK 131072
 
 /*
  * Carrying: the new sheet with the values that the delays of the old, running one hold. Codes 0 to 7, 18, 19 and 11, in this order.
@@ -228,7 +228,7 @@ uint64_t sheet_carry(const uint8_t *old_sheet, size_t old_length, const uint8_t 
 /*
  * Carrying's stack need, measured as the check's. A table of 65,536 labels, 128 KiB of it, is held while no check runs.
  */
-#define SHEET_CARRY_STACK 229376
+#define SHEET_CARRY_STACK 245760
 
 /*
  * Which alternative fired: for one cycle of the sheet a word for each record. At an IF it is the record of the first alternative of its
@@ -250,7 +250,7 @@ uint64_t sheet_fired(const uint8_t *sheet, size_t sheet_length, const uint8_t *s
                      size_t fired_length);
 
 /* Its stack need, bounded as the run's. */
-#define SHEET_FIRED_STACK 114688
+#define SHEET_FIRED_STACK 131072
 
 /*
  * The preview: what the sheet puts out for one cycle of input, without taking it. It begins with the check. Codes 0 to 10, and 0
@@ -273,7 +273,7 @@ uint64_t sheet_preview(const uint8_t *sheet, size_t sheet_length, const uint8_t 
                        size_t out_length);
 
 /* The preview's stack need, from the caller's frame down: no more than this. */
-#define SHEET_PREVIEW_STACK 114688
+#define SHEET_PREVIEW_STACK 131072
 
 #ifdef __cplusplus
 }

@@ -1,8 +1,8 @@
--- A pattern held against a type: one alternative by its kind, and a chain as the conjunction of its alternatives. Assumes nothing.
+-- A pattern held against a type: one alternative by its kind, and what its parts and the next alternative are held against. Assumes nothing.
 use mathlib.Core.Path.{_≡_, refl, sym, _∙_, ap}
 use mathlib.Core.Bool.{Bool, true, false, _&&_}
 use mathlib.Core.List.{List}
-use Prim.Native.Nat.{ℕ, zero, suc, _<_}
+use Prim.Native.Nat.{ℕ, _<_}
 use native.Mathlib.Omega.{arith}
 use borrow.Author.Tests.{eq-eqb, ne-eqb}
 use lib.Dec.{eqb}
@@ -30,7 +30,7 @@ use Rattle.records.specs.Trees.{end, alternatives, follow}
 use Rattle.records.specs.Written.{Written}
 use Rattle.records.proofs.Tests.{never-both}
 use Rattle.records.proofs.Table.{kind-of-sort, askOfKind}
-use Rattle.records.proofs.CodeTable.{only-kind, pair-number}
+use Rattle.records.proofs.CodeTable.{only-kind}
 use Rattle.records.proofs.Asked.{part-of-kind, next-of-kind}
 use Rattle.records.proofs.Trees.{alternatives-of}
 use Rattle.records.proofs.TypeRecords.{first-part, second-part}
@@ -65,9 +65,6 @@ module _ (s : List ℕ) (n p t : ℕ) (m : Fitting s n p t) where
   pub in-sheet : p < count s
   in-sheet = let c = m .sized .counted in let h = m .there in omega arith
 
-  pub typed-there : t < n
-  typed-there = let c = m .sized .counted in let h = m .typed .there in omega arith
-
   kind : (k : PatternKind) × (kindAt s p ≡ pattern k)
   kind = kind-of-sort patterns (kindAt s p) (m .sort)
 
@@ -101,12 +98,9 @@ module _ (s : List ℕ) (n p t : ℕ) (m : Fitting s n p t) where
           ∙ ap pattern
           (is-parts (kind .0) (sym (ap isParts (kind .1)) ∙ parts-number (word s p 0) ∙ eq-eqb (word s p 0) 50 (sym ek ∙ e)))
 
-      both-parts : patternFits s (alternatives s p) t
+      pub both-parts : patternFits s (alternatives s p) t
           ≡ (isPair (kindAt s t) && (patternFits s (alternatives s (wordA s p)) (wordA s t) && (patternFits s (alternatives s (wordB s p)) (wordB s t) && patternFits s (follow end (alternatives s) (nextWord s p)) t)))
       both-parts = rw (alternatives-of w p in-sheet (pattern parts) pair-pattern)
-
-      pub no-pair-type : (q : ℕ) → q ≡ word s t 0 → (q ≡ 17 → ⊥) → FittedOne s p t false
-      no-pair-type q eq f = both-parts ∙ rw (pair-number (word s t 0), ← eq, ne-eqb q 17 f)
 
       module _ (q : ℕ) (eq : q ≡ word s t 0) (e17 : q ≡ 17) where
         pair-type-record : kindAt s t ≡ typeOf pair
@@ -124,29 +118,3 @@ module _ (s : List ℕ) (n p t : ℕ) (m : Fitting s n p t) where
             let h = part-of-kind w p (pattern parts) patterns in-sheet pair-pattern 3 refl (unfold askOfKind in refl) in
             let c = m .sized .counted in
             (omega arith, record { sized = m .sized; passes = m .passes; there = omega arith; sort = rw ex (h .2); typed = rw eu (second-part w t (m .typed .there) pair-type-record) })
-
-        pub first-fails : (x u : ℕ) (a : Bool) → x ≡ word s p 2 → u ≡ word s t 2 → a ≡ patternFits s (alternatives s x) u → a ≡ false
-            → FittedOne s p t false
-        first-fails x u a ex eu ea f =
-            both-parts ∙ rw (pair-number (word s t 0), ← eq, e17, ← ex, ← eu, ← ea, f)
-
-        pub second-decides : (x u y v : ℕ) (a b : Bool) → x ≡ word s p 2 → u ≡ word s t 2 → y ≡ word s p 3 → v ≡ word s t 3
-            → a ≡ patternFits s (alternatives s x) u → a ≡ true → b ≡ patternFits s (alternatives s y) v → FittedOne s p t b
-        second-decides x u y v a b ex eu ey ev ea f eb =
-            both-parts ∙ rw (pair-number (word s t 0), ← eq, e17, ← ex, ← eu, ← ea, f, ← ey, ← ev, ← eb)
-
--- a chain
-pub chain-fails : (s : List ℕ) (p t : ℕ) (a : Bool) → FittedOne s p t a → a ≡ false → false ≡ patternFits s (alternatives s p) t
-chain-fails s p t a e f = sym (e ∙ rw f)
-
-pub chain-ends : (s : List ℕ) (p t x : ℕ) (a : Bool) → FittedOne s p t a → a ≡ true → x ≡ word s p 1 → x ≡ 0
-    → true ≡ patternFits s (alternatives s p) t
-chain-ends s p t x a e f ex z = sym (e ∙ rw (f, ← ex, z))
-
-pub chain-goes-on : (s : List ℕ) (p t x : ℕ) (a : Bool) → FittedOne s p t a → a ≡ true → x ≡ word s p 1 → (x ≡ 0 → ⊥)
-    → patternFits s (alternatives s p) t ≡ patternFits s (alternatives s x) t
-chain-goes-on s p t x a e f ex z = e ∙ rw (f, ← ex, follows x z)
-  where
-    follows : (x : ℕ) → (x ≡ 0 → ⊥) → follow end (alternatives s) x ≡ alternatives s x
-    follows zero f = absurd (f refl)
-    follows (suc x) f = refl

@@ -13,4 +13,5 @@ pub mod PatternNumbers
 pub mod PatternTypes
 pub mod Readiness
 pub mod TypeRecordsOf
+pub mod TypedPatterns
 pub mod Typings

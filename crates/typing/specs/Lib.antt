@@ -7,3 +7,4 @@ pub mod PatternRows
 pub mod OrderRows
 pub mod Judging
 pub mod LeafChains
+pub mod PatternTable

@@ -1,20 +1,23 @@
 // Judging an expression: its parts in the order of its words, then the whole.
 ghost use mathlib.Core.Path.{_≡_};
-ghost use mathlib.Core.List.{List};
-ghost use Prim.Native.Nat.{ℕ};
-ghost use Rattle.records.specs.Kinds.{expression, constant, name, tuple, letIn, feedback, ifMatches, delay};
+ghost use Rattle.records.specs.Kinds.{expression, tuple, letIn, feedback, ifMatches, delay};
 ghost use Rattle.records.specs.Says.{kindAt};
 ghost use Rattle.records.specs.Trees.{treeAt};
-ghost use Rattle.structure.specs.PairIndex.{Indexed};
-ghost use Rattle.typing.specs.Judging.{Judging, Judged, scopeOf, Closing, PartAt};
+ghost use Rattle.typing.specs.Judging.{Judging, Judged, scopeOf, PartAt};
+ghost use Rattle.typing.specs.PatternTable.{TypeTables};
 use crate::Outcome;
 use crate::closing::note;
 use crate::closing::pair_type;
 use crate::closing::part_type;
 use crate::closing::same_type;
 use crate::leaves::leaves_type;
+use crate::patterns::PatternTypes;
+use crate::patterns::no_types;
+use crate::patterns::note_types;
 use crate::patterns::pattern_type;
 use crate::scopes::with_name;
+use crate::simple::of_constant;
+use crate::simple::of_name;
 use records::KIND_CONSTANT;
 use records::KIND_FEEDBACK;
 use records::KIND_FIRST;
@@ -35,52 +38,19 @@ use structure::PairIndex;
 use structure::no_pairs;
 use structure::note_pairs;
 
-// Judges a constant.
-fn of_constant(sheet: &[u8], n: usize, table: &Widths, rec: usize, widths: &mut Widths) -> Outcome
-    requires { ⌜ Closing (now sheet) n (now table) rec (now widths) × (kindAt (now sheet) rec ≡ expression constant) ⌝ }
-    ensures { λ r. ⌜ ((Γ : List ℕ) → Judged (now (sheet .entry)) Γ (treeAt (now (sheet .entry)) rec) r (now (widths .entry)) (now (widths .exit))) ⌝ }
-{
-    let t = word(sheet, n, rec, WORD_A);
-    let fit = leaves_type(sheet, n, rec, t, word(sheet, n, rec, WORD_B));
-    let Outcome::Sound(u) = fit else {
-        return fit;
-    };
-    note(sheet, n, table, rec, u, widths)
-}
-
-// Judges a name.
-fn of_name(
-    sheet: &[u8],
-    n: usize,
-    table: &Widths,
-    scope: &Scope,
-    names: usize,
-    rec: usize,
-    widths: &mut Widths,
-) -> Outcome
-    requires { ⌜ Judging (now sheet) n (now table) (now scope) names rec (now widths) × (kindAt (now sheet) rec ≡ expression name) ⌝ }
-    ensures { λ r. ⌜ Judged (now (sheet .entry)) (scopeOf names (now (scope .entry))) (treeAt (now (sheet .entry)) rec) r (now (widths .entry)) (now (widths .exit)) ⌝ }
-{
-    let k = word(sheet, n, rec, WORD_A);
-    if names <= k {
-        return Outcome::Fault(rec);
-    }
-    let t = scope[names - 1 - k] as usize;
-    note(sheet, n, table, rec, t, widths)
-}
-
 // Judges an expression: its parts in the order of its words, then the whole.
 fn judge_expression(
     sheet: &[u8],
     n: usize,
     table: &Widths,
     index: &PairIndex,
+    types: &PatternTypes,
     scope: &Scope,
     names: usize,
     rec: usize,
     widths: &mut Widths,
 ) -> Outcome
-    requires { ⌜ Judging (now sheet) n (now table) (now scope) names rec (now widths) × Indexed (now sheet) n (now index) ⌝ }
+    requires { ⌜ Judging (now sheet) n (now table) (now scope) names rec (now widths) × TypeTables (now sheet) n (now index) (now types) ⌝ }
     ensures { λ r. ⌜ Judged (now (sheet .entry)) (scopeOf names (now (scope .entry))) (treeAt (now (sheet .entry)) rec) r (now (widths .entry)) (now (widths .exit)) ⌝ }
 {
     let kind = word(sheet, n, rec, WORD_KIND);
@@ -91,24 +61,46 @@ fn judge_expression(
         return of_name(sheet, n, table, scope, names, rec, widths);
     }
     if kind == KIND_PAIR {
-        return of_pair(sheet, n, table, index, scope, names, rec, widths);
+        return of_pair(sheet, n, table, index, types, scope, names, rec, widths);
     }
     if kind == KIND_FIRST {
-        return of_part(sheet, n, table, index, scope, names, rec, WORD_A, widths);
+        return of_part(
+            sheet,
+            n,
+            table,
+            index,
+            types,
+            scope,
+            names,
+            rec,
+            WORD_A,
+            widths,
+        );
     }
     if kind == KIND_SECOND {
-        return of_part(sheet, n, table, index, scope, names, rec, WORD_B, widths);
+        return of_part(
+            sheet,
+            n,
+            table,
+            index,
+            types,
+            scope,
+            names,
+            rec,
+            WORD_B,
+            widths,
+        );
     }
     if kind == KIND_LET {
-        return of_let(sheet, n, table, index, scope, names, rec, widths);
+        return of_let(sheet, n, table, index, types, scope, names, rec, widths);
     }
     if kind == KIND_FEEDBACK {
-        return of_feedback(sheet, n, table, index, scope, names, rec, widths);
+        return of_feedback(sheet, n, table, index, types, scope, names, rec, widths);
     }
     if kind == KIND_IF {
-        return of_if(sheet, n, table, index, scope, names, rec, widths);
+        return of_if(sheet, n, table, index, types, scope, names, rec, widths);
     }
-    of_delay(sheet, n, table, index, scope, names, rec, widths)
+    of_delay(sheet, n, table, index, types, scope, names, rec, widths)
 }
 
 fn of_pair(
@@ -116,21 +108,22 @@ fn of_pair(
     n: usize,
     table: &Widths,
     index: &PairIndex,
+    types: &PatternTypes,
     scope: &Scope,
     names: usize,
     rec: usize,
     widths: &mut Widths,
 ) -> Outcome
-    requires { ⌜ Judging (now sheet) n (now table) (now scope) names rec (now widths) × (kindAt (now sheet) rec ≡ expression tuple) × Indexed (now sheet) n (now index) ⌝ }
+    requires { ⌜ Judging (now sheet) n (now table) (now scope) names rec (now widths) × (kindAt (now sheet) rec ≡ expression tuple) × TypeTables (now sheet) n (now index) (now types) ⌝ }
     ensures { λ r. ⌜ Judged (now (sheet .entry)) (scopeOf names (now (scope .entry))) (treeAt (now (sheet .entry)) rec) r (now (widths .entry)) (now (widths .exit)) ⌝ }
 {
     let a = word(sheet, n, rec, WORD_A);
-    let first = judge_expression(sheet, n, table, index, scope, names, a, widths);
+    let first = judge_expression(sheet, n, table, index, types, scope, names, a, widths);
     let Outcome::Sound(t) = first else {
         return first;
     };
     let b = word(sheet, n, rec, WORD_B);
-    let second = judge_expression(sheet, n, table, index, scope, names, b, widths);
+    let second = judge_expression(sheet, n, table, index, types, scope, names, b, widths);
     let Outcome::Sound(u) = second else {
         return second;
     };
@@ -143,17 +136,18 @@ fn of_part(
     n: usize,
     table: &Widths,
     index: &PairIndex,
+    types: &PatternTypes,
     scope: &Scope,
     names: usize,
     rec: usize,
     k: usize,
     widths: &mut Widths,
 ) -> Outcome
-    requires { ⌜ Judging (now sheet) n (now table) (now scope) names rec (now widths) × PartAt (now sheet) rec k × Indexed (now sheet) n (now index) ⌝ }
+    requires { ⌜ Judging (now sheet) n (now table) (now scope) names rec (now widths) × PartAt (now sheet) rec k × TypeTables (now sheet) n (now index) (now types) ⌝ }
     ensures { λ r. ⌜ Judged (now (sheet .entry)) (scopeOf names (now (scope .entry))) (treeAt (now (sheet .entry)) rec) r (now (widths .entry)) (now (widths .exit)) ⌝ }
 {
     let a = word(sheet, n, rec, WORD_A);
-    let whole = judge_expression(sheet, n, table, index, scope, names, a, widths);
+    let whole = judge_expression(sheet, n, table, index, types, scope, names, a, widths);
     let Outcome::Sound(t) = whole else {
         return whole;
     };
@@ -165,22 +159,23 @@ fn of_let(
     n: usize,
     table: &Widths,
     index: &PairIndex,
+    types: &PatternTypes,
     scope: &Scope,
     names: usize,
     rec: usize,
     widths: &mut Widths,
 ) -> Outcome
-    requires { ⌜ Judging (now sheet) n (now table) (now scope) names rec (now widths) × (kindAt (now sheet) rec ≡ expression letIn) × Indexed (now sheet) n (now index) ⌝ }
+    requires { ⌜ Judging (now sheet) n (now table) (now scope) names rec (now widths) × (kindAt (now sheet) rec ≡ expression letIn) × TypeTables (now sheet) n (now index) (now types) ⌝ }
     ensures { λ r. ⌜ Judged (now (sheet .entry)) (scopeOf names (now (scope .entry))) (treeAt (now (sheet .entry)) rec) r (now (widths .entry)) (now (widths .exit)) ⌝ }
 {
     let a = word(sheet, n, rec, WORD_A);
-    let defined = judge_expression(sheet, n, table, index, scope, names, a, widths);
+    let defined = judge_expression(sheet, n, table, index, types, scope, names, a, widths);
     let Outcome::Sound(t) = defined else {
         return defined;
     };
     let inner = with_name(scope, names, t);
     let b = word(sheet, n, rec, WORD_B);
-    let body = judge_expression(sheet, n, table, index, &inner, names + 1, b, widths);
+    let body = judge_expression(sheet, n, table, index, types, &inner, names + 1, b, widths);
     let Outcome::Sound(u) = body else {
         return body;
     };
@@ -192,23 +187,24 @@ fn of_feedback(
     n: usize,
     table: &Widths,
     index: &PairIndex,
+    types: &PatternTypes,
     scope: &Scope,
     names: usize,
     rec: usize,
     widths: &mut Widths,
 ) -> Outcome
-    requires { ⌜ Judging (now sheet) n (now table) (now scope) names rec (now widths) × (kindAt (now sheet) rec ≡ expression feedback) × Indexed (now sheet) n (now index) ⌝ }
+    requires { ⌜ Judging (now sheet) n (now table) (now scope) names rec (now widths) × (kindAt (now sheet) rec ≡ expression feedback) × TypeTables (now sheet) n (now index) (now types) ⌝ }
     ensures { λ r. ⌜ Judged (now (sheet .entry)) (scopeOf names (now (scope .entry))) (treeAt (now (sheet .entry)) rec) r (now (widths .entry)) (now (widths .exit)) ⌝ }
 {
     let t = word(sheet, n, rec, WORD_A);
     let inner = with_name(scope, names, t);
     let b = word(sheet, n, rec, WORD_B);
-    let defined = judge_expression(sheet, n, table, index, &inner, names + 1, b, widths);
+    let defined = judge_expression(sheet, n, table, index, types, &inner, names + 1, b, widths);
     let Outcome::Sound(d) = defined else {
         return defined;
     };
     let c = word(sheet, n, rec, WORD_C);
-    let body = judge_expression(sheet, n, table, index, &inner, names + 1, c, widths);
+    let body = judge_expression(sheet, n, table, index, types, &inner, names + 1, c, widths);
     let Outcome::Sound(u) = body else {
         return body;
     };
@@ -220,30 +216,31 @@ fn of_if(
     n: usize,
     table: &Widths,
     index: &PairIndex,
+    types: &PatternTypes,
     scope: &Scope,
     names: usize,
     rec: usize,
     widths: &mut Widths,
 ) -> Outcome
-    requires { ⌜ Judging (now sheet) n (now table) (now scope) names rec (now widths) × (kindAt (now sheet) rec ≡ expression ifMatches) × Indexed (now sheet) n (now index) ⌝ }
+    requires { ⌜ Judging (now sheet) n (now table) (now scope) names rec (now widths) × (kindAt (now sheet) rec ≡ expression ifMatches) × TypeTables (now sheet) n (now index) (now types) ⌝ }
     ensures { λ r. ⌜ Judged (now (sheet .entry)) (scopeOf names (now (scope .entry))) (treeAt (now (sheet .entry)) rec) r (now (widths .entry)) (now (widths .exit)) ⌝ }
 {
     let a = word(sheet, n, rec, WORD_A);
-    let tested = judge_expression(sheet, n, table, index, scope, names, a, widths);
+    let tested = judge_expression(sheet, n, table, index, types, scope, names, a, widths);
     let Outcome::Sound(t) = tested else {
         return tested;
     };
-    let matched = pattern_type(sheet, n, rec, word(sheet, n, rec, WORD_D), t);
+    let matched = pattern_type(sheet, n, types, rec, word(sheet, n, rec, WORD_D), t);
     let Outcome::Sound(_) = matched else {
         return matched;
     };
     let b = word(sheet, n, rec, WORD_B);
-    let then = judge_expression(sheet, n, table, index, scope, names, b, widths);
+    let then = judge_expression(sheet, n, table, index, types, scope, names, b, widths);
     let Outcome::Sound(u) = then else {
         return then;
     };
     let c = word(sheet, n, rec, WORD_C);
-    let otherwise = judge_expression(sheet, n, table, index, scope, names, c, widths);
+    let otherwise = judge_expression(sheet, n, table, index, types, scope, names, c, widths);
     let Outcome::Sound(v) = otherwise else {
         return otherwise;
     };
@@ -255,16 +252,17 @@ fn of_delay(
     n: usize,
     table: &Widths,
     index: &PairIndex,
+    types: &PatternTypes,
     scope: &Scope,
     names: usize,
     rec: usize,
     widths: &mut Widths,
 ) -> Outcome
-    requires { ⌜ Judging (now sheet) n (now table) (now scope) names rec (now widths) × (kindAt (now sheet) rec ≡ expression delay) × Indexed (now sheet) n (now index) ⌝ }
+    requires { ⌜ Judging (now sheet) n (now table) (now scope) names rec (now widths) × (kindAt (now sheet) rec ≡ expression delay) × TypeTables (now sheet) n (now index) (now types) ⌝ }
     ensures { λ r. ⌜ Judged (now (sheet .entry)) (scopeOf names (now (scope .entry))) (treeAt (now (sheet .entry)) rec) r (now (widths .entry)) (now (widths .exit)) ⌝ }
 {
     let c = word(sheet, n, rec, WORD_C);
-    let delayed = judge_expression(sheet, n, table, index, scope, names, c, widths);
+    let delayed = judge_expression(sheet, n, table, index, types, scope, names, c, widths);
     let Outcome::Sound(u) = delayed else {
         return delayed;
     };
@@ -276,7 +274,7 @@ fn of_delay(
     same_type(sheet, n, table, rec, u, t, t, widths)
 }
 
-// Judges an expression, with an index of the sheet's pair types.
+// Judges an expression, with an index of the sheet's pair types and the types of its patterns.
 pub fn judge(
     sheet: &[u8],
     n: usize,
@@ -291,5 +289,7 @@ pub fn judge(
 {
     let mut index = no_pairs();
     note_pairs(sheet, n, &mut index);
-    judge_expression(sheet, n, table, &index, scope, names, rec, widths)
+    let mut types = no_types();
+    note_types(sheet, n, &index, &mut types);
+    judge_expression(sheet, n, table, &index, &types, scope, names, rec, widths)
 }

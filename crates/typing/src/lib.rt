@@ -4,6 +4,7 @@ mod expressions;
 mod leaves;
 mod patterns;
 mod scopes;
+mod simple;
 
 pub use expressions::judge;
 pub use leaves::bound_at;

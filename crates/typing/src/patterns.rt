@@ -1,66 +1,108 @@
-// The patterns of IFs, held against the tested type.
+// The types of patterns, each found once, and the patterns of IFs held against the tested type.
 ghost use mathlib.Core.Path.{_≡_};
+ghost use Prim.Native.Nat.{ℕ, _<_};
+ghost use mathlib.Core.List.{List};
+ghost use Rattle.records.specs.Kinds.{patterns};
+ghost use Rattle.records.specs.Says.{sortAt};
+ghost use Rattle.records.specs.Sized.{Sized};
 ghost use Rattle.records.specs.Trees.{alternatives};
-ghost use Rattle.typing.specs.Judgements.{patternFits, holds, patternHas};
-ghost use Rattle.typing.specs.Judging.{Fitting, FittedOne, lastly};
+ghost use Rattle.records.specs.Words.{count};
+ghost use Rattle.structure.specs.PairIndex.{Indexed};
+ghost use Rattle.structure.specs.Passes.{Passes};
+ghost use Rattle.typing.specs.Judgements.{holds, patternHas};
+ghost use Rattle.typing.specs.Judging.{Fitting, lastly};
+ghost use Rattle.typing.specs.PatternTable.{TypeOfOne, TypeOfAll, PatternsTyped, TypingPattern};
 use crate::Outcome;
 use records::KIND_PAIR_PATTERN;
-use records::KIND_PAIR_TYPE;
+use records::KIND_WHOLE_PATTERN;
+use records::RECORDS;
 use records::WORD_A;
 use records::WORD_B;
 use records::WORD_KIND;
 use records::WORD_NEXT;
 use records::word;
+use structure::PairIndex;
+use structure::pair_of;
 
-// Whether each alternative from p has type t.
-fn fits_all(sheet: &[u8], n: usize, p: usize, t: usize) -> bool
-    requires { ⌜ Fitting (now sheet) n p t ⌝ }
-    ensures { λ r. ⌜ r ≡ patternFits (now (sheet .entry)) (alternatives (now (sheet .entry)) p) t ⌝ }
+// By pattern record the type that all alternatives from it have, 0 where there is none.
+pub type PatternTypes = [u16; RECORDS];
+
+// The types of no patterns.
+pub fn no_types() -> PatternTypes
+    ensures { λ r. ⌜ ((s : List ℕ) → PatternsTyped s (count s) r) ⌝ }
 {
-    let mut at = p;
-    while fits_one(sheet, n, at, t) {
-        let following = word(sheet, n, at, WORD_NEXT);
-        if following == 0 {
-            return true;
-        }
-        at = following;
-    }
-    false
+    [0; RECORDS]
 }
 
-// Whether the alternative at p has type t, a pair pattern part by part.
-fn fits_one(sheet: &[u8], n: usize, p: usize, t: usize) -> bool
-    requires { ⌜ Fitting (now sheet) n p t ⌝ }
-    ensures { λ r. ⌜ FittedOne (now (sheet .entry)) p t r ⌝ }
+// The type of the alternative at p, or 0: a pair pattern's is the pair type of its parts' types.
+fn one_type(sheet: &[u8], n: usize, index: &PairIndex, types: &PatternTypes, p: usize) -> usize
+    requires { ⌜ TypingPattern (now sheet) n (now index) (now types) p × (sortAt (now sheet) p ≡ patterns) ⌝ }
+    ensures { λ r. ⌜ TypeOfOne (now (sheet .entry)) p r × (r < 65536) ⌝ }
 {
+    let a = word(sheet, n, p, WORD_A);
     if word(sheet, n, p, WORD_KIND) != KIND_PAIR_PATTERN {
-        return word(sheet, n, p, WORD_A) == t;
+        return a;
     }
-    if word(sheet, n, t, WORD_KIND) != KIND_PAIR_TYPE {
-        return false;
+    let b = word(sheet, n, p, WORD_B);
+    pair_of(sheet, n, index, types[a] as usize, types[b] as usize)
+}
+
+// The type that all alternatives from p have, or 0.
+fn common_type(sheet: &[u8], n: usize, index: &PairIndex, types: &PatternTypes, p: usize) -> usize
+    requires { ⌜ TypingPattern (now sheet) n (now index) (now types) p × (sortAt (now sheet) p ≡ patterns) ⌝ }
+    ensures { λ r. ⌜ TypeOfAll (now (sheet .entry)) p r × (r < 65536) ⌝ }
+{
+    let one = one_type(sheet, n, index, types, p);
+    let following = word(sheet, n, p, WORD_NEXT);
+    if following == 0 {
+        return one;
     }
-    if !fits_all(
-        sheet,
-        n,
-        word(sheet, n, p, WORD_A),
-        word(sheet, n, t, WORD_A),
-    ) {
-        return false;
+    if types[following] as usize != one {
+        return 0;
     }
-    fits_all(
-        sheet,
-        n,
-        word(sheet, n, p, WORD_B),
-        word(sheet, n, t, WORD_B),
-    )
+    one
+}
+
+// Notes the type of the alternatives from p, where it is a pattern.
+fn note_type(sheet: &[u8], n: usize, index: &PairIndex, p: usize, types: &mut PatternTypes)
+    requires { ⌜ TypingPattern (now sheet) n (now index) (now types) p ⌝ }
+    ensures { λ _. ⌜ PatternsTyped (now (sheet .entry)) p (now (types .exit)) ⌝ }
+{
+    let kind = word(sheet, n, p, WORD_KIND);
+    if kind < KIND_WHOLE_PATTERN {
+        return;
+    }
+    if KIND_PAIR_PATTERN < kind {
+        return;
+    }
+    types[p] = common_type(sheet, n, index, types, p) as u16;
+}
+
+// Notes the type of every pattern, the last record first.
+pub fn note_types(sheet: &[u8], n: usize, index: &PairIndex, types: &mut PatternTypes)
+    requires { ⌜ Sized (now sheet) n × Passes (now sheet) × Indexed (now sheet) n (now index) × PatternsTyped (now sheet) (count (now sheet)) (now types) ⌝ }
+    ensures { λ _. ⌜ PatternsTyped (now (sheet .entry)) 0 (now (types .exit)) ⌝ }
+{
+    let mut rec = n;
+    while 0 < rec {
+        rec -= 1;
+        note_type(sheet, n, index, rec, types);
+    }
 }
 
 // Whether each alternative from p has type t, as a judgement at rec.
-pub fn pattern_type(sheet: &[u8], n: usize, rec: usize, p: usize, t: usize) -> Outcome
-    requires { ⌜ Fitting (now sheet) n p t ⌝ }
+pub fn pattern_type(
+    sheet: &[u8],
+    n: usize,
+    types: &PatternTypes,
+    rec: usize,
+    p: usize,
+    t: usize,
+) -> Outcome
+    requires { ⌜ Fitting (now sheet) n p t × PatternsTyped (now sheet) 0 (now types) ⌝ }
     ensures { λ r. ⌜ r ≡ lastly (holds (now (sheet .entry)) (patternHas t (alternatives (now (sheet .entry)) p))) rec t ⌝ }
 {
-    if fits_all(sheet, n, p, t) {
+    if types[p] as usize == t {
         return Outcome::Sound(t);
     }
     Outcome::Fault(rec)

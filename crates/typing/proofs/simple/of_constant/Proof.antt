@@ -1,7 +1,7 @@
 -- By the leaves. Assumes nothing.
 use borrow.Author.Needs.{needs}
-use Rattle.typing.proofs.expressions.of_constant.Statement.{statement}
-use Rattle.typing.proofs.expressions.of_constant.Tie as tie
+use Rattle.typing.proofs.simple.of_constant.Statement.{statement}
+use Rattle.typing.proofs.simple.of_constant.Tie as tie
 use mathlib.Core.Path.{refl, _∙_, ap}
 use Prim.Native.Nat.{ℕ}
 use lib.ListN.{set}

@@ -1,7 +1,7 @@
 -- By the name's number. Assumes nothing.
 use borrow.Author.Needs.{needs}
-use Rattle.typing.proofs.expressions.of_name.Statement.{statement}
-use Rattle.typing.proofs.expressions.of_name.Tie as tie
+use Rattle.typing.proofs.simple.of_name.Statement.{statement}
+use Rattle.typing.proofs.simple.of_name.Tie as tie
 use native.Mathlib.Omega.{arith}
 use mathlib.Core.Path.{refl}
 use denote.Ref.{now}
