@@ -94,7 +94,7 @@ run-length : {bs word rest : List ℕ} → Run bs word rest → length rest + 1 
 run-length (run-last h n) = omega arith
 run-length (run-more h r) = omega (arith, run-length r)
 
-tokens-few : {i : ℕ} {bs : List ℕ} {ts : List Token} → Tokens i bs ts → length ts ≤ length bs
+pub tokens-few : {i : ℕ} {bs : List ℕ} {ts : List Token} → Tokens i bs ts → length ts ≤ length bs
 tokens-few no-token = omega arith
 tokens-few (a-blank e t) = omega (arith, tokens-few t)
 tokens-few (a-symbol e t) = omega (arith, tokens-few t)

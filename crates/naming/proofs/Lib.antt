@@ -3,6 +3,7 @@ pub mod First
 pub mod EachOnce
 pub mod TextOrder
 pub mod Bounded
+pub mod ByTokens
 pub mod SameName
 pub mod Kept
 pub mod Examples

@@ -3,5 +3,6 @@ pub mod Declared
 pub mod Checks
 pub mod Constants
 pub mod Names
+pub mod TokenWalk
 pub mod Records
 pub mod Promises

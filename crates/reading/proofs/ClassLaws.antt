@@ -53,7 +53,7 @@ other-capital b (aKeyword THEN) h e n84 n73 n76 n82 n77 n69 n68 = n84 (e)
 other-capital b (aKeyword ELSE) h e n84 n73 n76 n82 n77 n69 n68 = n69 (e)
 other-capital b (aKeyword DELAY) h e n84 n73 n76 n82 n77 n69 n68 = n68 (e)
 
-symbol-below : (s : Symbol) → symbolClass s < 10
+pub symbol-below : (s : Symbol) → symbolClass s < 10
 symbol-below opens = omega arith
 symbol-below closes = omega arith
 symbol-below comma = omega arith
@@ -65,7 +65,7 @@ symbol-below indexCloses = omega arith
 symbol-below one = omega arith
 symbol-below two = omega arith
 
-position-below : (b : ℕ) (l : List ℕ) → position b l ≤ length l
+pub position-below : (b : ℕ) (l : List ℕ) → position b l ≤ length l
 position-below b [] = omega arith
 position-below b (c ∷ l) =
     let h = position-below b l in

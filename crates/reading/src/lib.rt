@@ -1,7 +1,7 @@
 // Reads a text byte by byte: a state, a stack of the states that wait, one byte for each, and what is left of the word that is being read.
 // There is no recursion: a text of 65,535 open brackets is read like any other.
 // States, classes of bytes and words are numbers; `grammar` has the machine that they stand for.
-mod classes;
+pub mod classes;
 pub mod numbers;
 pub mod tables;
 
@@ -142,7 +142,7 @@ fn spell(b: u8, letter: u8, state: u8, word: u8, depth: usize) -> Moved
 }
 
 // A byte of a class that a token can begin with.
-fn begin(
+pub fn begin(
     class: u8,
     state: u8,
     depth: usize,

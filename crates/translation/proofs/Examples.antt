@@ -21,15 +21,15 @@ bare none = none
 bare (some e) = some (unplaced e)
 
 -- TYPE bit = hi | lo IN TYPE two = (bit, bit) IN INPUT bit (LET INIT ?bit REC out = (IF (input, (DELAY (hi, out))) MATCHES (hi, lo) | (lo, hi) THEN hi ELSE lo) IN out)
-abbrev parityChecker : Text
-parityChecker = (text (Constructors (identifier (98 ∷ 105 ∷ 116 ∷ []) 5) (identifier (104 ∷ 105 ∷ []) 11) ((identifier (108 ∷ 111 ∷ []) 16) ∷ [])) ((PairOf (identifier (116 ∷ 119 ∷ 111 ∷ []) 27) (identifier (98 ∷ 105 ∷ 116 ∷ []) 34) (identifier (98 ∷ 105 ∷ 116 ∷ []) 39)) ∷ []) (identifier (98 ∷ 105 ∷ 116 ∷ []) 53) (LetRecExpression (identifier (98 ∷ 105 ∷ 116 ∷ []) 68) (identifier (111 ∷ 117 ∷ 116 ∷ []) 76) (IfExpression (PairExpression (NameUse (identifier (105 ∷ 110 ∷ 112 ∷ 117 ∷ 116 ∷ []) 87)) (DelayExpression (OfConstructor (identifier (104 ∷ 105 ∷ []) 102)) (NameUse (identifier (111 ∷ 117 ∷ 116 ∷ []) 106)))) (Either (PatternPair (Alone (identifier (104 ∷ 105 ∷ []) 122)) (Alone (identifier (108 ∷ 111 ∷ []) 126))) (PatternPair (Alone (identifier (108 ∷ 111 ∷ []) 133)) (Alone (identifier (104 ∷ 105 ∷ []) 137)))) (NameUse (identifier (104 ∷ 105 ∷ []) 146)) (NameUse (identifier (108 ∷ 111 ∷ []) 154))) (NameUse (identifier (111 ∷ 117 ∷ 116 ∷ []) 161))))
+abbrev delayedParity : Text
+delayedParity = (text (Constructors (identifier (98 ∷ 105 ∷ 116 ∷ []) 5) (identifier (104 ∷ 105 ∷ []) 11) ((identifier (108 ∷ 111 ∷ []) 16) ∷ [])) ((PairOf (identifier (116 ∷ 119 ∷ 111 ∷ []) 27) (identifier (98 ∷ 105 ∷ 116 ∷ []) 34) (identifier (98 ∷ 105 ∷ 116 ∷ []) 39)) ∷ []) (identifier (98 ∷ 105 ∷ 116 ∷ []) 53) (LetRecExpression (identifier (98 ∷ 105 ∷ 116 ∷ []) 68) (identifier (111 ∷ 117 ∷ 116 ∷ []) 76) (IfExpression (PairExpression (NameUse (identifier (105 ∷ 110 ∷ 112 ∷ 117 ∷ 116 ∷ []) 87)) (DelayExpression (OfConstructor (identifier (104 ∷ 105 ∷ []) 102)) (NameUse (identifier (111 ∷ 117 ∷ 116 ∷ []) 106)))) (Either (PatternPair (Alone (identifier (104 ∷ 105 ∷ []) 122)) (Alone (identifier (108 ∷ 111 ∷ []) 126))) (PatternPair (Alone (identifier (108 ∷ 111 ∷ []) 133)) (Alone (identifier (104 ∷ 105 ∷ []) 137)))) (NameUse (identifier (104 ∷ 105 ∷ []) 146)) (NameUse (identifier (108 ∷ 111 ∷ []) 154))) (NameUse (identifier (111 ∷ 117 ∷ 116 ∷ []) 161))))
 
-parity-checker-laid : textRecords parityChecker ≡ words 1 1 1 3 21 0 ∷ words 16 2 2 0 0 0 ∷ words 17 0 1 1 0 0 ∷ words 38 0 1 4 20 0 ∷ words 39 0 5 10 12 14 ∷ words 34 0 6 7 0 0 ∷ words 33 0 1 0 0 0 ∷ words 40 0 1 8 9 0 ∷ words 64 0 1 0 0 0 ∷ words 33 0 0 0 0 0 ∷ words 32 0 1 11 0 0 ∷ words 64 0 1 0 0 0 ∷ words 32 0 1 13 0 0 ∷ words 64 0 2 0 0 0 ∷ words 50 17 15 16 0 0 ∷ words 49 0 1 1 0 0 ∷ words 49 0 1 2 0 0 ∷ words 50 0 18 19 0 0 ∷ words 49 0 1 2 0 0 ∷ words 49 0 1 1 0 0 ∷ words 33 0 0 0 0 0 ∷ []
-parity-checker-laid = refl
+delayed-parity-laid : textRecords delayedParity ≡ words 1 1 1 3 21 0 ∷ words 16 2 2 0 0 0 ∷ words 17 0 1 1 0 0 ∷ words 38 0 1 4 20 0 ∷ words 39 0 5 10 12 14 ∷ words 34 0 6 7 0 0 ∷ words 33 0 1 0 0 0 ∷ words 40 0 1 8 9 0 ∷ words 64 0 1 0 0 0 ∷ words 33 0 0 0 0 0 ∷ words 32 0 1 11 0 0 ∷ words 64 0 1 0 0 0 ∷ words 32 0 1 13 0 0 ∷ words 64 0 2 0 0 0 ∷ words 50 17 15 16 0 0 ∷ words 49 0 1 1 0 0 ∷ words 49 0 1 2 0 0 ∷ words 50 0 18 19 0 0 ∷ words 49 0 1 2 0 0 ∷ words 49 0 1 1 0 0 ∷ words 33 0 0 0 0 0 ∷ []
+delayed-parity-laid = refl
 
-parity-checker-decodes : bare (decode (sheetOfText parityChecker)) ≡ some (expressionMeant parityChecker)
+delayed-parity-decodes : bare (decode (sheetOfText delayedParity)) ≡ some (expressionMeant delayedParity)
 unfolding sheetOfText decode circuit treeAt treeWithin alternatives alternativesWithin chain chainWithin typeAt typeWithin kindOf rowOf word count
-parity-checker-decodes = refl
+delayed-parity-decodes = refl
 
 -- TYPE bit = hi | lo IN TYPE two = (bit, bit) IN TYPE four = (two, two) IN INPUT two (LET x = (DELAY (((hi, lo), ?two), (input, input))) IN (x[2], (LET y = x[1] IN y)))
 abbrev delayOfAPair : Text

@@ -31,11 +31,11 @@ use Rattle.translation.proofs.Sizes.{types-length, expression-length}
 use Rattle.translation.proofs.Decodes.{SaysExpression, expression-read}
 
 -- a text as it stands in a sheet: the tables hold, and the expression stands after the types, where the header says
-record Laid (s : List ℕ) (d : Declaration) (ds : List Declaration) (n : Identifier) (e : Expression) : Type 0 where
-  held : Tables s (d ∷ ds)
-  there : Stands s (suc (length (d ∷ ds))) (laid (d ∷ ds) [] (suc (length (d ∷ ds))) e)
-  takes : wordA s 0 ≡ typeNumber (typeEntries (d ∷ ds)) (letters n)
-  root : wordB s 0 ≡ suc (length (d ∷ ds))
+pub record Laid (s : List ℕ) (d : Declaration) (ds : List Declaration) (n : Identifier) (e : Expression) : Type 0 where
+  pub held : Tables s (d ∷ ds)
+  pub there : Stands s (suc (length (d ∷ ds))) (laid (d ∷ ds) [] (suc (length (d ∷ ds))) e)
+  pub takes : wordA s 0 ≡ typeNumber (typeEntries (d ∷ ds)) (letters n)
+  pub root : wordB s 0 ≡ suc (length (d ∷ ds))
 
 pub names-good : (d : Declaration) (ds : List Declaration) (w : List ℕ) (p : ℕ) (e : Expression) → AllPass (textChecks (text d ds (identifier w p) e))
     → AllPass (declarationsChecks atFirst (d ∷ ds)) × AllPass (expressionChecks (afterAll atFirst (d ∷ ds)) [] e)
@@ -60,7 +60,7 @@ text-laid s d ds n e (one-stands x st) good =
       root = x .b-is;
     }
 
-in-its-sheet : (d : Declaration) (ds : List Declaration) (w : List ℕ) (p : ℕ) (e : Expression)
+pub in-its-sheet : (d : Declaration) (ds : List Declaration) (w : List ℕ) (p : ℕ) (e : Expression)
     → AllPass (textChecks (text d ds (identifier w p) e))
     → Laid (sheetOf (textRecords (text d ds (identifier w p) e))) d ds (identifier w p) e
 in-its-sheet d ds w p e h =

@@ -1,0 +1,3 @@
+-- What the contracts of the code say.
+pub mod Said
+pub mod Walked

@@ -1,0 +1,2 @@
+-- What the contracts of the code say of names.
+pub mod Scoped

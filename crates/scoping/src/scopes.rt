@@ -1,0 +1,464 @@
+// The names in scope: those that are declared, those that LETs bind, and those that wait for their IN or for the rest of their type.
+ghost use mathlib.Core.Path.{_≡_};
+ghost use mathlib.Core.Bool.{true};
+ghost use mathlib.Core.List.{List, _∷_};
+ghost use Prim.Native.Nat.{ℕ, _+_, _≤_, _<_};
+ghost use Rattle.naming.specs.Declared.{declaredAs};
+ghost use Rattle.naming.specs.TokenWalk.{holdsIn, declarePending, declaresFirst, declaresNext, declaresPending, endedBy};
+ghost use Rattle.reading.specs.Coded.{stateOf};
+ghost use Rattle.symbols.specs.Names.{nameOf, Inside, Hashed, Roles, roleNamed, declaredNames};
+ghost use Rattle.scoping.specs.Scoped.{admissionTable, heldScope, Scoping, Rescoped, NameNoted, effectOf};
+use crate::tables::Admissions;
+use reading::numbers::wide;
+use symbols::Heads;
+use symbols::Links;
+use symbols::NameRoles;
+use symbols::ROLE_CONSTRUCTOR;
+use symbols::ROLE_TYPE;
+use symbols::Spans;
+use symbols::pop;
+use symbols::push;
+use symbols::role;
+
+// The column of the table of admissions that tells whether a name is looked for among the bound names.
+const SEARCHES_BOUND: usize = 5;
+
+const PENDS: u8 = 1;
+
+const DECLARES_FIRST: u8 = 2;
+
+const DECLARES_NEXT: u8 = 3;
+
+const BINDS: u8 = 4;
+
+const BINDS_PENDING: u8 = 5;
+
+const DECLARES_PENDING: u8 = 6;
+
+const UNBINDS: u8 = 7;
+
+// How many names are declared, in scope, and waiting; not ok where a name breaks a rule.
+pub struct Counts {
+    pub ok: bool,
+    pub base: usize,
+    pub all: usize,
+    pub waiting: usize,
+}
+
+// One declared name more, a type or a constructor.
+fn declare(
+    text: &[u8],
+    span: u32,
+    kind: u8,
+    n: usize,
+    spans: &mut Spans,
+    links: &mut Links,
+    heads: &mut Heads,
+    roles: &mut NameRoles,
+)
+    requires { ⌜ Hashed (now text) n (now spans) (now links) (now heads) × Inside (now text) span × (n < 65536) × Roles (now roles) n × (kind < 2) ⌝ }
+    ensures { λ _. ⌜ Hashed (now (text .entry)) (n + 1) (now (spans .exit)) (now (links .exit)) (now (heads .exit)) × Roles (now (roles .exit)) (n + 1) × (declaredNames (now (text .entry)) (now (spans .exit)) (now (roles .exit)) (n + 1) ≡ declaredAs (nameOf (now (text .entry)) span) (roleNamed kind) ∷ declaredNames (now (text .entry)) (now (spans .entry)) (now (roles .entry)) n) ⌝ }
+{
+    push(text, span, n, spans, links, heads);
+    roles[n] = kind;
+}
+
+// The name that waits is declared as a type.
+fn declare_pending(
+    text: &[u8],
+    base: usize,
+    m: usize,
+    spans: &mut Spans,
+    links: &mut Links,
+    heads: &mut Heads,
+    roles: &mut NameRoles,
+    pendings: &Spans,
+) -> Counts
+    requires { ⌜ Scoping (now text) 65535 base base m (now spans) (now links) (now heads) (now roles) (now pendings) ⌝ }
+    ensures { λ r. ⌜ Rescoped (declarePending (heldScope (now (text .entry)) base base m (now (spans .entry)) (now (roles .entry)) (now (pendings .entry)))) (now (text .entry)) (base + m) (r .base) (r .all) (r .waiting) (now (spans .exit)) (now (links .exit)) (now (heads .exit)) (now (roles .exit)) (now (pendings .entry)) × (r .base ≡ r .all) × (r .ok ≡ true) ⌝ }
+{
+    if m == 0 {
+        return Counts {
+            ok: true,
+            base,
+            all: base,
+            waiting: m,
+        };
+    }
+    declare(
+        text,
+        pendings[m - 1],
+        ROLE_TYPE,
+        base,
+        spans,
+        links,
+        heads,
+        roles,
+    );
+    Counts {
+        ok: true,
+        base: base + 1,
+        all: base + 1,
+        waiting: m - 1,
+    }
+}
+
+// Whether a name keeps to the rule of a state.
+fn holds(
+    text: &[u8],
+    span: u32,
+    state: u8,
+    base: usize,
+    n: usize,
+    spans: &Spans,
+    links: &Links,
+    heads: &Heads,
+    roles: &NameRoles,
+    admissions: &Admissions,
+) -> bool
+    requires { ⌜ Hashed (now text) n (now spans) (now links) (now heads) × Inside (now text) span × (base ≤ n) × Roles (now roles) base × (state < 47) × (now admissions ≡ admissionTable) ⌝ }
+    ensures { λ r. ⌜ ((m : ℕ) (pendings : List ℕ) → r ≡ holdsIn (stateOf state) (nameOf (now (text .entry)) span) (heldScope (now (text .entry)) base n m (now (spans .entry)) (now (roles .entry)) pendings)) ⌝ }
+{
+    let row = wide(state);
+    if admissions[row][SEARCHES_BOUND] == 1 {
+        let nearest = wide(role(text, span, base, n, n, spans, links, heads, roles));
+        return admissions[row][nearest] == 1;
+    }
+    let declared = wide(role(text, span, base, base, n, spans, links, heads, roles));
+    admissions[row][declared] == 1
+}
+
+// The first constructor of a type, after the type's own name.
+fn note_first(
+    text: &[u8],
+    span: u32,
+    state: u8,
+    base: usize,
+    n: usize,
+    m: usize,
+    spans: &mut Spans,
+    links: &mut Links,
+    heads: &mut Heads,
+    roles: &mut NameRoles,
+    pendings: &Spans,
+    admissions: &Admissions,
+) -> Counts
+    requires { ⌜ Scoping (now text) 65534 base n m (now spans) (now links) (now heads) (now roles) (now pendings) × Inside (now text) span × (state < 47) × (now admissions ≡ admissionTable) ⌝ }
+    ensures { λ r. ⌜ NameNoted (stateOf state) declaresFirst (nameOf (now (text .entry)) span) (heldScope (now (text .entry)) base n m (now (spans .entry)) (now (roles .entry)) (now (pendings .entry))) (now (text .entry)) (n + m + 1) (r .ok) (r .base) (r .all) (r .waiting) (now (spans .exit)) (now (links .exit)) (now (heads .exit)) (now (roles .exit)) (now (pendings .entry)) ⌝ }
+{
+    if base != n {
+        return Counts {
+            ok: false,
+            base,
+            all: n,
+            waiting: m,
+        };
+    }
+    let met = declare_pending(text, base, m, spans, links, heads, roles, pendings);
+    let all = met.all;
+    let waiting = met.waiting;
+    if !holds(
+        text,
+        span,
+        state,
+        all,
+        all,
+        spans,
+        links,
+        heads,
+        roles,
+        admissions,
+    ) {
+        return Counts {
+            ok: false,
+            base,
+            all: n,
+            waiting: m,
+        };
+    }
+    declare(
+        text,
+        span,
+        ROLE_CONSTRUCTOR,
+        all,
+        spans,
+        links,
+        heads,
+        roles,
+    );
+    Counts {
+        ok: true,
+        base: all + 1,
+        all: all + 1,
+        waiting,
+    }
+}
+
+// Another constructor.
+fn note_next(
+    text: &[u8],
+    span: u32,
+    state: u8,
+    base: usize,
+    n: usize,
+    m: usize,
+    spans: &mut Spans,
+    links: &mut Links,
+    heads: &mut Heads,
+    roles: &mut NameRoles,
+    pendings: &Spans,
+    admissions: &Admissions,
+) -> Counts
+    requires { ⌜ Scoping (now text) 65534 base n m (now spans) (now links) (now heads) (now roles) (now pendings) × Inside (now text) span × (state < 47) × (now admissions ≡ admissionTable) ⌝ }
+    ensures { λ r. ⌜ NameNoted (stateOf state) declaresNext (nameOf (now (text .entry)) span) (heldScope (now (text .entry)) base n m (now (spans .entry)) (now (roles .entry)) (now (pendings .entry))) (now (text .entry)) (n + m + 1) (r .ok) (r .base) (r .all) (r .waiting) (now (spans .exit)) (now (links .exit)) (now (heads .exit)) (now (roles .exit)) (now (pendings .entry)) ⌝ }
+{
+    if base != n {
+        return Counts {
+            ok: false,
+            base,
+            all: n,
+            waiting: m,
+        };
+    }
+    if !holds(
+        text,
+        span,
+        state,
+        base,
+        base,
+        spans,
+        links,
+        heads,
+        roles,
+        admissions,
+    ) {
+        return Counts {
+            ok: false,
+            base,
+            all: n,
+            waiting: m,
+        };
+    }
+    declare(
+        text,
+        span,
+        ROLE_CONSTRUCTOR,
+        base,
+        spans,
+        links,
+        heads,
+        roles,
+    );
+    Counts {
+        ok: true,
+        base: base + 1,
+        all: base + 1,
+        waiting: m,
+    }
+}
+
+// The second type of a pair type, which is declared after it.
+fn note_pair(
+    text: &[u8],
+    span: u32,
+    state: u8,
+    base: usize,
+    n: usize,
+    m: usize,
+    spans: &mut Spans,
+    links: &mut Links,
+    heads: &mut Heads,
+    roles: &mut NameRoles,
+    pendings: &Spans,
+    admissions: &Admissions,
+) -> Counts
+    requires { ⌜ Scoping (now text) 65534 base n m (now spans) (now links) (now heads) (now roles) (now pendings) × Inside (now text) span × (state < 47) × (now admissions ≡ admissionTable) ⌝ }
+    ensures { λ r. ⌜ NameNoted (stateOf state) declaresPending (nameOf (now (text .entry)) span) (heldScope (now (text .entry)) base n m (now (spans .entry)) (now (roles .entry)) (now (pendings .entry))) (now (text .entry)) (n + m + 1) (r .ok) (r .base) (r .all) (r .waiting) (now (spans .exit)) (now (links .exit)) (now (heads .exit)) (now (roles .exit)) (now (pendings .entry)) ⌝ }
+{
+    if base != n {
+        return Counts {
+            ok: false,
+            base,
+            all: n,
+            waiting: m,
+        };
+    }
+    if !holds(
+        text,
+        span,
+        state,
+        base,
+        base,
+        spans,
+        links,
+        heads,
+        roles,
+        admissions,
+    ) {
+        return Counts {
+            ok: false,
+            base,
+            all: n,
+            waiting: m,
+        };
+    }
+    declare_pending(text, base, m, spans, links, heads, roles, pendings)
+}
+
+// A name: whether it keeps to its rule, and what it does to the names in scope.
+pub fn note_name(
+    text: &[u8],
+    span: u32,
+    state: u8,
+    effect: u8,
+    base: usize,
+    n: usize,
+    m: usize,
+    spans: &mut Spans,
+    links: &mut Links,
+    heads: &mut Heads,
+    roles: &mut NameRoles,
+    pendings: &mut Spans,
+    admissions: &Admissions,
+) -> Counts
+    requires { ⌜ Scoping (now text) 65534 base n m (now spans) (now links) (now heads) (now roles) (now pendings) × Inside (now text) span × (state < 47) × (now admissions ≡ admissionTable) ⌝ }
+    ensures { λ r. ⌜ NameNoted (stateOf state) (effectOf effect) (nameOf (now (text .entry)) span) (heldScope (now (text .entry)) base n m (now (spans .entry)) (now (roles .entry)) (now (pendings .entry))) (now (text .entry)) (n + m + 1) (r .ok) (r .base) (r .all) (r .waiting) (now (spans .exit)) (now (links .exit)) (now (heads .exit)) (now (roles .exit)) (now (pendings .exit)) ⌝ }
+{
+    if effect == DECLARES_FIRST {
+        return note_first(
+            text,
+            span,
+            state,
+            base,
+            n,
+            m,
+            spans,
+            links,
+            heads,
+            roles,
+            pendings,
+            admissions,
+        );
+    }
+    if effect == DECLARES_NEXT {
+        return note_next(
+            text,
+            span,
+            state,
+            base,
+            n,
+            m,
+            spans,
+            links,
+            heads,
+            roles,
+            pendings,
+            admissions,
+        );
+    }
+    if effect == DECLARES_PENDING {
+        return note_pair(
+            text,
+            span,
+            state,
+            base,
+            n,
+            m,
+            spans,
+            links,
+            heads,
+            roles,
+            pendings,
+            admissions,
+        );
+    }
+    if !holds(
+        text,
+        span,
+        state,
+        base,
+        n,
+        spans,
+        links,
+        heads,
+        roles,
+        admissions,
+    ) {
+        return Counts {
+            ok: false,
+            base,
+            all: n,
+            waiting: m,
+        };
+    }
+    if effect == PENDS {
+        pendings[m] = span;
+        return Counts {
+            ok: true,
+            base,
+            all: n,
+            waiting: m + 1,
+        };
+    }
+    if effect == BINDS {
+        push(text, span, n, spans, links, heads);
+        return Counts {
+            ok: true,
+            base,
+            all: n + 1,
+            waiting: m,
+        };
+    }
+    Counts {
+        ok: true,
+        base,
+        all: n,
+        waiting: m,
+    }
+}
+
+// A token that is no name: the name that waits is bound, or the nearest bound one goes.
+pub fn note_other(
+    text: &[u8],
+    effect: u8,
+    base: usize,
+    n: usize,
+    m: usize,
+    spans: &mut Spans,
+    links: &mut Links,
+    heads: &mut Heads,
+    roles: &NameRoles,
+    pendings: &Spans,
+) -> Counts
+    requires { ⌜ Scoping (now text) 65534 base n m (now spans) (now links) (now heads) (now roles) (now pendings) ⌝ }
+    ensures { λ r. ⌜ Rescoped (endedBy (effectOf effect) (heldScope (now (text .entry)) base n m (now (spans .entry)) (now (roles .entry)) (now (pendings .entry)))) (now (text .entry)) (n + m + 1) (r .base) (r .all) (r .waiting) (now (spans .exit)) (now (links .exit)) (now (heads .exit)) (now (roles .entry)) (now (pendings .entry)) ⌝ }
+{
+    if effect == BINDS_PENDING {
+        if m != 0 {
+            push(text, pendings[m - 1], n, spans, links, heads);
+            return Counts {
+                ok: true,
+                base,
+                all: n + 1,
+                waiting: m - 1,
+            };
+        }
+    }
+    if effect == UNBINDS {
+        if base < n {
+            pop(text, n, spans, links, heads);
+            return Counts {
+                ok: true,
+                base,
+                all: n - 1,
+                waiting: m,
+            };
+        }
+    }
+    Counts {
+        ok: true,
+        base,
+        all: n,
+        waiting: m,
+    }
+}

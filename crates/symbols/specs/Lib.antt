@@ -1,0 +1,2 @@
+-- What the contracts of the table of names say.
+pub mod Names
