@@ -31,6 +31,12 @@ pub const WRONG_NEXT: u64 = 11;
 
 pub const NO_FILE: u64 = 12;
 
+pub const WRONG_TEXT: u64 = 13;
+
+pub const WRONG_NAME: u64 = 14;
+
+pub const NO_ROOM: u64 = 15;
+
 pub const WRONG_WORDS: u64 = 16;
 
 pub const NEW_SHEET_REFUSED: u64 = 18;

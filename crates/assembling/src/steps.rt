@@ -1,0 +1,261 @@
+// One instruction, by its op.
+ghost use mathlib.Core.Path.{_≡_};
+ghost use mathlib.Core.List.{List};
+ghost use Prim.Native.Nat.{ℕ, _+_, _≤_, _<_};
+ghost use lib.ListN.{length, getD};
+ghost use Rattle.instructions.specs.Instruction.{Instruction, instructionOf, heldCode};
+ghost use Rattle.instructions.specs.Assembly.{assemble, firstUntyped};
+ghost use Rattle.assembling.specs.Held.{TypesHeld, Threefold, recordCounts, recordsAdded, untypedAt, heldAssembly, Assembling};
+ghost use Rattle.instructions.specs.Assembly.{heldTypes};
+use crate::code::close_if;
+use crate::code::push;
+use crate::constants::close_pair;
+use crate::constants::outer_place;
+use crate::constants::push_number;
+use crate::constants::top_number;
+use crate::types::Operands;
+use crate::types::Ops;
+use crate::types::leaf_count;
+use crate::types::note_type;
+use crate::types::wide;
+
+const INPUT_HAS: u8 = 4;
+
+const USE_UNDEFINED: u8 = 7;
+
+const CLOSE_IF: u8 = 16;
+
+const USE_LEAF: u8 = 24;
+
+const USE_ZEROS: u8 = 25;
+
+const OPEN_CONSTANT: u8 = 26;
+
+const END_CONSTANT: u8 = 28;
+
+const CONSTANT_HAS: u8 = 29;
+
+// The number of declared types, the input's type, how many instructions stand in record order and how many wait, how many constants are open
+// and the place of the outermost, the records, and whether all constants have a type, or the place of the first that has none.
+pub struct Progress {
+    pub types: usize,
+    pub input: u16,
+    pub code: usize,
+    pub waiting: usize,
+    pub constants: usize,
+    pub place: u16,
+    pub records: usize,
+    pub ok: bool,
+    pub bad: u16,
+}
+
+// The records that an instruction adds, but for leaves, a number an op.
+fn record_table() -> [u8; 30]
+    ensures { λ r. ⌜ r ≡ recordCounts ⌝ }
+{
+    [
+        0,
+        0,
+        0,
+        0,
+        0,
+        1,
+        2,
+        1,
+        1,
+        1,
+        1,
+        1,
+        1,
+        1,
+        1,
+        0,
+        0,
+        0,
+        1,
+        1,
+        1,
+        0,
+        0,
+        0,
+        1,
+        0,
+        0,
+        0,
+        0,
+        0,
+    ]
+}
+
+// The records that an instruction adds.
+fn records_added(op: u8, a: u16, types: usize, leaves: &Ops) -> usize
+    requires { ⌜ (op < 30) × (length (now leaves) ≡ 65536) × (types ≤ 65536) ⌝ }
+    ensures { λ r. ⌜ (r < 512) × ((pairs firsts seconds : List ℕ) → TypesHeld types pairs firsts seconds (now (leaves .entry)) → r ≡ recordsAdded (heldTypes pairs firsts seconds types) op a) ⌝ }
+{
+    let table = record_table();
+    let at = wide(op);
+    let own = wide(table[at]);
+    if op == USE_UNDEFINED {
+        return own + leaf_count(a, types, leaves);
+    }
+    if op == USE_ZEROS {
+        return own + leaf_count(a, types, leaves);
+    }
+    own
+}
+
+// Whether all constants have a type, or the place of the first that has none.
+struct TypedSoFar {
+    ok: bool,
+    bad: u16,
+}
+
+// One constant more, of type number t, or of none.
+fn judge(ok: bool, bad: u16, t: u16, place: u16) -> TypedSoFar
+    ensures { λ r. ⌜ untypedAt (r .ok) (r .bad) ≡ firstUntyped (untypedAt ok bad) t place ⌝ }
+{
+    if !ok {
+        return TypedSoFar { ok, bad };
+    }
+    if t != 0 {
+        return TypedSoFar { ok, bad };
+    }
+    TypedSoFar {
+        ok: false,
+        bad: place,
+    }
+}
+
+// An instruction of a DELAY's constant.
+fn step_constant(
+    op: u8,
+    a: u16,
+    b: u16,
+    i: usize,
+    s: Progress,
+    pairs: &Ops,
+    firsts: &Operands,
+    seconds: &Operands,
+    leaves: &Ops,
+    code_ops: &mut Ops,
+    code_firsts: &mut Operands,
+    code_seconds: &mut Operands,
+    numbers: &mut Operands,
+) -> Progress
+    requires { ⌜ Assembling i (now pairs) (now firsts) (now seconds) (now leaves) (now «code_ops») (now «code_firsts») (now «code_seconds») (now numbers) (s .types) (s .code) (s .waiting) (s .constants) (s .records) × (i < 65535) × (24 ≤ op) ⌝ }
+    ensures { λ r. ⌜ Assembling (i + 1) (now (pairs .entry)) (now (firsts .entry)) (now (seconds .entry)) (now (leaves .entry)) (now («code_ops» .exit)) (now («code_firsts» .exit)) (now («code_seconds» .exit)) (now (numbers .exit)) (r .types) (r .code) (r .waiting) (r .constants) (r .records) × ((waits : ℕ → List Instruction) → heldAssembly (now (pairs .entry)) (now (firsts .entry)) (now (seconds .entry)) (r .types) (r .input) (now («code_ops» .exit)) (now («code_firsts» .exit)) (now («code_seconds» .exit)) (r .code) (waits (r .waiting)) (now (numbers .exit)) (r .constants) (r .place) (r .records) (r .ok) (r .bad) ≡ assemble (heldAssembly (now (pairs .entry)) (now (firsts .entry)) (now (seconds .entry)) (s .types) (s .input) (now («code_ops» .entry)) (now («code_firsts» .entry)) (now («code_seconds» .entry)) (s .code) (waits (s .waiting)) (now (numbers .entry)) (s .constants) (s .place) (s .records) (s .ok) (s .bad)) (instructionOf op a b)) ⌝ }
+{
+    let mut r = s;
+    if op <= USE_ZEROS {
+        r.records = s.records + records_added(op, a, s.types, leaves);
+        push(op, a, b, s.code, code_ops, code_firsts, code_seconds);
+        r.code = s.code + 1;
+        push_number(a, s.constants, numbers);
+        r.constants = s.constants + 1;
+        return r;
+    }
+    if op == OPEN_CONSTANT {
+        r.place = outer_place(s.constants, s.place, a, numbers);
+        push_number(0, s.constants, numbers);
+        r.constants = s.constants + 1;
+        return r;
+    }
+    if op == END_CONSTANT {
+        let t = top_number(s.constants, numbers);
+        push(
+            CONSTANT_HAS,
+            t,
+            0,
+            s.code,
+            code_ops,
+            code_firsts,
+            code_seconds,
+        );
+        r.code = s.code + 1;
+        r.constants = 0;
+        let judged = judge(s.ok, s.bad, t, s.place);
+        r.ok = judged.ok;
+        r.bad = judged.bad;
+        return r;
+    }
+    if op == CONSTANT_HAS {
+        return r;
+    }
+    r.constants = close_pair(s.constants, s.types, numbers, pairs, firsts, seconds);
+    r
+}
+
+// One instruction; the counts after it.
+pub fn step(
+    op: u8,
+    a: u16,
+    b: u16,
+    i: usize,
+    s: Progress,
+    pairs: &mut Ops,
+    firsts: &mut Operands,
+    seconds: &mut Operands,
+    leaves: &mut Ops,
+    code_ops: &mut Ops,
+    code_firsts: &mut Operands,
+    code_seconds: &mut Operands,
+    wait_ops: &mut Ops,
+    wait_firsts: &mut Operands,
+    wait_seconds: &mut Operands,
+    numbers: &mut Operands,
+) -> Progress
+    requires { ⌜ Assembling i (now pairs) (now firsts) (now seconds) (now leaves) (now «code_ops») (now «code_firsts») (now «code_seconds») (now numbers) (s .types) (s .code) (s .waiting) (s .constants) (s .records) × (i < 65535) × Threefold (now «wait_ops») (now «wait_firsts») (now «wait_seconds») ⌝ }
+    ensures { λ r. ⌜ Assembling (i + 1) (now (pairs .exit)) (now (firsts .exit)) (now (seconds .exit)) (now (leaves .exit)) (now («code_ops» .exit)) (now («code_firsts» .exit)) (now («code_seconds» .exit)) (now (numbers .exit)) (r .types) (r .code) (r .waiting) (r .constants) (r .records) × Threefold (now («wait_ops» .exit)) (now («wait_firsts» .exit)) (now («wait_seconds» .exit)) × (heldAssembly (now (pairs .exit)) (now (firsts .exit)) (now (seconds .exit)) (r .types) (r .input) (now («code_ops» .exit)) (now («code_firsts» .exit)) (now («code_seconds» .exit)) (r .code) (heldCode (now («wait_ops» .exit)) (now («wait_firsts» .exit)) (now («wait_seconds» .exit)) (r .waiting)) (now (numbers .exit)) (r .constants) (r .place) (r .records) (r .ok) (r .bad) ≡ assemble (heldAssembly (now (pairs .entry)) (now (firsts .entry)) (now (seconds .entry)) (s .types) (s .input) (now («code_ops» .entry)) (now («code_firsts» .entry)) (now («code_seconds» .entry)) (s .code) (heldCode (now («wait_ops» .entry)) (now («wait_firsts» .entry)) (now («wait_seconds» .entry)) (s .waiting)) (now (numbers .entry)) (s .constants) (s .place) (s .records) (s .ok) (s .bad)) (instructionOf op a b)) ⌝ }
+{
+    let mut r = s;
+    if op < INPUT_HAS {
+        r.types = note_type(op, a, i, s.types, pairs, firsts, seconds, leaves);
+        return r;
+    }
+    if op == INPUT_HAS {
+        r.input = a;
+        return r;
+    }
+    if op < CLOSE_IF {
+        r.records = s.records + records_added(op, a, s.types, leaves);
+        push(op, a, b, s.code, code_ops, code_firsts, code_seconds);
+        r.code = s.code + 1;
+        return r;
+    }
+    if op == CLOSE_IF {
+        let moved = close_if(
+            s.code,
+            s.waiting,
+            code_ops,
+            code_firsts,
+            code_seconds,
+            wait_ops,
+            wait_firsts,
+            wait_seconds,
+        );
+        r.code = moved.code;
+        r.waiting = moved.waiting;
+        return r;
+    }
+    if op < USE_LEAF {
+        r.records = s.records + records_added(op, a, s.types, leaves);
+        push(op, a, b, s.waiting, wait_ops, wait_firsts, wait_seconds);
+        r.waiting = s.waiting + 1;
+        return r;
+    }
+    step_constant(
+        op,
+        a,
+        b,
+        i,
+        s,
+        pairs,
+        firsts,
+        seconds,
+        leaves,
+        code_ops,
+        code_firsts,
+        code_seconds,
+        numbers,
+    )
+}

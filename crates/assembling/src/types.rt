@@ -1,0 +1,228 @@
+// The declared types, each by three numbers, and the leaves of each.
+ghost use mathlib.Core.Path.{_≡_};
+ghost use mathlib.Core.List.{List, _∷_};
+ghost use Prim.Native.Nat.{ℕ, _+_, _≤_, _<_, min};
+ghost use lib.ListN.{length};
+ghost use Rattle.instructions.specs.Assembly.{leavesNumbered, pairNumbered, constantPairNumbered, oneMore, withFirst, withSecond};
+ghost use Rattle.assembling.specs.Held.{leavesOver, TypesHeld, TypesGathered, typesAfter};
+ghost use Rattle.instructions.specs.Assembly.{typeHeld, heldTypes};
+
+// One more than the instructions of a text.
+pub const SIZE: usize = 65536;
+
+pub type Ops = [u8; SIZE];
+
+pub type Operands = [u16; SIZE];
+
+// The most leaves that are counted.
+const LEAVES: usize = 64;
+
+const FLAT: u8 = 0;
+
+const PAIR: u8 = 1;
+
+const DECLARE_TYPE: u8 = 0;
+
+const COUNT_CONSTRUCTOR: u8 = 1;
+
+const FIRST_TYPE: u8 = 2;
+
+// A number as an index.
+pub fn number(x: u16) -> usize
+    ensures { λ r. ⌜ r ≡ x ⌝ }
+{
+    x as usize
+}
+
+pub fn wide(x: u8) -> usize
+    ensures { λ r. ⌜ (r ≡ x) × (r < 256) ⌝ }
+{
+    x as usize
+}
+
+// The leaves of type number d of k types.
+pub fn leaf_count(d: u16, k: usize, leaves: &Ops) -> usize
+    requires { ⌜ (length (now leaves) ≡ 65536) × (k ≤ 65536) ⌝ }
+    ensures { λ r. ⌜ (r < 256) × ((pairs firsts seconds : List ℕ) → TypesHeld k pairs firsts seconds (now (leaves .entry)) → r ≡ leavesNumbered (heldTypes pairs firsts seconds k) d) ⌝ }
+{
+    let at = number(d);
+    if at == 0 {
+        return 0;
+    }
+    if k < at {
+        return 0;
+    }
+    wide(leaves[at - 1])
+}
+
+// The leaves of a pair type over k types.
+fn pair_leaves(a: u16, b: u16, k: usize, leaves: &Ops) -> u8
+    requires { ⌜ (length (now leaves) ≡ 65536) × (k ≤ 65536) ⌝ }
+    ensures { λ r. ⌜ ((pairs firsts seconds : List ℕ) → TypesHeld k pairs firsts seconds (now (leaves .entry)) → r ≡ min 64 (leavesNumbered (heldTypes pairs firsts seconds k) a + leavesNumbered (heldTypes pairs firsts seconds k) b)) ⌝ }
+{
+    let sum = leaf_count(a, k, leaves) + leaf_count(b, k, leaves);
+    if sum < LEAVES {
+        return sum as u8;
+    }
+    LEAVES as u8
+}
+
+// Type number k + 1 is set.
+fn set_type(
+    pair: u8,
+    first: u16,
+    second: u16,
+    leaf: u8,
+    k: usize,
+    pairs: &mut Ops,
+    firsts: &mut Operands,
+    seconds: &mut Operands,
+    leaves: &mut Ops,
+)
+    requires { ⌜ TypesHeld k (now pairs) (now firsts) (now seconds) (now leaves) × (k < 65536) × (leaf ≡ leavesOver (heldTypes (now pairs) (now firsts) (now seconds) k) (typeHeld pair first second)) ⌝ }
+    ensures { λ _. ⌜ TypesHeld (k + 1) (now (pairs .exit)) (now (firsts .exit)) (now (seconds .exit)) (now (leaves .exit)) × (heldTypes (now (pairs .exit)) (now (firsts .exit)) (now (seconds .exit)) (k + 1) ≡ typeHeld pair first second ∷ heldTypes (now (pairs .entry)) (now (firsts .entry)) (now (seconds .entry)) k) ⌝ }
+{
+    pairs[k] = pair;
+    firsts[k] = first;
+    seconds[k] = second;
+    leaves[k] = leaf;
+}
+
+// The first declared pair type of two among k types, or 0.
+fn pair_number(a: u16, b: u16, k: usize, pairs: &Ops, firsts: &Operands, seconds: &Operands) -> u16
+    requires { ⌜ (length (now pairs) ≡ 65536) × (length (now firsts) ≡ 65536) × (length (now seconds) ≡ 65536) × (k ≤ 65535) ⌝ }
+    ensures { λ r. ⌜ r ≡ pairNumbered (heldTypes (now (pairs .entry)) (now (firsts .entry)) (now (seconds .entry)) k) a b ⌝ }
+{
+    let mut j = 0;
+    while j < k {
+        if pairs[j] != FLAT {
+            if firsts[j] == a {
+                if seconds[j] == b {
+                    return (j + 1) as u16;
+                }
+            }
+        }
+        j += 1;
+    }
+    0
+}
+
+// The same where both have a type.
+pub fn constant_pair(
+    a: u16,
+    b: u16,
+    k: usize,
+    pairs: &Ops,
+    firsts: &Operands,
+    seconds: &Operands,
+) -> u16
+    requires { ⌜ (length (now pairs) ≡ 65536) × (length (now firsts) ≡ 65536) × (length (now seconds) ≡ 65536) × (k ≤ 65535) ⌝ }
+    ensures { λ r. ⌜ r ≡ constantPairNumbered (heldTypes (now (pairs .entry)) (now (firsts .entry)) (now (seconds .entry)) k) a b ⌝ }
+{
+    if a == 0 {
+        return 0;
+    }
+    if b == 0 {
+        return 0;
+    }
+    pair_number(a, b, k, pairs, firsts, seconds)
+}
+
+// One constructor more of the last type.
+fn count_constructor(
+    i: usize,
+    k: usize,
+    pairs: &mut Ops,
+    firsts: &mut Operands,
+    seconds: &mut Operands,
+    leaves: &mut Ops,
+)
+    requires { ⌜ TypesGathered i k (now pairs) (now firsts) (now seconds) (now leaves) × (i < 65535) ⌝ }
+    ensures { λ _. ⌜ TypesGathered (i + 1) k (now (pairs .exit)) (now (firsts .exit)) (now (seconds .exit)) (now (leaves .exit)) × (heldTypes (now (pairs .exit)) (now (firsts .exit)) (now (seconds .exit)) k ≡ oneMore (heldTypes (now (pairs .entry)) (now (firsts .entry)) (now (seconds .entry)) k)) ⌝ }
+{
+    if k == 0 {
+        return;
+    }
+    let last = k - 1;
+    if pairs[last] != FLAT {
+        return;
+    }
+    let more = firsts[last] + 1;
+    set_type(FLAT, more, 0, 1, last, pairs, firsts, seconds, leaves);
+}
+
+// The last type is a pair type with this first part.
+fn first_type(
+    a: u16,
+    i: usize,
+    k: usize,
+    pairs: &mut Ops,
+    firsts: &mut Operands,
+    seconds: &mut Operands,
+    leaves: &mut Ops,
+)
+    requires { ⌜ TypesGathered i k (now pairs) (now firsts) (now seconds) (now leaves) × (i < 65535) ⌝ }
+    ensures { λ _. ⌜ TypesGathered (i + 1) k (now (pairs .exit)) (now (firsts .exit)) (now (seconds .exit)) (now (leaves .exit)) × (heldTypes (now (pairs .exit)) (now (firsts .exit)) (now (seconds .exit)) k ≡ withFirst a (heldTypes (now (pairs .entry)) (now (firsts .entry)) (now (seconds .entry)) k)) ⌝ }
+{
+    if k == 0 {
+        return;
+    }
+    let last = k - 1;
+    let leaf = pair_leaves(a, 0, last, leaves);
+    set_type(PAIR, a, 0, leaf, last, pairs, firsts, seconds, leaves);
+}
+
+// The second part of the last type, where that is a pair type.
+fn second_type(
+    b: u16,
+    i: usize,
+    k: usize,
+    pairs: &mut Ops,
+    firsts: &mut Operands,
+    seconds: &mut Operands,
+    leaves: &mut Ops,
+)
+    requires { ⌜ TypesGathered i k (now pairs) (now firsts) (now seconds) (now leaves) × (i < 65535) ⌝ }
+    ensures { λ _. ⌜ TypesGathered (i + 1) k (now (pairs .exit)) (now (firsts .exit)) (now (seconds .exit)) (now (leaves .exit)) × (heldTypes (now (pairs .exit)) (now (firsts .exit)) (now (seconds .exit)) k ≡ withSecond b (heldTypes (now (pairs .entry)) (now (firsts .entry)) (now (seconds .entry)) k)) ⌝ }
+{
+    if k == 0 {
+        return;
+    }
+    let last = k - 1;
+    if pairs[last] == FLAT {
+        return;
+    }
+    let a = firsts[last];
+    let leaf = pair_leaves(a, b, last, leaves);
+    set_type(PAIR, a, b, leaf, last, pairs, firsts, seconds, leaves);
+}
+
+// One of the first four instructions; the number of types after it.
+pub fn note_type(
+    op: u8,
+    a: u16,
+    i: usize,
+    k: usize,
+    pairs: &mut Ops,
+    firsts: &mut Operands,
+    seconds: &mut Operands,
+    leaves: &mut Ops,
+) -> usize
+    requires { ⌜ TypesGathered i k (now pairs) (now firsts) (now seconds) (now leaves) × (i < 65535) × (op < 4) ⌝ }
+    ensures { λ r. ⌜ TypesGathered (i + 1) r (now (pairs .exit)) (now (firsts .exit)) (now (seconds .exit)) (now (leaves .exit)) × (heldTypes (now (pairs .exit)) (now (firsts .exit)) (now (seconds .exit)) r ≡ typesAfter op a (heldTypes (now (pairs .entry)) (now (firsts .entry)) (now (seconds .entry)) k)) ⌝ }
+{
+    if op == DECLARE_TYPE {
+        set_type(FLAT, 0, 0, 1, k, pairs, firsts, seconds, leaves);
+        return k + 1;
+    }
+    if op == COUNT_CONSTRUCTOR {
+        count_constructor(i, k, pairs, firsts, seconds, leaves);
+        return k;
+    }
+    if op == FIRST_TYPE {
+        first_type(a, i, k, pairs, firsts, seconds, leaves);
+        return k;
+    }
+    second_type(a, i, k, pairs, firsts, seconds, leaves);
+    k
+}

@@ -1,0 +1,114 @@
+// The records of patterns, and where their parts and alternatives begin.
+ghost use mathlib.Core.List.{List};
+ghost use Prim.Native.Nat.{ℕ, _≤_, _<_};
+ghost use Rattle.instructions.specs.Instruction.{instructionOf};
+ghost use Rattle.emitting.specs.Emitting.{Advancing, Does};
+use crate::bytes::put;
+use crate::expressions::Place;
+use crate::stack::NUMBER;
+use crate::stack::Operands;
+use crate::stack::Ops;
+use crate::stack::below;
+use crate::stack::push;
+use crate::stack::top_below;
+
+const WHOLE_PATTERN: u16 = 48;
+
+const CONSTRUCTOR_PATTERN: u16 = 49;
+
+const PAIR_PATTERN: u16 = 50;
+
+// The instructions, by their numbers.
+pub const MATCH_TYPE: u8 = 18;
+
+const MATCH_CONSTRUCTOR: u8 = 19;
+
+pub const NEXT_PART: u8 = 21;
+
+const CLOSE_PARTS: u8 = 22;
+
+// A pattern's record.
+pub fn step_alternative(
+    sheet: &mut [u8],
+    kinds: &Ops,
+    values: &Operands,
+    cursor: u16,
+    height: usize,
+    next: u16,
+    op: u8,
+    first: u16,
+    second: u16,
+) -> Place
+    requires { ⌜ Advancing (now sheet) (now kinds) (now values) cursor height × (18 ≤ op) × (op < 21) ⌝ }
+    ensures { λ r. ⌜ ((leaves : List ℕ) (types : ℕ) → Does leaves types (instructionOf op first second) (now (sheet .entry)) (now (kinds .entry)) (now (values .entry)) cursor height next (now (sheet .exit)) (now (kinds .entry)) (now (values .entry)) (r .cursor) (r .height) (r .next)) ⌝ }
+{
+    if op == MATCH_TYPE {
+        let at = put(sheet, cursor, WHOLE_PATTERN, next, first, 0, 0, 0);
+        return Place {
+            cursor: at,
+            height,
+            next: 0,
+        };
+    }
+    if op == MATCH_CONSTRUCTOR {
+        let at = put(
+            sheet,
+            cursor,
+            CONSTRUCTOR_PATTERN,
+            next,
+            first,
+            second,
+            0,
+            0,
+        );
+        return Place {
+            cursor: at,
+            height,
+            next: 0,
+        };
+    }
+    let after = top_below(kinds, values, height, 1);
+    let part = top_below(kinds, values, height, 0);
+    let at = put(sheet, cursor, PAIR_PATTERN, after, cursor, part, 0, 0);
+    Place {
+        cursor: at,
+        height: below(height, 2),
+        next: 0,
+    }
+}
+
+// A part of a pattern begins or ends, or another alternative stands before this one.
+pub fn step_part(
+    sheet: &[u8],
+    kinds: &mut Ops,
+    values: &mut Operands,
+    cursor: u16,
+    height: usize,
+    next: u16,
+    op: u8,
+) -> Place
+    requires { ⌜ Advancing (now sheet) (now kinds) (now values) cursor height × (21 ≤ op) × (op < 24) ⌝ }
+    ensures { λ r. ⌜ ((leaves : List ℕ) (types first second : ℕ) → Does leaves types (instructionOf op first second) (now (sheet .entry)) (now (kinds .entry)) (now (values .entry)) cursor height next (now (sheet .entry)) (now (kinds .exit)) (now (values .exit)) (r .cursor) (r .height) (r .next)) ⌝ }
+{
+    if op == NEXT_PART {
+        push(kinds, values, height, NUMBER, cursor);
+        return Place {
+            cursor,
+            height: height + 1,
+            next: 0,
+        };
+    }
+    if op == CLOSE_PARTS {
+        push(kinds, values, height, NUMBER, next);
+        return Place {
+            cursor,
+            height: height + 1,
+            next: 0,
+        };
+    }
+    Place {
+        cursor,
+        height,
+        next: cursor,
+    }
+}

@@ -1,0 +1,240 @@
+// What each instruction writes, and what it does to the stack and the word next.
+ghost use mathlib.Core.List.{List};
+ghost use Prim.Native.Nat.{ℕ, _≤_, _<_};
+ghost use Rattle.instructions.specs.Instruction.{instructionOf};
+ghost use Rattle.emitting.specs.Emitting.{Advancing, Does};
+use crate::constants::USE_LEAF;
+use crate::constants::leaf_count;
+use crate::constants::step_leaf;
+use crate::expressions::Place;
+use crate::expressions::put_choice;
+use crate::expressions::put_constant;
+use crate::expressions::put_delay;
+use crate::expressions::put_expression;
+use crate::expressions::put_recursion;
+use crate::expressions::put_two;
+use crate::expressions::put_undefined;
+use crate::patterns::MATCH_TYPE;
+use crate::patterns::NEXT_PART;
+use crate::patterns::step_alternative;
+use crate::patterns::step_part;
+use crate::stack::BARRIER;
+use crate::stack::FIRST_WAITS;
+use crate::stack::NUMBER;
+use crate::stack::Operands;
+use crate::stack::Ops;
+use crate::stack::SECOND_WAITS;
+use crate::stack::push;
+
+const NAME: u16 = 33;
+
+const PAIR: u16 = 34;
+
+const LET: u16 = 37;
+
+// The instructions, by their numbers.
+const USE_NAME: u8 = 5;
+
+const USE_CONSTANT: u8 = 6;
+
+const USE_UNDEFINED: u8 = 7;
+
+const OPEN_PAIR: u8 = 8;
+
+const OPEN_LET: u8 = 9;
+
+const OPEN_REC: u8 = 10;
+
+const OPEN_IF: u8 = 11;
+
+const TAKE_FIRST: u8 = 13;
+
+const TAKE_SECOND: u8 = 14;
+
+const CLOSE: u8 = 15;
+
+const CLOSE_IF: u8 = 16;
+
+const OPEN_CONSTANT: u8 = 26;
+
+const CONSTANT_HAS: u8 = 29;
+
+// An expression.
+fn step_expression(
+    sheet: &mut [u8],
+    kinds: &mut Ops,
+    values: &mut Operands,
+    leaves: &Ops,
+    types: usize,
+    cursor: u16,
+    height: usize,
+    op: u8,
+    first: u16,
+    second: u16,
+) -> Place
+    requires { ⌜ Advancing (now sheet) (now kinds) (now values) cursor height × (5 ≤ op) × (op < 13) ⌝ }
+    ensures { λ r. ⌜ ((x : ℕ) → Does (now (leaves .entry)) types (instructionOf op first second) (now (sheet .entry)) (now (kinds .entry)) (now (values .entry)) cursor height x (now (sheet .exit)) (now (kinds .exit)) (now (values .exit)) (r .cursor) (r .height) (r .next)) ⌝ }
+{
+    if op == USE_NAME {
+        return put_expression(sheet, kinds, values, cursor, height, NAME, first, 0, 0, 0);
+    }
+    if op == USE_CONSTANT {
+        return put_constant(sheet, kinds, values, cursor, height, first, second);
+    }
+    if op == USE_UNDEFINED {
+        let leaves_of = leaf_count(leaves, types, first);
+        return put_undefined(sheet, kinds, values, cursor, height, first, leaves_of);
+    }
+    if op == OPEN_PAIR {
+        return put_two(sheet, kinds, values, cursor, height, PAIR);
+    }
+    if op == OPEN_LET {
+        return put_two(sheet, kinds, values, cursor, height, LET);
+    }
+    if op == OPEN_REC {
+        return put_recursion(sheet, kinds, values, cursor, height, first);
+    }
+    if op == OPEN_IF {
+        return put_choice(sheet, kinds, values, cursor, height);
+    }
+    put_delay(sheet, kinds, values, cursor, height)
+}
+
+// An index waits, an expression's parts end, or a pattern begins.
+fn step_mark(
+    sheet: &[u8],
+    kinds: &mut Ops,
+    values: &mut Operands,
+    cursor: u16,
+    height: usize,
+    next: u16,
+    op: u8,
+) -> Place
+    requires { ⌜ Advancing (now sheet) (now kinds) (now values) cursor height × (13 ≤ op) × (op < 18) ⌝ }
+    ensures { λ r. ⌜ ((leaves : List ℕ) (types first second : ℕ) → Does leaves types (instructionOf op first second) (now (sheet .entry)) (now (kinds .entry)) (now (values .entry)) cursor height next (now (sheet .entry)) (now (kinds .exit)) (now (values .exit)) (r .cursor) (r .height) (r .next)) ⌝ }
+{
+    if op == TAKE_FIRST {
+        push(kinds, values, height, FIRST_WAITS, 0);
+        return Place {
+            cursor,
+            height: height + 1,
+            next,
+        };
+    }
+    if op == TAKE_SECOND {
+        push(kinds, values, height, SECOND_WAITS, 0);
+        return Place {
+            cursor,
+            height: height + 1,
+            next,
+        };
+    }
+    if op == CLOSE {
+        push(kinds, values, height, BARRIER, 0);
+        return Place {
+            cursor,
+            height: height + 1,
+            next: 0,
+        };
+    }
+    if op == CLOSE_IF {
+        return Place {
+            cursor,
+            height,
+            next,
+        };
+    }
+    push(kinds, values, height, NUMBER, cursor);
+    Place {
+        cursor,
+        height: height + 1,
+        next,
+    }
+}
+
+// One instruction.
+pub fn step(
+    sheet: &mut [u8],
+    kinds: &mut Ops,
+    values: &mut Operands,
+    leaves: &Ops,
+    types: usize,
+    cursor: u16,
+    height: usize,
+    next: u16,
+    op: u8,
+    first: u16,
+    second: u16,
+) -> Place
+    requires { ⌜ Advancing (now sheet) (now kinds) (now values) cursor height ⌝ }
+    ensures { λ r. ⌜ Does (now (leaves .entry)) types (instructionOf op first second) (now (sheet .entry)) (now (kinds .entry)) (now (values .entry)) cursor height next (now (sheet .exit)) (now (kinds .exit)) (now (values .exit)) (r .cursor) (r .height) (r .next) ⌝ }
+{
+    if op < USE_NAME {
+        return Place {
+            cursor,
+            height,
+            next,
+        };
+    }
+    if op < TAKE_FIRST {
+        return step_expression(
+            sheet,
+            kinds,
+            values,
+            leaves,
+            types,
+            cursor,
+            height,
+            op,
+            first,
+            second,
+        );
+    }
+    if op < MATCH_TYPE {
+        return step_mark(sheet, kinds, values, cursor, height, next, op);
+    }
+    if op < NEXT_PART {
+        return step_alternative(
+            sheet,
+            kinds,
+            values,
+            cursor,
+            height,
+            next,
+            op,
+            first,
+            second,
+        );
+    }
+    if op < USE_LEAF {
+        return step_part(sheet, kinds, values, cursor, height, next, op);
+    }
+    if op < OPEN_CONSTANT {
+        return step_leaf(
+            sheet,
+            kinds,
+            values,
+            leaves,
+            types,
+            cursor,
+            height,
+            next,
+            op,
+            first,
+            second,
+        );
+    }
+    if op == CONSTANT_HAS {
+        push(kinds, values, height, NUMBER, first);
+        return Place {
+            cursor,
+            height: height + 1,
+            next: 0,
+        };
+    }
+    Place {
+        cursor,
+        height,
+        next,
+    }
+}

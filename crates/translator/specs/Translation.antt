@@ -1,0 +1,56 @@
+-- The translation of a text (docs/SHEETS.md, "Sheets as text"): "The call gives 0 with the sheet's length, or 13 (text outside the grammar ..),
+-- then 14 (first name that breaks the rules .., or with none the first constant pair without a type ..), then 15 (slice too short, or over
+-- 4,096 records, place: length needed)". "Writes the sheet into a lent slice, with zeros after it."
+use Prim.Native.Nat.{ℕ, _*_, _-_}
+use mathlib.Core.Path.{_≡_}
+use mathlib.Core.Bool.{Bool, true, cond}
+use mathlib.Core.List.{List, [], _∷_, _++_}
+use lib.ListN.{length, replicate}
+use lib.Dec.{ltb}
+use Rattle.answers.specs.Answers.{packed, whenDone}
+use Rattle.answers.specs.Checks.{Check, check, when, firstApplying}
+use Rattle.answers.specs.declared.Answer.{Answer}
+use Rattle.answers.specs.declared.Answer.the-variants.{Done, Refused}
+use Rattle.grammar.specs.Tokens.{Token}
+use Rattle.grammar.specs.Source.{Text}
+use Rattle.grammar.specs.Legal.{Reading, Leaves, Keeps}
+use Rattle.naming.specs.Checks.{firstBadPlace}
+use Rattle.naming.specs.Constants.{constantsOfText}
+use Rattle.naming.specs.Names.{nameChecks}
+use Rattle.naming.specs.Records.{recordsNeeded}
+use Rattle.translation.specs.Layout.{sheetOfText}
+
+-- the bytes that a text's sheet needs, whatever their number
+abbrev pub lengthNeeded : Text → ℕ
+lengthNeeded t = 12 * recordsNeeded t
+
+-- "slice too short, or over 4,096 records"
+abbrev pub noRoom : Text → ℕ → Bool
+noRoom t room = cond (ltb room (lengthNeeded t)) true (ltb 4096 (recordsNeeded t))
+
+-- the checks on a text in the grammar, in their order
+abbrev pub textCallChecks : Text → (room : ℕ) → List Check
+textCallChecks t room =
+    check 14 (firstBadPlace (nameChecks t))
+    ∷ check 14 (firstBadPlace (constantsOfText t))
+    ∷ check 15 (when (noRoom t room) (lengthNeeded t))
+    ∷ []
+
+unfoldable pub textAnswer : Text → (room : ℕ) → Answer
+textAnswer t room = firstApplying (textCallChecks t room) (Done (lengthNeeded t))
+
+-- the lent slice at the end: the sheet and zeros after it, and on a refusal what was there
+unfoldable pub finalSheet : Text → (entry : List ℕ) → List ℕ
+finalSheet t entry = whenDone (textAnswer t (length entry)) (sheetOfText t ++ replicate (length entry - lengthNeeded t) 0) entry
+
+-- what a call gives, for every content and length of the two slices: the answer and the final bytes
+pub data Translated (bytes entry : List ℕ) : Answer → List ℕ → Type 0 where
+  outside-grammar : {i : ℕ} → Leaves bytes i → Translated bytes entry (Refused 13 i) entry
+  in-grammar : {ts : List Token} {t : Text} → Keeps bytes → Reading bytes ts t
+      → Translated bytes entry (textAnswer t (length entry)) (finalSheet t entry)
+
+-- the same with the answer in one number
+pub record TranslatedInOne (bytes entry : List ℕ) (result : ℕ) (exit : List ℕ) : Type 0 where
+  pub answer : Answer
+  pub translated : Translated bytes entry answer exit
+  pub result-is : result ≡ packed answer
