@@ -4,6 +4,7 @@
 mod bad_names;
 mod bench;
 mod compare;
+mod features;
 mod illegal;
 mod jobs;
 mod legal;

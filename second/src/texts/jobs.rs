@@ -49,7 +49,10 @@ impl Job {
             Job::Large => legal::large(to, random),
             Job::Positions => illegal::at_positions(to, random),
             Job::Damaged => illegal::damaged(to, random),
-            Job::BadNames => bad_names::of_categories(to, categories, random),
+            Job::BadNames => {
+                bad_names::of_categories(to, categories, random)?;
+                bad_names::two_at_once(to, categories, random)
+            }
             Job::ConstantPairs => bad_names::constant_pairs(to, random),
         }
     }
