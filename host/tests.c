@@ -182,7 +182,8 @@ int main(void)
     puts("all calls were made on the program's own stack");
     on_stack(SMALL_STACK, all_calls);
     printf("all calls were made on a stack of %d bytes\n", (int)SMALL_STACK);
-    /* A translation needs more, and so its tests, beside what they need themselves. */
+    /* A translation needs more; the tests of it have some for themselves. */
+    measure_texts();
     texts();
     on_stack(SHEET_TRANSLATE_STACK + SMALL_STACK / 4, texts);
     printf("all translations were made on a stack of %d bytes\n", SHEET_TRANSLATE_STACK + SMALL_STACK / 4);
@@ -191,6 +192,5 @@ int main(void)
     measure("preview", one_preview, SHEET_PREVIEW_STACK);
     measure("run", one_run, SHEET_RUN_STACK);
     measure("carry", one_carry, SHEET_CARRY_STACK);
-    measure_texts();
     return tally_end();
 }

@@ -7,6 +7,9 @@
 #include "sheet.h"
 #include "stack.h"
 
+/* More than a translation should need, so that it shows how much that is. */
+enum { MEASURED_STACK = 16 * 1024 * 1024 };
+
 /* Texts of one kind: what is repeated, as often as 65,535 bytes hold it, what stands inside, and what ends each. */
 static const struct {
     const char *name, *begun, *again, *inside, *ended;
@@ -63,7 +66,7 @@ static const char *worst = "";
 
 static void measure(const char *name)
 {
-    size_t used = stack_used(SHEET_TRANSLATE_STACK + SMALL_STACK, translate_made);
+    size_t used = stack_used(MEASURED_STACK, translate_made);
     if (used > most) {
         most = used;
         worst = name;
