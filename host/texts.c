@@ -151,6 +151,22 @@ static void records(void)
     refused("13,001 constants of 64 leaves", MOST_SLICE, SHEET_NO_ROOM, 12 * (8 + 66 * 13000 + 65));
 }
 
+/* Depth is the check's: of 64 pairs the innermost constant, record 66, lies too deep; of 63 the innermost pair, record 64, has no type. */
+static void depths(void)
+{
+    static const struct {
+        size_t pairs;
+        uint32_t code, place;
+    } cases[] = {{64, SHEET_TOO_DEEP, 66}, {63, SHEET_ILL_TYPED, 64}};
+    for (size_t k = 0; k < sizeof cases / sizeof *cases; k++) {
+        begin_pairs_inside(cases[k].pairs);
+        size_t needed = pairs_inside(cases[k].pairs);
+        struct translation call = lent_made(needed);
+        expect_translated("text of some depth", &call, sheet, needed);
+        expect("text of some depth", sheet, needed, cases[k].code, cases[k].place);
+    }
+}
+
 /* Over 255 constructors of one type: the count is a word, and the check refuses it. */
 static void many_constructors(void)
 {
@@ -210,6 +226,7 @@ void texts(void)
     lengths();
     open_brackets();
     records();
+    depths();
     many_constructors();
     damaged();
 }
