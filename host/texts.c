@@ -127,12 +127,22 @@ static void records(void)
     begin_pairs_inside(13000);
     refused("13,000 pairs", MOST_SLICE, SHEET_NO_ROOM, 12 * (4 + 3 * 13000));
 
-    /* A header, a type, an IF with three names, and a record for each alternative. */
-    static const size_t alternatives[] = {4090, 4091, 10000, 20000};
-    for (size_t k = 0; k < sizeof alternatives / sizeof *alternatives; k++) {
-        needed = (6 + alternatives[k]) * RECORD_BYTES;
+    /* 65 records for three bytes, and one for each pair. */
+    text_begin(DOUBLED "INPUT a ");
+    text_add_times("(?g,", 13000);
+    text_add("?g");
+    text_add_times(")", 13000);
+    refused("13,001 constants of 64 leaves", MOST_SLICE, SHEET_NO_ROOM, 12 * (8 + 66 * 13000 + 65));
+}
+
+/* A header, a type, an IF with three names, and a record for each alternative. */
+static void alternatives(void)
+{
+    static const size_t counts[] = {4090, 4091, 10000, 20000};
+    for (size_t k = 0; k < sizeof counts / sizeof *counts; k++) {
+        size_t needed = (6 + counts[k]) * RECORD_BYTES;
         text_begin(BIT "(IF input MATCHES hi");
-        text_add_times("|lo", alternatives[k] - 1);
+        text_add_times("|lo", counts[k] - 1);
         text_add(" THEN input ELSE input)");
         if (needed <= SHEET_LONGEST) {
             of_length("alternatives", needed, needed);
@@ -143,15 +153,12 @@ static void records(void)
             refused("too many alternatives in no slice", 0, SHEET_NO_ROOM, needed);
         }
     }
-    /* 65 records for three bytes, and one for each pair. */
-    text_begin(DOUBLED "INPUT a ");
-    text_add_times("(?g,", 13000);
-    text_add("?g");
-    text_add_times(")", 13000);
-    refused("13,001 constants of 64 leaves", MOST_SLICE, SHEET_NO_ROOM, 12 * (8 + 66 * 13000 + 65));
 }
 
-/* Depth is the check's: of 64 pairs the innermost constant, record 66, lies too deep; of 63 the innermost pair, record 64, has no type. */
+/*
+ * Depth is the check's: of 64 pairs the innermost constant, record 66, lies too deep; of 63 the innermost pair, record 64, has no
+ * type.
+ */
 static void depths(void)
 {
     static const struct {
@@ -226,6 +233,7 @@ void texts(void)
     lengths();
     open_brackets();
     records();
+    alternatives();
     depths();
     many_constructors();
     damaged();

@@ -1,6 +1,6 @@
 /*
- * Texts that codes 13 and 14 refuse, and such as they do not, worked out by hand from docs/SHEETS.md, Text. The mark @ stands before the
- * byte that is the place, and is no part of the text.
+ * Texts that codes 13 and 14 refuse, and such as they do not, worked out by hand from docs/SHEETS.md, Text. The mark @ stands
+ * before the byte that is the place, and is no part of the text.
  */
 #include <string.h>
 

@@ -309,8 +309,8 @@ uint64_t sheet_preview(const uint8_t *sheet, size_t sheet_length, const uint8_t 
  * out of scope or of the wrong kind, or, where no name is wrong, the bracket of the first pair in the constant of a DELAY that has no
  * declared type. A refusal leaves `sheet` as it was, every byte.
  *
- * What a sheet may not be is not looked at: over 64 leaves, expressions too deep, types that do not fit and all else of codes 1 to 7 come
- * when the sheet is checked. A run of the sheet, where it is accepted, gives what the text means, names and all.
+ * What the check asks of a sheet is not looked at: over 64 leaves, expressions too deep, types that do not fit and all else of
+ * codes 1 to 7 come when the sheet is checked. A run of the sheet, where it is accepted, puts out what the text means over its names.
  *
  *     static const char text[] = "TYPE bit = hi | lo IN INPUT bit (IF input MATCHES hi THEN lo ELSE hi)";
  *     static uint8_t sheet[SHEET_LONGEST];
