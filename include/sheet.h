@@ -75,7 +75,7 @@ extern "C" {
 #define SHEET_LONGEST_TEXT 65535
 
 /*
- * A result is code * 2^32 + place. The lowest code that applies is returned, with its place. Above each code stands what its
+ * A result is code * 2^32 + place. Of the checks that a call makes, in its order, the first that applies is answered, with its place. Above each code stands what its
  * place says; sheet_sentence has a sentence on it for people.
  */
 enum sheet_code {
