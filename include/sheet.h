@@ -327,7 +327,7 @@ uint64_t sheet_translate(const uint8_t *text, size_t text_length, uint8_t *sheet
  * The translation's stack need, measured as the check's, by host/text_stack.c on the deepest and the widest texts. It is far more than
  * that of the other calls, since tables for the longest text lie on the stack: a thread that translates needs a stack to match.
  */
-#define SHEET_TRANSLATE_STACK 4194304
+#define SHEET_TRANSLATE_STACK 2097152
 
 #ifdef __cplusplus
 }
