@@ -15,31 +15,27 @@
 /* Left between the frame that makes the measured call and the filled part, for the frames that fill and look. */
 enum { GAP = 512 };
 
+/* The stack of the thread that works, after its unreadable page. */
 static uint8_t *stack;
 
-static void *stack_opened(void)
+static void run(size_t bytes, void *(*work)(void *), void *argument)
 {
+    pthread_t thread;
+    pthread_attr_t attributes;
     size_t page = (size_t)sysconf(_SC_PAGESIZE);
-    uint8_t *pages = mmap(NULL, SMALL_STACK + page, PROT_READ | PROT_WRITE, MAP_PRIVATE | MAP_ANONYMOUS, -1, 0);
+    uint8_t *pages = mmap(NULL, bytes + page, PROT_READ | PROT_WRITE, MAP_PRIVATE | MAP_ANONYMOUS, -1, 0);
     if (pages == MAP_FAILED || mprotect(pages, page, PROT_NONE) != 0) {
         perror("a stack");
         exit(1);
     }
-    return pages + page;
-}
-
-static void run(void *(*work)(void *), void *argument)
-{
-    pthread_t thread;
-    pthread_attr_t attributes;
-    if (stack == NULL)
-        stack = stack_opened();
-    if (pthread_attr_init(&attributes) != 0 || pthread_attr_setstack(&attributes, stack, SMALL_STACK) != 0 ||
+    stack = pages + page;
+    if (pthread_attr_init(&attributes) != 0 || pthread_attr_setstack(&attributes, stack, bytes) != 0 ||
         pthread_create(&thread, &attributes, work, argument) != 0 || pthread_join(thread, NULL) != 0) {
-        fprintf(stderr, "no thread with a stack of %d bytes\n", (int)SMALL_STACK);
+        fprintf(stderr, "no thread with a stack of %zu bytes\n", bytes);
         exit(1);
     }
     pthread_attr_destroy(&attributes);
+    munmap(pages, bytes + page);
 }
 
 static void *plain_work(void *argument)
@@ -50,9 +46,9 @@ static void *plain_work(void *argument)
     return NULL;
 }
 
-void on_small_stack(void (*work)(void))
+void on_stack(size_t bytes, void (*work)(void))
 {
-    run(plain_work, &work);
+    run(bytes, plain_work, &work);
 }
 
 struct measured {
@@ -75,14 +71,14 @@ static void *measured_call(void *argument)
     return NULL;
 }
 
-size_t stack_used(void (*call)(void))
+size_t stack_used(size_t bytes, void (*call)(void))
 {
     size_t most = 0;
     /* A byte that happens to be written with one pattern shows with the other. */
     static const uint8_t patterns[] = {0xa5, 0x5a};
     for (size_t k = 0; k < sizeof patterns; k++) {
         struct measured measured = {call, patterns[k], 0};
-        run(measured_call, &measured);
+        run(bytes, measured_call, &measured);
         most = measured.used > most ? measured.used : most;
     }
     return most;

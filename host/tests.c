@@ -10,6 +10,7 @@
 #include "guard.h"
 #include "sheet.h"
 #include "stack.h"
+#include "translation.h"
 
 static uint8_t bytes[MOST_BYTES];
 
@@ -150,7 +151,7 @@ static void measure(const char *name, void (*call)(void), size_t figure)
     for (size_t k = 0; k < limit_count; k++) {
         limit_length = labelled_limit_sheet(&limit_cases[k], bytes, 1);
         labelled_limit_sheet(&limit_cases[k], other_bytes, 2);
-        size_t used = stack_used(call);
+        size_t used = stack_used(SMALL_STACK, call);
         if (used > most) {
             most = used;
             worst = limit_cases[k].name;
@@ -166,7 +167,7 @@ static void header_calls(void)
 {
     uint64_t result = (uint64_t)SHEET_ILL_TYPED << 32 | 4095;
     tally(sheet_code_of(result) == 7 && sheet_place_of(result) == 4095, "sheet.h", "a result taken apart");
-    static const uint32_t codes[] = {0, 1, 2, 3, 4, 5, 6, 7, 8, 9, 10, 11, 12, SHEET_NEW_SHEET_REFUSED, SHEET_LABEL_TWICE, 255};
+    static const uint32_t codes[] = {0, 1, 2, 3, 4, 5, 6, 7, 8, 9, 10, 11, 12, 13, 14, 15, 16, 18, 19, 255};
     for (size_t one = 0; one < sizeof codes / sizeof *codes; one++)
         for (size_t other = 0; other < one; other++)
             tally(strcmp(sheet_sentence(codes[one]), sheet_sentence(codes[other])) != 0, "sheet.h", "two codes with one sentence");
@@ -179,8 +180,13 @@ int main(void)
     header_calls();
     all_calls();
     puts("all calls were made on the program's own stack");
-    on_small_stack(all_calls);
+    on_stack(SMALL_STACK, all_calls);
     printf("all calls were made on a stack of %d bytes\n", (int)SMALL_STACK);
+    /* A translation needs more; the tests of it have some for themselves. */
+    measure_texts();
+    texts();
+    on_stack(SHEET_TRANSLATE_STACK + SMALL_STACK / 4, texts);
+    printf("all translations were made on a stack of %d bytes\n", SHEET_TRANSLATE_STACK + SMALL_STACK / 4);
     measure("fired", one_firing, SHEET_FIRED_STACK);
     measure("check", one_check, SHEET_CHECK_STACK);
     measure("preview", one_preview, SHEET_PREVIEW_STACK);

@@ -1,5 +1,5 @@
 /*
- * sheet.h: sheets of picoELLA circuits, checked, run and previewed. For hosts in C (C99 or later) and C++.
+ * sheet.h: sheets of picoELLA circuits, translated from text, checked, run and previewed. For hosts in C (C99 or later) and C++.
  *
  *     uint64_t sheet_check(sheet, length)
  *         Is the sheet well formed and well typed, and what is the type of its output?
@@ -11,6 +11,8 @@
  *         Which alternative of each IF says yes first in one cycle?
  *     uint64_t sheet_preview(sheet, sheet_length, stim, stim_length, out, out_length)
  *         What would it put out for one cycle, without taking it?
+ *     uint64_t sheet_translate(text, text_length, sheet, sheet_length)
+ *         What is the sheet of a circuit typed with names?
  *
  * A result holds a code and a place: take them with sheet_code_of and sheet_place_of, and turn a code into a sentence with
  * sheet_sentence. What a sheet is, what a cycle computes and when each code is given is in docs/SHEETS.md.
@@ -22,21 +24,21 @@
  * - Slices lent to one call do not overlap, and nothing else writes to them while the call runs.
  * - A call touches nothing but the slices lent to it and its stack: it allocates nothing, keeps no pointer and no state. Several
  *   threads may call at the same time.
- * - Any content and any length is a good call. What is wrong with a sheet is said by the result, and a refusal leaves every lent
- *   slice unaltered.
+ * - Any content and any length is a good call. What is wrong with a sheet or a text is said by the result, and a refusal leaves
+ *   every lent slice unaltered.
  *
  * PLATFORM
  *
  * x86-64 Linux; calls follow the System V ABI. A host links one of two archives:
  *
- *     libchecker.a    sheet_check alone, with nothing of the simulator in it    rt staticlib checker
- *     libsheets.a     every call                                                rt staticlib sheets
+ *     libchecker.a    sheet_check and sheet_translate, with nothing of the simulator    rt staticlib checker
+ *     libsheets.a     every call                                                        rt staticlib sheets
  *
  * rt writes them to target/staticlib/. They need nothing but memcpy, memmove, memset, memcmp and bcmp of the C library:
  *
  *     cc -Iinclude host.c target/staticlib/libsheets.a
  *
- * examples/check.c, examples/run.c, examples/carry.c, examples/fired.c and examples/preview.c are whole hosts.
+ * examples/check.c, examples/run.c, examples/carry.c, examples/fired.c, examples/preview.c and examples/translate.c are whole hosts.
  */
 #ifndef SHEET_H
 #define SHEET_H
@@ -53,11 +55,11 @@ extern "C" {
  * be, the second where a call or a code is added, the third where neither is so.
  */
 #define SHEET_VERSION_MAJOR 1
-#define SHEET_VERSION_MINOR 4
+#define SHEET_VERSION_MINOR 5
 #define SHEET_VERSION_PATCH 0
 
 /* The same as text, and as one number to compare: 1.2.3 is 10203. */
-#define SHEET_VERSION "1.4.0"
+#define SHEET_VERSION "1.5.0"
 #define SHEET_VERSION_NUMBER (SHEET_VERSION_MAJOR * 10000 + SHEET_VERSION_MINOR * 100 + SHEET_VERSION_PATCH)
 
 /* The most bytes that a sheet may have: 4,096 records of 12. */
@@ -69,15 +71,21 @@ extern "C" {
 /* The most bytes that a run puts out: 65,535 cycles of 64 leaves. */
 #define SHEET_LONGEST_OUTPUT 4194240
 
+/* The most bytes that a text may have. */
+#define SHEET_LONGEST_TEXT 65535
+
 /*
- * A result is code * 2^32 + place. The lowest code that applies is returned, with its place. Above each code stands what its
+ * A result is code * 2^32 + place. Of the checks that a call makes, in its order, the first that applies is answered, with its place. Above each code stands what its
  * place says; sheet_sentence has a sentence on it for people.
  */
 enum sheet_code {
-    /* The check's place is the record of the output's type, a run's the number of cycles done, that of every other call 0. */
+    /*
+     * The check's place is the record of the output's type, a run's the number of cycles done, a translation's the length of the
+     * sheet in bytes, that of every other call 0.
+     */
     SHEET_ACCEPTED = 0,
 
-    /* The sheet is refused, by every call; in carrying, the old one. */
+    /* The sheet is refused, by every call that takes one; in carrying, the old one. */
     /* Place 0. */
     SHEET_WRONG_LENGTH = 1,
     /* Place 0, which is the header's record. */
@@ -101,6 +109,14 @@ enum sheet_code {
 
     /* Of programs, not of calls: 1 is the sheet's file, 2 the stimulus's. */
     SHEET_NO_FILE = 12,
+
+    /* A text is not translated. Its bytes are counted from 0. */
+    /* The first byte at which no legal text goes on, 65,535 at the latest; the text's length where it ends too soon. */
+    SHEET_WRONG_TEXT = 13,
+    /* The first byte of the first such name; where no name is wrong, that of the first such pair's bracket. */
+    SHEET_WRONG_NAME = 14,
+    /* The length that the sheet needs, in bytes; over SHEET_LONGEST where it would have over 4,096 records. */
+    SHEET_NO_ROOM = 15,
 
     /* Of sheet_fired: the number of words that is needed. */
     SHEET_WRONG_WORDS = 16,
@@ -141,6 +157,9 @@ static inline const char *sheet_sentence(uint32_t code)
         "The output slice has another length than the cycles times the output's leaves.",
         "The next slice is not as long as the sheet that it receives.",
         "The file cannot be opened.",
+        "The text leaves the grammar here, ends too soon, or is over 65,535 bytes long.",
+        "A name is declared twice or is taken, is not declared or not in scope, or is of the wrong kind; or a constant pair has no type.",
+        "The slice is too short for the sheet, or the sheet would have over 4,096 records.",
     };
     switch (code) {
     case SHEET_WRONG_WORDS:
@@ -274,6 +293,41 @@ uint64_t sheet_preview(const uint8_t *sheet, size_t sheet_length, const uint8_t 
 
 /* The preview's stack need, from the caller's frame down: no more than this. */
 #define SHEET_PREVIEW_STACK 131072
+
+/*
+ * The translation: the sheet of a circuit typed with names. Codes 0 and 13 to 15. docs/SHEETS.md, Text, has the grammar.
+ *
+ * The text is bytes, at most SHEET_LONGEST_TEXT of them and with no zero needed after the last: declarations of types, INPUT with
+ * the input's type, and one expression. On success the place is the length of the sheet in bytes, a multiple of 12 from 36 to
+ * SHEET_LONGEST; `sheet` holds it from its start, and zeros from there to its end. A longer slice is as good, and one of
+ * SHEET_LONGEST bytes is long enough for every sheet. The length can be asked for: lend `sheet` with length 0, and a good text is
+ * refused with code 15, whose place is the length. A text of more than 4,096 records is refused with 15 whatever the slice; its
+ * place is then above SHEET_LONGEST.
+ *
+ * Codes 13 and 14 have as their place a byte of the text, counted from 0: for 13 the first one with which no legal text goes on,
+ * also inside a word, or the text's length if more was to come; for 14 the first byte of a name that is declared twice, not declared,
+ * out of scope or of the wrong kind, or, where no name is wrong, the bracket of the first pair in the constant of a DELAY that has no
+ * declared type. A refusal leaves `sheet` as it was, every byte.
+ *
+ * What the check asks of a sheet is not looked at: over 64 leaves, expressions too deep, types that do not fit and all else of
+ * codes 1 to 7 come when the sheet is checked. A run of the sheet, where it is accepted, puts out what the text means over its names.
+ *
+ *     static const char text[] = "TYPE bit = hi | lo IN INPUT bit (IF input MATCHES hi THEN lo ELSE hi)";
+ *     static uint8_t sheet[SHEET_LONGEST];
+ *     uint64_t result = sheet_translate((const uint8_t *)text, strlen(text), sheet, sizeof sheet);
+ *     size_t length = sheet_place_of(result);
+ *     if (sheet_code_of(result) == SHEET_ACCEPTED)
+ *         result = sheet_check(sheet, length);
+ *     else
+ *         printf("byte %zu: %s\n", length, sheet_sentence(sheet_code_of(result)));
+ */
+uint64_t sheet_translate(const uint8_t *text, size_t text_length, uint8_t *sheet, size_t sheet_length);
+
+/*
+ * The translation's stack need, measured as the check's, by host/text_stack.c on the deepest and the widest texts. It is far more than
+ * that of the other calls, since tables for the longest text lie on the stack: a thread that translates needs a stack to match.
+ */
+#define SHEET_TRANSLATE_STACK 2097152
 
 #ifdef __cplusplus
 }

@@ -6,6 +6,7 @@ pub mod generate;
 pub mod grammar;
 pub mod layout;
 pub mod lexer;
+pub mod long;
 pub mod meaning;
 pub mod mistakes;
 pub mod names;

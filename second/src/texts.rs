@@ -2,7 +2,9 @@
 //! the archive, and runs of the sheets with the meaning of the texts.
 
 mod bad_names;
+mod bench;
 mod compare;
+mod features;
 mod illegal;
 mod jobs;
 mod legal;
@@ -14,7 +16,8 @@ use std::process::ExitCode;
 use second::text::mistakes::{named, MISTAKES};
 
 pub const USAGE: &str = "       second texts [--seed N] [--texts N] [--threads N] [--mistake NAME]
-       second text-mistakes";
+       second text-mistakes
+       second bench-translate";
 
 /// The command that the words give, if it is one about texts.
 pub fn command(words: &[&str]) -> Option<ExitCode> {
@@ -26,6 +29,7 @@ pub fn command(words: &[&str]) -> Option<ExitCode> {
             MISTAKES.iter().for_each(|(name, _)| println!("{name}"));
             Some(ExitCode::SUCCESS)
         }
+        ["bench-translate"] => Some(bench::run()),
         _ => None,
     }
 }

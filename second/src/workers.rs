@@ -37,6 +37,10 @@ impl<M: Copy> Options<M> {
     }
 }
 
+/// The stack of a thread in bytes: a translation by the archive needs more
+/// than threads have by themselves.
+const STACK: usize = 16 << 20;
+
 /// Why a job ends early: it found a difference, or another job did.
 pub enum Halt<D> {
     Difference(Box<D>),
@@ -83,7 +87,9 @@ where
     };
     std::thread::scope(|scope| {
         for _ in 0..options.threads.max(1) {
-            scope.spawn(|| take_jobs(&shared));
+            let thread = std::thread::Builder::new().stack_size(STACK);
+            let spawned = thread.spawn_scoped(scope, || take_jobs(&shared));
+            spawned.unwrap_or_else(|error| panic!("no thread: {error}"));
         }
     });
     shared.done.into_inner().unwrap_or_else(|poisoned| poisoned.into_inner())

@@ -1,5 +1,5 @@
--- Labels and shapes (docs/SHEETS.md, "Carrying": "Word d of a delay is its label, 0 for none"; "both types have the same shape: pairs,
--- and flats of equal counts, in the same places").
+-- Labels and shapes (docs/SHEETS.md, "Carrying"): word d of a delay is its label, 0 for none; "both types have the same shape: pairs,
+-- and flats of equal counts, in the same places".
 use Prim.Native.Nat.{ℕ}
 use mathlib.Core.Bool.{Bool, true, false, cond, _&&_}
 use mathlib.Core.List.{List}

@@ -1,7 +1,9 @@
-// The check for hosts in C, without the simulator: libchecker.a.
+// The check and the translation of texts for hosts in C, without the simulator: libchecker.a.
 ghost use mathlib.Core.Path.{_≡_};
 ghost use Rattle.answers.specs.Answers.{packed};
 ghost use Rattle.verdict.specs.Verdict.{verdict, verdictAnswer};
+ghost use Rattle.translator.specs.Translation.{TranslatedInOne};
+use translator::translate;
 use verdict::check;
 
 // The check: the verdict's code times 2^32, plus its place.
@@ -10,4 +12,12 @@ pub extern "C" fn sheet_check(sheet: &[u8]) -> u64
     ensures { λ r. ⌜ r ≡ packed (verdictAnswer (verdict (now (sheet .entry)))) ⌝ }
 {
     check(sheet)
+}
+
+// The translation of a text into a sheet: the code times 2^32, plus the place.
+#[no_mangle]
+pub extern "C" fn sheet_translate(text: &[u8], sheet: &mut [u8]) -> u64
+    ensures { λ r. ⌜ TranslatedInOne (now (text .entry)) (now (sheet .entry)) r (now (sheet .exit)) ⌝ }
+{
+    translate(text, sheet)
 }

@@ -6,10 +6,12 @@ ghost use Rattle.simulator.specs.Running.{Ran};
 ghost use Rattle.carry.specs.Carry.{CarryGives};
 ghost use Rattle.firing.specs.Telling.{ToldFired};
 ghost use Rattle.preview.specs.Preview.{Previewed};
+ghost use Rattle.translator.specs.Translation.{TranslatedInOne};
 use carry::carry;
 use firing::fired_of;
 use preview::preview;
 use simulator::run;
+use translator::translate;
 use verdict::check;
 
 // The check: the verdict's code times 2^32, plus its place.
@@ -50,4 +52,12 @@ pub extern "C" fn sheet_preview(sheet: &[u8], stim: &[u8], out: &mut [u8]) -> u6
     ensures { λ r. ⌜ Previewed (now (sheet .entry)) (now (stim .entry)) (now (out .entry)) r (now (out .exit)) ⌝ }
 {
     preview(sheet, stim, out)
+}
+
+// The translation of a text into a sheet: the code times 2^32, plus the place.
+#[no_mangle]
+pub extern "C" fn sheet_translate(text: &[u8], sheet: &mut [u8]) -> u64
+    ensures { λ r. ⌜ TranslatedInOne (now (text .entry)) (now (sheet .entry)) r (now (sheet .exit)) ⌝ }
+{
+    translate(text, sheet)
 }

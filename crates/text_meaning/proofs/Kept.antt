@@ -25,7 +25,8 @@ use Rattle.meaning.specs.Rules.{ReducesSeq, s-end, s-cycle}
 use Rattle.meaning.proofs.Order.{value-length}
 use Rattle.meaning.proofs.FlattenOneToOne.{flatten-typed}
 use Rattle.stimulus.specs.Stimulus.{inputType, cycleCount, cycles, pieces, endToEnd}
-use Rattle.behaviour.specs.Run.{Gives}
+use Rattle.answers.specs.Answers.{packed}
+use Rattle.behaviour.specs.Run.{answer, finalOut, finalNext, Gives}
 use Rattle.behaviour.specs.Afterwards.{WellFormed}
 use Rattle.behaviour.specs.ByRules.{RunsByRules}
 use Rattle.behaviour.proofs.ByRules.{call-by-rules}
@@ -37,7 +38,7 @@ use Rattle.translation.proofs.Kept.{names-good}
 use Rattle.text_meaning.specs.NamedValues.{NamedValue, valueOf}
 use Rattle.text_meaning.specs.Circuits.{Circuit, circuitOf}
 use Rattle.text_meaning.specs.NamedRules.{GivesSeq, no-cycle, one-cycle}
-use Rattle.text_meaning.specs.TextPromises.{declarations, Means, OneMeaning, RunGivesMeaning, TextPromises}
+use Rattle.text_meaning.specs.TextPromises.{declarations, Means, OneMeaning, RunGivesMeaning, MeaningExists, TextPromises}
 use Rattle.text_meaning.proofs.OneMeaning.{run-one}
 use Rattle.text_meaning.proofs.Naming.{nameTree, KnownType, value-of}
 use Rattle.text_meaning.proofs.Simulates.{Related, scoped-input, none-known, one-known, follows}
@@ -116,5 +117,13 @@ run-gives-meaning ts (text d ds (identifier w p) e) rd h stim out next τ result
     in-pieces (d ∷ ds) (cycleCount s stim) out′ (rules .outputs-typed) (rules .equally-many ∙ rules .one-each) (rules .out-is) in
     (run .0, rw (inputs, outputs) (run .1))
 
+-- what the call's definition gives is such a meaning
+meaning-exists : MeaningExists
+meaning-exists ts t rd h stim out next τ formed = (
+  _,
+  run-gives-meaning ts t rd h stim out next τ (packed (answer (sheetOfText t) stim out next)) (finalOut (sheetOfText t) stim out next)
+      (finalNext (sheetOfText t) stim out next) formed (record { result-is = refl; out-is = refl; next-is = refl }),
+)
+
 pub kept : TextPromises
-kept = record { one-meaning = one-meaning; run-gives-meaning = run-gives-meaning }
+kept = record { one-meaning = one-meaning; run-gives-meaning = run-gives-meaning; meaning-exists = meaning-exists }

@@ -11,7 +11,7 @@ use Rattle.text_meaning.specs.Circuits.{Circuit, Pairs, FirstPart, Secon
 use Rattle.text_meaning.specs.NamedRules.{
   Binding,
   binding,
-  nearest,
+  nearestBinding,
   Gives,
   gives-bound,
   gives-constructor,

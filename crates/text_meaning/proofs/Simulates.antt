@@ -90,7 +90,7 @@ use Rattle.text_meaning.specs.Circuits.{
 use Rattle.text_meaning.specs.NamedRules.{
   Binding,
   binding,
-  nearest,
+  nearestBinding,
   Gives,
   gives-bound,
   gives-constructor,
@@ -234,13 +234,13 @@ elem-known (there n) (of-more h hs) (one-known x xs) (elem-there e) = elem-known
 
 -- what is at a distance is the nearest of its name
 found : {ds : List Declaration} {bound : List (List ℕ)} {l : List ConstantTree} {ρ : List Binding} {w : List ℕ} {n : ℕ} {k : ConstantTree}
-    → At bound w n → Scoped ds bound l ρ → Elem l n k → nearest ρ w ≡ some (nameTree ds k)
+    → At bound w n → Scoped ds bound l ρ → Elem l n k → nearestBinding ρ w ≡ some (nameTree ds k)
 found (at-input e) scoped-input elem-here = rw e
 found (at-here e) (scoped-name s) elem-here = rw e
 found (at-there e a) (scoped-name s) (elem-there x) = rw e (found a s x)
 
 not-found : {ds : List Declaration} {bound : List (List ℕ)} {l : List ConstantTree} {ρ : List Binding} {w : List ℕ}
-    → NotIn bound w → Scoped ds bound l ρ → nearest ρ w ≡ none
+    → NotIn bound w → Scoped ds bound l ρ → nearestBinding ρ w ≡ none
 not-found (not-input e) scoped-input = rw e
 not-found (not-here e n) (scoped-name s) = rw e (not-found n s)
 

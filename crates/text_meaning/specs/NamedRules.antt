@@ -28,17 +28,17 @@ pub data Binding : Type 0 where
   binding : (letters : List ℕ) (value : NamedValue) → Binding
 
 -- "a nearer name hides a farther one"
-abbrev pub nearest : List Binding → List ℕ → Option NamedValue
-nearest [] w = none
-nearest (binding u v ∷ ρ) w = cond (sameName w u) (some v) (nearest ρ w)
+abbrev pub nearestBinding : List Binding → List ℕ → Option NamedValue
+nearestBinding [] w = none
+nearestBinding (binding u v ∷ ρ) w = cond (sameName w u) (some v) (nearestBinding ρ w)
 
 module _ (D : List DeclaredName) where
   mutual
     -- in the environment ρ the circuit c has the value v and is c′ at the next cycle
     pub data Gives : List Binding → Circuit → NamedValue → Circuit → Type 0 where
-      gives-bound : {ρ : List Binding} {w : List ℕ} {v : NamedValue} → nearest ρ w ≡ some v → Gives ρ (Uses w) v (Uses w)
+      gives-bound : {ρ : List Binding} {w : List ℕ} {v : NamedValue} → nearestBinding ρ w ≡ some v → Gives ρ (Uses w) v (Uses w)
       gives-constructor : {ρ : List Binding} {w : List ℕ}
-          → nearest ρ w ≡ none → isDeclared constructorRole w D ≡ true → Gives ρ (Uses w) (Made w) (Uses w)
+          → nearestBinding ρ w ≡ none → isDeclared constructorRole w D ≡ true → Gives ρ (Uses w) (Made w) (Uses w)
       gives-always : {ρ : List Binding} {v : NamedValue} → Gives ρ (Always v) v (Always v)
       gives-pair : {ρ : List Binding} {c d c′ d′ : Circuit} {v w : NamedValue}
           → Gives ρ c v c′ → Gives ρ d w d′ → Gives ρ (Pairs c d) (Couple v w) (Pairs c′ d′)

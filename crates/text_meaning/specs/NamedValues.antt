@@ -1,7 +1,7 @@
 -- The values of a text: a constructor by its name, undefined, or a pair. Matching on them (docs/SHEETS.md, "One cycle"), and what an
 -- undecided IF gives: where both branches agree, that, and else undefined (000: `glb`). Where a pair meets a name or undefined, which no text
 -- has whose sheet is accepted, a match is undecided and an IF undefined.
--- A byte of a run stands for a value by `valueOf`: "c for the c-th of its declaration, 0 for undefined, pairs leaf by leaf".
+-- A byte of a run stands for a value by `valueOf`: c for the c-th constructor of its declaration, 0 for undefined, and pairs leaf by leaf.
 use Prim.Native.Nat.{ℕ, zero, suc}
 use mathlib.Core.Bool.{Bool, cond}
 use mathlib.Core.List.{List, [], _∷_}

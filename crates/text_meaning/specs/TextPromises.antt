@@ -37,8 +37,7 @@ abbrev pub OneMeaning : Type 0
 OneMeaning = (t : Text) (inputs outputs others : List NamedValue) → Means t inputs outputs → Means t inputs others → outputs ≡ others
 
 -- 2. "A run of its accepted sheet gives, cycle for cycle, that meaning's outputs": whatever a well-formed call on the sheet of a text gave by the
--- contract, its outputs are the meaning's for the stimulus, both read as values. So the meaning exists for every text whose sheet is accepted
--- and every list of well-formed inputs.
+-- contract, its outputs are the meaning's for the stimulus, both read as values.
 abbrev pub RunGivesMeaning : Type 0
 RunGivesMeaning =
     (ts : List Token) (t : Text) → ReadsText ts t → AllPass (textChecks t)
@@ -48,6 +47,14 @@ RunGivesMeaning =
     (map (valueOf (declarations t) (typeAt (sheetOfText t) τ))
     (pieces (leaves (typeAt (sheetOfText t) τ)) (cycleCount (sheetOfText t) stim) out′))
 
+-- 3. The meaning exists for every text whose sheet is accepted and every list of well-formed inputs.
+abbrev pub MeaningExists : Type 0
+MeaningExists =
+    (ts : List Token) (t : Text) → ReadsText ts t → AllPass (textChecks t)
+    → (stim out next : List ℕ) (τ : ℕ) → WellFormed (sheetOfText t) stim out next τ
+    → (outputs : List NamedValue) × Means t (map (valueOf (declarations t) (inputType (sheetOfText t))) (cycles (sheetOfText t) stim)) outputs
+
 pub record TextPromises : Type 0 where
   pub one-meaning : OneMeaning
   pub run-gives-meaning : RunGivesMeaning
+  pub meaning-exists : MeaningExists

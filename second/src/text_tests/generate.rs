@@ -12,6 +12,7 @@ use crate::text::generate::faults::categories;
 use crate::text::generate::sentence::Sentence;
 use crate::text::generate::{circuits, damage, free, sizes};
 use crate::text::lexer::{positions_in, tokens, Way};
+use crate::text::long;
 use crate::text::meaning::outputs;
 use crate::text::mistakes::{self, TextMistake, MISTAKES};
 use crate::text::translator::{records, syntax, translate};
@@ -123,6 +124,16 @@ fn sizes_are_met() {
         let (text, _) = sentence.spell(&mut random);
         assert_eq!(tokens(&text, None).err().map(|illegal| illegal.way), Some(Way::LongName));
         translate(&sizes::deep(&mut random), 49_152, None);
+    }
+}
+
+#[test]
+fn long_texts_are_translated_but_for_their_records() {
+    for (name, text) in long::all() {
+        let outcome = translate(&text, 12 * MAX_RECORDS, None);
+        let (code, place) = (outcome.answer.code, outcome.answer.place as usize);
+        assert_eq!(text.len(), 65_535);
+        assert_eq!(code, if place <= 12 * MAX_RECORDS { 0 } else { 15 }, "{name}");
     }
 }
 

@@ -37,6 +37,23 @@ pub fn of_categories(to: &mut Comparer, categories: &[Category], random: &mut Ra
     Ok(())
 }
 
+/// Two bad names in a text, of any categories: the first is refused.
+pub fn two_at_once(to: &mut Comparer, categories: &[Category], random: &mut Random) -> Ended {
+    for _ in 0..share(tally::TWO_BAD) * TRIES {
+        if to.tally.got(tally::TWO_BAD) >= share(tally::TWO_BAD) {
+            break;
+        }
+        let mut sentence = good(random);
+        let mut put = || categories[random.below(categories.len())].put(&mut sentence, random);
+        let (Some(one), Some(other)) = (put(), put()) else { continue };
+        if one != other {
+            let hit = compare(to, tally::TWO_BAD, &sentence, one.min(other), random)?;
+            to.tally.add(tally::TWO_BAD, u64::from(hit));
+        }
+    }
+    Ok(())
+}
+
 /// Compares; whether the text is refused with 14 at a token.
 fn compare(
     to: &mut Comparer,

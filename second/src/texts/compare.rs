@@ -14,7 +14,8 @@ use second::text::meaning::outputs;
 use second::text::mistakes::TextMistake;
 use second::text::translator::{syntax, translate, Outcome};
 
-use super::tally::{self, Tally};
+use super::features::features;
+use super::tally::{self, Tally, LEAST_SHEET};
 use crate::external;
 use crate::memory::{Area, Placement};
 use crate::report::{self, hex};
@@ -125,6 +126,10 @@ impl Comparer<'_> {
         }
         self.tally.compared += 1;
         *self.tally.codes.entry(outcome.answer.code).or_default() += 1;
+        let short = [(13, tally::SHORT_ILLEGAL), (14, tally::SHORT_BAD_NAME)];
+        for (_, name) in short.iter().filter(|(code, _)| *code == outcome.answer.code) {
+            self.tally.add(name, u64::from(case.slice_length < LEAST_SHEET));
+        }
         Ok(outcome)
     }
 
@@ -163,6 +168,7 @@ impl Comparer<'_> {
             })));
         }
         self.tally.add(tally::RUN, 1);
+        features(&syntax).into_iter().for_each(|name| self.tally.add(name, 1));
         Ok(())
     }
 }

@@ -14,13 +14,17 @@ use super::tally::{self, PER_ENDED_POSITION, PER_POSITION};
 const T: &str = "TYPE bit=hi|lo IN INPUT bit (LET INIT ?bit REC x=(DELAY(lo,(IF input MATCHES hi \
                  THEN (IF x MATCHES lo THEN hi ELSE lo) ELSE x))) IN x)";
 
-/// Compares a text into a slice that is long enough, and counts where it
-/// leaves the grammar.
+/// Compares a text into a slice that is mostly long enough, and counts where
+/// it leaves the grammar.
 fn compare(to: &mut Comparer, source: &str, text: Vec<u8>) -> Ended {
     if let Err(illegal) = tokens(&text, None) {
         to.tally.add_illegal(&illegal);
     }
-    let slice_length = if text.len() < 400 { 3_000 } else { 30_000 };
+    let slice_length = match to.fill.below(5) {
+        0 => to.fill.below(60),
+        _ if text.len() < 400 => 3_000,
+        _ => 30_000,
+    };
     to.compare(&Case { source: source.to_string(), text, slice_length })?;
     Ok(())
 }

@@ -25,6 +25,7 @@ pub fn in_order() -> Vec<Job> {
     let mut jobs = vec![Job::ChangesOfT];
     for _ in 0..SHARDS {
         jobs.extend([
+            Job::Large,
             // Some of their sheets are too deep, or have too many records.
             Job::Circuits(share(tally::RUN) * 5 / 4),
             Job::Positions,
@@ -33,7 +34,6 @@ pub fn in_order() -> Vec<Job> {
             Job::AnyTypes,
             Job::Slices,
             Job::Damaged,
-            Job::Large,
         ]);
     }
     jobs
@@ -49,7 +49,10 @@ impl Job {
             Job::Large => legal::large(to, random),
             Job::Positions => illegal::at_positions(to, random),
             Job::Damaged => illegal::damaged(to, random),
-            Job::BadNames => bad_names::of_categories(to, categories, random),
+            Job::BadNames => {
+                bad_names::of_categories(to, categories, random)?;
+                bad_names::two_at_once(to, categories, random)
+            }
             Job::ConstantPairs => bad_names::constant_pairs(to, random),
         }
     }

@@ -23,12 +23,16 @@ pub struct Tally {
 }
 
 /// The least number of texts in all.
-const TEXTS: u64 = 100_000;
+const TEXTS: u64 = 200_000;
+/// Of each code.
+const CODES: [(u8, u64); 4] = [(0, 20_000), (13, 50_000), (14, 20_000), (15, 5_000)];
 /// For each position in the grammar: texts that leave it there.
-pub const PER_POSITION: u64 = 320;
-pub const PER_ENDED_POSITION: u64 = 80;
-pub const PER_CATEGORY: u64 = 480;
+pub const PER_POSITION: u64 = 400;
+pub const PER_ENDED_POSITION: u64 = 100;
+pub const PER_CATEGORY: u64 = 560;
 const PER_WAY: u64 = 400;
+/// The bytes of the shortest sheet.
+pub const LEAST_SHEET: usize = 36;
 /// At least so many of the texts made for a category have to be refused there.
 const PERCENT_HIT: u64 = 80;
 
@@ -53,13 +57,26 @@ pub const BYTES: &str = "single-byte changes of T";
 pub const PAIR: &str = "14: constant pair without a type, its parts with one";
 pub const OUTER_PAIR: &str = "14: constant pair over a part without a type";
 pub const LATER_NAME: &str = "14: bad name after a constant pair without a type";
+pub const TWO_BAD: &str = "14: the first of two bad names";
+pub const SHORT_ILLEGAL: &str = "13: slice shorter than any sheet";
+pub const SHORT_BAD_NAME: &str = "14: slice shorter than any sheet";
+pub const RUN_HIDDEN: &str = "run, a name that hides another";
+pub const RUN_FEEDBACK: &str = "run, a feedback";
+pub const RUN_HELD_PAIR: &str = "run, a constant pair in a DELAY";
+pub const RUN_PARTS: &str = "run, a part of a part";
+pub const RUN_CHAIN: &str = "run, several alternatives in a part of a pair pattern";
 
 /// The quotas of the named counts.
-pub const QUOTAS: [(&str, u64); 21] = [
-    (RUN, 10_000),
-    (REFUSED, 2_000),
-    (WHOLE, 2_000),
-    (LONGER, 2_000),
+pub const QUOTAS: [(&str, u64); 29] = [
+    (RUN, 20_000),
+    (RUN_HIDDEN, 2_000),
+    (RUN_FEEDBACK, 2_000),
+    (RUN_HELD_PAIR, 2_000),
+    (RUN_PARTS, 2_000),
+    (RUN_CHAIN, 2_000),
+    (REFUSED, 4_000),
+    (WHOLE, 3_000),
+    (LONGER, 3_000),
     (NONE, 400),
     (BYTE_SHORT, 400),
     (RECORD_SHORT, 400),
@@ -70,13 +87,16 @@ pub const QUOTAS: [(&str, u64); 21] = [
     (LONGEST, 40),
     (TOO_LONG, 40),
     (DEEP, 80),
-    (DAMAGED, 10_000),
-    (RANDOM, 4_000),
+    (DAMAGED, 36_000),
+    (RANDOM, 6_000),
     (PREFIXES, 100),
     (BYTES, 25_000),
     (PAIR, 400),
     (OUTER_PAIR, 400),
     (LATER_NAME, 400),
+    (TWO_BAD, 2_000),
+    (SHORT_ILLEGAL, 4_000),
+    (SHORT_BAD_NAME, 200),
 ];
 
 /// The quota of a named count.
@@ -125,10 +145,11 @@ impl Tally {
                 unmet.push(format!("{name}: {got} of {need}"));
             }
         };
-        for (code, count) in &self.codes {
-            println!("texts with code {code}: {count}");
-        }
         line("texts in all".into(), self.compared, TEXTS);
+        for (code, need) in CODES {
+            let got = self.codes.get(&code).copied().unwrap_or(0);
+            line(format!("texts with code {code}"), got, need);
+        }
         for (name, need) in QUOTAS {
             line(name.into(), self.got(name), need);
         }

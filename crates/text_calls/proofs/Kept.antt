@@ -1,0 +1,55 @@
+-- One term of every promise of the front page: what the translation wrote is the sheet of the text, and the run of that sheet gives the
+-- meaning. Assumes nothing.
+use Prim.Native.Nat.{ℕ}
+use mathlib.Core.Path.{_≡_, refl, sym, subst}
+use mathlib.Core.List.{List}
+use lib.ListN.{take}
+use Rattle.records.specs.Words.{word, count}
+use Rattle.records.specs.Kinds.{rowOf, kindOf, askOf}
+use Rattle.records.specs.Says.{wellSaid}
+use Rattle.records.specs.Namings.{namings}
+use Rattle.records.specs.TypeRecords.{typeWithin, typeAt, pairOf}
+use Rattle.records.specs.Trees.{chainWithin, chain, alternativesWithin, alternatives, treeWithin, treeAt, circuit}
+use Rattle.structure.specs.Depth.{ancestryWithin, ancestry, depth, nesting}
+use Rattle.structure.specs.Rules.{wrongLength, wrongHeader, wrongRecord, wrongNaming, wrongType, tooDeep}
+use Rattle.verdict.specs.Verdict.{byTypes, byRecords, verdict}
+use Rattle.meaning.specs.Undecided.{undecidedRule}
+use Rattle.meaning.specs.Evaluation.{eval, next}
+use Rattle.behaviour.specs.Terms.{circuitTerm}
+use Rattle.behaviour.specs.Sheets.{write}
+use Rattle.behaviour.specs.Cycle.{outputBy, afterBy}
+use Rattle.stimulus.specs.Stimulus.{cycles, wrongStimulus, wrongByte}
+use Rattle.behaviour.specs.Run.{bySlices, answer, finalOut, finalNext, Gives}
+use Rattle.behaviour.specs.Afterwards.{WellFormed}
+use Rattle.translation.specs.Layout.{sheetOfText}
+use Rattle.translator.specs.Promises.{WroteSheet}
+use Rattle.translator.proofs.Kept as Translator
+use Rattle.text_meaning.proofs.Kept as Meaning
+use Rattle.text_table.proofs.Kept as Table
+use Rattle.text_calls.specs.RunRows.{TextsRun}
+use Rattle.text_calls.specs.CallPromises.{RanAsMeant, TranslatedRunMeans, TextCallPromises}
+
+run-means : TranslatedRunMeans
+run-means bytes entry n exit h stim out next τ result out′ next′ w g =
+    let o = Translator.kept .writes-sheet bytes entry n exit h in
+    let e = o .sheet in
+    let on-text : RanAsMeant bytes (sheetOfText (o .source)) stim τ out′ =
+    record {
+      tokens = o .tokens;
+      source = o .source;
+      reading = o .reading;
+      meant =
+          Meaning.kept .run-gives-meaning (o .tokens) (o .source) (o .reading .parsed) (o .good) stim out next τ result out′ next′
+          (subst (λ s. WellFormed s stim out next τ) e w) (subst (λ s. Gives s stim out next result out′ next′) e g);
+    } in
+    subst (λ s. RanAsMeant bytes s stim τ out′) (sym e) on-text
+
+-- the runs, by computation
+texts-run : TextsRun
+unfolding verdict byRecords byTypes wrongLength wrongHeader wrongRecord wrongNaming wrongType tooDeep depth nesting ancestry ancestryWithin circuit treeAt treeWithin alternatives alternativesWithin chain chainWithin pairOf typeAt typeWithin namings wellSaid askOf kindOf rowOf word count eval next undecidedRule circuitTerm write outputBy afterBy cycles wrongStimulus wrongByte bySlices answer finalOut finalNext
+texts-run =
+    let rows = Table.kept .rows-written in
+    ((rows .0, refl, refl, refl), ((rows .0, refl, refl, refl), ((rows .1 .0, refl, refl, refl), tt)))
+
+pub kept : TextCallPromises
+kept = record { translated-run-means = run-means; texts-run = texts-run }

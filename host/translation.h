@@ -1,0 +1,54 @@
+/* Translations of texts, made on slices that lie against unreadable pages. */
+#ifndef TRANSLATION_H
+#define TRANSLATION_H
+
+#include <stddef.h>
+#include <stdint.h>
+
+/* No text and no slice of a test is longer. */
+enum { MOST_TEXT = 80000, MOST_SLICE = 80000 };
+
+/* What a translation is lent: a slice to read, and the length of one to fill. */
+struct translation {
+    const uint8_t *text;
+    size_t text_length;
+    size_t sheet_length;
+};
+
+/* What it gave. The slice stands until the next call. */
+struct translated {
+    uint64_t result;
+    const uint8_t *sheet;
+    /* No byte of the slice was changed. */
+    int untouched;
+};
+
+/*
+ * Translates twice: both slices end at unreadable pages, or both begin after one. The text's pages are read-only meanwhile. The slice
+ * for the sheet is filled beforehand, with another byte for each call. Counts one failed where the two calls differ, or bytes beyond
+ * the slice are altered.
+ */
+struct translated guarded_translate(const char *name, const struct translation *lent);
+
+/* The text must be refused with this code at this place, and the slice must stay as it is. */
+void expect_text_refused(const char *name, const struct translation *lent, uint32_t code, uint32_t place);
+
+/* The text must give a sheet of so many bytes, these ones, and zeros from there to the end of the slice. */
+void expect_translated(const char *name, const struct translation *lent, const uint8_t *sheet, size_t length);
+
+/* The same, but for the sheet's bytes, which are not compared. */
+void expect_length(const char *name, const struct translation *lent, size_t length);
+
+/* Texts whose answer was worked out by hand: refusals by codes 13 and 14, and such as are none. */
+void wrong_texts(void);
+
+/* Texts whose records were worked out by hand, and lengths of the slice: codes 0 and 15. */
+void text_layouts(void);
+
+/* All of it, with the longest, the deepest and the widest texts. */
+void texts(void);
+
+/* The most stack that a translation uses, against the figure in sheet.h. */
+void measure_texts(void);
+
+#endif
