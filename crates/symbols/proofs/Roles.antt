@@ -2,7 +2,7 @@
 -- Assumes nothing.
 use Prim.Native.Nat.{ℕ, zero, suc, _+_, _-_, _≤_, _<_}
 use native.Mathlib.Omega.{arith}
-use native.Mathlib.Decide.{decLt}
+use native.Mathlib.Decide.{ℕ-discrete, decLt}
 use mathlib.Core.Path.{_≡_, refl, sym, ap, subst, _∙_}
 use mathlib.Core.Bool.{Bool, true, false, cond}
 use mathlib.Core.List.{List, [], _∷_}
@@ -170,3 +170,22 @@ module _ (text spans roles : List ℕ) (base limit span k : ℕ) (low : base ≤
 
     pub nothing-alone : k ≡ 0 → false ≡ sameName (nameOf text span) input → 4 ≡ declaredRole text spans roles base span
     nothing-alone z e = nothing-found (omega arith) z e ∙ alone (omega arith)
+
+    -- and for its entry among them
+    pub declared-there : k ≤ base → k ≡ nearest text spans (nameOf text span) base
+    declared-there h = found-whole ∙ found-low text spans roles base (nameOf text span) (limit - base) (subst (λ x. x ≤ base) found-whole h)
+
+    pub declared-nowhere : BoundRoles text spans roles base limit → base < k → 1 < getD roles (k - 1) 0 → 0 ≡ nearest text spans (nameOf text span) base
+    declared-nowhere b h l = go (nearest text spans (nameOf text span) base) refl (ℕ-discrete (nearest text spans (nameOf text span) base) 0)
+      where
+        go : (j : ℕ) → nearest text spans (nameOf text span) base ≡ j → Dec (j ≡ 0) → 0 ≡ j
+        go j e (yes z) = sym z
+        go j e (no z) =
+            let f : getD roles (k - 1) 0 ≡ getD roles (j - 1) 0
+            = entry-alone b (λ o. omega arith) .0
+            ∙ declared-entry text spans roles base (nameOf text span) base (r .few-roles)
+            ∙ ap (byEntry text spans roles base (nameOf text span)) e
+            ∙ ap (λ x. cond x (cond (sameName (nameOf text span) input) 2 4) (getD roles (j - 1) 0)) (ne-eqb j 0 z) in
+            let u = subst (λ x. x ≤ base) e (nearest-below text spans (nameOf text span) base) in
+            let v = r .few-roles (j - 1) (omega (arith, z)) in
+            absurd (omega arith)

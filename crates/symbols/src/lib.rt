@@ -243,3 +243,28 @@ pub fn declared_role(
     }
     ROLE_NONE
 }
+
+// The last of the declared names that is the same, counted from 1, or 0. Where the nearest name is a bound one that no declared name is
+// the same as, the search ends with it.
+pub fn find_declared(
+    text: &[u8],
+    span: u32,
+    base: usize,
+    n: usize,
+    spans: &Spans,
+    links: &Links,
+    heads: &Heads,
+    roles: &NameRoles,
+) -> usize
+    requires { ⌜ Hashed (now text) n (now spans) (now links) (now heads) × Inside (now text) span × (base ≤ n) × Roles (now roles) base × BoundRoles (now text) (now spans) (now roles) base n ⌝ }
+    ensures { λ r. ⌜ r ≡ nearest (now (text .entry)) (now (spans .entry)) (nameOf (now (text .entry)) span) base ⌝ }
+{
+    let k = find(text, span, n, n, spans, links, heads);
+    if k <= base {
+        return k;
+    }
+    if ROLE_CONSTRUCTOR < roles[k - 1] {
+        return 0;
+    }
+    find(text, span, base, n, spans, links, heads)
+}
