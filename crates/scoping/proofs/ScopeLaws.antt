@@ -14,7 +14,7 @@ use Rattle.naming.specs.Declared.{DeclaredName, declaredAs, aType, aConstructor
 use Rattle.grammar.specs.Rows.{State}
 use Rattle.naming.specs.TokenWalk.{NameScope, scope, declarePending, ScopeEffect, mayTake, holdsIn, metIn, leftBy, noneBound}
 use Rattle.naming.specs.TokenWalk.{declaresFirst, declaresNext, declaresPending, pends, binds, bindPending, unbind, endedBy}
-use Rattle.symbols.specs.Names.{nameOf, Inside, declaredNames, boundNames, Hashed, Roles, BoundRoles}
+use Rattle.symbols.specs.Names.{nameOf, Inside, declaredNames, boundNames, Hashed, Roles}
 use Rattle.scoping.specs.Scoped.{pendingNames, heldScope, Scoping, Rescoped, NameBound, NameNoted, effectOf}
 
 -- the name that waits on top
