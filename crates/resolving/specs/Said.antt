@@ -8,7 +8,7 @@ use lib.Dec.{eqb, leb}
 use Rattle.grammar.specs.Rows.{State, states}
 use Rattle.naming.specs.Declared.{DeclaredName, isDeclared, typeRole}
 use Rattle.reading.specs.Coded.{leadBytes}
-use Rattle.symbols.specs.Names.{declaredNames, Hashed, Roles}
+use Rattle.symbols.specs.Names.{declaredNames, Hashed, Roles, BoundRoles}
 use Rattle.instructions.specs.Instruction.{Instruction, heldFrom}
 use Rattle.instructions.specs.TokenOrder.{opBy, declaredSaid, declaredOp, nameSaid, otherSaid, pairBefore}
 
@@ -70,6 +70,7 @@ pub record Declares (text spans roles : List ℕ) (base : ℕ) (spans′ roles�
 pub record Speaking (text : List ℕ) (base n : ℕ) (spans links heads roles types ranks : List ℕ) (count : ℕ) (ops firsts seconds : List ℕ) : Type 0 where
   pub hashed : Hashed text n spans links heads
   pub named : Roles roles base
+  pub bound-roles : BoundRoles text spans roles base n
   pub above : base ≤ n
   pub narrow : n ≤ 65535
   pub numbered : Numbered roles types ranks base

@@ -19,6 +19,7 @@ use symbols::ROLE_CONSTRUCTOR;
 use symbols::ROLE_TYPE;
 use symbols::Spans;
 use symbols::find;
+use symbols::find_declared;
 
 const USE_NAME: u8 = 5;
 
@@ -117,7 +118,7 @@ fn say_declared(
     requires { ⌜ Speaking (now text) base n (now spans) (now links) (now heads) (now roles) (now types) (now ranks) count (now ops) (now firsts) (now seconds) × Inside (now text) span ⌝ }
     ensures { λ r. ⌜ CodeSaid (now (ops .entry)) (now (firsts .entry)) (now (seconds .entry)) count (namedSaid op delayed (nameOf (now (text .entry)) span) (declaredNames (now (text .entry)) (now (spans .entry)) (now (roles .entry)) base) ∷ []) (now (ops .exit)) (now (firsts .exit)) (now (seconds .exit)) r ⌝ }
 {
-    let k = find(text, span, base, n, spans, links, heads);
+    let k = find_declared(text, span, base, n, spans, links, heads, roles);
     say(
         declared_op(op, delayed, has_role(k, ROLE_TYPE, roles)),
         entry(k, types),

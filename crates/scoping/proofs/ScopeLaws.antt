@@ -14,54 +14,8 @@ use Rattle.naming.specs.Declared.{DeclaredName, declaredAs, aType, aConstructor
 use Rattle.grammar.specs.Rows.{State}
 use Rattle.naming.specs.TokenWalk.{NameScope, scope, declarePending, ScopeEffect, mayTake, holdsIn, metIn, leftBy, noneBound}
 use Rattle.naming.specs.TokenWalk.{declaresFirst, declaresNext, declaresPending, pends, binds, bindPending, unbind, endedBy}
-use Rattle.symbols.specs.Names.{nameOf, Inside, declaredNames, boundNames, roleNamed, Hashed, Roles}
-use Rattle.scoping.specs.Scoped.{pendingNames, heldScope, Scoping, Rescoped, NameNoted, effectOf}
-
-module _ (text spans : List ℕ) (n v : ℕ) where
-  declared-kept : (roles roles′ : List ℕ) (m : ℕ) → m ≤ n → ((k : ℕ) → k < m → getD roles′ k 0 ≡ getD roles k 0)
-      → declaredNames text (set spans n v) roles′ m ≡ declaredNames text spans roles m
-  declared-kept roles roles′ zero h s = refl
-  declared-kept roles roles′ (suc k) h s =
-      ap₂ (λ x r. declaredAs (nameOf text x) (roleNamed r) ∷ declaredNames text (set spans n v) roles′ k)
-      (getD-set-other spans n k v 0 (λ e. omega arith)) (s k (omega arith))
-      ∙ ap (λ D. declaredAs (nameOf text (getD spans k 0)) (roleNamed (getD roles k 0)) ∷ D)
-      (declared-kept roles roles′ k (omega arith) (λ j l. s j (omega arith)))
-
-  bound-kept : (base k : ℕ) → base + k ≤ n → boundNames text (set spans n v) base k ≡ boundNames text spans base k
-  bound-kept base zero h = refl
-  bound-kept base (suc k) h =
-      ap₂ (λ x B. nameOf text x ∷ B) (getD-set-other spans n (base + k) v 0 (λ e. omega arith)) (bound-kept base k (omega arith))
-
-  bound-more : (base : ℕ) → base ≤ n → n < length spans
-      → boundNames text (set spans n v) base (n + 1 - base) ≡ nameOf text v ∷ boundNames text spans base (n - base)
-  bound-more base h l =
-      let e : n + 1 - base ≡ suc (n - base) = omega arith in
-      let f : base + (n - base) ≡ n = omega arith in
-      ap (boundNames text (set spans n v) base) e
-      ∙ ap₂ (λ x B. nameOf text x ∷ B) (ap (λ k. getD (set spans n v) k 0) f ∙ getD-set-same spans n v 0 l)
-      (bound-kept base (n - base) (omega arith))
-
--- one declared name more
-pub roles-more : {roles : List ℕ} {n : ℕ} (kind : ℕ) → Roles roles n → n < 65536 → kind < 2 → Roles (set roles n kind) (n + 1)
-roles-more {roles} {n} kind r low few =
-    record { roles-long = length-set roles n kind ∙ r .roles-long; few-roles = λ k h. go k h (ℕ-discrete k n) }
-  where
-    go : (k : ℕ) → k < n + 1 → Dec (k ≡ n) → getD (set roles n kind) k 0 < 2
-    go k h (yes f) =
-        subst (λ x. x < 2)
-        (sym (ap (λ j. getD (set roles n kind) j 0) f ∙ getD-set-same roles n kind 0 (omega (arith, r .roles-long)))) few
-    go k h (no f) = subst (λ x. x < 2) (sym (getD-set-other roles n k kind 0 f)) (r .few-roles k (omega (arith, f)))
-
-pub declared-more : {roles spans′ : List ℕ} {n : ℕ} (text spans : List ℕ) (span kind : ℕ) → spans′ ≡ set spans n span → Roles roles n → n < 65536
-    → length spans ≡ 65536
-    → declaredNames text spans′ (set roles n kind) (n + 1) ≡ declaredAs (nameOf text span) (roleNamed kind) ∷ declaredNames text spans roles n
-declared-more {roles} {n} text spans span kind e r low long =
-    ap (λ s. declaredNames text s (set roles n kind) (n + 1)) e
-    ∙ ap (declaredNames text (set spans n span) (set roles n kind)) (add-one n)
-    ∙ ap₂ (λ x k. declaredAs (nameOf text x) (roleNamed k) ∷ declaredNames text (set spans n span) (set roles n kind) n)
-    (getD-set-same spans n span 0 (omega (arith, long))) (getD-set-same roles n kind 0 (omega (arith, r .roles-long)))
-    ∙ ap (λ D. declaredAs (nameOf text span) (roleNamed kind) ∷ D)
-    (declared-kept text spans n span roles (set roles n kind) n (omega arith) (λ k h. getD-set-other roles n k kind 0 (λ z. omega arith)))
+use Rattle.symbols.specs.Names.{nameOf, Inside, declaredNames, boundNames, Hashed, Roles}
+use Rattle.scoping.specs.Scoped.{pendingNames, heldScope, Scoping, Rescoped, NameBound, NameNoted, effectOf}
 
 -- the name that waits on top
 pub pending-top : (text pendings : List ℕ) (m : ℕ) → (m ≡ 0 → ⊥)
@@ -78,6 +32,7 @@ module _ {text : List ℕ} {base m : ℕ} {spans links heads roles pendings : Li
     scoping = record {
       hashed = s .hashed;
       named = s .named;
+      bound-roles = s .bound-roles;
       above = s .above;
       pendings-long = s .pendings-long;
       pendings-inside = s .pendings-inside;
@@ -96,6 +51,7 @@ module _ {text : List ℕ} {base m : ℕ} {spans links heads roles pendings : Li
     scoping = record {
       hashed = t;
       named = r;
+      bound-roles = λ k h l. absurd (omega arith);
       above = omega arith;
       pendings-long = s .pendings-long;
       pendings-inside = λ k h. s .pendings-inside k (omega arith);
@@ -119,6 +75,7 @@ pub roomier : {text : List ℕ} {room base n m : ℕ} {spans links heads roles p
 roomier more h l s = record {
   hashed = s .hashed;
   named = s .named;
+  bound-roles = s .bound-roles;
   above = s .above;
   pendings-long = s .pendings-long;
   pendings-inside = s .pendings-inside;
@@ -162,6 +119,7 @@ module _ {text : List ℕ} {base n m : ℕ} {spans links heads roles pendings : 
     scoping = record {
       hashed = s .hashed;
       named = s .named;
+      bound-roles = s .bound-roles;
       above = s .above;
       pendings-long = s .pendings-long;
       pendings-inside = s .pendings-inside;
@@ -178,6 +136,7 @@ module _ {text : List ℕ} {base n m : ℕ} {spans links heads roles pendings : 
     scoping = record {
       hashed = t;
       named = r;
+      bound-roles = λ k h l. absurd (omega arith);
       above = omega arith;
       pendings-long = s .pendings-long;
       pendings-inside = s .pendings-inside;
@@ -209,6 +168,7 @@ module _ {text : List ℕ} {base n m : ℕ} {spans links heads roles pendings : 
     scoping = record {
       hashed = s .hashed;
       named = s .named;
+      bound-roles = s .bound-roles;
       above = s .above;
       pendings-long = length-set pendings m span ∙ s .pendings-long;
       pendings-inside = inside-set span h;
@@ -221,37 +181,30 @@ module _ {text : List ℕ} {base n m : ℕ} {spans links heads roles pendings : 
         ∙ ap₂ (λ x P. nameOf text x ∷ P) (getD-set-same pendings m span 0 (omega (arith, s .pendings-long, s .few))) (pending-kept span m (omega arith)));
   }
 
-  bound-after : {spans′ : List ℕ} (span : ℕ) → spans′ ≡ set spans n span
-      → scope (pendingNames text pendings m) (boundNames text spans′ base (n + 1 - base)) (declaredNames text spans′ roles base)
-      ≡ scope (pendingNames text pendings m) (nameOf text span ∷ boundNames text spans base (n - base)) (declaredNames text spans roles base)
-  bound-after span e =
-      ap₂ (λ B D. scope (pendingNames text pendings m) B D)
-      (ap (λ l. boundNames text l base (n + 1 - base)) e
-      ∙ bound-more text spans n span base (s .above) (omega (arith, s .few, s .hashed .spans-long)))
-      (ap (λ l. declaredNames text l roles base) e ∙ declared-kept text spans n span roles roles base (s .above) (λ k h. refl))
-
-  pub bind-after : {spans′ links′ heads′ : List ℕ} (span : ℕ) → Hashed text (n + 1) spans′ links′ heads′ → spans′ ≡ set spans n span
-      → Rescoped (leftBy binds (nameOf text span) before) text (n + m + 1) base (n + 1) m spans′ links′ heads′ roles pendings
-  bind-after span t e = record {
+  pub bind-after : {span : ℕ} {spans′ links′ heads′ roles′ : List ℕ} → NameBound text span base n spans roles spans′ links′ heads′ roles′
+      → Rescoped (leftBy binds (nameOf text span) before) text (n + m + 1) base (n + 1) m spans′ links′ heads′ roles′ pendings
+  bind-after b = record {
     scoping = record {
-      hashed = t;
-      named = s .named;
+      hashed = b .hashed;
+      named = b .named;
+      bound-roles = b .bound-roles;
       above = omega (arith, s .above);
       pendings-long = s .pendings-long;
       pendings-inside = s .pendings-inside;
       few = omega arith;
       roomy = omega (arith, s .few);
     };
-    same-scope = bound-after span e;
+    same-scope = ap₂ (λ B D. scope (pendingNames text pendings m) B D) (b .one-more) (b .same-declared);
   }
 
-  pub bind-pending-after : {spans′ links′ heads′ : List ℕ} → (m ≡ 0 → ⊥) → Hashed text (n + 1) spans′ links′ heads′
-      → spans′ ≡ set spans n (getD pendings (m - 1) 0)
-      → Rescoped (bindPending before) text (n + m + 1) base (n + 1) (m - 1) spans′ links′ heads′ roles pendings
-  bind-pending-after nz t e = record {
+  pub bind-pending-after : {spans′ links′ heads′ roles′ : List ℕ} → (m ≡ 0 → ⊥)
+      → NameBound text (getD pendings (m - 1) 0) base n spans roles spans′ links′ heads′ roles′
+      → Rescoped (bindPending before) text (n + m + 1) base (n + 1) (m - 1) spans′ links′ heads′ roles′ pendings
+  bind-pending-after nz b = record {
     scoping = record {
-      hashed = t;
-      named = s .named;
+      hashed = b .hashed;
+      named = b .named;
+      bound-roles = b .bound-roles;
       above = omega (arith, s .above);
       pendings-long = s .pendings-long;
       pendings-inside = λ k h. s .pendings-inside k (omega arith);
@@ -259,11 +212,7 @@ module _ {text : List ℕ} {base n m : ℕ} {spans links heads roles pendings : 
       roomy = omega (arith, s .few);
     };
     same-scope =
-        ap₂ (λ B D. scope (pendingNames text pendings (m - 1)) B D)
-        (ap (λ l. boundNames text l base (n + 1 - base)) e
-        ∙ bound-more text spans n (getD pendings (m - 1) 0) base (s .above) (omega (arith, s .few, s .hashed .spans-long)))
-        (ap (λ l. declaredNames text l roles base) e
-        ∙ declared-kept text spans n (getD pendings (m - 1) 0) roles roles base (s .above) (λ k h. refl))
+        ap₂ (λ B D. scope (pendingNames text pendings (m - 1)) B D) (b .one-more) (b .same-declared)
         ∙ sym
         (ap (λ P. bindPending (scope P (boundNames text spans base (n - base)) (declaredNames text spans roles base))) (pending-top text pendings m nz));
   }
@@ -274,6 +223,7 @@ module _ {text : List ℕ} {base n m : ℕ} {spans links heads roles pendings : 
     scoping = record {
       hashed = t;
       named = s .named;
+      bound-roles = λ k j l. s .bound-roles k j (omega arith);
       above = omega arith;
       pendings-long = s .pendings-long;
       pendings-inside = s .pendings-inside;
@@ -441,6 +391,7 @@ pub first-scoping : {text spans links heads roles pendings : List ℕ} → Hashe
 first-scoping t r l = record {
   hashed = t;
   named = r;
+  bound-roles = λ k h j. absurd (omega arith);
   above = omega arith;
   pendings-long = l;
   pendings-inside = λ k h. absurd (omega arith);

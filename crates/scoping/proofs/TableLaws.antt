@@ -10,7 +10,7 @@ use lib.Dec.{eqb}
 use Rattle.grammar.specs.Rows.{State, states, start}
 use Rattle.reading.specs.Coded.{stateOf, leadBytes}
 use Rattle.naming.specs.TokenWalk.{NameRule, newName, typeUse, patternUse, constantUse, valueUse, ruleless, admits, ruleIn, roleIn, searchedAmong, holdsIn, NameScope, scope, boundIn}
-use Rattle.symbols.specs.Names.{nameOf, declaredNames, boundNames, roleAmong}
+use Rattle.symbols.specs.Names.{nameOf, declaredNames, boundNames, roleAmong, declaredRole}
 use Rattle.scoping.specs.Scoped.{bitOf, searchesBound, admissionRow, admissionTable, effectTable, effectNumber, effectBy, pendingNames, heldScope}
 
 pub mapped-at : {A B : Type 0} (f : A → B) (l : List A) (c : ℕ) (d : A) (e : B) → c < length l → getD (map f l) c e ≡ f (getD l c d)
@@ -85,11 +85,9 @@ module _ {table : List (List ℕ)} {state s : ℕ} (t : table ≡ admissionTable
         admitted c k (boundNames text spans base (n - base)) m pendings d f l
         (bound-searched (ruleIn q) (heldScope text base n m spans roles pendings) (sym (admission-read table state s 5 t h e) ∙ b))
 
-    pub declared-admitted : (c k : ℕ) → (getD (getD table s []) 5 0 ≡ 1 → ⊥) → c ≡ k → k ≡ roleAmong text spans roles base (base - base) span → k < 5
+    pub declared-admitted : (c k : ℕ) → (getD (getD table s []) 5 0 ≡ 1 → ⊥) → c ≡ k → k ≡ declaredRole text spans roles base span → k < 5
         → (m : ℕ) (pendings : List ℕ)
         → eqb (getD (getD table s []) c 0) 1 ≡ holdsIn q (nameOf text span) (heldScope text base n m spans roles pendings)
     declared-admitted c k b d f l m pendings =
-        let z : base - base ≡ 0 = omega arith in
-        admitted c k [] m pendings d
-        (f ∙ ap (λ x. roleIn (nameOf text span) (boundNames text spans base x) (declaredNames text spans roles base)) z) l
+        admitted c k [] m pendings d f l
         (none-searched (ruleIn q) (heldScope text base n m spans roles pendings) (λ o. b (admission-read table state s 5 t h e ∙ o)))

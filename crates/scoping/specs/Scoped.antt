@@ -11,7 +11,7 @@ use Rattle.reading.specs.Coded.{leadBytes, stateOf}
 use Rattle.naming.specs.TokenWalk.{NameRule, newName, typeUse, patternUse, constantUse, valueUse, ruleless, admits, ruleIn, stateRules, leadFrom, effectFrom}
 use Rattle.naming.specs.TokenWalk.{ScopeEffect, keepsScope, pends, declaresFirst, declaresNext, binds, bindsPending, declaresPending, unbinds}
 use Rattle.naming.specs.TokenWalk.{NameScope, scope, mayTake, holdsIn, metIn, leftBy}
-use Rattle.symbols.specs.Names.{nameOf, Inside, declaredNames, boundNames, Hashed, Roles}
+use Rattle.symbols.specs.Names.{nameOf, Inside, declaredNames, boundNames, Hashed, Roles, BoundRoles}
 
 -- the numbers of the tables
 abbrev pub bitOf : Bool → ℕ
@@ -66,11 +66,20 @@ heldScope text base n m spans roles pendings =
 pub record Scoping (text : List ℕ) (room base n m : ℕ) (spans links heads roles pendings : List ℕ) : Type 0 where
   pub hashed : Hashed text n spans links heads
   pub named : Roles roles base
+  pub bound-roles : BoundRoles text spans roles base n
   pub above : base ≤ n
   pub pendings-long : length pendings ≡ 65536
   pub pendings-inside : (k : ℕ) → k < m → Inside text (getD pendings k 0)
   pub few : n + m ≤ room
   pub roomy : room ≤ 65536
+
+-- what binding a name gives
+pub record NameBound (text : List ℕ) (span base n : ℕ) (spans roles spans′ links′ heads′ roles′ : List ℕ) : Type 0 where
+  pub hashed : Hashed text (n + 1) spans′ links′ heads′
+  pub named : Roles roles′ base
+  pub bound-roles : BoundRoles text spans′ roles′ base (n + 1)
+  pub one-more : boundNames text spans′ base (n + 1 - base) ≡ nameOf text span ∷ boundNames text spans base (n - base)
+  pub same-declared : declaredNames text spans′ roles′ base ≡ declaredNames text spans roles base
 
 -- the tables after a change hold a scope
 pub record Rescoped (S : NameScope) (text : List ℕ) (room base n m : ℕ) (spans links heads roles pendings : List ℕ) : Type 0 where

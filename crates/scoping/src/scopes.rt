@@ -6,8 +6,8 @@ ghost use Prim.Native.Nat.{ℕ, _+_, _≤_, _<_};
 ghost use Rattle.naming.specs.Declared.{declaredAs};
 ghost use Rattle.naming.specs.TokenWalk.{holdsIn, declarePending, declaresFirst, declaresNext, declaresPending, endedBy};
 ghost use Rattle.reading.specs.Coded.{stateOf};
-ghost use Rattle.symbols.specs.Names.{nameOf, Inside, Hashed, Roles, roleNamed, declaredNames};
-ghost use Rattle.scoping.specs.Scoped.{admissionTable, heldScope, Scoping, Rescoped, NameNoted, effectOf};
+ghost use Rattle.symbols.specs.Names.{nameOf, Inside, Hashed, Roles, BoundRoles, roleNamed, declaredNames};
+ghost use Rattle.scoping.specs.Scoped.{admissionTable, heldScope, Scoping, Rescoped, NameBound, NameNoted, effectOf};
 use crate::tables::Admissions;
 use reading::numbers::wide;
 use symbols::Heads;
@@ -16,6 +16,7 @@ use symbols::NameRoles;
 use symbols::ROLE_CONSTRUCTOR;
 use symbols::ROLE_TYPE;
 use symbols::Spans;
+use symbols::declared_role;
 use symbols::pop;
 use symbols::push;
 use symbols::role;
@@ -61,6 +62,25 @@ fn declare(
 {
     push(text, span, n, spans, links, heads);
     roles[n] = kind;
+}
+
+// One bound name more, with what its letters stand for among the declared names.
+fn bind(
+    text: &[u8],
+    span: u32,
+    base: usize,
+    n: usize,
+    spans: &mut Spans,
+    links: &mut Links,
+    heads: &mut Heads,
+    roles: &mut NameRoles,
+)
+    requires { ⌜ Hashed (now text) n (now spans) (now links) (now heads) × Inside (now text) span × (n < 65536) × (base ≤ n) × Roles (now roles) base × BoundRoles (now text) (now spans) (now roles) base n ⌝ }
+    ensures { λ _. ⌜ NameBound (now (text .entry)) span base n (now (spans .entry)) (now (roles .entry)) (now (spans .exit)) (now (links .exit)) (now (heads .exit)) (now (roles .exit)) ⌝ }
+{
+    let declared = declared_role(text, span, base, n, spans, links, heads, roles);
+    push(text, span, n, spans, links, heads);
+    roles[n] = declared;
 }
 
 // The name that waits is declared as a type.
@@ -116,7 +136,7 @@ fn holds(
     roles: &NameRoles,
     admissions: &Admissions,
 ) -> bool
-    requires { ⌜ Hashed (now text) n (now spans) (now links) (now heads) × Inside (now text) span × (base ≤ n) × Roles (now roles) base × (state < 47) × (now admissions ≡ admissionTable) ⌝ }
+    requires { ⌜ Hashed (now text) n (now spans) (now links) (now heads) × Inside (now text) span × (base ≤ n) × Roles (now roles) base × BoundRoles (now text) (now spans) (now roles) base n × (state < 47) × (now admissions ≡ admissionTable) ⌝ }
     ensures { λ r. ⌜ ((m : ℕ) (pendings : List ℕ) → r ≡ holdsIn (stateOf state) (nameOf (now (text .entry)) span) (heldScope (now (text .entry)) base n m (now (spans .entry)) (now (roles .entry)) pendings)) ⌝ }
 {
     let row = wide(state);
@@ -124,7 +144,7 @@ fn holds(
         let nearest = wide(role(text, span, base, n, n, spans, links, heads, roles));
         return admissions[row][nearest] == 1;
     }
-    let declared = wide(role(text, span, base, base, n, spans, links, heads, roles));
+    let declared = wide(declared_role(text, span, base, n, spans, links, heads, roles));
     admissions[row][declared] == 1
 }
 
@@ -401,7 +421,7 @@ pub fn note_name(
         };
     }
     if effect == BINDS {
-        push(text, span, n, spans, links, heads);
+        bind(text, span, base, n, spans, links, heads, roles);
         return Counts {
             ok: true,
             base,
@@ -427,15 +447,15 @@ pub fn note_other(
     spans: &mut Spans,
     links: &mut Links,
     heads: &mut Heads,
-    roles: &NameRoles,
+    roles: &mut NameRoles,
     pendings: &Spans,
 ) -> Counts
     requires { ⌜ Scoping (now text) 65534 base n m (now spans) (now links) (now heads) (now roles) (now pendings) ⌝ }
-    ensures { λ r. ⌜ Rescoped (endedBy (effectOf effect) (heldScope (now (text .entry)) base n m (now (spans .entry)) (now (roles .entry)) (now (pendings .entry)))) (now (text .entry)) (n + m + 1) (r .base) (r .all) (r .waiting) (now (spans .exit)) (now (links .exit)) (now (heads .exit)) (now (roles .entry)) (now (pendings .entry)) ⌝ }
+    ensures { λ r. ⌜ Rescoped (endedBy (effectOf effect) (heldScope (now (text .entry)) base n m (now (spans .entry)) (now (roles .entry)) (now (pendings .entry)))) (now (text .entry)) (n + m + 1) (r .base) (r .all) (r .waiting) (now (spans .exit)) (now (links .exit)) (now (heads .exit)) (now (roles .exit)) (now (pendings .entry)) ⌝ }
 {
     if effect == BINDS_PENDING {
         if m != 0 {
-            push(text, pendings[m - 1], n, spans, links, heads);
+            bind(text, pendings[m - 1], base, n, spans, links, heads, roles);
             return Counts {
                 ok: true,
                 base,

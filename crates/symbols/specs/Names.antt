@@ -77,3 +77,11 @@ pub record Roles (roles : List ℕ) (base : ℕ) : Type 0 where
 abbrev pub roleAmong : (text spans roles : List ℕ) (base extra span : ℕ) → ℕ
 roleAmong text spans roles base extra span =
     roleIn (nameOf text span) (boundNames text spans base extra) (declaredNames text spans roles base)
+
+-- among the declared names alone
+abbrev pub declaredRole : (text spans roles : List ℕ) (base span : ℕ) → ℕ
+declaredRole text spans roles base span = roleIn (nameOf text span) [] (declaredNames text spans roles base)
+
+-- each bound name has with it what its letters stand for among the declared names
+abbrev pub BoundRoles : (text spans roles : List ℕ) (base n : ℕ) → Type 0
+BoundRoles text spans roles base n = (k : ℕ) → base ≤ k → k < n → getD roles k 0 ≡ declaredRole text spans roles base (getD spans k 0)

@@ -6,7 +6,7 @@ ghost use Prim.Native.Nat.{ℕ, _+_, _-_, _/_, _%_, _≤_, _<_};
 ghost use mathlib.Core.List.{List};
 ghost use lib.ListN.{length, set};
 ghost use Rattle.naming.specs.Declared.{sameName, input};
-ghost use Rattle.symbols.specs.Names.{nameOf, Inside, hashOf, nearest, Hashed, Roles, roleAmong};
+ghost use Rattle.symbols.specs.Names.{nameOf, Inside, hashOf, nearest, Hashed, Roles, roleAmong, declaredRole, BoundRoles};
 
 // One more than the bytes of a text, and so than its names.
 pub const NAMES: usize = 65536;
@@ -218,4 +218,53 @@ pub fn role(
         return ROLE_INPUT;
     }
     ROLE_NONE
+}
+
+// What a name stands for among the declared names alone. The nearest name with its letters tells it, declared or bound.
+pub fn declared_role(
+    text: &[u8],
+    span: u32,
+    base: usize,
+    n: usize,
+    spans: &Spans,
+    links: &Links,
+    heads: &Heads,
+    roles: &NameRoles,
+) -> u8
+    requires { ⌜ Hashed (now text) n (now spans) (now links) (now heads) × Inside (now text) span × (base ≤ n) × Roles (now roles) base × BoundRoles (now text) (now spans) (now roles) base n ⌝ }
+    ensures { λ r. ⌜ (r ≡ declaredRole (now (text .entry)) (now (spans .entry)) (now (roles .entry)) base span) × (r < 5) ⌝ }
+{
+    let k = find(text, span, n, n, spans, links, heads);
+    if k != 0 {
+        return roles[k - 1];
+    }
+    if is_input(text, span) {
+        return ROLE_INPUT;
+    }
+    ROLE_NONE
+}
+
+// The last of the declared names that is the same, counted from 1, or 0. Where the nearest name is a bound one that no declared name is
+// the same as, the search ends with it.
+pub fn find_declared(
+    text: &[u8],
+    span: u32,
+    base: usize,
+    n: usize,
+    spans: &Spans,
+    links: &Links,
+    heads: &Heads,
+    roles: &NameRoles,
+) -> usize
+    requires { ⌜ Hashed (now text) n (now spans) (now links) (now heads) × Inside (now text) span × (base ≤ n) × Roles (now roles) base × BoundRoles (now text) (now spans) (now roles) base n ⌝ }
+    ensures { λ r. ⌜ r ≡ nearest (now (text .entry)) (now (spans .entry)) (nameOf (now (text .entry)) span) base ⌝ }
+{
+    let k = find(text, span, n, n, spans, links, heads);
+    if k <= base {
+        return k;
+    }
+    if ROLE_CONSTRUCTOR < roles[k - 1] {
+        return 0;
+    }
+    find(text, span, base, n, spans, links, heads)
 }

@@ -19,7 +19,7 @@ say-pair-requires : tie.Need-say-pair-requires
 say-pair-requires c κs = search needs
 
 say-name-requires : tie.Need-say-name-requires
-say-name-requires c κs = (record { hashed = c .before .before .before .before .before .before .before .before .before .pre .0 .hashed; named = c .before .before .before .before .before .before .before .before .before .pre .0 .named; above = c .before .before .before .before .before .before .before .before .before .pre .0 .above; narrow = c .before .before .before .before .before .before .before .before .before .pre .0 .narrow; numbered = c .before .before .before .before .before .before .before .before .before .pre .0 .numbered; sized = c .before .before .before .say-pair .ensures .sized }, c .before .before .before .before .before .before .before .before .before .pre .1)
+say-name-requires c κs = (record { hashed = c .before .before .before .before .before .before .before .before .before .pre .0 .hashed; named = c .before .before .before .before .before .before .before .before .before .pre .0 .named; bound-roles = c .before .before .before .before .before .before .before .before .before .pre .0 .bound-roles; above = c .before .before .before .before .before .before .before .before .before .pre .0 .above; narrow = c .before .before .before .before .before .before .before .before .before .pre .0 .narrow; numbered = c .before .before .before .before .before .before .before .before .before .pre .0 .numbered; sized = c .before .before .before .say-pair .ensures .sized }, c .before .before .before .before .before .before .before .before .before .pre .1)
 
 returns-2 : tie.Need-returns-2
 returns-2 c = said-as (class-name (c .before .before .before .before .before .before .before .before .before .before .args .op) (c .before .before .before .before .before .before .before .before .before .before .args .delayed) (nameOf (c .before .before .before .before .before .before .before .before .before .before .args .text .now) (c .before .before .before .before .before .before .before .before .before .before .args .span)) (boundNames (c .before .before .before .before .before .before .before .before .before .before .args .text .now) (c .before .before .before .before .before .before .before .before .before .before .args .spans .now) (c .before .before .before .before .before .before .before .before .before .before .args .base) (c .before .before .before .before .before .before .before .before .before .before .args .n - c .before .before .before .before .before .before .before .before .before .before .args .base)) (declaredNames (c .before .before .before .before .before .before .before .before .before .before .args .text .now) (c .before .before .before .before .before .before .before .before .before .before .args .spans .now) (c .before .before .before .before .before .before .before .before .before .before .args .roles .now) (c .before .before .before .before .before .before .before .before .before .before .args .base)) (c .before .before .before .before .before .before .before .before .before .before .args .class) (c .before .before .before .before .before .before .before .before .before .before .args .start) (stateOf (c .before .before .before .before .before .before .before .before .before .before .args .state)) (c .before .before .before .before .before .before .before .before .if1 .left)) (both-said (c .before .before .before .before .say-pair .ensures) (c .say-name .ensures))

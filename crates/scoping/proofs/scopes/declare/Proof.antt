@@ -2,7 +2,7 @@
 -- Assumes nothing.
 use borrow.Author.Needs.{needs}
 use native.Mathlib.Omega.{arith}
-use Rattle.scoping.proofs.ScopeLaws.{roles-more, declared-more}
+use Rattle.scoping.proofs.EntryLaws.{roles-more, declared-more}
 use Rattle.scoping.proofs.scopes.declare.Statement.{statement}
 use Rattle.scoping.proofs.scopes.declare.Tie as tie
 

@@ -13,7 +13,7 @@ mul-if1 : tie.Need-mul-if1
 mul-if1 c = search needs
 
 index-1-if1 : tie.Need-index-1-if1
-index-1-if1 c = (let h = c .before .before .pre .4 in let e = c .wide .ensures in omega arith)
+index-1-if1 c = (let h = c .before .before .pre .5 in let e = c .wide .ensures in omega arith)
 
 index-2-if1 : tie.Need-index-2-if1
 index-2-if1 c = search needs
@@ -28,16 +28,16 @@ mul-result : tie.Need-mul-result
 mul-result c = search needs
 
 index-1-result : tie.Need-index-1-result
-index-1-result c = (let h = c .before .before .before .before .before .before .pre .4 in let e = c .before .before .before .before .wide .ensures in omega arith)
+index-1-result c = (let h = c .before .before .before .before .before .before .pre .5 in let e = c .before .before .before .before .wide .ensures in omega arith)
 
 index-2-result : tie.Need-index-2-result
 index-2-result c = (let h = c .before .role .ensures .1 in let e = c .wide2 .ensures in omega arith)
 
 returns : tie.Need-returns
-returns c = nearest-admitted (c .before .before .before .before .before .before .before .pre .5) (c .before .before .before .before .before .before .before .pre .4) (c .before .before .before .before .before .wide .ensures) (c .before .before .before .before .before .before .before .args .text .now) (c .before .before .before .before .before .before .before .args .spans .now) (c .before .before .before .before .before .before .before .args .roles .now) (c .before .before .before .before .before .before .before .args .base) (c .before .before .before .before .before .before .before .args .n) (c .before .before .before .before .before .before .before .args .span) _ _ (c .before .before .before .if1 .taken) (c .before .wide2 .ensures) (c .before .before .role .ensures .0) (c .before .before .role .ensures .1)
+returns c = nearest-admitted (c .before .before .before .before .before .before .before .pre .6) (c .before .before .before .before .before .before .before .pre .5) (c .before .before .before .before .before .wide .ensures) (c .before .before .before .before .before .before .before .args .text .now) (c .before .before .before .before .before .before .before .args .spans .now) (c .before .before .before .before .before .before .before .args .roles .now) (c .before .before .before .before .before .before .before .args .base) (c .before .before .before .before .before .before .before .args .n) (c .before .before .before .before .before .before .before .args .span) _ _ (c .before .before .before .if1 .taken) (c .before .wide2 .ensures) (c .before .before .role .ensures .0) (c .before .before .role .ensures .1)
 
-role-requires-2 : tie.Need-role-requires-2
-role-requires-2 c κs = (c .before .before .before .before .pre .0, c .before .before .before .before .pre .1, search needs, search needs, c .before .before .before .before .pre .3)
+declared-role-requires : tie.Need-declared-role-requires
+declared-role-requires c κs = (c .before .before .before .before .pre .0, c .before .before .before .before .pre .1, c .before .before .before .before .pre .2, c .before .before .before .before .pre .3, c .before .before .before .before .pre .4)
 
 wide-requires-3 : tie.Need-wide-requires-3
 wide-requires-3 c κs = search needs
@@ -46,13 +46,13 @@ mul-result-2 : tie.Need-mul-result-2
 mul-result-2 c = search needs
 
 index-1-result-2 : tie.Need-index-1-result-2
-index-1-result-2 c = (let h = c .before .before .before .before .before .before .pre .4 in let e = c .before .before .before .before .wide .ensures in omega arith)
+index-1-result-2 c = (let h = c .before .before .before .before .before .before .pre .5 in let e = c .before .before .before .before .wide .ensures in omega arith)
 
 index-2-result-2 : tie.Need-index-2-result-2
-index-2-result-2 c = (let h = c .before .role2 .ensures .1 in let e = c .wide3 .ensures in omega arith)
+index-2-result-2 c = (let h = c .before .declared-role .ensures .1 in let e = c .wide3 .ensures in omega arith)
 
 returns-2 : tie.Need-returns-2
-returns-2 c = declared-admitted (c .before .before .before .before .before .before .before .pre .5) (c .before .before .before .before .before .before .before .pre .4) (c .before .before .before .before .before .wide .ensures) (c .before .before .before .before .before .before .before .args .text .now) (c .before .before .before .before .before .before .before .args .spans .now) (c .before .before .before .before .before .before .before .args .roles .now) (c .before .before .before .before .before .before .before .args .base) (c .before .before .before .before .before .before .before .args .n) (c .before .before .before .before .before .before .before .args .span) _ _ (c .before .before .before .if1 .left) (c .before .wide3 .ensures) (c .before .before .role2 .ensures .0) (c .before .before .role2 .ensures .1)
+returns-2 c = declared-admitted (c .before .before .before .before .before .before .before .pre .6) (c .before .before .before .before .before .before .before .pre .5) (c .before .before .before .before .before .wide .ensures) (c .before .before .before .before .before .before .before .args .text .now) (c .before .before .before .before .before .before .before .args .spans .now) (c .before .before .before .before .before .before .before .args .roles .now) (c .before .before .before .before .before .before .before .args .base) (c .before .before .before .before .before .before .before .args .n) (c .before .before .before .before .before .before .before .args .span) _ _ (c .before .before .before .if1 .left) (c .before .wide3 .ensures) (c .before .before .declared-role .ensures .0) (c .before .before .declared-role .ensures .1)
 
 pub holds-spec : {M : Type 1} → statement M
 holds-spec =
@@ -68,7 +68,7 @@ holds-spec =
     index-1-result
     index-2-result
     returns
-    role-requires-2
+    declared-role-requires
     wide-requires-3
     mul-result-2
     index-1-result-2

@@ -19,7 +19,7 @@ declare-pending-requires : tie.Need-declare-pending-requires
 declare-pending-requires c κs = based (c .before .before .before .before .if1 .left) (c .before .before .before .before .before .before .pre .0)
 
 holds-requires : tie.Need-holds-requires
-holds-requires c κs = (c .before .before .before .before .declare-pending .ensures .0 .scoping .hashed, c .before .before .before .before .before .before .before .before .before .before .before .pre .1, search needs, roles-as (c .before .before .before .before .declare-pending .ensures .1) (c .before .before .before .before .declare-pending .ensures .0 .scoping .named), c .before .before .before .before .before .before .before .before .before .before .before .pre .2, c .before .before .before .before .before .before .before .before .before .before .before .pre .3)
+holds-requires c κs = (c .before .before .before .before .declare-pending .ensures .0 .scoping .hashed, c .before .before .before .before .before .before .before .before .before .before .before .pre .1, search needs, roles-as (c .before .before .before .before .declare-pending .ensures .1) (c .before .before .before .before .declare-pending .ensures .0 .scoping .named), (λ k h l. absurd (omega arith)), c .before .before .before .before .before .before .before .before .before .before .before .pre .2, c .before .before .before .before .before .before .before .before .before .before .before .pre .3)
 
 returns-2 : tie.Need-returns-2
 returns-2 c = refused-name (first-told (c .before .before .before .before .before .before .before .before .before .before .before .before .before .pre .0) (stateOf (c .before .before .before .before .before .before .before .before .before .before .before .before .before .args .state)) (nameOf (c .before .before .before .before .before .before .before .before .before .before .before .before .before .args .text .now) (c .before .before .before .before .before .before .before .before .before .before .before .before .before .args .span)) false (c .before .before .before .before .before .before .before .before .before .before .before .if1 .left) (c .before .before .before .before .before .before .declare-pending .ensures .0) (c .before .before .before .before .before .before .declare-pending .ensures .1) (sym (not-true _ (c .if2 .taken)) ∙ c .before .holds .ensures (c .before .before .before .before .before .before .declare-pending .result .waiting) (c .before .before .before .before .before .before .before .before .before .before .before .before .before .args .pendings .now)))

@@ -31,7 +31,7 @@ returns-3 : tie.Need-returns-3
 returns-3 c = as-effect _ 6 (c .before .before .before .before .before .before .if3 .taken) refl (c .note-pair .ensures)
 
 holds-requires : tie.Need-holds-requires
-holds-requires c κs = (c .before .before .before .before .before .before .before .before .pre .0 .hashed, c .before .before .before .before .before .before .before .before .pre .1, c .before .before .before .before .before .before .before .before .pre .0 .above, c .before .before .before .before .before .before .before .before .pre .0 .named, c .before .before .before .before .before .before .before .before .pre .2, c .before .before .before .before .before .before .before .before .pre .3)
+holds-requires c κs = (c .before .before .before .before .before .before .before .before .pre .0 .hashed, c .before .before .before .before .before .before .before .before .pre .1, c .before .before .before .before .before .before .before .before .pre .0 .above, c .before .before .before .before .before .before .before .before .pre .0 .named, c .before .before .before .before .before .before .before .before .pre .0 .bound-roles, c .before .before .before .before .before .before .before .before .pre .2, c .before .before .before .before .before .before .before .before .pre .3)
 
 returns-4 : tie.Need-returns-4
 returns-4 c = refused-name (plain-told (stateOf (c .before .before .before .before .before .before .before .before .before .before .args .state)) (nameOf (c .before .before .before .before .before .before .before .before .before .before .args .text .now) (c .before .before .before .before .before .before .before .before .before .before .args .span)) (c .before .before .before .before .before .before .before .before .before .before .args .effect) (heldScope (c .before .before .before .before .before .before .before .before .before .before .args .text .now) (c .before .before .before .before .before .before .before .before .before .before .args .base) (c .before .before .before .before .before .before .before .before .before .before .args .n) (c .before .before .before .before .before .before .before .before .before .before .args .m) (c .before .before .before .before .before .before .before .before .before .before .args .spans .now) (c .before .before .before .before .before .before .before .before .before .before .args .roles .now) (c .before .before .before .before .before .before .before .before .before .before .args .pendings .now)) false (c .before .before .before .before .before .before .before .before .if1 .left) (c .before .before .before .before .before .before .before .if2 .left) (c .before .before .before .before .before .before .if3 .left) (sym (not-true _ (c .if4 .taken)) ∙ c .before .holds .ensures (c .before .before .before .before .before .before .before .before .before .before .args .m) (c .before .before .before .before .before .before .before .before .before .before .args .pendings .now)))
@@ -48,14 +48,14 @@ add-t35 c = (let h = c .before .before .before .before .before .before .before .
 returns-5 : tie.Need-returns-5
 returns-5 c = as-effect _ 1 (c .if5 .taken) refl (noted-name (sym (not-false _ (c .before .if4 .left)) ∙ c .before .before .holds .ensures (c .before .before .before .before .before .before .before .before .before .before .before .args .m) (c .before .before .before .before .before .before .before .before .before .before .before .args .pendings .now)) (pend-after (c .before .before .before .before .before .before .before .before .before .before .before .pre .0) (c .before .before .before .before .before .before .before .before .before .before .before .args .span) (c .before .before .before .before .before .before .before .before .before .before .before .pre .1)))
 
-push-requires : tie.Need-push-requires
-push-requires c κs = (c .before .before .before .before .before .before .before .before .before .before .before .before .before .before .before .pre .0 .hashed, c .before .before .before .before .before .before .before .before .before .before .before .before .before .before .before .pre .1, (let h = c .before .before .before .before .before .before .before .before .before .before .before .before .before .before .before .pre .0 .few in omega arith))
+bind-requires : tie.Need-bind-requires
+bind-requires c κs = (c .before .before .before .before .before .before .before .before .before .before .before .before .before .before .before .before .pre .0 .hashed, c .before .before .before .before .before .before .before .before .before .before .before .before .before .before .before .before .pre .1, (let h = c .before .before .before .before .before .before .before .before .before .before .before .before .before .before .before .before .pre .0 .few in omega arith), c .before .before .before .before .before .before .before .before .before .before .before .before .before .before .before .before .pre .0 .above, c .before .before .before .before .before .before .before .before .before .before .before .before .before .before .before .before .pre .0 .named, c .before .before .before .before .before .before .before .before .before .before .before .before .before .before .before .before .pre .0 .bound-roles)
 
-add-t42 : tie.Need-add-t42
-add-t42 c = (let h = c .before .before .before .before .before .before .before .before .before .before .before .before .before .before .before .before .pre .0 .few in omega arith)
+add-t43 : tie.Need-add-t43
+add-t43 c = (let h = c .before .before .before .before .before .before .before .before .before .before .before .before .before .before .before .before .before .pre .0 .few in omega arith)
 
 returns-6 : tie.Need-returns-6
-returns-6 c = as-effect _ 4 (c .before .before .before .before .if6 .taken) refl (noted-name (sym (not-false _ (c .before .before .before .before .before .before .if4 .left)) ∙ c .before .before .before .before .before .before .before .holds .ensures (c .before .before .before .before .before .before .before .before .before .before .before .before .before .before .before .before .args .m) (c .before .before .before .before .before .before .before .before .before .before .before .before .before .before .before .before .args .pendings .now)) (bind-after (c .before .before .before .before .before .before .before .before .before .before .before .before .before .before .before .before .pre .0) (c .before .before .before .before .before .before .before .before .before .before .before .before .before .before .before .before .args .span) (c .push .ensures .0) (c .push .ensures .1)))
+returns-6 c = as-effect _ 4 (c .before .before .before .before .before .if6 .taken) refl (noted-name (sym (not-false _ (c .before .before .before .before .before .before .before .if4 .left)) ∙ c .before .before .before .before .before .before .before .before .holds .ensures (c .before .before .before .before .before .before .before .before .before .before .before .before .before .before .before .before .before .args .m) (c .before .before .before .before .before .before .before .before .before .before .before .before .before .before .before .before .before .args .pendings .now)) (bind-after (c .before .before .before .before .before .before .before .before .before .before .before .before .before .before .before .before .before .pre .0) (c .bind .ensures)))
 
 returns-7 : tie.Need-returns-7
 returns-7 c = plain-noted (c .before .before .before .before .before .before .before .before .before .before .before .before .pre .0) (c .before .before .before .before .before .before .before .before .before .before .before .before .args .effect) (nameOf (c .before .before .before .before .before .before .before .before .before .before .before .before .args .text .now) (c .before .before .before .before .before .before .before .before .before .before .before .before .args .span)) (c .before .if5 .left) (c .before .before .before .before .before .before .before .before .before .before .if1 .left) (c .before .before .before .before .before .before .before .before .before .if2 .left) (c .if6 .left) (c .before .before .before .before .before .before .before .before .if3 .left) (plain-told (stateOf (c .before .before .before .before .before .before .before .before .before .before .before .before .args .state)) (nameOf (c .before .before .before .before .before .before .before .before .before .before .before .before .args .text .now) (c .before .before .before .before .before .before .before .before .before .before .before .before .args .span)) (c .before .before .before .before .before .before .before .before .before .before .before .before .args .effect) (heldScope (c .before .before .before .before .before .before .before .before .before .before .before .before .args .text .now) (c .before .before .before .before .before .before .before .before .before .before .before .before .args .base) (c .before .before .before .before .before .before .before .before .before .before .before .before .args .n) (c .before .before .before .before .before .before .before .before .before .before .before .before .args .m) (c .before .before .before .before .before .before .before .before .before .before .before .before .args .spans .now) (c .before .before .before .before .before .before .before .before .before .before .before .before .args .roles .now) (c .before .before .before .before .before .before .before .before .before .before .before .before .args .pendings .now)) true (c .before .before .before .before .before .before .before .before .before .before .if1 .left) (c .before .before .before .before .before .before .before .before .before .if2 .left) (c .before .before .before .before .before .before .before .before .if3 .left) (sym (not-false _ (c .before .before .if4 .left)) ∙ c .before .before .before .holds .ensures (c .before .before .before .before .before .before .before .before .before .before .before .before .args .m) (c .before .before .before .before .before .before .before .before .before .before .before .before .args .pendings .now)))
@@ -76,7 +76,7 @@ note-name-spec =
     element-write-pendings
     add-t35
     returns-5
-    push-requires
-    add-t42
+    bind-requires
+    add-t43
     returns-6
     returns-7)

@@ -10,32 +10,32 @@ use Rattle.scoping.proofs.ScopeLaws.{as-ended, bind-pending-after, unbi
 use Rattle.scoping.proofs.scopes.note_other.Statement.{statement}
 use Rattle.scoping.proofs.scopes.note_other.Tie as tie
 
-sub-push : tie.Need-sub-push
-sub-push c = omega (arith, c .if2 .taken)
+sub-bind : tie.Need-sub-bind
+sub-bind c = omega (arith, c .if2 .taken)
 
-mul-push : tie.Need-mul-push
-mul-push c = (let h = c .before .before .before .pre .few in omega (arith, c .if2 .taken))
+mul-bind : tie.Need-mul-bind
+mul-bind c = (let h = c .before .before .before .pre .few in omega (arith, c .if2 .taken))
 
-element-copy-out-push : tie.Need-element-copy-out-push
-element-copy-out-push c = (let h = c .before .before .before .pre .few in let l = c .before .before .before .pre .pendings-long in omega (arith, c .if2 .taken))
+element-copy-out-bind : tie.Need-element-copy-out-bind
+element-copy-out-bind c = (let h = c .before .before .before .pre .few in let l = c .before .before .before .pre .pendings-long in omega (arith, c .if2 .taken))
 
-push-requires : tie.Need-push-requires
-push-requires c κs = (c .before .before .before .before .before .before .before .pre .hashed, c .before .before .before .before .before .before .before .pre .pendings-inside (c .before .before .before .before .before .before .before .args .m - 1) (omega (arith, c .before .before .before .before .if2 .taken)), (let h = c .before .before .before .before .before .before .before .pre .few in omega arith))
+bind-requires : tie.Need-bind-requires
+bind-requires c κs = (c .before .before .before .before .before .before .before .before .pre .hashed, c .before .before .before .before .before .before .before .before .pre .pendings-inside (c .before .before .before .before .before .before .before .before .args .m - 1) (omega (arith, c .before .before .before .before .before .if2 .taken)), (let h = c .before .before .before .before .before .before .before .before .pre .few in omega arith), c .before .before .before .before .before .before .before .before .pre .above, c .before .before .before .before .before .before .before .before .pre .named, c .before .before .before .before .before .before .before .before .pre .bound-roles)
 
 add-t14 : tie.Need-add-t14
-add-t14 c = (let h = c .before .before .before .before .before .before .before .before .pre .few in omega arith)
+add-t14 c = (let h = c .before .before .before .before .before .before .before .before .before .pre .few in omega arith)
 
 sub-t15 : tie.Need-sub-t15
-sub-t15 c = omega (arith, c .before .before .before .before .before .if2 .taken)
+sub-t15 c = omega (arith, c .before .before .before .before .before .before .if2 .taken)
 
 returns : tie.Need-returns
-returns c = as-ended (heldScope (c .before .before .before .before .before .before .before .before .args .text .now) (c .before .before .before .before .before .before .before .before .args .base) (c .before .before .before .before .before .before .before .before .args .n) (c .before .before .before .before .before .before .before .before .args .m) (c .before .before .before .before .before .before .before .before .args .spans .now) (c .before .before .before .before .before .before .before .before .args .roles .now) (c .before .before .before .before .before .before .before .before .args .pendings .now)) _ 5 (c .before .before .before .before .before .before .if1 .taken) refl (bind-pending-after (c .before .before .before .before .before .before .before .before .pre) (c .before .before .before .before .before .if2 .taken) (c .push .ensures .0) (c .push .ensures .1))
+returns c = as-ended (heldScope (c .before .before .before .before .before .before .before .before .before .args .text .now) (c .before .before .before .before .before .before .before .before .before .args .base) (c .before .before .before .before .before .before .before .before .before .args .n) (c .before .before .before .before .before .before .before .before .before .args .m) (c .before .before .before .before .before .before .before .before .before .args .spans .now) (c .before .before .before .before .before .before .before .before .before .args .roles .now) (c .before .before .before .before .before .before .before .before .before .args .pendings .now)) _ 5 (c .before .before .before .before .before .before .before .if1 .taken) refl (bind-pending-after (c .before .before .before .before .before .before .before .before .before .pre) (c .before .before .before .before .before .before .if2 .taken) (c .bind .ensures))
 
 pop-requires : tie.Need-pop-requires
 pop-requires c κs = (c .before .before .before .before .before .before .before .pre .hashed, (let h = c .before .before .before .if4 .taken in omega arith))
 
-sub-t27 : tie.Need-sub-t27
-sub-t27 c = (let h = c .before .before .before .before .if4 .taken in omega arith)
+sub-t28 : tie.Need-sub-t28
+sub-t28 c = (let h = c .before .before .before .before .if4 .taken in omega arith)
 
 returns-2 : tie.Need-returns-2
 returns-2 c = as-ended (heldScope (c .before .before .before .before .before .before .before .before .args .text .now) (c .before .before .before .before .before .before .before .before .args .base) (c .before .before .before .before .before .before .before .before .args .n) (c .before .before .before .before .before .before .before .before .args .m) (c .before .before .before .before .before .before .before .before .args .spans .now) (c .before .before .before .before .before .before .before .before .args .roles .now) (c .before .before .before .before .before .before .before .before .args .pendings .now)) _ 7 (c .before .before .before .before .before .if3 .taken) refl (unbind-after (c .before .before .before .before .before .before .before .before .pre) (c .before .before .before .before .if4 .taken) (c .pop .ensures))
@@ -50,15 +50,15 @@ pub note-other-spec : {M : Type 1} → statement M
 note-other-spec =
     tie.close
     (tie.spec
-    sub-push
-    mul-push
-    element-copy-out-push
-    push-requires
+    sub-bind
+    mul-bind
+    element-copy-out-bind
+    bind-requires
     add-t14
     sub-t15
     returns
     pop-requires
-    sub-t27
+    sub-t28
     returns-2
     returns-3
     returns-4)

@@ -16,7 +16,7 @@ returns : tie.Need-returns
 returns c = refused-name (some-bound (c .before .before .args .text .now) (c .before .before .args .spans .now) (c .before .before .args .roles .now) (c .before .before .args .pendings .now) (c .before .before .args .base) (c .before .before .args .n) (c .before .before .args .m) (c .if1 .taken) (c .before .before .pre .0 .above) _)
 
 holds-requires : tie.Need-holds-requires
-holds-requires c κs = (based (c .before .before .before .before .if1 .left) (c .before .before .before .before .before .before .pre .0) .hashed, c .before .before .before .before .before .before .pre .1, search needs, c .before .before .before .before .before .before .pre .0 .named, c .before .before .before .before .before .before .pre .2, c .before .before .before .before .before .before .pre .3)
+holds-requires c κs = (based (c .before .before .before .before .if1 .left) (c .before .before .before .before .before .before .pre .0) .hashed, c .before .before .before .before .before .before .pre .1, search needs, c .before .before .before .before .before .before .pre .0 .named, (λ k h l. absurd (omega arith)), c .before .before .before .before .before .before .pre .2, c .before .before .before .before .before .before .pre .3)
 
 returns-2 : tie.Need-returns-2
 returns-2 c = refused-name (base-told (c .before .before .before .before .before .before .before .before .pre .0) (stateOf (c .before .before .before .before .before .before .before .before .args .state)) (nameOf (c .before .before .before .before .before .before .before .before .args .text .now) (c .before .before .before .before .before .before .before .before .args .span)) false (c .before .before .before .before .before .before .if1 .left) (sym (not-true _ (c .if2 .taken)) ∙ c .before .holds .ensures (c .before .before .before .before .before .before .before .before .args .m) (c .before .before .before .before .before .before .before .before .args .pendings .now)))
