@@ -10,4 +10,5 @@ pub mod PassesAgain
 pub mod Requirements
 pub mod Scopes
 pub mod Small
+pub mod TypeTables
 pub mod Witness
