@@ -3,9 +3,11 @@ pub mod AcceptedAgain
 pub mod LabelsAgain
 pub mod FittingWidths
 pub mod Refusing
+pub mod Callable
 pub mod Calls
 pub mod Laws
 pub mod LeafBounds
+pub mod PairWitness
 pub mod PassesAgain
 pub mod Requirements
 pub mod Scopes
