@@ -1,5 +1,5 @@
--- The text of sheet T (docs/SHEETS.md; row 1 of the table of sheets as text), its instructions, and tables of 65,536 entries: what the
--- instances of what the functions on texts ask are over.
+-- The text of sheet T (docs/SHEETS.md; row 1 of the table of sheets as text), its instructions, that of the parity checker (row 0), and tables
+-- of 65,536 entries: what the instances of what the functions on texts ask are over.
 -- Assumes nothing.
 use Prim.Native.Nat.{ℕ, _+_, _-_, _≤_}
 use mathlib.Core.Path.{_≡_}
@@ -22,6 +22,14 @@ short = omega arith
 pub inside : (span : ℕ) → T (leb (placeOf span + countOf span) 149) → Inside toggleText span
 unfolding toggleText
 inside span h = leb→le (placeOf span + countOf span) 149 h
+
+-- TYPE bit = hi | lo IN TYPE two = (bit, bit) IN INPUT bit (LET INIT ?bit REC xor = (DELAY (hi, (IF (input, xor) MATCHES (hi, lo) | (lo, hi) THEN hi ELSE lo))) IN xor)
+unfoldable pub parityText : List ℕ
+parityText = textAt 0 sheetRows
+
+pub inside-parity : (span : ℕ) → T (leb (placeOf span + countOf span) 165) → Inside parityText span
+unfolding parityText
+inside-parity span h = leb→le (placeOf span + countOf span) 165 h
 
 -- a table of 65,536 entries, with zeros after the first
 pub someZeros : ℕ → List ℕ

@@ -1,6 +1,6 @@
 -- What the functions ask of their callers that keep a text's names is not contradictory: on the text of sheet T there is an instance of each
 -- record that a `requires` of `symbols` or `scoping` names. The tables are those that the walk over T has at a token, which a comment
--- names by its place. T declares no pair type: `note_pair` is shown at the tables of `note_first`.
+-- names by its place. T declares no pair type: for `note_pair` the text is that of the parity checker.
 -- Assumes nothing.
 use Prim.Native.Nat.{ℕ, zero, suc, _≤_, _<_}
 use mathlib.Core.Path.{_≡_, refl, subst}
@@ -12,7 +12,7 @@ use Rattle.naming.specs.TokenWalk.{scope}
 use Rattle.symbols.specs.Names.{Inside, Hashed, Roles, declaredRole, BoundRoles}
 use Rattle.symbols.proofs.Search.{none-hashed, hashed-more}
 use Rattle.scoping.specs.Scoped.{admissionTable, heldScope, Scoping}
-use Rattle.text_calls.proofs.TextTables.{toggleText, inside, padded, padded-long, four-long}
+use Rattle.text_calls.proofs.TextTables.{toggleText, inside, parityText, inside-parity, padded, padded-long, four-long}
 
 -- The names of T, each by its place and letters: bit, one and two are declared, x is bound.
 abbrev pub spans₀ : List ℕ
@@ -21,7 +21,7 @@ spans₀ = padded (0 ∷ 0 ∷ 0 ∷ 0 ∷ [])
 abbrev spans₁ : List ℕ
 spans₁ = padded (163 ∷ 0 ∷ 0 ∷ 0 ∷ [])
 
-abbrev spans₂ : List ℕ
+abbrev pub spans₂ : List ℕ
 spans₂ = padded (163 ∷ 355 ∷ 0 ∷ 0 ∷ [])
 
 abbrev spans₃ : List ℕ
@@ -58,9 +58,12 @@ links₃ = set links₂ 2 (getD heads₂ 588 0)
 abbrev pub links₄ : List ℕ
 links₄ = set links₃ 3 (getD heads₃ 120 0)
 
-hashed₀ : Hashed toggleText 0 spans₀ spans₀ heads₀
+none-hashed-yet : (text : List ℕ) → Hashed text 0 spans₀ spans₀ heads₀
 unfolding heads₀
-hashed₀ = none-hashed toggleText spans₀ spans₀ (four-long 0 0 0 0) (four-long 0 0 0 0)
+none-hashed-yet text = none-hashed text spans₀ spans₀ (four-long 0 0 0 0) (four-long 0 0 0 0)
+
+hashed₀ : Hashed toggleText 0 spans₀ spans₀ heads₀
+hashed₀ = none-hashed-yet toggleText
 
 hashed₁ : Hashed toggleText 1 spans₁ links₁ heads₁
 unfolding toggleText
@@ -79,7 +82,7 @@ unfolding toggleText
 hashed₄ = hashed-more hashed₃ 1697 120 (inside 1697 tt) (omega arith) refl (omega arith)
 
 -- the roles of the declared names: a type and two constructors; x is none of them
-abbrev roles₂ : List ℕ
+abbrev pub roles₂ : List ℕ
 roles₂ = padded (0 ∷ 1 ∷ 0 ∷ 0 ∷ [])
 
 abbrev pub roles₃ : List ℕ
@@ -100,8 +103,8 @@ roles-of c d base h l = record { roles-long = four-long 0 1 c d; few-roles = λ 
 no-roles : Roles spans₀ 0
 no-roles = record { roles-long = four-long 0 0 0 0; few-roles = λ k m. absurd (omega arith) }
 
-none-bound : (spans roles : List ℕ) (base : ℕ) → BoundRoles toggleText spans roles base base
-none-bound spans roles base k l h = absurd (omega arith)
+none-bound : (text spans roles : List ℕ) (base : ℕ) → BoundRoles text spans roles base base
+none-bound text spans roles base k l h = absurd (omega arith)
 
 pub x-bound : BoundRoles toggleText spans₄ roles₄ 3 4
 unfolding toggleText
@@ -146,7 +149,7 @@ declare-asks = (hashed₂, inside 547 tt, omega arith, roles-of 0 0 2 (omega ari
 bind-asks : Hashed toggleText 3 spans₃ links₃ heads₃ × Inside toggleText 1697 × (3 < 65536) × (3 ≤ 3) × Roles roles₃ 3
     × BoundRoles toggleText spans₃ roles₃ 3 3
 bind-asks =
-    (hashed₃, inside 1697 tt, omega arith, omega arith, roles-of 1 0 3 (omega arith) (omega arith), none-bound spans₃ roles₃ 3)
+    (hashed₃, inside 1697 tt, omega arith, omega arith, roles-of 1 0 3 (omega arith) (omega arith), none-bound toggleText spans₃ roles₃ 3)
 
 -- the type's name is kept until `one`, its first constructor
 abbrev pub pendings : List ℕ
@@ -163,7 +166,7 @@ scoping-at-one : (room : ℕ) → 1 ≤ room → room ≤ 65536 → Scoping togg
 scoping-at-one room l h = record {
   hashed = hashed₀;
   named = no-roles;
-  bound-roles = none-bound spans₀ spans₀ 0;
+  bound-roles = none-bound toggleText spans₀ spans₀ 0;
   above = omega arith;
   pendings-long = pendings-long;
   pendings-inside = bit-pending;
@@ -175,7 +178,7 @@ scoping-at-two : Scoping toggleText 65534 2 2 0 spans₂ links₂ heads₂ roles
 scoping-at-two = record {
   hashed = hashed₂;
   named = roles-of 0 0 2 (omega arith) (omega arith);
-  bound-roles = none-bound spans₂ roles₂ 2;
+  bound-roles = none-bound toggleText spans₂ roles₂ 2;
   above = omega arith;
   pendings-long = pendings-long;
   pendings-inside = λ k m. absurd (omega arith);
@@ -211,7 +214,6 @@ holds-asks : Hashed toggleText 4 spans₄ links₄ heads₄ × Inside toggleText
 holds-asks =
     (hashed₄, inside 3233 tt, omega arith, roles-of 1 4 3 (omega arith) (omega arith), x-bound, omega arith, refl)
 
--- so asks `note_pair` too
 note-first-asks : Scoping toggleText 65534 0 0 1 spans₀ spans₀ heads₀ spans₀ pendings × Inside toggleText 355 × (4 < 47)
     × (admissionTable ≡ admissionTable)
 note-first-asks = (scoping-at-one 65534 (omega arith) (omega arith), inside 355 tt, omega arith, refl)
@@ -228,3 +230,47 @@ note-name-asks = (scoping-at-x 65534 (omega arith) (omega arith), inside 3233 tt
 -- the last bracket
 note-other-asks : Scoping toggleText 65534 3 4 0 spans₄ links₄ heads₄ roles₄ pendings
 note-other-asks = note-name-asks .0
+
+-- the second `bit` of `TYPE two = (bit, bit)`, at 39 in the parity checker: bit, hi and lo are declared, and two is kept for later
+abbrev pub paritySpans : List ℕ
+paritySpans = padded (163 ∷ 354 ∷ 514 ∷ 0 ∷ [])
+
+abbrev parityHeads : List ℕ
+parityHeads = set heads₁ 3329 2
+
+abbrev parityLinks : List ℕ
+parityLinks = set (set links₁ 1 (getD heads₁ 3329 0)) 2 (getD parityHeads 3459 0)
+
+parity-hashed : Hashed parityText 3 paritySpans parityLinks (set parityHeads 3459 3)
+unfolding parityText
+parity-hashed =
+    hashed-more
+    (hashed-more
+    (hashed-more (none-hashed-yet parityText) 163 3341 (inside-parity 163 tt) (omega arith) refl (omega arith))
+    354 3329 (inside-parity 354 tt) (omega arith) refl (omega arith))
+    514 3459 (inside-parity 514 tt) (omega arith) refl (omega arith)
+
+abbrev pub twoPending : List ℕ
+twoPending = padded (867 ∷ [])
+
+two-pending : (k : ℕ) → k < 1 → Inside parityText (getD twoPending k 0)
+two-pending zero h = inside-parity 867 tt
+two-pending (suc k) h = absurd (omega arith)
+
+note-pair-asks : Scoping parityText 65534 3 3 1 paritySpans parityLinks (set parityHeads 3459 3) roles₃ twoPending × Inside parityText 1251 × (9 < 47)
+    × (admissionTable ≡ admissionTable)
+note-pair-asks = (
+  record {
+    hashed = parity-hashed;
+    named = roles-of 1 0 3 (omega arith) (omega arith);
+    bound-roles = none-bound parityText paritySpans roles₃ 3;
+    above = omega arith;
+    pendings-long = padded-long (867 ∷ []) (omega arith);
+    pendings-inside = two-pending;
+    few = omega arith;
+    roomy = omega arith;
+  },
+  inside-parity 1251 tt,
+  omega arith,
+  refl,
+)

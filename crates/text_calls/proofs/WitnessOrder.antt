@@ -8,10 +8,16 @@ use mathlib.Core.Bool.{true}
 use mathlib.Core.List.{List, [], _∷_}
 use native.Mathlib.Omega.{arith}
 use lib.ListN.{length, getD, take}
+use Rattle.grammar.specs.Machine.{begins}
+use Rattle.naming.proofs.ByTokens.{firstScope}
 use Rattle.instructions.specs.Instruction.{heldFrom, heldCode}
+use Rattle.instructions.specs.TokenOrder.{walkInstructions}
 use Rattle.instructions.specs.Assembly.{nothingAssembled, assembleAll, typeHeld, heldTypes}
-use Rattle.assembling.specs.Held.{leavesOver, Threefold, TypesHeld, TypesGathered, heldAssembly, Assembling}
-use Rattle.text_calls.proofs.TextTables.{padded, padded-long, taken-long, four-long, ops, firsts, seconds}
+use Rattle.assembling.specs.Held.{leavesOver, lastConstructors, Threefold, TypesHeld, TypesGathered, heldAssembly, Assembling}
+use Rattle.assembling.specs.Assembled.{typesIn}
+use Rattle.assembling.proofs.TypeLaws.{held-fewer}
+use Rattle.text_table.specs.Lexer.{tokensIn}
+use Rattle.text_calls.proofs.TextTables.{parityText, padded, padded-long, taken-long, four-long, ops, firsts, seconds}
 
 -- A table of zeros, and the types: bit, with its constructors.
 abbrev zeros : List ℕ
@@ -62,33 +68,54 @@ count-constructor-asks = (bit-gathered 1 2 (omega arith) (omega arith), omega ar
 note-type-asks : TypesGathered 2 1 pairs (parts 1) others leaves × (2 < 65535) × (1 < 4)
 note-type-asks = (count-constructor-asks .0, omega arith, omega arith)
 
--- TYPE two = (bit, bit) of the parity checker: its first part is given, instruction 5; so asks `first_type` too
-second-type-asks : TypesGathered 5 2 (padded (0 ∷ 1 ∷ [])) (padded (2 ∷ 1 ∷ [])) (padded (0 ∷ 0 ∷ [])) (padded (1 ∷ 1 ∷ [])) × (5 < 65535)
-second-type-asks = (
-  record {
-    held =
-        record {
-          types-long = record { ops-long = two-long 0 1; firsts-long = two-long 2 1; seconds-long = two-long 0 0 };
-          leaves-long = two-long 1 1;
-          leaves-held = held;
-        };
-    few-types = omega arith;
-    few-constructors = omega arith;
-  },
-  omega arith,
-)
+-- TYPE two = (bit, bit) of the parity checker, the second type: pair is 1 where its first part is given
+abbrev twoPairs : ℕ → List ℕ
+twoPairs pair = padded (0 ∷ pair ∷ [])
+
+abbrev twoParts : ℕ → List ℕ
+twoParts first = padded (2 ∷ first ∷ [])
+
+abbrev twoOthers : List ℕ
+twoOthers = padded (0 ∷ 0 ∷ [])
+
+abbrev twoLeaves : List ℕ
+twoLeaves = padded (1 ∷ 1 ∷ [])
+
+two-gathered : (p a i : ℕ) → 1 ≡ leavesOver (heldTypes pairs (parts 2) others 1) (typeHeld p a 0) → 2 ≤ i
+    → lastConstructors (heldTypes (twoPairs p) (twoParts a) twoOthers 2) ≤ i → TypesGathered i 2 (twoPairs p) (twoParts a) twoOthers twoLeaves
+two-gathered p a i e h l = record {
+  held =
+      record {
+        types-long = record { ops-long = two-long 0 p; firsts-long = two-long 2 a; seconds-long = two-long 0 0 };
+        leaves-long = two-long 1 1;
+        leaves-held = held;
+      };
+  few-types = h;
+  few-constructors = l;
+}
   where
     held : (j : ℕ) → j < 2
-        → getD (padded (1 ∷ 1 ∷ [])) j 0
-        ≡ leavesOver (heldTypes (padded (0 ∷ 1 ∷ [])) (padded (2 ∷ 1 ∷ [])) (padded (0 ∷ 0 ∷ [])) j)
-        (typeHeld (getD (padded (0 ∷ 1 ∷ [])) j 0) (getD (padded (2 ∷ 1 ∷ [])) j 0) (getD (padded (0 ∷ 0 ∷ [])) j 0))
-    held zero h = refl
-    held (suc zero) h = refl
-    held (suc (suc j)) h = absurd (omega arith)
+        → getD twoLeaves j 0 ≡ leavesOver (heldTypes (twoPairs p) (twoParts a) twoOthers j) (typeHeld (getD (twoPairs p) j 0) (getD (twoParts a) j 0) (getD twoOthers j 0))
+    held zero m = refl
+    held (suc zero) m = e
+    held (suc (suc j)) m = absurd (omega arith)
 
--- and is set over bit
-set-type-asks : TypesHeld 1 pairs (parts 2) others leaves × (1 < 65536) × (2 ≡ leavesOver (heldTypes pairs (parts 2) others 1) (typeHeld 1 1 1))
-set-type-asks = (bit-held 2, omega arith, refl)
+-- instructions 4 and 5
+first-type-asks : TypesGathered 4 2 (twoPairs 0) (twoParts 0) twoOthers twoLeaves × (4 < 65535)
+first-type-asks = (two-gathered 0 0 4 refl (omega arith) (omega arith), omega arith)
+
+second-type-asks : TypesGathered 5 2 (twoPairs 1) (twoParts 1) twoOthers twoLeaves × (5 < 65535)
+second-type-asks = (two-gathered 1 1 5 refl (omega arith) (omega arith), omega arith)
+
+parity-types : heldTypes (twoPairs 1) (twoParts 1) twoOthers 2
+    ≡ typesIn (assembleAll nothingAssembled (take 5 (walkInstructions begins firstScope (tokensIn parityText))))
+unfolding parityText
+parity-types = refl
+
+-- the pair type is set over bit, with its two parts
+set-type-asks : TypesHeld 1 (twoPairs 1) (twoParts 1) twoOthers twoLeaves × (1 < 65536)
+    × (2 ≡ leavesOver (heldTypes (twoPairs 1) (twoParts 1) twoOthers 1) (typeHeld 1 1 1))
+set-type-asks = (held-fewer (twoPairs 1) (twoParts 1) twoOthers 1 (omega arith) (second-type-asks .0 .held), omega arith, refl)
 
 -- the instructions of T in record order
 abbrev pub orderedOps : List ℕ

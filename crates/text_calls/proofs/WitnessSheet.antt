@@ -1,14 +1,14 @@
 -- What the functions ask of their callers that write a text's sheet is not contradictory: on the text of sheet T there is an instance of each
 -- record that a `requires` of `emitting` or `translator` names. The stack is that of the calls on T at an instruction, which a comment
--- names. T has no pair in a pattern: `step_part` is shown at the tables of `step_alternative`.
+-- names. T has no pair in a pattern: for `step_part` the text is that of the parity checker.
 -- Assumes nothing.
-use Prim.Native.Nat.{ℕ, zero, suc, _+_, _*_, _≤_, _<_}
+use Prim.Native.Nat.{ℕ, zero, suc, _*_, _≤_, _<_}
 use mathlib.Core.Path.{_≡_, refl, sym, ap, _∙_}
 use mathlib.Core.Bool.{true}
 use mathlib.Core.List.{List, [], _∷_}
 use mathlib.Core.Option.{none}
 use native.Mathlib.Omega.{arith}
-use lib.ListN.{length, getD, take, replicate}
+use lib.ListN.{length, getD, take, replicate, length-replicate}
 use Rattle.grammar.specs.Tokens.{Token}
 use Rattle.grammar.specs.Source.{Text}
 use Rattle.grammar.specs.Legal.{Reading, Keeps}
@@ -21,10 +21,10 @@ use Rattle.naming.specs.TokenWalk.{walkChecks}
 use Rattle.naming.proofs.ByTokens.{firstScope, by-tokens}
 use Rattle.instructions.specs.Instruction.{heldFrom, heldCode}
 use Rattle.instructions.specs.TokenOrder.{walkInstructions}
-use Rattle.instructions.specs.Assembly.{nothingAssembled, assembleAll, leavesNumbered, heldTypes}
+use Rattle.instructions.specs.Assembly.{Assembly, nothingAssembled, assembleAll, leavesNumbered, heldTypes}
 use Rattle.instructions.specs.Emission.{Emission, emission, writtenOf, emitAll}
 use Rattle.instructions.proofs.Instructed.{instructed}
-use Rattle.assembling.specs.Assembled.{Assembled}
+use Rattle.assembling.specs.Assembled.{typesIn, codeIn, Assembled}
 use Rattle.emitting.specs.Tables.{heldStack, SomeLeaves}
 use Rattle.emitting.specs.Emitting.{Stacking, Advancing, Emitting}
 use Rattle.emitting.proofs.TypeLaws.{some-leaves}
@@ -33,9 +33,10 @@ use Rattle.translator.proofs.BadPlaces.{none-bad}
 use Rattle.translator.proofs.LaysOut.{laid-out}
 use Rattle.text_table.specs.SheetRows.{sheetRows}
 use Rattle.text_table.specs.Lexer.{tokensIn}
+use Rattle.text_table.specs.Computed.{assembledFrom}
 use Rattle.text_table.proofs.Lexed.{tokens-are}
 use Rattle.text_calls.specs.RunRows.{textAt}
-use Rattle.text_calls.proofs.TextTables.{toggleText, padded, padded-long, taken-long, ops, firsts, seconds}
+use Rattle.text_calls.proofs.TextTables.{toggleText, parityText, padded, padded-long, taken-long, ops, firsts, seconds}
 use Rattle.text_calls.proofs.WitnessOrder.{one-long, pairs, parts, others, leaves, bit-held, codeOps, codeFirsts, codeSeconds, coded}
 
 -- Crate `emitting`. The slice, and the stack before the inner IF's record, number 7, is written: its parts are 8, 9, 11 and 13.
@@ -86,11 +87,22 @@ step-expression-asks = (put-choice-asks, omega arith, omega arith)
 step-alternative-asks : Advancing slice (kinds 7) (values 7) 14 7 × (18 ≤ 19) × (19 < 21)
 step-alternative-asks = (advancing 14 7 (omega arith) (omega arith), omega arith, omega arith)
 
-step-part-asks : Advancing slice (kinds 7) (values 7) 14 7 × (21 ≤ 22) × (22 < 24)
-step-part-asks = (advancing 14 7 (omega arith) (omega arith), omega arith, omega arith)
-
 step-mark-asks : Advancing slice (kinds 7) (values 7) 13 7 × (13 ≤ 17) × (17 < 18)
 step-mark-asks = (advancing 13 7 (omega arith) (omega arith), omega arith, omega arith)
+
+-- a stack of five
+five-advancing : (room c k₀ k₁ k₂ k₃ k₄ v₀ v₁ v₂ v₃ v₄ : ℕ) → 12 * c ≤ room
+    → Advancing (replicate room 255) (padded (k₀ ∷ k₁ ∷ k₂ ∷ k₃ ∷ k₄ ∷ [])) (padded (v₀ ∷ v₁ ∷ v₂ ∷ v₃ ∷ v₄ ∷ [])) c 5
+five-advancing room c k₀ k₁ k₂ k₃ k₄ v₀ v₁ v₂ v₃ v₄ h = record {
+  sheet-long = let l = length-replicate {A = ℕ} room 255 in omega (arith, l);
+  stacking =
+      record {
+        kinds-long = padded-long (k₀ ∷ k₁ ∷ k₂ ∷ k₃ ∷ k₄ ∷ []) (omega arith);
+        values-long = padded-long (v₀ ∷ v₁ ∷ v₂ ∷ v₃ ∷ v₄ ∷ []) (omega arith);
+        high = omega arith;
+      };
+  room = omega arith;
+}
 
 -- the delay's leaf, record 4
 abbrev leafKinds : List ℕ
@@ -103,20 +115,27 @@ leaf-next : emission (writtenOf (emittedAfter 17)) 5 (heldStack leafKinds leafVa
 leaf-next = refl
 
 step-leaf-asks : Advancing slice leafKinds leafValues 5 5 × (24 ≤ 24) × (24 < 26)
-step-leaf-asks = (
-  record {
-    sheet-long = omega arith;
-    stacking =
-        record {
-          kinds-long = padded-long (1 ∷ 0 ∷ 1 ∷ 0 ∷ 0 ∷ []) (omega arith);
-          values-long = padded-long (0 ∷ 16 ∷ 0 ∷ 5 ∷ 1 ∷ []) (omega arith);
-          high = omega arith;
-        };
-    room = omega arith;
-  },
-  omega arith,
-  omega arith,
-)
+step-leaf-asks = (five-advancing 204 5 1 0 1 0 0 0 16 0 5 1 (omega arith), omega arith, omega arith)
+
+-- the parts of `(lo, hi)` in the parity checker's pattern: record 19 is written, hi, and 18, lo, comes next
+abbrev partKinds : List ℕ
+partKinds = padded (1 ∷ 0 ∷ 1 ∷ 1 ∷ 0 ∷ [])
+
+abbrev partValues : List ℕ
+partValues = padded (0 ∷ 20 ∷ 0 ∷ 0 ∷ 0 ∷ [])
+
+abbrev parityAssembly : Assembly
+parityAssembly = assembledFrom (tokensIn parityText)
+
+abbrev parityEmitted : Emission
+parityEmitted = emitAll (typesIn parityAssembly) (emission [] 21 [] 0) (take 6 (codeIn parityAssembly))
+
+part-next : emission (writtenOf parityEmitted) 19 (heldStack partKinds partValues 5) 0 ≡ parityEmitted
+unfolding parityText
+part-next = refl
+
+step-part-asks : Advancing (replicate 252 255) partKinds partValues 19 5 × (21 ≤ 21) × (21 < 24)
+step-part-asks = (five-advancing 252 19 1 0 1 1 0 0 20 0 0 0 (omega arith), omega arith, omega arith)
 
 bit-counted : (k : ℕ) → k < 1 → getD leaves k 0 ≡ leavesNumbered (heldTypes pairs (parts 2) others 1) (suc k)
 bit-counted zero h = refl

@@ -8,6 +8,7 @@ use native.Mathlib.Omega.{arith}
 use lib.ListN.{length, getD, take, drop}
 use Rattle.grammar.specs.Machine.{live, noWord, begins}
 use Rattle.reading.specs.Coded.{stateOf, stackOf, letterTable, nextTable, waitsTable, wordTable, Ready, Tables}
+use Rattle.naming.specs.TokenWalk.{NameScope}
 use Rattle.naming.proofs.ByTokens.{firstScope}
 use Rattle.symbols.specs.Names.{Inside}
 use Rattle.scoping.specs.Scoped.{admissionTable, effectTable, heldScope}
@@ -16,8 +17,8 @@ use Rattle.instructions.specs.TokenOrder.{walkInstructions}
 use Rattle.resolving.specs.Said.{sayingTable, CodeSized, typesBelow, ranksBelow, Numbered, Speaking}
 use Rattle.resolving.specs.Walked.{Walking}
 use Rattle.text_table.specs.Lexer.{tokensIn}
-use Rattle.text_calls.proofs.TextTables.{toggleText, short, inside, padded, taken-long, four-long, textOps, textFirsts, textSeconds, ops, firsts, seconds}
-use Rattle.text_calls.proofs.WitnessNames.{spans₄, links₄, heads₄, roles₃, roles₄, pendings, hashed₄, roles-of, x-bound, scoping-at-x}
+use Rattle.text_calls.proofs.TextTables.{toggleText, parityText, short, inside, padded, taken-long, four-long, textOps, textFirsts, textSeconds, ops, firsts, seconds}
+use Rattle.text_calls.proofs.WitnessNames.{spans₀, spans₂, spans₄, links₄, heads₄, roles₂, roles₃, roles₄, pendings, paritySpans, twoPending, hashed₄, roles-of, x-bound, scoping-at-x}
 
 -- Crate `reading`. Four states wait at x: in a REC's part, a delayed expression, a THEN and a tested expression.
 abbrev stack : List ℕ
@@ -156,16 +157,37 @@ walking-at-x = record {
   sized = say-asks;
 }
 
--- with these tables T is walked on: 30 tokens are read, and the others say what is left
-walked-at-x : walkInstructions begins firstScope (tokensIn toggleText)
-    ≡ heldFrom (ops 13) (firsts 13) (seconds 13) 0 13
-    ++ walkInstructions (live (stateOf 13) (stackOf 4 stack) noWord) (heldScope toggleText 3 4 0 spans₄ roles₄ pendings) (drop 30 (tokensIn toggleText))
-unfolding toggleText
-walked-at-x = refl
-
 take-token-asks
     : Walking toggleText 101 13 4 3 4 0 13 stack spans₄ links₄ heads₄ roles₄ pendings (types 3) (ranks 3) (ops 13) (firsts 13) (seconds 13)
     × (101 < length toggleText) × Tables nextTable waitsTable wordTable × (effectTable ≡ effectTable) × (admissionTable ≡ admissionTable)
     × (sayingTable ≡ sayingTable)
 unfolding toggleText
 take-token-asks = (walking-at-x, omega arith, tables, refl, refl, refl)
+
+-- The tables are those of the walk: after so many tokens and instructions a text goes on in this state and scope.
+abbrev GoesOn : (text : List ℕ) (tokens said state depth : ℕ) (stack : List ℕ) → NameScope → Type 0
+GoesOn text k n q depth K S =
+    walkInstructions begins firstScope (tokensIn text)
+    ≡ take n (walkInstructions begins firstScope (tokensIn text))
+    ++ walkInstructions (live (stateOf q) (stackOf depth K) noWord) S (drop k (tokensIn text))
+
+goes-on-at-one : GoesOn toggleText 3 1 4 0 stack (heldScope toggleText 0 0 1 spans₀ spans₀ pendings)
+unfolding toggleText
+goes-on-at-one = refl
+
+goes-on-at-two : GoesOn toggleText 5 2 6 0 stack (heldScope toggleText 2 2 0 spans₂ roles₂ pendings)
+unfolding toggleText
+goes-on-at-two = refl
+
+goes-on-at-x : GoesOn toggleText 30 13 13 4 stack (heldScope toggleText 3 4 0 spans₄ roles₄ pendings)
+unfolding toggleText
+goes-on-at-x = refl
+
+said-before-x : heldFrom (ops 13) (firsts 13) (seconds 13) 0 13 ≡ take 13 (walkInstructions begins firstScope (tokensIn toggleText))
+unfolding toggleText
+said-before-x = refl
+
+-- the parity checker at the end of its pair type
+goes-on-at-pair : GoesOn parityText 13 5 9 0 stack (heldScope parityText 3 3 1 paritySpans roles₃ twoPending)
+unfolding parityText
+goes-on-at-pair = refl
