@@ -5,13 +5,14 @@
 use Prim.Native.Nat.{ℕ, _*_}
 use mathlib.Core.List.{List, [], _∷_}
 use mathlib.Core.Path.{_≡_, refl}
+use native.Mathlib.Omega.{arith}
 use lib.ListN.{length}
-use Rattle.picoella.specs.Types.{OfType}
+use Rattle.picoella.specs.Types.{leaves, OfType}
 use Rattle.records.specs.Words.{word, count}
 use Rattle.records.specs.Kinds.{rowOf, kindOf, askOf}
 use Rattle.records.specs.Says.{wellSaid}
 use Rattle.records.specs.Namings.{namings}
-use Rattle.records.specs.TypeRecords.{typeWithin, typeAt, pairOf}
+use Rattle.records.specs.TypeRecords.{typeWithin, typeAt, pairOf, TypeRecord}
 use Rattle.records.specs.Trees.{chainWithin, chain, alternativesWithin, alternatives, treeWithin, treeAt, circuit}
 use Rattle.structure.specs.Depth.{ancestryWithin, ancestry, depth, nesting}
 use Rattle.structure.specs.Rules.{wrongLength, wrongHeader, wrongRecord, wrongNaming, wrongType, tooDeep}
@@ -74,3 +75,9 @@ told = (refl, refl, refl, refl, refl, refl)
 one-of-type : OfType (inputType paired) (1 ∷ 2 ∷ [])
 unfolding notOneCycle wrongStimulus wrongByte typeAt typeWithin kindOf rowOf word
 one-of-type = one-cycle-typed paired (1 ∷ 2 ∷ []) (refl, (refl, tt))
+
+above-asked : (widths : List ℕ) × Accepting paired (count paired) widths × TypeRecord paired 2 × (2 ≡ leaves (typeAt paired 2))
+unfolding typeAt typeWithin kindOf rowOf word count
+above-asked =
+    let a = paired-accepting in
+    (a .0, a .1, record { past = omega arith; there = omega arith; sort = refl }, refl)
