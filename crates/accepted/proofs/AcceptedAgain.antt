@@ -8,12 +8,13 @@ use mathlib.Core.List.{List, [], _∷_}
 use mathlib.Core.Path.{_≡_, refl, ap, ap₂, _∙_}
 use mathlib.Core.Logic.{_⊎_, inl, inr}
 use native.Mathlib.Omega.{arith}
-use Rattle.picoella.specs.Types.{OfType, bounds}
+use Rattle.picoella.specs.Language.{OfType, bounds}
 use Rattle.records.specs.Words.{word, count, wordA, wordB}
 use Rattle.records.specs.Kinds.{leaf, isPair}
 use Rattle.records.specs.Says.{kindAt}
-use Rattle.records.specs.TypeRecords.{typeAt, pairOf}
 use Rattle.records.specs.Trees.{
+  typeAt,
+  pairOf,
   Alternatives,
   end,
   noPattern,
@@ -32,12 +33,13 @@ use Rattle.records.specs.Trees.{
   ifOf,
   delayOf,
   circuit,
+  typeRecordOf,
 }
 use Rattle.records.specs.Decoding.{leafValues}
 use Rattle.records.specs.Rewritten.{Rewritten}
 use Rattle.records.proofs.Table.{is-pair}
 use Rattle.records.proofs.Rewritten.{SameWords, same-kind, same-pair-of, same-circuit, leaf-or-same}
-use Rattle.typing.specs.Judgements.{patternFits, typeRecordOf}
+use Rattle.typing.specs.Judgements.{patternFits}
 use Rattle.structure.specs.Passes.{Passes}
 use Rattle.verdict.specs.Verdict.{inputs, verdict}
 use Rattle.verdict.specs.declared.Verdict.the-variants.{Accepted}

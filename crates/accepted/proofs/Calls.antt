@@ -6,8 +6,7 @@ use mathlib.Core.List.{List, _++_}
 use mathlib.Core.Path.{_≡_, refl, sym, ap, subst, _∙_}
 use native.Mathlib.Omega.{arith}
 use lib.ListN.{length}
-use Rattle.answers.specs.Answers.{place, onDone}
-use Rattle.answers.specs.Checks.{Check, firstApplying, SaysOf}
+use Rattle.answers.specs.Answers.{place, onDone, Check, firstApplying, SaysOf}
 use Rattle.answers.specs.declared.Answer.{Answer}
 use Rattle.answers.specs.declared.Answer.the-variants.{Done, Refused}
 use Rattle.answers.proofs.First.{first-says, first-both, first-then}

@@ -10,12 +10,13 @@ use native.Mathlib.Omega.{arith}
 use borrow.Author.Tests.{eqb-true}
 use lib.Dec.{eqb}
 use lib.ListN.{getD}
-use Rattle.picoella.specs.Types.{leaves}
+use Rattle.picoella.specs.Language.{leaves}
 use Rattle.records.specs.Words.{count, wordA, wordB, wordD}
 use Rattle.records.specs.Kinds.{expression, ifMatches, patterns, isPair}
 use Rattle.records.specs.Says.{kindAt, sortAt}
-use Rattle.records.specs.TypeRecords.{typeAt, TypeRecord}
 use Rattle.records.specs.Trees.{
+  typeAt,
+  TypeRecord,
   Alternatives,
   end,
   noPattern,
@@ -24,6 +25,7 @@ use Rattle.records.specs.Trees.{
   pairOfPatterns,
   alternatives,
   treeAt,
+  typeRecordOf,
 }
 use Rattle.records.specs.Written.{Written}
 use Rattle.records.proofs.Tests.{both-left, both-right}
@@ -34,7 +36,7 @@ use Rattle.records.proofs.TypeRecords.{first-part, second-part}
 use Rattle.records.proofs.Grown.{GrownPattern, grown-pattern}
 use Rattle.structure.specs.Passes.{Passes}
 use Rattle.structure.proofs.Passes.{written, types-fit}
-use Rattle.typing.specs.Judgements.{patternFits, typeRecordOf}
+use Rattle.typing.specs.Judgements.{patternFits}
 use Rattle.typing.specs.Judging.{width}
 use Rattle.verdict.specs.Verdict.{verdict}
 use Rattle.verdict.specs.Scopes.{Scope, if-tested}

@@ -21,12 +21,13 @@ use Rattle.records.specs.Trees.{
   ifOf,
   delayOf,
   circuit,
+  typeRecordOf,
 }
 use Rattle.records.specs.Decoding.{leafValues}
 use Rattle.records.specs.Rewritten.{Rewritten, OnlyLabels}
 use Rattle.records.proofs.Rewritten.{same-count, same-kind, same-type, same-pair-of, same-circuit}
 use Rattle.records.proofs.Labels.{labels-words, labels-rewritten, said-same}
-use Rattle.answers.specs.Lowest.{lowest}
+use Rattle.answers.specs.Answers.{lowest}
 use Rattle.structure.specs.Rules.{wrongLength, wrongHeader, wrongRecord, wrongNaming, wrongType, tooDeep}
 use Rattle.typing.specs.Judgements.{
   Rule,
@@ -39,7 +40,6 @@ use Rattle.typing.specs.Judgements.{
   noRule,
   Judgement,
   holds,
-  typeRecordOf,
   judgements,
   firstFailing,
 }

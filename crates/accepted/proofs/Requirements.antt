@@ -14,11 +14,10 @@ use lib.Seq.{getD-at}
 use Rattle.records.specs.Words.{count, wordA, wordB}
 use Rattle.records.specs.Kinds.{Sort, sortNumber}
 use Rattle.records.specs.Kinds as Kinds
-use Rattle.records.specs.Says.{sortAt}
+use Rattle.records.specs.Says.{sortAt, namings}
 use Rattle.records.specs.Sized.{Sized}
-use Rattle.records.specs.Namings.{namings}
 use Rattle.structure.specs.Passes.{Passes}
-use Rattle.structure.specs.Depth.{depth, nesting}
+use Rattle.structure.specs.Rules.{depth, nesting}
 use Rattle.structure.specs.NamerTable.{summary, Holds}
 use Rattle.structure.specs.LeafTable.{typeLeaves, Counts}
 use Rattle.structure.specs.DepthTable.{Capped, Placed, Placing}

@@ -6,12 +6,9 @@ use mathlib.Core.List.{List, [], _∷_}
 use mathlib.Core.Path.{_≡_, refl}
 use Rattle.records.specs.Words.{word, count, wordB}
 use Rattle.records.specs.Kinds.{rowOf, kindOf, askOf}
-use Rattle.records.specs.Says.{wellSaid}
-use Rattle.records.specs.Namings.{namings}
-use Rattle.records.specs.TypeRecords.{typeWithin, typeAt, pairOf}
-use Rattle.records.specs.Trees.{chainWithin, chain, alternativesWithin, alternatives, treeWithin, treeAt, circuit}
-use Rattle.structure.specs.Depth.{ancestryWithin, ancestry, depth, nesting}
-use Rattle.structure.specs.Rules.{wrongLength, wrongHeader, wrongRecord, wrongNaming, wrongType, tooDeep}
+use Rattle.records.specs.Says.{wellSaid, namings}
+use Rattle.records.specs.Trees.{typeWithin, typeAt, pairOf, chainWithin, chain, alternativesWithin, alternatives, treeWithin, treeAt, circuit}
+use Rattle.structure.specs.Rules.{ancestryWithin, ancestry, depth, nesting, wrongLength, wrongHeader, wrongRecord, wrongNaming, wrongType, tooDeep}
 use Rattle.structure.specs.Passes.{Passes}
 use Rattle.verdict.specs.Verdict.{inputs, byTypes, byRecords, verdict}
 use Rattle.verdict.specs.Promises.{WellTyped}

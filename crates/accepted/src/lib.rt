@@ -2,8 +2,8 @@
 // with the table that the check filled.
 ghost use mathlib.Core.Path.{_≡_};
 ghost use lib.ListN.{length};
-ghost use Rattle.picoella.specs.Types.{bounds, leaves};
-ghost use Rattle.records.specs.TypeRecords.{typeAt, TypeRecord};
+ghost use Rattle.picoella.specs.Language.{bounds, leaves};
+ghost use Rattle.records.specs.Trees.{typeAt, TypeRecord};
 ghost use Rattle.accepted.specs.Accepting.{Accepting};
 use records::Widths;
 use typing::bound_at;

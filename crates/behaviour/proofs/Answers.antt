@@ -12,9 +12,23 @@ use native.Mathlib.Nat.{mul-le-mul-left}
 use lib.ListN.{length}
 use lib.Dec.{eqb}
 use borrow.Author.Tests.{eqb-true, eqb-false, eq-eqb, ne-eqb, not-false}
-use Rattle.answers.specs.Answers.{code, place, inOne, packed, whenDone, onDone}
-use Rattle.answers.specs.Checks.{Check, check, when, orRefused, firstApplying, NoneApplies, Refuses, SaysOf}
-use Rattle.answers.specs.Lowest.{lowest}
+use Rattle.answers.specs.Answers.{
+  code,
+  place,
+  inOne,
+  packed,
+  whenDone,
+  onDone,
+  Check,
+  check,
+  when,
+  orRefused,
+  firstApplying,
+  NoneApplies,
+  Refuses,
+  SaysOf,
+  lowest,
+}
 use Rattle.answers.specs.declared.Answer.{Answer}
 use Rattle.answers.specs.declared.Answer.the-variants.{Done, Refused}
 use Rattle.answers.proofs.Lowest.{lowest-some-passes}
@@ -34,8 +48,8 @@ use Rattle.verdict.specs.Verdict.{verdictAnswer, sheetChecks, outputType, verdi
 use Rattle.verdict.specs.declared.Verdict.{Verdict}
 use Rattle.verdict.specs.declared.Verdict.the-variants.{Accepted}
 use Rattle.verdict.specs.declared.Verdict.the-variants as Verdicts
-use Rattle.picoella.specs.Types.{leaves}
-use Rattle.records.specs.TypeRecords.{typeAt}
+use Rattle.picoella.specs.Language.{leaves}
+use Rattle.records.specs.Trees.{typeAt}
 use Rattle.records.proofs.Types.{some-leaves}
 use Rattle.accepted.proofs.Calls.{accepted-output, call-place}
 use Rattle.accepted.proofs.Laws.{verdict-first, first-accepted}

@@ -6,9 +6,9 @@ use Prim.Native.Nat.{ℕ}
 use mathlib.Core.List.{List, [], _∷_}
 use mathlib.Core.Path.{_≡_}
 use native.Mathlib.Omega.{arith}
-use Rattle.picoella.specs.Types.{OfType}
+use Rattle.picoella.specs.Language.{OfType}
 use Rattle.records.specs.Words.{wordA}
-use Rattle.records.specs.TypeRecords.{typeAt, Declared}
+use Rattle.records.specs.Trees.{typeAt, Declared}
 use Rattle.records.proofs.Rewritten.{same-type}
 use Rattle.verdict.specs.Verdict.{verdict}
 use Rattle.verdict.specs.declared.Verdict.the-variants.{Accepted}
@@ -18,7 +18,8 @@ use Rattle.meaning.specs.Evaluation.{next}
 use Rattle.meaning.proofs.EvaluationMonotone.{eval-typed}
 use Rattle.meaning.proofs.NextTyped.{next-frame, next-typed}
 use Rattle.behaviour.specs.Terms.{circuitTerm}
-use Rattle.behaviour.specs.Sheets.{Bytes, Writable, OnlyDelays}
+use Rattle.behaviour.specs.Afterwards.{Bytes, OnlyDelays}
+use Rattle.behaviour.specs.Sheets.{Writable}
 use Rattle.behaviour.specs.Cycle.{outputBy, afterBy}
 use Rattle.behaviour.proofs.Terms.{circuit-typed}
 use Rattle.behaviour.proofs.Sheets.{write-only-delays, only-leaves, header-same, accepted-written, write-read, write-accepted}

@@ -42,8 +42,7 @@ use Rattle.records.specs.Kinds.{
   part,
 }
 use Rattle.records.specs.Says.{kindAt, sortAt}
-use Rattle.records.specs.Trees.{chain, treeStep, treeAt, circuit}
-use Rattle.records.specs.Held.{delayLeaves}
+use Rattle.records.specs.Trees.{chain, treeStep, treeAt, circuit, delayLeaves}
 use Rattle.records.specs.Written.{Written}
 use Rattle.records.proofs.Table.{askOfKind, kind-of-sort}
 use Rattle.records.proofs.Asked.{part-of-kind, root-is, past-header}

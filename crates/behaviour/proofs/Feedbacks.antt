@@ -6,14 +6,11 @@ use Prim.Native.Nat.{ℕ, _≤_, _<_}
 use mathlib.Core.List.{List, [], _∷_, map}
 use mathlib.Core.Option.{some}
 use mathlib.Core.Path.{_≡_, refl, sym, ap, ap₂, subst, fun-ext, _∙_}
-use Rattle.picoella.specs.Types.{Ty}
-use Rattle.picoella.specs.Expressions.{Expr, Var, LetRec}
-use Rattle.picoella.specs.Typing.{here}
+use Rattle.picoella.specs.Language.{Ty, Expr, Var, LetRec, here}
 use Rattle.records.specs.Words.{count, kindWord, wordA, wordB, wordC}
 use Rattle.records.specs.Kinds.{expression, feedback, rowOf, kindOf}
 use Rattle.records.specs.Says.{kindAt}
-use Rattle.records.specs.TypeRecords.{typeAt, Declared}
-use Rattle.records.specs.Trees.{Tree, feedbackOf, treeAt}
+use Rattle.records.specs.Trees.{typeAt, Declared, Tree, feedbackOf, treeAt}
 use Rattle.records.specs.Rewritten.{Rewritten}
 use Rattle.records.proofs.Rewritten.{same-type, same-tree}
 use Rattle.records.proofs.Asked.{past-header}
@@ -45,12 +42,11 @@ use Rattle.meaning.proofs.FeedbackLeast.{
   applications-fewest,
 }
 use Rattle.behaviour.specs.Terms.{term}
-use Rattle.behaviour.specs.Sheets.{OnlyDelays}
+use Rattle.behaviour.specs.Afterwards.{OnlyDelays, IteratesTo, FeedbackSettles, decodedAt, FeedbackAt}
 use Rattle.behaviour.proofs.Terms.{erase-term, checked-term}
 use Rattle.behaviour.proofs.Sheets.{only-leaves}
 use Rattle.behaviour.proofs.Scoped.{Scoped, every-expression}
 use Rattle.behaviour.proofs.ScopesAgain.{scope-again}
-use Rattle.behaviour.specs.Afterwards.{IteratesTo, FeedbackSettles, decodedAt, FeedbackAt}
 
 pub feedback-kind : (s : List ℕ) (q : ℕ) → kindWord s q ≡ 38 → kindAt s q ≡ expression feedback
 unfolding kindOf rowOf

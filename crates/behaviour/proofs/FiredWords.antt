@@ -38,13 +38,12 @@ use Rattle.records.specs.Kinds.{
   part,
 }
 use Rattle.records.specs.Says.{kindAt, sortAt}
-use Rattle.records.specs.Trees.{alternatives, treeStep, treeAt, circuit}
+use Rattle.records.specs.Trees.{alternatives, treeStep, treeAt, circuit, typeRecordOf}
 use Rattle.records.specs.Written.{Written}
 use Rattle.records.proofs.Table.{askOfKind, kind-of-sort}
 use Rattle.records.proofs.Asked.{part-of-kind, root-is}
 use Rattle.records.proofs.Trees.{from-above, tree-of}
 use Rattle.structure.specs.Passes.{Passes}
-use Rattle.typing.specs.Judgements.{typeRecordOf}
 use Rattle.verdict.specs.Verdict.{inputs, verdict}
 use Rattle.verdict.specs.declared.Verdict.the-variants.{Accepted}
 use Rattle.accepted.proofs.Laws.{written, accepted-by-types}

@@ -8,7 +8,7 @@ use Rattle.records.specs.Trees.{circuit}
 use Rattle.records.proofs.Rewritten.{same-circuit}
 use Rattle.verdict.specs.Verdict.{verdict}
 use Rattle.verdict.specs.declared.Verdict.the-variants.{Accepted}
-use Rattle.behaviour.specs.Sheets.{OnlyDelays}
+use Rattle.behaviour.specs.Afterwards.{OnlyDelays}
 use Rattle.behaviour.proofs.Sheets.{only-leaves, accepted-written}
 
 pub only-delays-same : (s : List ℕ) → OnlyDelays s s

@@ -7,9 +7,9 @@ use mathlib.Core.List.{List, [], _∷_}
 use mathlib.Core.Path.{_≡_, refl, sym, ap, _∙_}
 use native.Mathlib.Omega.{arith}
 use lib.ListN.{length, getD}
-use Rattle.picoella.specs.Types.{OfType}
+use Rattle.picoella.specs.Language.{OfType}
 use Rattle.records.specs.Words.{wordA}
-use Rattle.records.specs.TypeRecords.{typeAt}
+use Rattle.records.specs.Trees.{typeAt}
 use Rattle.verdict.specs.Verdict.{verdict}
 use Rattle.verdict.specs.declared.Verdict.the-variants.{Accepted}
 use Rattle.meaning.specs.Values.{AllOf, all-none, all-more}
@@ -18,7 +18,8 @@ use Rattle.meaning.specs.Evaluation.{next}
 use Rattle.meaning.specs.Run.{outputs, after}
 use Rattle.meaning.proofs.NextTyped.{after-frame}
 use Rattle.behaviour.specs.Terms.{circuitTerm}
-use Rattle.behaviour.specs.Sheets.{write, Bytes, OnlyDelays}
+use Rattle.behaviour.specs.Sheets.{write}
+use Rattle.behaviour.specs.Afterwards.{Bytes, OnlyDelays}
 use Rattle.behaviour.specs.Cycle.{outputBy, afterBy}
 use Rattle.behaviour.proofs.Sheets.{write-own}
 use Rattle.behaviour.proofs.OnlyDelays.{only-delays-same, only-delays-chain}

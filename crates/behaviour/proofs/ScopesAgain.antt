@@ -8,12 +8,11 @@ use native.Mathlib.Omega.{arith}
 use Rattle.records.specs.Words.{word, wordA, wordB}
 use Rattle.records.specs.Kinds.{ExpressionKind, expression, tuple, first, second, letIn, feedback, ifMatches, delay}
 use Rattle.records.specs.Says.{kindAt}
-use Rattle.records.specs.Trees.{treeAt}
+use Rattle.records.specs.Trees.{treeAt, typeRecordOf}
 use Rattle.records.specs.Rewritten.{Rewritten}
 use Rattle.records.proofs.Grown.{grown-tree}
 use Rattle.records.proofs.Rewritten.{same-kind, same-tree}
 use Rattle.accepted.proofs.Laws.{written}
-use Rattle.typing.specs.Judgements.{typeRecordOf}
 use Rattle.verdict.specs.Verdict.{inputs, verdict}
 use Rattle.verdict.specs.Scopes.{
   Scope,

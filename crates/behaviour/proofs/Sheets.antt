@@ -14,8 +14,7 @@ use lib.ListN.{length, getD}
 use Rattle.records.specs.Words.{count, word, wordA}
 use Rattle.records.specs.Kinds.{leaf, leafs}
 use Rattle.records.specs.Says.{kindAt}
-use Rattle.records.specs.Trees.{circuit}
-use Rattle.records.specs.Held.{held, delayLeaves}
+use Rattle.records.specs.Trees.{circuit, held, delayLeaves}
 use Rattle.records.specs.Decoding.{leafValues}
 use Rattle.records.specs.Rewritten.{Rewritten}
 use Rattle.records.specs.Written.{Written}
@@ -35,7 +34,8 @@ use Rattle.accepted.proofs.AcceptedAgain.{accepted-again}
 use Rattle.meaning.specs.Elaboration.{Term, frame}
 use Rattle.behaviour.specs.Terms.{circuitTerm}
 use Rattle.behaviour.specs.Delays.{Entry, entries, places, putAll}
-use Rattle.behaviour.specs.Sheets.{putWord, write, Writable, OnlyDelays}
+use Rattle.behaviour.specs.Sheets.{putWord, write, Writable}
+use Rattle.behaviour.specs.Afterwards.{OnlyDelays}
 use Rattle.behaviour.proofs.Terms.{circuit-typed}
 use Rattle.behaviour.proofs.Entries.{placesOf, put-leaves, put-elsewhere, put-read}
 use Rattle.behaviour.proofs.Cells.{InSheet, put-length, put-byte, sheet-cells, put-own}

@@ -17,12 +17,14 @@ use mathlib.Core.List.{
 }
 use mathlib.Core.Path.{_≡_, refl, ap, ap₂, _∙_}
 use native.Mathlib.Omega.{arith}
-use Rattle.picoella.specs.Patterns.{Whole, Constructor, Parts}
+use Rattle.picoella.specs.Language.{Whole, Constructor, Parts}
 use Rattle.records.specs.Words.{word, wordA}
 use Rattle.records.specs.Kinds.{leafs, sortOf}
 use Rattle.records.specs.Says.{sortAt}
-use Rattle.records.specs.TypeRecords.{typeAt, pairOf, TypeRecord}
 use Rattle.records.specs.Trees.{
+  typeAt,
+  pairOf,
+  TypeRecord,
   Alternatives,
   end,
   noPattern,
@@ -40,14 +42,14 @@ use Rattle.records.specs.Trees.{
   feedbackOf,
   ifOf,
   delayOf,
+  held,
+  typeRecordOf,
 }
-use Rattle.records.specs.Held.{held}
 use Rattle.records.specs.Decoding.{leafValues, orElse, patternOf}
 use Rattle.records.specs.Rewritten.{Rewritten}
 use Rattle.records.specs.Written.{Written}
 use Rattle.records.proofs.Rewritten.{same-type, same-pair-of}
 use Rattle.records.proofs.Grown.{Alternative, Grown}
-use Rattle.typing.specs.Judgements.{typeRecordOf}
 use Rattle.typing.specs.Judging.{Context}
 use Rattle.accepted.proofs.Laws.{RulesHold}
 use Rattle.accepted.proofs.Laws.{type-of-record}

@@ -7,11 +7,10 @@ use mathlib.Core.Bool.{false}
 use mathlib.Core.List.{List, [], _∷_, map}
 use mathlib.Core.Option.{some}
 use lib.ListN.{length}
-use Rattle.picoella.specs.Expressions.{Expr}
-use Rattle.records.specs.TypeRecords.{typeAt}
+use Rattle.picoella.specs.Language.{Expr}
+use Rattle.records.specs.Trees.{typeAt}
 use Rattle.records.specs.Decoding.{decode}
-use Rattle.answers.specs.Answers.{code, place}
-use Rattle.answers.specs.Checks.{Refuses}
+use Rattle.answers.specs.Answers.{code, place, Refuses}
 use Rattle.answers.specs.declared.Answer.{Answer}
 use Rattle.answers.specs.declared.Answer.the-variants.{Done, Refused}
 use Rattle.verdict.specs.Verdict.{verdict}
@@ -24,11 +23,10 @@ use Rattle.meaning.specs.Ordered.{RuleBelow, AllBoth}
 use Rattle.meaning.specs.Rules.{ReducesSeq}
 use Rattle.meaning.specs.Run as Meaning
 use Rattle.behaviour.specs.Terms.{circuitTerm}
-use Rattle.behaviour.specs.Sheets.{write, Writable, OnlyDelays}
+use Rattle.behaviour.specs.Sheets.{write, Writable}
+use Rattle.behaviour.specs.Afterwards.{OnlyDelays, WellFormed, Afterwards}
 use Rattle.stimulus.specs.Stimulus.{inputType, endToEnd, cycles, cycleCount, wrongStimulus}
-use Rattle.behaviour.specs.Run.{outputsBy, sheetAfter, callChecks, answer, finalOut, finalNext, Gives}
-use Rattle.behaviour.specs.Afterwards.{WellFormed, Afterwards}
-use Rattle.behaviour.specs.ByRules.{RunsByRules}
+use Rattle.behaviour.specs.Run.{outputsBy, sheetAfter, callChecks, answer, finalOut, finalNext, Gives, RunsByRules}
 use Rattle.behaviour.specs.SheetOrder.{SheetBelow, FormedCall, StrictlyBelow, holding}
 use Rattle.behaviour.specs.Bench.{toggle, agreeing, agreed}
 

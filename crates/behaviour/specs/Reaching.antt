@@ -8,24 +8,12 @@ use mathlib.Core.Path.{_≡_}
 use mathlib.Core.Logic.{_↔_, _≢_}
 use mathlib.Core.List.{List, [], _∷_, _++_, List·Memᴰ}
 use lib.ListN.{length, getD}
-use Rattle.picoella.specs.Patterns.{Pattern, Whole, Constructor, Parts}
+use Rattle.picoella.specs.Language.{Pattern, Whole, Constructor, Parts}
 use Rattle.records.specs.Words.{count, wordA, wordB, wordC, wordD}
 use Rattle.records.specs.Kinds.{tuple, first, second, letIn, feedback, ifMatches, delay, expression, expressions, patterns}
-use Rattle.records.specs.Says.{kindAt, sortAt}
-use Rattle.records.specs.Namings.{Naming}
-use Rattle.records.specs.TypeRecords.{typeAt}
-use Rattle.records.specs.Trees.{
-  Alternatives,
-  end,
-  noPattern,
-  wholeType,
-  oneConstructor,
-  pairOfPatterns,
-  alternatives,
-  treeAt,
-}
+use Rattle.records.specs.Says.{kindAt, sortAt, Naming}
+use Rattle.records.specs.Trees.{typeAt, Alternatives, end, noPattern, wholeType, oneConstructor, pairOfPatterns, alternatives, treeAt, typeRecordOf}
 use Rattle.records.specs.Decoding.{patternOf}
-use Rattle.typing.specs.Judgements.{typeRecordOf}
 use Rattle.verdict.specs.Verdict.{inputs}
 use Rattle.meaning.specs.Matching.{Yes, matches}
 use Rattle.meaning.specs.Undecided.{undecidedRule}

@@ -11,10 +11,8 @@ use lib.Seq.{drop-length}
 use Rattle.records.specs.Words.{count}
 use Rattle.records.specs.Sized.{Sized}
 use Rattle.records.specs.Written.{Written}
-use Rattle.answers.specs.Lowest.{lowest}
+use Rattle.answers.specs.Answers.{lowest, code, place, inOne, packed, onDone, firstApplying}
 use Rattle.answers.specs.Searches.{found}
-use Rattle.answers.specs.Answers.{code, place, inOne, packed, onDone}
-use Rattle.answers.specs.Checks.{firstApplying}
 use Rattle.answers.specs.declared.Answer.{Answer}
 use Rattle.answers.specs.declared.Answer.the-variants.{Done, Refused}
 use Rattle.answers.specs.declared.Found.{Found}

@@ -9,7 +9,7 @@ use mathlib.Core.Path.{_≡_, refl, sym, subst, _∙_}
 use mathlib.Core.Logic.{_⊎_, inl, inr}
 use native.Mathlib.Omega.{arith}
 use lib.Dec.{ltb}
-use Rattle.picoella.specs.Types.{Within, OfType}
+use Rattle.picoella.specs.Language.{Within, OfType}
 use Rattle.records.specs.Words.{count, word, wordA, wordB, wordC, wordD}
 use Rattle.records.specs.Kinds.{
   ExpressionKind,
@@ -29,8 +29,7 @@ use Rattle.records.specs.Kinds.{
   part,
 }
 use Rattle.records.specs.Says.{kindAt, sortAt}
-use Rattle.records.specs.TypeRecords.{typeAt}
-use Rattle.records.specs.Trees.{chain, treeStep, treeAt, circuit}
+use Rattle.records.specs.Trees.{typeAt, chain, treeStep, treeAt, circuit}
 use Rattle.records.specs.Decoding.{leafValues}
 use Rattle.records.specs.Written.{Written}
 use Rattle.records.proofs.Table.{askOfKind, kind-of-sort}

@@ -12,22 +12,20 @@ use native.Mathlib.Omega.{arith}
 use native.Mathlib.Decide.{ℕ-discrete}
 use lib.ListN.{length, getD}
 use lib.Seq.{ext-getD}
-use Rattle.records.specs.Words.{count, wordA, wordB}
+use Rattle.records.specs.Words.{count, wordA, wordB, lowByte, highByte}
 use Rattle.records.specs.Kinds.{expression, delay, leafs}
 use Rattle.records.specs.Says.{kindAt}
-use Rattle.records.specs.TypeRecords.{typeAt}
-use Rattle.records.specs.Trees.{chain, circuit}
-use Rattle.records.specs.Held.{delayLeaves}
+use Rattle.records.specs.Trees.{typeAt, chain, circuit, delayLeaves}
 use Rattle.records.specs.Decoding.{leafValues}
 use Rattle.records.specs.Rewritten.{Rewritten}
 use Rattle.records.proofs.Table.{kind-of-sort}
 use Rattle.records.proofs.Rewritten.{same-count, same-kind, same-type, same-chain}
 use Rattle.records.proofs.Leaves.{circuit-leaves}
-use Rattle.answers.specs.Lowest.{lowest}
+use Rattle.answers.specs.Answers.{lowest}
 use Rattle.answers.proofs.Lowest.{lowest-is, lowest-none-fails}
 use Rattle.verdict.specs.Verdict.{verdict}
 use Rattle.verdict.specs.declared.Verdict.the-variants.{Accepted}
-use Rattle.behaviour.specs.Sheets.{lowByte, highByte, OnlyDelays}
+use Rattle.behaviour.specs.Afterwards.{OnlyDelays}
 use Rattle.behaviour.proofs.Cells.{word-a}
 use Rattle.behaviour.proofs.Members.{member-or-not}
 use Rattle.behaviour.proofs.Sheets.{same-word, only-leaves, leaf-small, accepted-written}

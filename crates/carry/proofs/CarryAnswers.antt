@@ -12,9 +12,7 @@ use borrow.Author.Tests.{eq-eqb}
 use lib.ListN.{length}
 use lib.Dec.{eqb}
 use Rattle.records.specs.Words.{count}
-use Rattle.answers.specs.Lowest.{lowest}
-use Rattle.answers.specs.Answers.{code, place, onDone}
-use Rattle.answers.specs.Checks.{when, orRefused, firstApplying, NoneApplies, SaysOf}
+use Rattle.answers.specs.Answers.{lowest, code, place, onDone, when, orRefused, firstApplying, NoneApplies, SaysOf}
 use Rattle.answers.specs.declared.Answer.{Answer}
 use Rattle.answers.specs.declared.Answer.the-variants.{Done, Refused}
 use Rattle.answers.proofs.Lowest.{lowest-some-passes}

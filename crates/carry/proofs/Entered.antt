@@ -9,12 +9,11 @@ use mathlib.Core.Path.{_≡_, refl, sym, ap, subst, _∙_}
 use native.Mathlib.Omega.{arith}
 use native.Mathlib.Decide.{ℕ-discrete}
 use lib.ListN.{length, getD, length-map}
-use Rattle.picoella.specs.Types.{leaves}
+use Rattle.picoella.specs.Language.{leaves}
 use Rattle.records.specs.Words.{count, wordA, wordB}
 use Rattle.records.specs.Kinds.{Kind, expression, delay, leaf, leafs, part}
 use Rattle.records.specs.Says.{kindAt}
-use Rattle.records.specs.Trees.{chain, circuit}
-use Rattle.records.specs.Held.{delayLeaves, Distinct}
+use Rattle.records.specs.Trees.{chain, circuit, delayLeaves, Distinct}
 use Rattle.records.specs.Decoding.{leafValues}
 use Rattle.records.specs.Written.{Written, WellNamed}
 use Rattle.records.specs.Rewritten.{Rewritten}
@@ -22,11 +21,12 @@ use Rattle.records.proofs.Table.{askOfKind}
 use Rattle.records.proofs.Leaves.{chain-leaves}
 use Rattle.records.proofs.Distinct.{chain-only}
 use Rattle.records.proofs.Rewritten.{same-chain}
-use Rattle.answers.specs.Checks.{when}
+use Rattle.answers.specs.Answers.{when}
 use Rattle.verdict.specs.Verdict.{verdict}
 use Rattle.verdict.specs.declared.Verdict.the-variants.{Accepted}
 use Rattle.behaviour.specs.Delays.{Entry, putAll}
-use Rattle.behaviour.specs.Sheets.{putWord, OnlyDelays}
+use Rattle.behaviour.specs.Sheets.{putWord}
+use Rattle.behaviour.specs.Afterwards.{OnlyDelays}
 use Rattle.behaviour.proofs.Entries.{placesOf, place-of-member, put-append, put-leaves, put-elsewhere, put-read}
 use Rattle.behaviour.proofs.Cells.{InSheet, put-length, put-byte, sheet-cells}
 use Rattle.behaviour.proofs.Members.{either}

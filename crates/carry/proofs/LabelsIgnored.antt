@@ -8,11 +8,11 @@ use mathlib.Core.List.{List, [], _∷_, _++_}
 use mathlib.Core.Path.{_≡_, refl, sym, ap, ap₂, fun-ext, _∙_}
 use native.Mathlib.Omega.{arith}
 use lib.ListN.{length, getD, set, length-set}
-use Rattle.records.specs.Words.{word, wordA}
+use Rattle.records.specs.Words.{word, wordA, lowByte, highByte}
 use Rattle.records.specs.Kinds.{kindOf}
 use Rattle.records.specs.Says.{kindAt}
-use Rattle.records.specs.TypeRecords.{typeAt}
 use Rattle.records.specs.Trees.{
+  typeAt,
   Alternatives,
   end,
   noPattern,
@@ -31,17 +31,15 @@ use Rattle.records.specs.Trees.{
   ifOf,
   delayOf,
   circuit,
+  typeRecordOf,
 }
 use Rattle.records.specs.Decoding.{patternOf}
 use Rattle.records.specs.Rewritten.{Rewritten, OnlyLabels}
 use Rattle.records.proofs.Rewritten.{same-type, same-circuit}
 use Rattle.records.proofs.Labels.{labels-words, labels-rewritten}
-use Rattle.answers.specs.Lowest.{lowest}
-use Rattle.answers.specs.Answers.{whenDone, onDone}
-use Rattle.answers.specs.Checks.{check, when, firstApplying}
+use Rattle.answers.specs.Answers.{lowest, whenDone, onDone, check, when, firstApplying}
 use Rattle.answers.specs.declared.Answer.{Answer}
 use Rattle.answers.specs.declared.Answer.the-variants.{Done, Refused}
-use Rattle.typing.specs.Judgements.{typeRecordOf}
 use Rattle.verdict.specs.Verdict.{inputs, verdictAnswer}
 use Rattle.accepted.proofs.LabelsAgain.{leaf-values-same, type-record-same, verdict-same}
 use Rattle.meaning.specs.Undecided.{undecidedRule}
@@ -49,7 +47,7 @@ use Rattle.meaning.specs.Evaluation.{eval, next}
 use Rattle.stimulus.specs.Stimulus.{inputType, cycleCount, cycles, wrongStimulus, wrongByte, stimulusChecks}
 use Rattle.behaviour.specs.Terms.{term, circuitTerm}
 use Rattle.behaviour.specs.Delays.{Entry, entries, putAll}
-use Rattle.behaviour.specs.Sheets.{putWord, lowByte, highByte, write}
+use Rattle.behaviour.specs.Sheets.{putWord, write}
 use Rattle.behaviour.specs.Cycle.{outputBy, afterBy}
 use Rattle.behaviour.specs.Run.{outputsBy, sheetAfter, lengthChecks, bySlices, answer, finalOut, finalNext}
 use Rattle.behaviour.proofs.Cells.{put-length, put-byte}

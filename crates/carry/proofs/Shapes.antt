@@ -9,11 +9,11 @@ use mathlib.Core.Logic.{_⊎_, inl, inr}
 use native.Mathlib.Omega.{arith}
 use borrow.Author.Tests.{eqb-true, eq-eqb, not-true, not-false}
 use lib.Dec.{eqb}
-use Rattle.picoella.specs.Types.{Ty, Flat, TyTuple, bounds}
+use Rattle.picoella.specs.Language.{Ty, Flat, TyTuple, bounds}
 use Rattle.records.specs.Words.{word, wordA, wordB}
 use Rattle.records.specs.Kinds.{TypeKind, typeOf, flat, pair, types}
 use Rattle.records.specs.Says.{kindAt}
-use Rattle.records.specs.TypeRecords.{typeAt}
+use Rattle.records.specs.Trees.{typeAt}
 use Rattle.records.proofs.Tests.{both-left, both-right}
 use Rattle.records.proofs.Table.{kind-of-sort}
 use Rattle.records.proofs.CodeTable.{flat-number, pair-number}

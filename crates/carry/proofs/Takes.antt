@@ -10,15 +10,14 @@ use native.Mathlib.Omega.{arith}
 use native.Mathlib.Numerals.{add-one}
 use borrow.Author.Tests.{not-true, not-false}
 use lib.ListN.{length, getD}
-use Rattle.picoella.specs.Types.{leaves}
+use Rattle.picoella.specs.Language.{leaves}
 use Rattle.records.specs.Words.{count, word, wordB}
 use Rattle.records.specs.Kinds.{expression, delay}
 use Rattle.records.specs.Says.{kindAt}
-use Rattle.records.specs.TypeRecords.{typeAt}
-use Rattle.records.specs.Trees.{chain}
+use Rattle.records.specs.Trees.{typeAt, chain}
 use Rattle.records.specs.Decoding.{leafValues}
 use Rattle.records.proofs.Types.{leaves-of-bounds}
-use Rattle.answers.specs.Checks.{when}
+use Rattle.answers.specs.Answers.{when}
 use Rattle.answers.proofs.Lowest.{lowest-some-passes}
 use Rattle.behaviour.specs.Delays.{assigned, putAll}
 use Rattle.behaviour.specs.Sheets.{putWord}

@@ -6,18 +6,16 @@ use mathlib.Core.Path.{_≡_, refl, sym, ap, _∙_}
 use native.Mathlib.Omega.{arith}
 use borrow.Author.Tests.{eqb-true}
 use lib.ListN.{length, getD, set, take, drop, replicate, length-map}
-use Rattle.picoella.specs.Types.{leaves}
+use Rattle.picoella.specs.Language.{leaves}
 use Rattle.records.specs.Words.{word, wordA, wordB, wordC, count}
 use Rattle.records.specs.Kinds.{expression, ifMatches, delay, leafs, patterns}
 use Rattle.records.specs.Says.{kindAt}
-use Rattle.records.specs.TypeRecords.{typeAt}
+use Rattle.records.specs.Trees.{typeAt, treeAt, chain, typeRecordOf}
 use Rattle.records.specs.Written.{Written}
-use Rattle.records.specs.Trees.{treeAt, chain}
 use Rattle.records.specs.Decoding.{leafValues}
 use Rattle.records.proofs.Table.{askOfKind}
 use Rattle.records.proofs.Asked.{part-of-kind}
 use Rattle.records.proofs.Trees.{tree-of}
-use Rattle.typing.specs.Judgements.{typeRecordOf}
 use Rattle.verdict.specs.Scopes.{Scope, if-tested, if-then, if-else, of-delay}
 use Rattle.accepted.proofs.Scopes.{judged-by-kind}
 use Rattle.meaning.specs.Undecided.{undecidedRule}

@@ -8,8 +8,8 @@ use native.Mathlib.Nat.{zero-add, suc-add}
 use native.Mathlib.Omega.{arith}
 use lib.ListN.{length, getD, take, drop, replicate, length-append, length-drop}
 use lib.Seq.{take-nil, drop-nil, take-append-le, drop-append-le, take-take, take-at, drop-at, drop-length, length-take-le}
-use Rattle.picoella.specs.Types.{leaves}
-use Rattle.records.specs.TypeRecords.{typeAt}
+use Rattle.picoella.specs.Language.{leaves}
+use Rattle.records.specs.Trees.{typeAt}
 use Rattle.values.specs.Slots.{slot, entered, frames}
 
 middle : (a w : ℕ) (l : List ℕ) → take w (drop a l) ≡ drop a (take (a + w) l)

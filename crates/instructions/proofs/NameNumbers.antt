@@ -8,7 +8,7 @@ use mathlib.Core.Logic.{_⊎_, inl, inr}
 use mathlib.Core.Bool.{Bool, true, false, cond, not}
 use mathlib.Core.List.{List, [], _∷_, _++_}
 use lib.ListN.{length}
-use Rattle.picoella.specs.Types.{Ty, Flat, TyTuple}
+use Rattle.picoella.specs.Language.{Ty, Flat, TyTuple}
 use Rattle.grammar.specs.Source.{Identifier, identifier, Declaration, Constructors, PairOf}
 use Rattle.naming.specs.Declared.{Role, aType, aConstructor, theInput, DeclaredName, declaredAs, sameName, isTaken, isDeclared, typeRole, constructorRole, atFirst, input}
 use Rattle.naming.specs.Checks.{PlacedCheck, checkAt, AllPass}

@@ -10,11 +10,9 @@ use native.Mathlib.Omega.{arith}
 use lib.ListN.{length}
 use lib.Dec.{eqb}
 use borrow.Author.Tests.{eq-eqb}
-use Rattle.picoella.specs.Types.{leaves, OfType}
-use Rattle.records.specs.TypeRecords.{typeAt}
-use Rattle.answers.specs.Answers.{place, onDone}
-use Rattle.answers.specs.Lowest.{lowest}
-use Rattle.answers.specs.Checks.{Check, check, when, orRefused, firstApplying, NoneApplies, SaysOf}
+use Rattle.picoella.specs.Language.{leaves, OfType}
+use Rattle.records.specs.Trees.{typeAt}
+use Rattle.answers.specs.Answers.{place, onDone, lowest, Check, check, when, orRefused, firstApplying, NoneApplies, SaysOf}
 use Rattle.answers.specs.declared.Answer.{Answer}
 use Rattle.answers.specs.declared.Answer.the-variants.{Done, Refused}
 use Rattle.answers.proofs.Lowest.{lowest-some-passes}

@@ -6,10 +6,9 @@ use mathlib.Core.Bool.{not}
 use mathlib.Core.List.{List, [], _∷_, _++_}
 use lib.ListN.{length}
 use lib.Dec.{eqb}
-use Rattle.picoella.specs.Types.{leaves, OfType}
-use Rattle.records.specs.TypeRecords.{typeAt}
-use Rattle.answers.specs.Answers.{packed, whenDone}
-use Rattle.answers.specs.Checks.{Check, check, when, firstApplying}
+use Rattle.picoella.specs.Language.{leaves, OfType}
+use Rattle.records.specs.Trees.{typeAt}
+use Rattle.answers.specs.Answers.{packed, whenDone, Check, check, when, firstApplying}
 use Rattle.answers.specs.declared.Answer.{Answer}
 use Rattle.answers.specs.declared.Answer.the-variants.{Done}
 use Rattle.verdict.specs.Verdict.{sheetChecks, outputType, verdict}

@@ -31,10 +31,13 @@ use Rattle.records.specs.Kinds.{
   kindOf,
   isDelay,
 }
-use Rattle.records.specs.Says.{kindAt}
-use Rattle.records.specs.TypeRecords.{typeWithin, typeAt, isPairOf, pairBelow, pairOf}
-use Rattle.records.specs.Namings.{names, namesAt, ifNamed, namingsIn, namingsBelow, namings}
+use Rattle.records.specs.Says.{kindAt, names, namesAt, ifNamed, namingsIn, namingsBelow, namings}
 use Rattle.records.specs.Trees.{
+  typeWithin,
+  typeAt,
+  isPairOf,
+  pairBelow,
+  pairOf,
   Tree,
   constantOf,
   ifOf,

@@ -4,12 +4,11 @@ use Prim.Native.Nat.{ℕ, _≤_, _<_}
 use mathlib.Core.Path.{_≡_}
 use mathlib.Core.Bool.{true, false}
 use mathlib.Core.List.{List}
-use Rattle.picoella.specs.Types.{leaves}
+use Rattle.picoella.specs.Language.{leaves}
 use Rattle.records.specs.Words.{count, wordA, wordB}
 use Rattle.records.specs.Kinds.{header, typeOf, pair, isHeader}
-use Rattle.records.specs.Says.{kindAt, wellSaid}
-use Rattle.records.specs.Namings.{namings, wellNamed}
-use Rattle.records.specs.TypeRecords.{typeAt, pairBelow}
+use Rattle.records.specs.Says.{kindAt, wellSaid, namings, wellNamed}
+use Rattle.records.specs.Trees.{typeAt, pairBelow}
 
 -- codes 1 to 3
 pub record Written (s : List ℕ) : Type 0 where

@@ -11,9 +11,7 @@ use mir.Syntax.{w8}
 use mir.Val.{Fits}
 use lib.ListN.{length, getD, drop}
 use Rattle.records.specs.Words.{word}
-use Rattle.answers.specs.Answers.{code, place, inOne, packed}
-use Rattle.answers.specs.Checks.{firstApplying, SaysOf}
-use Rattle.answers.specs.Lowest.{lowest}
+use Rattle.answers.specs.Answers.{code, place, inOne, packed, firstApplying, SaysOf, lowest}
 use Rattle.answers.specs.declared.Answer.{Answer}
 use Rattle.answers.specs.declared.Answer.the-variants.{Done, Refused}
 use Rattle.answers.proofs.First.{when-none, first-says}

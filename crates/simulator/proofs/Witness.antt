@@ -9,12 +9,11 @@ use mathlib.Core.Path.{_≡_, refl}
 use mathlib.Core.Bool.{true}
 use native.Mathlib.Omega.{arith}
 use lib.ListN.{length, getD, take, replicate}
-use Rattle.picoella.specs.Types.{leaves}
+use Rattle.picoella.specs.Language.{leaves}
 use Rattle.records.specs.Words.{word, wordA, wordB, count}
 use Rattle.records.specs.Kinds.{rowOf, kindOf, expression, feedback, leafs, patterns}
 use Rattle.records.specs.Says.{kindAt, sortAt}
-use Rattle.records.specs.TypeRecords.{typeWithin, typeAt, TypeRecord}
-use Rattle.records.specs.Trees.{chainWithin, chain, alternativesWithin, alternatives}
+use Rattle.records.specs.Trees.{typeWithin, typeAt, TypeRecord, chainWithin, chain, alternativesWithin, alternatives}
 use Rattle.structure.specs.Passes.{Passes}
 use Rattle.accepted.proofs.Laws.{written}
 use Rattle.typing.specs.Judgements.{patternFits}

@@ -2,15 +2,13 @@
 use Prim.Native.Nat.{ℕ, _≤_}
 use mathlib.Core.Path.{_≡_}
 use mathlib.Core.List.{List}
-use Rattle.picoella.specs.Types.{leaves}
-use Rattle.records.specs.TypeRecords.{typeAt}
+use Rattle.picoella.specs.Language.{leaves}
+use Rattle.records.specs.Trees.{typeAt}
 use Rattle.verdict.specs.Verdict.{verdict}
 use Rattle.verdict.specs.declared.Verdict.the-variants.{Accepted}
 use Rattle.stimulus.specs.Stimulus.{inputLeaves}
-use Rattle.behaviour.specs.Sheets.{Bytes}
-use Rattle.behaviour.specs.Run.{Gives}
-use Rattle.behaviour.specs.Afterwards.{WellFormed, Afterwards}
-use Rattle.behaviour.specs.ByRules.{RunsByRules}
+use Rattle.behaviour.specs.Afterwards.{Bytes, WellFormed, Afterwards}
+use Rattle.behaviour.specs.Run.{Gives, RunsByRules}
 
 -- the leaves of a cycle's input and output, for an accepted sheet
 pub record Measured (s : List ℕ) (input output : ℕ) : Type 0 where

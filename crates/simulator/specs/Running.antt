@@ -6,10 +6,10 @@ use mathlib.Core.Bool.{false}
 use mathlib.Core.List.{List, _++_}
 use mathlib.Core.Option.{none}
 use lib.ListN.{length, take, drop}
-use Rattle.picoella.specs.Types.{leaves}
+use Rattle.picoella.specs.Language.{leaves}
 use Rattle.records.specs.Sized.{Sized}
-use Rattle.records.specs.TypeRecords.{typeAt}
-use Rattle.answers.specs.Lowest.{lowest}
+use Rattle.records.specs.Trees.{typeAt}
+use Rattle.answers.specs.Answers.{lowest}
 use Rattle.verdict.specs.Verdict.{verdict}
 use Rattle.verdict.specs.Widths.{Widths}
 use Rattle.verdict.specs.declared.Verdict.the-variants.{Accepted}

@@ -6,14 +6,12 @@ use mathlib.Core.List.{List, [], _∷_, _++_, List·Memᴰ}
 use mathlib.Core.Path.{_≡_, refl, sym, ap, ap₂, _∙_}
 use native.Mathlib.Omega.{arith}
 use lib.ListN.{length, getD}
-use Rattle.picoella.specs.Types.{leaves, OfType}
+use Rattle.picoella.specs.Language.{leaves, OfType}
 use Rattle.records.specs.Words.{word, wordA, wordB, count}
 use Rattle.records.specs.Kinds.{Kind, header, leaf}
 use Rattle.records.specs.Says.{kindAt}
 use Rattle.records.specs.Sized.{Sized}
-use Rattle.records.specs.TypeRecords.{typeAt}
-use Rattle.records.specs.Trees.{chain, circuit}
-use Rattle.records.specs.Held.{delayLeaves}
+use Rattle.records.specs.Trees.{typeAt, chain, circuit, delayLeaves}
 use Rattle.records.specs.Written.{Written}
 use Rattle.records.specs.Rewritten.{Rewritten}
 use Rattle.records.proofs.Rewritten.{same-kind, same-chain, same-type}

@@ -6,12 +6,12 @@ use mathlib.Core.List.{List}
 use mathlib.Core.Path.{_≡_, refl, sym, ap, _∙_}
 use native.Mathlib.Omega.{arith}
 use lib.ListN.{length}
-use Rattle.picoella.specs.Types.{leaves}
+use Rattle.picoella.specs.Language.{leaves}
 use Rattle.records.specs.Kinds.{patterns, sortOf}
 use Rattle.records.specs.Says.{sortAt}
 use Rattle.records.specs.Sized.{Sized}
-use Rattle.records.specs.TypeRecords.{TypeRecord}
 use Rattle.records.specs.Trees.{
+  TypeRecord,
   Alternatives,
   end,
   noPattern,
@@ -20,12 +20,12 @@ use Rattle.records.specs.Trees.{
   pairOfPatterns,
   alternatives,
   treeAt,
+  typeRecordOf,
 }
 use Rattle.records.specs.Rewritten.{Rewritten}
 use Rattle.records.proofs.Rewritten.{same-count, same-kind, same-type, same-alternatives, same-tree}
 use Rattle.records.proofs.Grown.{grown-tree}
 use Rattle.accepted.proofs.Laws.{written}
-use Rattle.typing.specs.Judgements.{typeRecordOf}
 use Rattle.typing.specs.Judging.{width}
 use Rattle.verdict.specs.Verdict.{verdict}
 use Rattle.verdict.specs.Scopes.{Scope}

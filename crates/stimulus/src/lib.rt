@@ -2,9 +2,9 @@
 ghost use mathlib.Core.Path.{_≡_};
 ghost use Prim.Native.Nat.{_<_};
 ghost use lib.ListN.{length};
-ghost use Rattle.picoella.specs.Types.{bounds, leaves};
-ghost use Rattle.records.specs.TypeRecords.{typeAt, TypeRecord};
-ghost use Rattle.answers.specs.Lowest.{lowest};
+ghost use Rattle.picoella.specs.Language.{bounds, leaves};
+ghost use Rattle.records.specs.Trees.{typeAt, TypeRecord};
+ghost use Rattle.answers.specs.Answers.{lowest};
 ghost use Rattle.answers.specs.Searches.{found};
 ghost use Rattle.accepted.specs.Accepting.{Accepting};
 ghost use Rattle.stimulus.specs.Tests.{notWhole, above};

@@ -29,8 +29,7 @@ use Rattle.records.specs.Kinds.{
   sortNumber,
   askNumber,
 }
-use Rattle.records.specs.Says.{askAt}
-use Rattle.records.specs.Namings.{Naming, names, namesAt, ifNamed, namings, namingsIn, namingsBelow, byWordD, wellNamed}
+use Rattle.records.specs.Says.{askAt, Naming, names, namesAt, ifNamed, namings, namingsIn, namingsBelow, byWordD, wellNamed}
 use Rattle.records.proofs.Tests.{both-left, both-right}
 use Rattle.structure.specs.Rules.{wrongNaming}
 use Rattle.structure.specs.NamerTable.{summary, ByWords, Adds, Holds}

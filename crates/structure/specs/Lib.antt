@@ -1,6 +1,7 @@
 -- The rules on records: what codes 1 to 6 say (docs/SHEETS.md, "Codes"), and when none of them applies.
-pub mod Depth
+-- To believe:
 pub mod Rules
+-- What functions ask and give, and their proofs need:
 pub mod Passes
 pub mod NamerTable
 pub mod LeafTable

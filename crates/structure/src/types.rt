@@ -6,7 +6,7 @@ ghost use Rattle.records.specs.Sized.{Sized};
 ghost use Rattle.records.specs.Written.{Written};
 ghost use Rattle.structure.specs.LeafTable.{Counts};
 ghost use Rattle.structure.specs.PairIndex.{Indexed};
-ghost use Rattle.answers.specs.Lowest.{lowest};
+ghost use Rattle.answers.specs.Answers.{lowest};
 ghost use Rattle.answers.specs.Searches.{found};
 ghost use Rattle.structure.specs.Rules.{wrongType};
 use crate::pairs::PairIndex;

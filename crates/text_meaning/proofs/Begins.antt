@@ -6,8 +6,7 @@ use mathlib.Core.Path.{_≡_, refl, ap, ap₂, sym, subst, _∙_}
 use mathlib.Core.Bool.{Bool, true, false, cond, not}
 use mathlib.Core.List.{List, [], _∷_, _++_}
 use native.Mathlib.Omega.{arith}
-use Rattle.picoella.specs.Types.{Ty, leaves}
-use Rattle.picoella.specs.Expressions.{Expr, Const, Var, Tuple, Index1, Index2, Let, LetRec, If, Delay}
+use Rattle.picoella.specs.Language.{Ty, leaves, Expr, Const, Var, Tuple, Index1, Index2, Let, LetRec, If, Delay}
 use Rattle.grammar.specs.Source.{Identifier, identifier, Declaration, Constructors, PairOf}
 use Rattle.grammar.specs.Source.{
   Expression,

@@ -9,7 +9,7 @@ use mathlib.Core.Option.{Option, none, some}
 use native.Mathlib.Omega.{arith}
 use lib.ListN.{length, replicate, length-append, length-replicate, replicate-append-replicate, take, drop}
 use lib.Seq.{take-at, drop-at}
-use Rattle.picoella.specs.Types.{Ty, Flat, TyTuple, leaves}
+use Rattle.picoella.specs.Language.{Ty, Flat, TyTuple, leaves}
 use Rattle.grammar.specs.Source.{Identifier, identifier, Declaration, Constructors, PairOf, SourceConstant, OfConstructor, Undefined, ConstantPair}
 use Rattle.naming.specs.Declared.{sameName, isAmong, DeclaredName, declaredAs, isTaken, isDeclared, typeRole, constructorRole, aConstructor, aType, atFirst}
 use Rattle.naming.specs.Checks.{PlacedCheck, checkAt, AllPass, one-holds}

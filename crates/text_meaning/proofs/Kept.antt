@@ -6,10 +6,8 @@ use mathlib.Core.List.{List, [], _∷_, _++_, map}
 use mathlib.Core.Option.{Option, some}
 use lib.ListN.{length, take, drop}
 use lib.Seq.{take-at, drop-at}
-use Rattle.picoella.specs.Types.{Ty, leaves}
-use Rattle.picoella.specs.Expressions.{Expr}
-use Rattle.picoella.specs.Typing.{Typed}
-use Rattle.records.specs.TypeRecords.{typeAt, Declared}
+use Rattle.picoella.specs.Language.{Ty, leaves, Expr, Typed}
+use Rattle.records.specs.Trees.{typeAt, Declared}
 use Rattle.records.specs.Decoding.{decode}
 use Rattle.grammar.specs.Tokens.{Token}
 use Rattle.grammar.specs.Source.{Identifier, identifier, Declaration, Expression, Text, text}
@@ -26,9 +24,8 @@ use Rattle.meaning.proofs.Order.{value-length}
 use Rattle.meaning.proofs.FlattenOneToOne.{flatten-typed}
 use Rattle.stimulus.specs.Stimulus.{inputType, cycleCount, cycles, pieces, endToEnd}
 use Rattle.answers.specs.Answers.{packed}
-use Rattle.behaviour.specs.Run.{answer, finalOut, finalNext, Gives}
+use Rattle.behaviour.specs.Run.{answer, finalOut, finalNext, Gives, RunsByRules}
 use Rattle.behaviour.specs.Afterwards.{WellFormed}
-use Rattle.behaviour.specs.ByRules.{RunsByRules}
 use Rattle.behaviour.proofs.ByRules.{call-by-rules}
 use Rattle.translation.specs.Layout.{sheetOfText}
 use Rattle.translation.specs.Distances.{byDistances, expressionMeant, unplaced}

@@ -8,7 +8,7 @@ use mathlib.Core.Bool.{Bool, true, false, cond, not}
 use mathlib.Core.List.{List, [], _∷_, _++_}
 use native.Mathlib.Omega.{arith}
 use lib.ListN.{length, getD}
-use Rattle.picoella.specs.Types.{Ty, Flat, TyTuple}
+use Rattle.picoella.specs.Language.{Ty, Flat, TyTuple}
 use Rattle.grammar.specs.Source.{Identifier, identifier, Declaration, Constructors, PairOf}
 use Rattle.naming.specs.Declared.{sameName, DeclaredName, declaredAs, isTaken, isDeclared, constructorRole, aConstructor, aType, atFirst}
 use Rattle.naming.specs.Checks.{PlacedCheck, checkAt, AllPass, one-holds}

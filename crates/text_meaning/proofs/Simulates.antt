@@ -9,10 +9,23 @@ use mathlib.Core.Bool.{Bool, true, false, cond}
 use mathlib.Core.List.{List, [], _∷_}
 use mathlib.Core.Option.{Option, none, some}
 use native.Mathlib.Omega.{arith}
-use Rattle.picoella.specs.Types.{Ty, Flat, TyTuple, OfType}
-use Rattle.picoella.specs.Patterns.{Pattern, HasType}
-use Rattle.picoella.specs.Expressions.{Expr, Const, Var, Tuple, Index1, Index2, Let, LetRec, If, Delay}
-use Rattle.picoella.specs.Typing.{
+use Rattle.picoella.specs.Language.{
+  Ty,
+  Flat,
+  TyTuple,
+  OfType,
+  Pattern,
+  HasType,
+  Expr,
+  Const,
+  Var,
+  Tuple,
+  Index1,
+  Index2,
+  Let,
+  LetRec,
+  If,
+  Delay,
   Named,
   here,
   there,

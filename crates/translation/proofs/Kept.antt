@@ -7,7 +7,7 @@ use mathlib.Core.List.{List, [], _∷_, _++_}
 use mathlib.Core.Option.{some}
 use native.Mathlib.Omega.{arith}
 use lib.ListN.{length, length-append}
-use Rattle.picoella.specs.Expressions.{Expr}
+use Rattle.picoella.specs.Language.{Expr}
 use Rattle.records.specs.Words.{count, wordA, wordB}
 use Rattle.records.specs.SheetOf.{sheetOf}
 use Rattle.records.specs.Trees.{treeAt, circuit}

@@ -7,7 +7,7 @@ use mathlib.Core.List.{List, [], _∷_, _++_}
 use native.Mathlib.Omega.{arith}
 use lib.ListN.{length, replicate, length-append, length-replicate}
 use Rattle.records.specs.SheetOf.{Record, words}
-use Rattle.picoella.specs.Types.{leaves}
+use Rattle.picoella.specs.Language.{leaves}
 use Rattle.grammar.specs.Source.{Identifier, identifier, Declaration, Constructors, PairOf, SourceConstant, OfConstructor, Undefined, ConstantPair}
 use Rattle.grammar.specs.Source.{SourcePattern, Alone, PatternPair, Either, Text, text}
 use Rattle.grammar.specs.Source.{

@@ -8,9 +8,9 @@ use mathlib.Core.Option.{Option}
 use mathlib.Core.Logic.{_⊎_, inl, inr}
 use native.Mathlib.Omega.{arith}
 use lib.ListN.{length}
-use Rattle.picoella.specs.Types.{Ty, Flat, TyTuple, leaves}
+use Rattle.picoella.specs.Language.{Ty, Flat, TyTuple, leaves}
 use Rattle.records.specs.Words.{wordA}
-use Rattle.records.specs.TypeRecords.{typeAt, typeWithin}
+use Rattle.records.specs.Trees.{typeAt, typeWithin}
 use Rattle.grammar.specs.Source.{Identifier, identifier, Declaration, Constructors, PairOf}
 use Rattle.naming.specs.Declared.{
   Role,

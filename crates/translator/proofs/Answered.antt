@@ -8,8 +8,7 @@ use mathlib.Core.List.{List, [], _∷_, _++_}
 use mathlib.Core.Option.{Option, none, some}
 use lib.ListN.{length, replicate}
 use lib.Dec.{T, ltb, lt→ltb}
-use Rattle.answers.specs.Answers.{whenDone}
-use Rattle.answers.specs.Checks.{check, when, orRefused, firstApplying}
+use Rattle.answers.specs.Answers.{whenDone, check, when, orRefused, firstApplying}
 use Rattle.answers.specs.declared.Answer.{Answer}
 use Rattle.answers.specs.declared.Answer.the-variants.{Done, Refused}
 use Rattle.grammar.specs.Tokens.{Token}

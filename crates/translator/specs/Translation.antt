@@ -7,8 +7,7 @@ use mathlib.Core.Bool.{Bool, true, cond}
 use mathlib.Core.List.{List, [], _∷_, _++_}
 use lib.ListN.{length, replicate}
 use lib.Dec.{ltb}
-use Rattle.answers.specs.Answers.{packed, whenDone}
-use Rattle.answers.specs.Checks.{Check, check, when, firstApplying}
+use Rattle.answers.specs.Answers.{packed, whenDone, Check, check, when, firstApplying}
 use Rattle.answers.specs.declared.Answer.{Answer}
 use Rattle.answers.specs.declared.Answer.the-variants.{Done, Refused}
 use Rattle.grammar.specs.Tokens.{Token}

@@ -8,11 +8,11 @@ use native.Mathlib.Omega.{arith}
 use borrow.Author.Tests.{ne-eqb}
 use lib.ListN.{length, getD, List·getD-append}
 use lib.Seq.{getD-append-add}
-use Rattle.picoella.specs.Types.{Ty, Flat, TyTuple, bounds, leaves}
+use Rattle.picoella.specs.Language.{Ty, Flat, TyTuple, bounds, leaves}
 use Rattle.records.specs.Words.{count, word, wordA, wordB}
 use Rattle.records.specs.Kinds.{typeOf, flat, pair, types, TypeKind}
 use Rattle.records.specs.Says.{kindAt}
-use Rattle.records.specs.TypeRecords.{typeAt, TypeRecord}
+use Rattle.records.specs.Trees.{typeAt, TypeRecord}
 use Rattle.records.specs.Written.{Written, TypesFit}
 use Rattle.records.proofs.Tests.{never-both}
 use Rattle.records.proofs.Table.{kind-of-sort}

@@ -7,18 +7,8 @@ use mathlib.Core.Option.{Option, none, some}
 use Prim.Native.Nat.{ℕ}
 use native.Mathlib.Omega.{arith}
 use lib.ListN.{length, set}
-use Rattle.records.specs.Trees.{
-  Tree,
-}
-use Rattle.typing.specs.Judgements.{
-  Judgement,
-  Rule,
-  holds,
-  typeRecordOf,
-  judge,
-  judgements,
-  firstFailing,
-}
+use Rattle.records.specs.Trees.{Tree, typeRecordOf}
+use Rattle.typing.specs.Judgements.{Judgement, Rule, holds, judge, judgements, firstFailing}
 use Rattle.typing.specs.Judging.{conclude, judged, width, noted, Judged, lastly, Closed}
 use Rattle.typing.specs.declared.Outcome.{Outcome}
 use Rattle.typing.specs.declared.Outcome.the-variants.{Sound, Fault}

@@ -5,10 +5,11 @@ use mathlib.Core.List.{List, _∷_, _++_}
 use mathlib.Core.Option.{Option, none, some}
 use Prim.Native.Nat.{ℕ}
 use lib.ListN.{length, getD, set, length-set}
-use Rattle.picoella.specs.Types.{leaves}
+use Rattle.picoella.specs.Language.{leaves}
 use Rattle.records.specs.Words.{wordA, wordB}
-use Rattle.records.specs.TypeRecords.{typeAt, pairOf}
 use Rattle.records.specs.Trees.{
+  typeAt,
+  pairOf,
   Alternatives,
   Tree,
   constantOf,
@@ -20,6 +21,7 @@ use Rattle.records.specs.Trees.{
   feedbackOf,
   ifOf,
   delayOf,
+  typeRecordOf,
 }
 use Rattle.typing.specs.Judgements.{
   Judgement,
@@ -29,7 +31,6 @@ use Rattle.typing.specs.Judgements.{
   pairType,
   sameType,
   patternHas,
-  typeRecordOf,
   judge,
   judgements,
   firstFailing,

@@ -14,8 +14,7 @@ use borrow.Author.Tests.{eq-eqb, ne-eqb}
 use Rattle.records.specs.Words.{count, word, wordA, wordB, nextWord}
 use Rattle.records.specs.Kinds.{pattern, whole, constructor, parts, patterns, part, typeOf, pair, isPair}
 use Rattle.records.specs.Says.{kindAt, sortAt}
-use Rattle.records.specs.TypeRecords.{TypeRecord, pairOf, pairBelow}
-use Rattle.records.specs.Trees.{end, alternatives, follow}
+use Rattle.records.specs.Trees.{TypeRecord, pairOf, pairBelow, end, alternatives, follow}
 use Rattle.records.specs.Written.{Written}
 use Rattle.records.proofs.Tests.{never-both}
 use Rattle.records.proofs.Table.{is-pair, askOfKind}

@@ -2,9 +2,9 @@
 ghost use mathlib.Core.Path.{_≡_};
 ghost use Prim.Native.Nat.{_<_};
 ghost use lib.ListN.{set};
-ghost use Rattle.picoella.specs.Types.{leaves};
+ghost use Rattle.picoella.specs.Language.{leaves};
 ghost use Rattle.records.specs.Words.{word};
-ghost use Rattle.records.specs.TypeRecords.{typeAt, TypeRecord, pairOf};
+ghost use Rattle.records.specs.Trees.{typeAt, TypeRecord, pairOf};
 ghost use Rattle.structure.specs.PairIndex.{Indexed};
 ghost use Rattle.typing.specs.Judgements.{pairDeclared, pairType, sameType};
 ghost use Rattle.typing.specs.Judging.{Closed, Closing};

@@ -2,12 +2,11 @@
 ghost use mathlib.Core.Path.{_≡_};
 ghost use Prim.Native.Nat.{_<_};
 ghost use lib.ListN.{getD};
-ghost use Rattle.picoella.specs.Types.{bounds, leaves};
+ghost use Rattle.picoella.specs.Language.{bounds, leaves};
 ghost use Rattle.records.specs.Kinds.{leafs};
 ghost use Rattle.records.specs.Says.{sortAt};
 ghost use Rattle.records.specs.Sized.{Sized};
-ghost use Rattle.records.specs.TypeRecords.{typeAt, TypeRecord};
-ghost use Rattle.records.specs.Trees.{chain};
+ghost use Rattle.records.specs.Trees.{typeAt, TypeRecord, chain};
 ghost use Rattle.records.specs.Decoding.{leafValues};
 ghost use Rattle.structure.specs.Passes.{Passes};
 ghost use Rattle.typing.specs.Judgements.{within, holds, leavesFit};

@@ -10,22 +10,11 @@ use native.Mathlib.Decide.{ℕ-discrete}
 use borrow.Author.Tests.{eqb-true}
 use lib.ListN.{length, getD, take, drop, length-drop}
 use lib.Seq.{length-take-le, take-all}
-use Rattle.picoella.specs.Types.{Ty, Flat, TyTuple, leaves}
-use Rattle.picoella.specs.Patterns.{Pattern, Whole, Constructor, Parts}
+use Rattle.picoella.specs.Language.{Ty, Flat, TyTuple, leaves, Pattern, Whole, Constructor, Parts}
 use Rattle.records.specs.Words.{count, nextWord, word, wordA, wordB}
 use Rattle.records.specs.Kinds.{PatternKind, pattern, whole, constructor, parts, patterns, isPair}
 use Rattle.records.specs.Says.{kindAt}
-use Rattle.records.specs.TypeRecords.{typeAt}
-use Rattle.records.specs.Trees.{
-  Alternatives,
-  end,
-  noPattern,
-  wholeType,
-  oneConstructor,
-  pairOfPatterns,
-  alternatives,
-  follow,
-}
+use Rattle.records.specs.Trees.{typeAt, Alternatives, end, noPattern, wholeType, oneConstructor, pairOfPatterns, alternatives, follow}
 use Rattle.records.specs.Decoding.{orElse, patternOf}
 use Rattle.records.specs.Written.{Written}
 use Rattle.records.proofs.Tests.{both-left, both-right}

@@ -49,9 +49,8 @@ use Rattle.records.specs.Kinds.{
   askNumber,
   isHeader,
 }
-use Rattle.records.specs.Says.{kindAt, sortAt, askAt}
-use Rattle.records.specs.Namings.{Naming, names, namings, wellNamed}
-use Rattle.records.specs.Trees.{treeAt}
+use Rattle.records.specs.Says.{kindAt, sortAt, askAt, Naming, names, namings, wellNamed}
+use Rattle.records.specs.Trees.{treeAt, typeRecordOf}
 use Rattle.records.specs.Written.{Written}
 use Rattle.records.proofs.Tests.{never-both, both-left, both-right}
 use Rattle.records.proofs.Table.{askOfKind, ask-by-kind}
@@ -59,7 +58,6 @@ use Rattle.records.proofs.Asked.{Means, as-asked, past-header}
 use Rattle.records.proofs.Namings.{in-namings-names, namer-lower}
 use Rattle.structure.specs.Passes.{Passes}
 use Rattle.structure.proofs.Passes.{written, well-named}
-use Rattle.typing.specs.Judgements.{typeRecordOf}
 use Rattle.verdict.specs.Verdict.{inputs}
 use Rattle.verdict.specs.Scopes.{
   Scope,

@@ -25,31 +25,18 @@ use Rattle.records.specs.Kinds.{
   expressions,
 }
 use Rattle.records.specs.Says.{kindAt}
-use Rattle.records.specs.Trees.{chain, treeAt, circuit}
+use Rattle.records.specs.Trees.{chain, treeAt, circuit, typeRecordOf}
 use Rattle.records.proofs.Table.{askOfKind, kind-of-sort}
 use Rattle.records.proofs.Asked.{root-is}
 use Rattle.records.proofs.Trees.{tree-of}
 use Rattle.structure.specs.Passes.{Passes}
 use Rattle.structure.proofs.Passes.{written}
-use Rattle.typing.specs.Judgements.{
-  Judgement,
-  Rule,
-  leavesFit,
-  inScope,
-  pairDeclared,
-  pairType,
-  sameType,
-  holds,
-  judge,
-  judgements,
-  typeRecordOf,
-  firstFailing,
-}
+use Rattle.typing.specs.Judgements.{Judgement, Rule, leavesFit, inScope, pairDeclared, pairType, sameType, holds, judge, judgements, firstFailing}
 use Rattle.typing.proofs.Failing.{first-of-both, judgement-holds}
 use Rattle.typing.proofs.Outcomes.{fault-first}
 use Rattle.verdict.specs.Verdict.{inputs, byTypes, verdict}
 use Rattle.verdict.specs.Promises.{IllTypedExactly}
-use Rattle.verdict.specs.FirstIllTyped.{
+use Rattle.verdict.specs.Scopes.{
   IllTypedAt,
   PartsTyped,
   FirstIllTyped,

@@ -15,8 +15,8 @@ use Rattle.structure.specs.Passes.{Passes}
 use Rattle.structure.specs.Rules.{wrongLength, wrongHeader}
 use Rattle.structure.specs.LeafTable.{Counts}
 use Rattle.typing.specs.Judging.{noted}
-use Rattle.verdict.specs.Stages.{CheckingRecords}
-use Rattle.verdict.specs.Verdict.{inputs, verdict, unless, byRecords, Tabled}
+use Rattle.verdict.specs.Stages.{CheckingRecords, Tabled}
+use Rattle.verdict.specs.Verdict.{inputs, verdict, unless, byRecords}
 use Rattle.verdict.specs.Widths.{PatternsFrom, Widths, Checked, accepts}
 use Rattle.verdict.specs.declared.Verdict.{Verdict}
 use Rattle.verdict.specs.declared.Verdict.the-variants.{

@@ -10,8 +10,7 @@ use native.Mathlib.Omega.{arith}
 use lib.Dec.{eqb, ltb}
 use Rattle.records.specs.Words.{count, word, wordB}
 use Rattle.records.specs.Kinds.{expressions, expression, ExpressionKind, part}
-use Rattle.records.specs.Says.{kindAt, sortAt}
-use Rattle.records.specs.Namings.{Naming, names}
+use Rattle.records.specs.Says.{kindAt, sortAt, Naming, names}
 use Rattle.records.proofs.Table.{askOfKind}
 use Rattle.records.proofs.Asked.{part-of-kind, root-is, past-header}
 use Rattle.records.proofs.Namings.{Names, namer-lower, part-names, part-word-other, only-naming}

@@ -8,16 +8,15 @@ use Prim.Native.Nat.{ℕ, _≤_, _<_}
 use native.Mathlib.Omega.{arith}
 use lib.ListN.{length}
 use Rattle.records.specs.Words.{count, word, wordA, wordB}
-use Rattle.records.specs.Trees.{treeAt, circuit}
+use Rattle.records.specs.Trees.{treeAt, circuit, typeRecordOf}
 use Rattle.records.specs.Written.{Written}
-use Rattle.records.specs.Namings.{namings}
+use Rattle.records.specs.Says.{namings}
 use Rattle.records.proofs.Asked.{root-is}
 use Rattle.records.proofs.TypeRecords.{input-type}
-use Rattle.answers.specs.Lowest.{lowest}
+use Rattle.answers.specs.Answers.{lowest, code}
 use Rattle.answers.specs.Searches.{found}
 use Rattle.structure.specs.Passes.{Passes}
-use Rattle.structure.specs.Rules.{wrongHeader, wrongRecord, wrongNaming, wrongType, tooDeep}
-use Rattle.structure.specs.Depth.{depth, nesting}
+use Rattle.structure.specs.Rules.{wrongHeader, wrongRecord, wrongNaming, wrongType, tooDeep, depth, nesting}
 use Rattle.structure.specs.NamerTable.{Holds}
 use Rattle.structure.specs.LeafTable.{Counts}
 use Rattle.structure.specs.DepthTable.{Capped, Placed, Placing}
@@ -26,11 +25,10 @@ use Rattle.answers.specs.declared.Found.the-variants.{At, Nothing}
 use Rattle.structure.proofs.Passes.{written, written-by, well-named-by, well-named}
 use Rattle.structure.proofs.Depths.{depth-of-root}
 use Rattle.structure.proofs.DepthCounts.{depth-of-header, nesting-of-header}
-use Rattle.typing.specs.Judgements.{judgements, typeRecordOf, firstFailing}
+use Rattle.typing.specs.Judgements.{judgements, firstFailing}
 use Rattle.typing.specs.Judging.{Ground, Judging, Judged, Context, scopeOf, noted}
-use Rattle.verdict.specs.Stages.{CheckingRecords, CheckingNamings, CheckingTypes, CheckingDepths}
-use Rattle.verdict.specs.Verdict.{inputs, refusing, unless, byTypes, byDepths, byTypeRecords, byNamings, byRecords, RulesChecked, Tabled, verdictAnswer}
-use Rattle.answers.specs.Answers.{code}
+use Rattle.verdict.specs.Stages.{CheckingRecords, CheckingNamings, CheckingTypes, CheckingDepths, RulesChecked, Tabled}
+use Rattle.verdict.specs.Verdict.{inputs, refusing, unless, byTypes, byDepths, byTypeRecords, byNamings, byRecords, verdictAnswer}
 use Rattle.typing.specs.declared.Outcome.{Outcome}
 use Rattle.typing.specs.declared.Outcome.the-variants.{Sound, Fault}
 use Rattle.verdict.specs.declared.Verdict.{Verdict}

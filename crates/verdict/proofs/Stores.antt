@@ -32,9 +32,10 @@ use Rattle.records.specs.Trees.{
   feedbackOf,
   ifOf,
   delayOf,
+  expressionRecords,
+  Distinct,
+  typeRecordOf,
 }
-use Rattle.records.specs.Held.{expressionRecords, Distinct}
-use Rattle.typing.specs.Judgements.{typeRecordOf}
 use Rattle.typing.specs.Judging.{width, noted}
 
 -- a record and the width stored there

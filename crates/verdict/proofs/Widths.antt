@@ -12,7 +12,7 @@ use native.Mathlib.Decide.{ℕ-discrete, decLt}
 use lib.Dec.{ltb}
 use lib.ListN.{getD, set, length-set}
 use lib.Seq.{getD-set-same, getD-set-other}
-use Rattle.picoella.specs.Types.{leaves}
+use Rattle.picoella.specs.Language.{leaves}
 use Rattle.records.specs.Words.{count, word}
 use Rattle.records.specs.Kinds.{
   pattern,
@@ -31,9 +31,7 @@ use Rattle.records.specs.Kinds.{
   sameSort,
 }
 use Rattle.records.specs.Says.{kindAt, sortAt}
-use Rattle.records.specs.TypeRecords.{typeAt, TypeRecord}
-use Rattle.records.specs.Trees.{alternatives, treeAt, circuit}
-use Rattle.records.specs.Held.{expressionRecords}
+use Rattle.records.specs.Trees.{typeAt, TypeRecord, alternatives, treeAt, circuit, expressionRecords}
 use Rattle.records.proofs.Tests.{never-both}
 use Rattle.records.proofs.Table.{askOfKind}
 use Rattle.records.proofs.Asked.{part-of-kind}

@@ -4,8 +4,8 @@ use native.Mathlib.Omega.{arith}
 use Prim.Native.Nat.{_-_}
 use denote.Ref.{now}
 use mathlib.Core.Path.{sym, _∙_}
-use Rattle.picoella.specs.Types.{bounds}
-use Rattle.records.specs.TypeRecords.{typeAt}
+use Rattle.picoella.specs.Language.{bounds}
+use Rattle.records.specs.Trees.{typeAt}
 use Rattle.accepted.proofs.LeafBounds.{bound-small, accepting-ground, Filled, none-filled, fill-next, all-filled, type-bounds}
 use Rattle.accepted.proofs.fill_bounds.Statement.{statement}
 use Rattle.accepted.proofs.fill_bounds.Tie as tie
