@@ -15,7 +15,7 @@ use listing::put_type;
 use simulator::leaves_of;
 use simulator::run;
 use stimulus::STIMULUS_BYTES;
-use verdict::check;
+use verdict::check_sheet;
 
 // The place of the sheet's file and of the stimulus's.
 const SHEET_FILE: u64 = 1;
@@ -68,7 +68,7 @@ pub fn tell(sheet: &[u8], stim: &[u8], out: &mut [u8], next: &mut [u8]) -> Told
     let many = outputs_length(leaves.input, leaves.output, stim.len());
     let long = sheet.len();
     let result = run(sheet, stim, &mut out[0..many], &mut next[0..long]);
-    let verdict = check(sheet);
+    let verdict = check_sheet(sheet);
     let w = width(leaves.output);
     Told {
         code: result / PLACES,

@@ -18,7 +18,7 @@ use symbols::NameRoles;
 use symbols::ROLE_CONSTRUCTOR;
 use symbols::ROLE_TYPE;
 use symbols::Spans;
-use symbols::find;
+use symbols::find_name;
 use symbols::find_declared;
 
 const USE_NAME: u8 = 5;
@@ -78,7 +78,7 @@ fn say_value(
     requires { ⌜ Speaking (now text) base n (now spans) (now links) (now heads) (now roles) (now types) (now ranks) count (now ops) (now firsts) (now seconds) × Inside (now text) span ⌝ }
     ensures { λ r. ⌜ CodeSaid (now (ops .entry)) (now (firsts .entry)) (now (seconds .entry)) count (valueSaid (nameOf (now (text .entry)) span) (boundNames (now (text .entry)) (now (spans .entry)) base (n - base)) (declaredNames (now (text .entry)) (now (spans .entry)) (now (roles .entry)) base) ∷ []) (now (ops .exit)) (now (firsts .exit)) (now (seconds .exit)) r ⌝ }
 {
-    let k = find(text, span, n, n, spans, links, heads);
+    let k = find_name(text, span, n, n, spans, links, heads);
     if base < k {
         return say(USE_NAME, (n - k) as u16, 0, count, ops, firsts, seconds);
     }

@@ -17,8 +17,8 @@ use symbols::ROLE_CONSTRUCTOR;
 use symbols::ROLE_TYPE;
 use symbols::Spans;
 use symbols::declared_role;
-use symbols::pop;
-use symbols::push;
+use symbols::pop_name;
+use symbols::push_name;
 use symbols::role;
 
 // The column of the table of admissions that tells whether a name is looked for among the bound names.
@@ -60,7 +60,7 @@ fn declare(
     requires { ⌜ Hashed (now text) n (now spans) (now links) (now heads) × Inside (now text) span × (n < 65536) × Roles (now roles) n × (kind < 2) ⌝ }
     ensures { λ _. ⌜ Hashed (now (text .entry)) (n + 1) (now (spans .exit)) (now (links .exit)) (now (heads .exit)) × Roles (now (roles .exit)) (n + 1) × (declaredNames (now (text .entry)) (now (spans .exit)) (now (roles .exit)) (n + 1) ≡ declaredAs (nameOf (now (text .entry)) span) (roleNamed kind) ∷ declaredNames (now (text .entry)) (now (spans .entry)) (now (roles .entry)) n) ⌝ }
 {
-    push(text, span, n, spans, links, heads);
+    push_name(text, span, n, spans, links, heads);
     roles[n] = kind;
 }
 
@@ -79,7 +79,7 @@ fn bind(
     ensures { λ _. ⌜ NameBound (now (text .entry)) span base n (now (spans .entry)) (now (roles .entry)) (now (spans .exit)) (now (links .exit)) (now (heads .exit)) (now (roles .exit)) ⌝ }
 {
     let declared = declared_role(text, span, base, n, spans, links, heads, roles);
-    push(text, span, n, spans, links, heads);
+    push_name(text, span, n, spans, links, heads);
     roles[n] = declared;
 }
 
@@ -466,7 +466,7 @@ pub fn note_other(
     }
     if effect == UNBINDS {
         if base < n {
-            pop(text, n, spans, links, heads);
+            pop_name(text, n, spans, links, heads);
             return Counts {
                 ok: true,
                 base,

@@ -12,14 +12,14 @@ use firing::fired_of;
 use preview::preview;
 use simulator::run;
 use translator::translate;
-use verdict::check;
+use verdict::check_sheet;
 
 // The check: the verdict's code times 2^32, plus its place.
 #[no_mangle]
 pub extern "C" fn sheet_check(sheet: &[u8]) -> u64
     ensures { λ r. ⌜ r ≡ packed (verdictAnswer (verdict (now (sheet .entry)))) ⌝ }
 {
-    check(sheet)
+    check_sheet(sheet)
 }
 
 // The run: the answer's code times 2^32, plus its place.

@@ -141,7 +141,7 @@ fn is_input(text: &[u8], span: u32) -> bool
 }
 
 // The last of the first `limit` names that is the same, counted from 1, or 0.
-pub fn find(
+pub fn find_name(
     text: &[u8],
     span: u32,
     limit: usize,
@@ -166,7 +166,7 @@ pub fn find(
 }
 
 // One name more, the last.
-pub fn push(
+pub fn push_name(
     text: &[u8],
     span: u32,
     n: usize,
@@ -184,7 +184,7 @@ pub fn push(
 }
 
 // The last name goes.
-pub fn pop(text: &[u8], n: usize, spans: &Spans, links: &Links, heads: &mut Heads)
+pub fn pop_name(text: &[u8], n: usize, spans: &Spans, links: &Links, heads: &mut Heads)
     requires { ⌜ Hashed (now text) n (now spans) (now links) (now heads) × (0 < n) ⌝ }
     ensures { λ _. ⌜ Hashed (now (text .entry)) (n - 1) (now (spans .entry)) (now (links .entry)) (now (heads .exit)) ⌝ }
 {
@@ -207,7 +207,7 @@ pub fn role(
     requires { ⌜ Hashed (now text) n (now spans) (now links) (now heads) × Inside (now text) span × (limit ≤ n) × (base ≤ limit) × Roles (now roles) base ⌝ }
     ensures { λ r. ⌜ (r ≡ roleAmong (now (text .entry)) (now (spans .entry)) (now (roles .entry)) base (limit - base) span) × (r < 5) ⌝ }
 {
-    let k = find(text, span, limit, n, spans, links, heads);
+    let k = find_name(text, span, limit, n, spans, links, heads);
     if base < k {
         return ROLE_BOUND;
     }
@@ -234,7 +234,7 @@ pub fn declared_role(
     requires { ⌜ Hashed (now text) n (now spans) (now links) (now heads) × Inside (now text) span × (base ≤ n) × Roles (now roles) base × BoundRoles (now text) (now spans) (now roles) base n ⌝ }
     ensures { λ r. ⌜ (r ≡ declaredRole (now (text .entry)) (now (spans .entry)) (now (roles .entry)) base span) × (r < 5) ⌝ }
 {
-    let k = find(text, span, n, n, spans, links, heads);
+    let k = find_name(text, span, n, n, spans, links, heads);
     if k != 0 {
         return roles[k - 1];
     }
@@ -259,12 +259,12 @@ pub fn find_declared(
     requires { ⌜ Hashed (now text) n (now spans) (now links) (now heads) × Inside (now text) span × (base ≤ n) × Roles (now roles) base × BoundRoles (now text) (now spans) (now roles) base n ⌝ }
     ensures { λ r. ⌜ r ≡ nearest (now (text .entry)) (now (spans .entry)) (nameOf (now (text .entry)) span) base ⌝ }
 {
-    let k = find(text, span, n, n, spans, links, heads);
+    let k = find_name(text, span, n, n, spans, links, heads);
     if k <= base {
         return k;
     }
     if ROLE_CONSTRUCTOR < roles[k - 1] {
         return 0;
     }
-    find(text, span, base, n, spans, links, heads)
+    find_name(text, span, base, n, spans, links, heads)
 }

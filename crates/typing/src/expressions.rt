@@ -275,7 +275,7 @@ fn of_delay(
 }
 
 // Judges an expression, with an index of the sheet's pair types and the types of its patterns.
-pub fn judge(
+pub fn judge_root(
     sheet: &[u8],
     n: usize,
     table: &Widths,

@@ -49,7 +49,7 @@ use structure::place_all;
 use structure::wrong_header;
 use typing::Outcome;
 use typing::input_scope;
-use typing::judge;
+use typing::judge_root;
 
 // The answer of the check. `specs/Verdict.antt` gives the number and the place of each case (docs/SHEETS.md, "Codes").
 pub enum Verdict {
@@ -71,7 +71,7 @@ fn check_rules(sheet: &[u8], n: usize, table: &Widths, widths: &mut Widths) -> V
     ensures { λ r. ⌜ RulesChecked (now (sheet .entry)) (byTypes (now (sheet .entry))) r (now (widths .entry)) (now (widths .exit)) ⌝ }
 {
     let scope = input_scope(word(sheet, n, 0, WORD_A));
-    let judged = judge(
+    let judged = judge_root(
         sheet,
         n,
         table,
@@ -250,7 +250,7 @@ pub fn packed_verdict(v: Verdict) -> u64
 }
 
 // The check: the verdict's code and place in one number.
-pub fn check(sheet: &[u8]) -> u64
+pub fn check_sheet(sheet: &[u8]) -> u64
     ensures { λ r. ⌜ r ≡ packed (verdictAnswer (verdict (now (sheet .entry)))) ⌝ }
 {
     let mut table = no_widths();

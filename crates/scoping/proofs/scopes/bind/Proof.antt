@@ -9,20 +9,20 @@ use Rattle.scoping.proofs.scopes.bind.Tie as tie
 declared-role-requires : tie.Need-declared-role-requires
 declared-role-requires c κs = search needs
 
-push-requires : tie.Need-push-requires
-push-requires c κs = search needs
+push-name-requires : tie.Need-push-name-requires
+push-name-requires c κs = search needs
 
 element-write-roles : tie.Need-element-write-roles
 element-write-roles c = search needs
 
 returns : tie.Need-returns
-returns c = name-bound (c .push .ensures .0) (c .push .ensures .1) (c .before .before .before .before .before .before .before .before .before .before .pre .0 .spans-long) (c .before .before .before .before .before .before .before .before .before .before .pre .2) (c .before .before .before .before .before .before .before .before .before .before .pre .3) (c .before .before .before .before .before .before .before .before .before .before .pre .4) (c .before .before .before .before .before .before .before .before .before .before .pre .5) (c .before .before .before .before .declared-role .ensures .0)
+returns c = name-bound (c .push-name .ensures .0) (c .push-name .ensures .1) (c .before .before .before .before .before .before .before .before .before .before .pre .0 .spans-long) (c .before .before .before .before .before .before .before .before .before .before .pre .2) (c .before .before .before .before .before .before .before .before .before .before .pre .3) (c .before .before .before .before .before .before .before .before .before .before .pre .4) (c .before .before .before .before .before .before .before .before .before .before .pre .5) (c .before .before .before .before .declared-role .ensures .0)
 
 pub bind-spec : {M : Type 1} → statement M
 bind-spec =
     tie.close
     (tie.spec
     declared-role-requires
-    push-requires
+    push-name-requires
     element-write-roles
     returns)

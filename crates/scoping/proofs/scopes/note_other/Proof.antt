@@ -31,14 +31,14 @@ sub-t15 c = omega (arith, c .before .before .before .before .before .before .if2
 returns : tie.Need-returns
 returns c = as-ended (heldScope (c .before .before .before .before .before .before .before .before .before .args .text .now) (c .before .before .before .before .before .before .before .before .before .args .base) (c .before .before .before .before .before .before .before .before .before .args .n) (c .before .before .before .before .before .before .before .before .before .args .m) (c .before .before .before .before .before .before .before .before .before .args .spans .now) (c .before .before .before .before .before .before .before .before .before .args .roles .now) (c .before .before .before .before .before .before .before .before .before .args .pendings .now)) _ 5 (c .before .before .before .before .before .before .before .if1 .taken) refl (bind-pending-after (c .before .before .before .before .before .before .before .before .before .pre) (c .before .before .before .before .before .before .if2 .taken) (c .bind .ensures))
 
-pop-requires : tie.Need-pop-requires
-pop-requires c κs = (c .before .before .before .before .before .before .before .pre .hashed, (let h = c .before .before .before .if4 .taken in omega arith))
+pop-name-requires : tie.Need-pop-name-requires
+pop-name-requires c κs = (c .before .before .before .before .before .before .before .pre .hashed, (let h = c .before .before .before .if4 .taken in omega arith))
 
 sub-t28 : tie.Need-sub-t28
 sub-t28 c = (let h = c .before .before .before .before .if4 .taken in omega arith)
 
 returns-2 : tie.Need-returns-2
-returns-2 c = as-ended (heldScope (c .before .before .before .before .before .before .before .before .args .text .now) (c .before .before .before .before .before .before .before .before .args .base) (c .before .before .before .before .before .before .before .before .args .n) (c .before .before .before .before .before .before .before .before .args .m) (c .before .before .before .before .before .before .before .before .args .spans .now) (c .before .before .before .before .before .before .before .before .args .roles .now) (c .before .before .before .before .before .before .before .before .args .pendings .now)) _ 7 (c .before .before .before .before .before .if3 .taken) refl (unbind-after (c .before .before .before .before .before .before .before .before .pre) (c .before .before .before .before .if4 .taken) (c .pop .ensures))
+returns-2 c = as-ended (heldScope (c .before .before .before .before .before .before .before .before .args .text .now) (c .before .before .before .before .before .before .before .before .args .base) (c .before .before .before .before .before .before .before .before .args .n) (c .before .before .before .before .before .before .before .before .args .m) (c .before .before .before .before .before .before .before .before .args .spans .now) (c .before .before .before .before .before .before .before .before .args .roles .now) (c .before .before .before .before .before .before .before .before .args .pendings .now)) _ 7 (c .before .before .before .before .before .if3 .taken) refl (unbind-after (c .before .before .before .before .before .before .before .before .pre) (c .before .before .before .before .if4 .taken) (c .pop-name .ensures))
 
 returns-3 : tie.Need-returns-3
 returns-3 c = as-ended (heldScope (c .before .before .before .before .args .text .now) (c .before .before .before .before .args .base) (c .before .before .before .before .args .n) (c .before .before .before .before .args .m) (c .before .before .before .before .args .spans .now) (c .before .before .before .before .args .roles .now) (c .before .before .before .before .args .pendings .now)) _ 7 (c .before .if3 .taken) refl (none-unbound (c .before .before .before .before .pre) (c .if4 .left))
@@ -57,7 +57,7 @@ note-other-spec =
     add-t14
     sub-t15
     returns
-    pop-requires
+    pop-name-requires
     sub-t28
     returns-2
     returns-3

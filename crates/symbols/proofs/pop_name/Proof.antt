@@ -4,8 +4,8 @@ use borrow.Author.Needs.{needs}
 use native.Mathlib.Omega.{arith}
 use Prim.Native.Nat.{_-_}
 use Rattle.symbols.proofs.Search.{hashed-less}
-use Rattle.symbols.proofs.pop.Statement.{statement}
-use Rattle.symbols.proofs.pop.Tie as tie
+use Rattle.symbols.proofs.pop_name.Statement.{statement}
+use Rattle.symbols.proofs.pop_name.Tie as tie
 
 sub-hash : tie.Need-sub-hash
 sub-hash c = search needs
@@ -37,8 +37,8 @@ element-write-heads c = search needs
 returns : tie.Need-returns
 returns c = hashed-less (c .before .before .before .before .pre .0) _ (c .before .before .before .before .pre .1) (c .before .hash .ensures .0)
 
-pub pop-spec : {M : Type 1} → statement M
-pop-spec =
+pub pop-name-spec : {M : Type 1} → statement M
+pop-name-spec =
     tie.close
     (tie.spec
     sub-hash

@@ -1,8 +1,8 @@
 -- The index has the pair types of the whole sheet, and the table the types of all its patterns. Assumes nothing.
 use borrow.Author.Needs.{needs}
 use denote.Ref.{now}
-use Rattle.typing.proofs.expressions.judge.Statement.{statement}
-use Rattle.typing.proofs.expressions.judge.Tie as tie
+use Rattle.typing.proofs.expressions.judge_root.Statement.{statement}
+use Rattle.typing.proofs.expressions.judge_root.Tie as tie
 
 no-pairs-requires : tie.Need-no-pairs-requires
 no-pairs-requires c κs = search needs
@@ -24,8 +24,8 @@ judge-expression-requires c κs = search needs
 returns : tie.Need-returns
 returns c = c .judge-expression .ensures
 
-pub judge-spec : {M : Type 1} → statement M
-judge-spec =
+pub judge-root-spec : {M : Type 1} → statement M
+judge-root-spec =
     tie.close
     (tie.spec
     no-pairs-requires

@@ -1,7 +1,7 @@
 -- The check's answer, packed. Assumes nothing.
 use borrow.Author.Needs.{needs}
-use Rattle.verdict.proofs.check.Statement.{statement}
-use Rattle.verdict.proofs.check.Tie as tie
+use Rattle.verdict.proofs.check_sheet.Statement.{statement}
+use Rattle.verdict.proofs.check_sheet.Tie as tie
 use native.Mathlib.Omega.{arith}
 use mathlib.Core.Path.{refl, sym, _∙_, ap}
 use denote.Ref.{now}
@@ -26,6 +26,6 @@ packed-verdict-requires c κs =
 returns : tie.Need-returns
 returns c = c .packed-verdict .ensures ∙ ap (λ (v : Verdict). packed (verdictAnswer v)) (c .before .check-into .ensures .answered)
 
-pub check-spec : {M : Type 1} → statement M
-check-spec =
+pub check-sheet-spec : {M : Type 1} → statement M
+check-sheet-spec =
     tie.close (tie.spec no-widths-requires records-in-requires check-into-requires packed-verdict-requires returns)

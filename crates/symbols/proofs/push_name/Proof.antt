@@ -4,8 +4,8 @@ use borrow.Author.Needs.{needs}
 use native.Mathlib.Omega.{arith}
 use mathlib.Core.Path.{refl}
 use Rattle.symbols.proofs.Search.{hashed-more}
-use Rattle.symbols.proofs.push.Statement.{statement}
-use Rattle.symbols.proofs.push.Tie as tie
+use Rattle.symbols.proofs.push_name.Statement.{statement}
+use Rattle.symbols.proofs.push_name.Tie as tie
 
 hash-requires : tie.Need-hash-requires
 hash-requires c κs = search needs
@@ -43,8 +43,8 @@ element-write-heads c = search needs
 returns : tie.Need-returns
 returns c = (hashed-more (c .before .before .before .pre .0) (c .before .before .before .args .span) _ (c .before .before .before .pre .1) (c .before .before .before .pre .2) (c .before .hash .ensures .0) (c .before .hash .ensures .1), refl)
 
-pub push-spec : {M : Type 1} → statement M
-push-spec =
+pub push-name-spec : {M : Type 1} → statement M
+push-name-spec =
     tie.close
     (tie.spec
     hash-requires

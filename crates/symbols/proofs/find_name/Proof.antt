@@ -7,8 +7,8 @@ use mathlib.Core.Path.{_≡_, sym, ap, _∙_}
 use mathlib.Core.Logic.{⊎-elim}
 use Rattle.symbols.specs.Names.{nameOf, hashOf, nearest, lastHashed}
 use Rattle.symbols.proofs.Search.{HasHash, search-first, search-found, search-next, search-ended, search-passed}
-use Rattle.symbols.proofs.find.Statement.{statement}
-use Rattle.symbols.proofs.find.Tie as tie
+use Rattle.symbols.proofs.find_name.Statement.{statement}
+use Rattle.symbols.proofs.find_name.Tie as tie
 
 abbrev Inv-loop : tie.InvT-loop
 Inv-loop text span limit n spans links heads k₀ k =
@@ -68,8 +68,8 @@ loop-again c = (let r = search-next (c .before .before .before .before .before .
 returns-2 : tie.Need-returns-2 Inv-loop μ-loop
 returns-2 c = search-ended (c .before .before .before .before .before .before .args .text .now) (c .before .before .before .before .before .before .args .spans .now) (nameOf (c .before .before .before .before .before .before .args .text .now) (c .before .before .before .before .before .before .args .span)) (c .before .before .before .before .before .before .args .limit) (c .before .before .before .before .before .before .args .n) (c .before .before .before .before .before .before .pre .2) (c .before .loop .k) (c .loop-test .left) (c .before .loop .inv .2)
 
-pub find-spec : {M : Type 1} → statement M
-find-spec =
+pub find-name-spec : {M : Type 1} → statement M
+find-name-spec =
     tie.close
     (tie.spec
     Inv-loop
