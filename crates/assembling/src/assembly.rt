@@ -8,7 +8,7 @@ ghost use Rattle.instructions.specs.Assembly.{nothingAssembled, assembleAll};
 ghost use Rattle.assembling.specs.Held.{Threefold, heldAssembly, Assembling};
 ghost use Rattle.assembling.specs.Assembled.{Assembled};
 use crate::steps::Progress;
-use crate::steps::step;
+use crate::steps::assembly_step;
 use crate::types::Operands;
 use crate::types::Ops;
 use crate::types::SIZE;
@@ -78,7 +78,7 @@ fn assemble_all(
     let mut s = no_progress();
     let mut i = 0;
     while i < n {
-        s = step(
+        s = assembly_step(
             ops[i],
             firsts[i],
             seconds[i],

@@ -34,7 +34,7 @@ pub fn number(x: u16) -> usize
     x as usize
 }
 
-pub fn wide(x: u8) -> usize
+pub fn byte_number(x: u8) -> usize
     ensures { λ r. ⌜ (r ≡ x) × (r < 256) ⌝ }
 {
     x as usize
@@ -52,7 +52,7 @@ pub fn leaf_count(d: u16, k: usize, leaves: &Ops) -> usize
     if k < at {
         return 0;
     }
-    wide(leaves[at - 1])
+    byte_number(leaves[at - 1])
 }
 
 // The leaves of a pair type over k types.

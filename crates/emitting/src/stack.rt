@@ -87,7 +87,7 @@ pub fn waiting_kind(kinds: &Ops, values: &Operands, height: usize) -> u16
 }
 
 // A slot more.
-pub fn push(kinds: &mut Ops, values: &mut Operands, height: usize, kind: u8, value: u16)
+pub fn push_slot(kinds: &mut Ops, values: &mut Operands, height: usize, kind: u8, value: u16)
     requires { ⌜ Stacking (now kinds) (now values) height × (height < 65536) ⌝ }
     ensures { λ _. ⌜ Stacked (slotOf kind value) (now (kinds .entry)) (now (values .entry)) (now (kinds .exit)) (now (values .exit)) height ⌝ }
 {

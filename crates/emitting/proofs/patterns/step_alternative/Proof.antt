@@ -12,17 +12,17 @@ use borrow.Author.Needs.{needs}
 use Rattle.emitting.proofs.patterns.step_alternative.Statement.{statement}
 use Rattle.emitting.proofs.patterns.step_alternative.Tie as tie
 
-put-requires : tie.Need-put-requires
-put-requires c κs = search needs
+put-record-requires : tie.Need-put-record-requires
+put-record-requires c κs = search needs
 
 same-length : tie.Need-same-length
 same-length c = search needs
 
 returns : tie.Need-returns
-returns c = λ leaves types. ((λ T held R. the-same (emit-at T R (c .before .before .before .before .before .before .args .kinds .now) (c .before .before .before .before .before .before .args .values .now) (c .before .before .before .before .before .before .args .cursor) (c .before .before .before .before .before .before .args .height) (c .before .before .before .before .before .before .args .next) (c .before .before .before .before .before .before .args .op) (c .before .before .before .before .before .before .args .first) (c .before .before .before .before .before .before .args .second) 18 (c .before .before .before .before .if1 .taken)) (put-alone (c .before .before .put .ensures) refl refl (c .before .before .before .before .before .before .pre .0 .stacking))), omega arith)
+returns c = λ leaves types. ((λ T held R. the-same (emit-at T R (c .before .before .before .before .before .before .args .kinds .now) (c .before .before .before .before .before .before .args .values .now) (c .before .before .before .before .before .before .args .cursor) (c .before .before .before .before .before .before .args .height) (c .before .before .before .before .before .before .args .next) (c .before .before .before .before .before .before .args .op) (c .before .before .before .before .before .before .args .first) (c .before .before .before .before .before .before .args .second) 18 (c .before .before .before .before .if1 .taken)) (put-alone (c .before .before .put-record .ensures) refl refl (c .before .before .before .before .before .before .pre .0 .stacking))), omega arith)
 
-put-requires-2 : tie.Need-put-requires-2
-put-requires-2 c κs = search needs
+put-record-requires-2 : tie.Need-put-record-requires-2
+put-record-requires-2 c κs = search needs
 
 same-length-2 : tie.Need-same-length-2
 same-length-2 c = search needs
@@ -36,8 +36,8 @@ top-below-requires c κs = search needs
 top-below-requires-2 : tie.Need-top-below-requires-2
 top-below-requires-2 c κs = search needs
 
-put-requires-3 : tie.Need-put-requires-3
-put-requires-3 c κs = search needs
+put-record-requires-3 : tie.Need-put-record-requires-3
+put-record-requires-3 c κs = search needs
 
 below-requires : tie.Need-below-requires
 below-requires c κs = search needs
@@ -52,15 +52,15 @@ pub step-alternative-spec : {M : Type 1} → statement M
 step-alternative-spec =
     tie.close
     (tie.spec
-    put-requires
+    put-record-requires
     same-length
     returns
-    put-requires-2
+    put-record-requires-2
     same-length-2
     returns-2
     top-below-requires
     top-below-requires-2
-    put-requires-3
+    put-record-requires-3
     below-requires
     same-length-3
     returns-3)

@@ -9,17 +9,17 @@ use borrow.Author.Needs.{needs}
 use Rattle.emitting.proofs.patterns.step_part.Statement.{statement}
 use Rattle.emitting.proofs.patterns.step_part.Tie as tie
 
-push-requires : tie.Need-push-requires
-push-requires c κs = search needs
+push-slot-requires : tie.Need-push-slot-requires
+push-slot-requires c κs = search needs
 
 add-t12 : tie.Need-add-t12
 add-t12 c = search needs
 
 returns : tie.Need-returns
-returns c = λ leaves types first second. ((λ T held R. the-same (emit-at T R (c .before .before .before .before .before .args .kinds .now) (c .before .before .before .before .before .args .values .now) (c .before .before .before .before .before .args .cursor) (c .before .before .before .before .before .args .height) (c .before .before .before .before .before .args .next) (c .before .before .before .before .before .args .op) first second 21 (c .before .before .before .if1 .taken)) (kept (sym (c .push .ensures .on-top)) refl (c .push .ensures .stacking))), omega arith)
+returns c = λ leaves types first second. ((λ T held R. the-same (emit-at T R (c .before .before .before .before .before .args .kinds .now) (c .before .before .before .before .before .args .values .now) (c .before .before .before .before .before .args .cursor) (c .before .before .before .before .before .args .height) (c .before .before .before .before .before .args .next) (c .before .before .before .before .before .args .op) first second 21 (c .before .before .before .if1 .taken)) (kept (sym (c .push-slot .ensures .on-top)) refl (c .push-slot .ensures .stacking))), omega arith)
 
-push-requires-2 : tie.Need-push-requires-2
-push-requires-2 c κs = search needs
+push-slot-requires-2 : tie.Need-push-slot-requires-2
+push-slot-requires-2 c κs = search needs
 
 add-t16 : tie.Need-add-t16
 add-t16 c = search needs
@@ -32,4 +32,4 @@ returns-3 c = λ leaves types first second. ((λ T held R. the-same (emit-at T R
 
 pub step-part-spec : {M : Type 1} → statement M
 step-part-spec =
-    tie.close (tie.spec push-requires add-t12 returns push-requires-2 add-t16 returns-2 returns-3)
+    tie.close (tie.spec push-slot-requires add-t12 returns push-slot-requires-2 add-t16 returns-2 returns-3)

@@ -2,8 +2,8 @@
 -- Assumes nothing.
 use Rattle.assembling.proofs.CodeLaws.{code-pushed}
 use borrow.Author.Needs.{needs}
-use Rattle.assembling.proofs.code.push.Statement.{statement}
-use Rattle.assembling.proofs.code.push.Tie as tie
+use Rattle.assembling.proofs.code.push_instruction.Statement.{statement}
+use Rattle.assembling.proofs.code.push_instruction.Tie as tie
 
 element-write-ops : tie.Need-element-write-ops
 element-write-ops c = search needs
@@ -23,8 +23,8 @@ element-write-seconds c = search needs
 returns : tie.Need-returns
 returns c = code-pushed (c .args .ops .now) (c .args .firsts .now) (c .args .seconds .now) (c .args .n) (c .args .op) (c .args .a) (c .args .b) (c .pre .0) (c .pre .1)
 
-pub push-spec : {M : Type 1} → statement M
-push-spec =
+pub push-instruction-spec : {M : Type 1} → statement M
+push-instruction-spec =
     tie.close
     (tie.spec
     element-write-ops

@@ -6,8 +6,8 @@ use Rattle.emitting.proofs.AdvanceLaws.{the-same}
 use Rattle.emitting.proofs.InstructionLaws.{emit-at, quiet-below, quiet-above}
 use Rattle.emitting.proofs.StepLaws.{kept}
 use borrow.Author.Needs.{needs}
-use Rattle.emitting.proofs.steps.step.Statement.{statement}
-use Rattle.emitting.proofs.steps.step.Tie as tie
+use Rattle.emitting.proofs.steps.emission_step.Statement.{statement}
+use Rattle.emitting.proofs.steps.emission_step.Tie as tie
 
 returns : tie.Need-returns
 returns c = ((λ T held R. the-same (quiet-below T R (c .before .before .args .kinds .now) (c .before .before .args .values .now) (c .before .before .args .cursor) (c .before .before .args .height) (c .before .before .args .next) (c .before .before .args .op) (c .before .before .args .first) (c .before .before .args .second) (c .if1 .taken)) (kept refl refl (c .before .before .pre .stacking))), omega arith)
@@ -57,20 +57,20 @@ same-length-5 c = search needs
 returns-6 : tie.Need-returns-6
 returns-6 c = search needs
 
-push-requires : tie.Need-push-requires
-push-requires c κs = search needs
+push-slot-requires : tie.Need-push-slot-requires
+push-slot-requires c κs = search needs
 
 add-t36 : tie.Need-add-t36
 add-t36 c = search needs
 
 returns-7 : tie.Need-returns-7
-returns-7 c = ((λ T held R. the-same (emit-at T R (c .before .before .before .before .before .before .before .before .before .before .before .args .kinds .now) (c .before .before .before .before .before .before .before .before .before .before .before .args .values .now) (c .before .before .before .before .before .before .before .before .before .before .before .args .cursor) (c .before .before .before .before .before .before .before .before .before .before .before .args .height) (c .before .before .before .before .before .before .before .before .before .before .before .args .next) (c .before .before .before .before .before .before .before .before .before .before .before .args .op) (c .before .before .before .before .before .before .before .before .before .before .before .args .first) (c .before .before .before .before .before .before .before .before .before .before .before .args .second) 29 (c .before .before .before .if7 .taken)) (kept (sym (c .push .ensures .on-top)) refl (c .push .ensures .stacking))), omega arith)
+returns-7 c = ((λ T held R. the-same (emit-at T R (c .before .before .before .before .before .before .before .before .before .before .before .args .kinds .now) (c .before .before .before .before .before .before .before .before .before .before .before .args .values .now) (c .before .before .before .before .before .before .before .before .before .before .before .args .cursor) (c .before .before .before .before .before .before .before .before .before .before .before .args .height) (c .before .before .before .before .before .before .before .before .before .before .before .args .next) (c .before .before .before .before .before .before .before .before .before .before .before .args .op) (c .before .before .before .before .before .before .before .before .before .before .before .args .first) (c .before .before .before .before .before .before .before .before .before .before .before .args .second) 29 (c .before .before .before .if7 .taken)) (kept (sym (c .push-slot .ensures .on-top)) refl (c .push-slot .ensures .stacking))), omega arith)
 
 returns-8 : tie.Need-returns-8
 returns-8 c = ((λ T held R. the-same (quiet-above T R (c .before .before .before .before .before .before .before .before .args .kinds .now) (c .before .before .before .before .before .before .before .before .args .values .now) (c .before .before .before .before .before .before .before .before .args .cursor) (c .before .before .before .before .before .before .before .before .args .height) (c .before .before .before .before .before .before .before .before .args .next) (c .before .before .before .before .before .before .before .before .args .op) (c .before .before .before .before .before .before .before .before .args .first) (c .before .before .before .before .before .before .before .before .args .second) (c .before .if6 .left) (c .if7 .left)) (kept refl refl (c .before .before .before .before .before .before .before .before .pre .stacking))), omega arith)
 
-pub step-spec : {M : Type 1} → statement M
-step-spec =
+pub emission-step-spec : {M : Type 1} → statement M
+emission-step-spec =
     tie.close
     (tie.spec
     returns
@@ -89,7 +89,7 @@ step-spec =
     step-leaf-requires
     same-length-5
     returns-6
-    push-requires
+    push-slot-requires
     add-t36
     returns-7
     returns-8)
