@@ -5,8 +5,8 @@ ghost use Prim.Native.Nat.{ℕ, _+_, _-_, _≤_, _<_};
 ghost use Rattle.instructions.specs.Instruction.{Instruction, instructionOf, close, heldCode};
 ghost use Rattle.instructions.specs.Assembly.{patternOnto, patternsBelow};
 ghost use Rattle.assembling.specs.Held.{Threefold, heldOnto};
-use crate::types::Operands;
-use crate::types::Ops;
+use instructions::Operands;
+use instructions::Ops;
 
 const CLOSE: u8 = 15;
 

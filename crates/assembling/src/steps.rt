@@ -13,11 +13,11 @@ use crate::constants::close_pair;
 use crate::constants::outer_place;
 use crate::constants::push_number;
 use crate::constants::top_number;
-use crate::types::Operands;
-use crate::types::Ops;
+use crate::types::byte_number;
 use crate::types::leaf_count;
 use crate::types::note_type;
-use crate::types::byte_number;
+use instructions::Operands;
+use instructions::Ops;
 
 const INPUT_HAS: u8 = 4;
 

@@ -6,13 +6,8 @@ ghost use lib.ListN.{length};
 ghost use Rattle.instructions.specs.Assembly.{leavesNumbered, pairNumbered, constantPairNumbered, oneMore, withFirst, withSecond};
 ghost use Rattle.assembling.specs.Held.{leavesOver, TypesHeld, TypesGathered, typesAfter};
 ghost use Rattle.instructions.specs.Assembly.{typeHeld, heldTypes};
-
-// One more than the instructions of a text.
-pub const SIZE: usize = 65536;
-
-pub type Ops = [u8; SIZE];
-
-pub type Operands = [u16; SIZE];
+use instructions::Operands;
+use instructions::Ops;
 
 // The most leaves that are counted.
 const LEAVES: usize = 64;

@@ -62,13 +62,13 @@ pub fn put_record(
 }
 
 // Where leaves begin, and the word next of the one before them.
-pub struct Leaves {
+pub struct LeafStart {
     pub cursor: u16,
     pub next: u16,
 }
 
 // So many undefined leaves, the last with a given next.
-pub fn put_zeros(sheet: &mut [u8], cursor: u16, next: u16, count: usize) -> Leaves
+pub fn put_zeros(sheet: &mut [u8], cursor: u16, next: u16, count: usize) -> LeafStart
     requires { ⌜ 12 * cursor ≤ length (now sheet) ⌝ }
     ensures { λ r. ⌜ ZerosPut count (now (sheet .entry)) (now (sheet .exit)) cursor next (r .cursor) (r .next) ⌝ }
 {
@@ -80,7 +80,7 @@ pub fn put_zeros(sheet: &mut [u8], cursor: u16, next: u16, count: usize) -> Leav
         after = at;
         left -= 1;
     }
-    Leaves {
+    LeafStart {
         cursor: at,
         next: after,
     }

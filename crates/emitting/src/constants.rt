@@ -11,8 +11,8 @@ use crate::bytes::put_record;
 use crate::bytes::put_zeros;
 use crate::bytes::word_number;
 use crate::expressions::Place;
-use crate::stack::Operands;
-use crate::stack::Ops;
+use instructions::Operands;
+use instructions::Ops;
 
 pub const USE_LEAF: u8 = 24;
 

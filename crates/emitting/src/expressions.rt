@@ -7,12 +7,12 @@ use crate::bytes::LEAF;
 use crate::bytes::put_record;
 use crate::bytes::put_zeros;
 use crate::stack::NUMBER;
-use crate::stack::Operands;
-use crate::stack::Ops;
 use crate::stack::below;
 use crate::stack::push_slot;
 use crate::stack::top_below;
 use crate::stack::waiting_kind;
+use instructions::Operands;
+use instructions::Ops;
 
 const CONSTANT: u16 = 32;
 

@@ -6,11 +6,11 @@ ghost use Rattle.emitting.specs.Emitting.{Advancing, Does};
 use crate::bytes::put_record;
 use crate::expressions::Place;
 use crate::stack::NUMBER;
-use crate::stack::Operands;
-use crate::stack::Ops;
 use crate::stack::below;
 use crate::stack::push_slot;
 use crate::stack::top_below;
+use instructions::Operands;
+use instructions::Ops;
 
 const WHOLE_PATTERN: u16 = 48;
 

@@ -21,10 +21,10 @@ use crate::patterns::step_part;
 use crate::stack::BARRIER;
 use crate::stack::FIRST_WAITS;
 use crate::stack::NUMBER;
-use crate::stack::Operands;
-use crate::stack::Ops;
 use crate::stack::SECOND_WAITS;
 use crate::stack::push_slot;
+use instructions::Operands;
+use instructions::Ops;
 
 const NAME: u16 = 33;
 

@@ -6,11 +6,11 @@ ghost use Rattle.reading.specs.Coded.{stateOf};
 ghost use Rattle.symbols.specs.Names.{nameOf, Inside, declaredNames, boundNames};
 ghost use Rattle.instructions.specs.TokenOrder.{declaredOp, nameSaid, otherSaid, valueSaid, pairBefore};
 ghost use Rattle.resolving.specs.Said.{CodeSized, CodeSaid, Speaking, namedSaid, classSaid};
-use crate::code::Operands;
-use crate::code::Ops;
 use crate::code::say;
 use crate::numbering::entry;
 use crate::numbering::has_role;
+use instructions::Operands;
+use instructions::Ops;
 use reading::numbers::SMALL_LETTER;
 use symbols::Heads;
 use symbols::Links;
@@ -18,8 +18,8 @@ use symbols::NameRoles;
 use symbols::ROLE_CONSTRUCTOR;
 use symbols::ROLE_TYPE;
 use symbols::Spans;
-use symbols::find_name;
 use symbols::find_declared;
+use symbols::find_name;
 
 const USE_NAME: u8 = 5;
 

@@ -39,7 +39,7 @@ const DECLARES_PENDING: u8 = 6;
 const UNBINDS: u8 = 7;
 
 // How many names are declared, in scope, and waiting; not ok where a name breaks a rule.
-pub struct Counts {
+pub struct ScopeCounts {
     pub ok: bool,
     pub base: usize,
     pub all: usize,
@@ -93,12 +93,12 @@ fn declare_pending(
     heads: &mut Heads,
     roles: &mut NameRoles,
     pendings: &Spans,
-) -> Counts
+) -> ScopeCounts
     requires { ⌜ Scoping (now text) 65535 base base m (now spans) (now links) (now heads) (now roles) (now pendings) ⌝ }
     ensures { λ r. ⌜ Rescoped (declarePending (heldScope (now (text .entry)) base base m (now (spans .entry)) (now (roles .entry)) (now (pendings .entry)))) (now (text .entry)) (base + m) (r .base) (r .all) (r .waiting) (now (spans .exit)) (now (links .exit)) (now (heads .exit)) (now (roles .exit)) (now (pendings .entry)) × (r .base ≡ r .all) × (r .ok ≡ true) ⌝ }
 {
     if m == 0 {
-        return Counts {
+        return ScopeCounts {
             ok: true,
             base,
             all: base,
@@ -115,7 +115,7 @@ fn declare_pending(
         heads,
         roles,
     );
-    Counts {
+    ScopeCounts {
         ok: true,
         base: base + 1,
         all: base + 1,
@@ -162,12 +162,12 @@ fn note_first(
     roles: &mut NameRoles,
     pendings: &Spans,
     admissions: &Admissions,
-) -> Counts
+) -> ScopeCounts
     requires { ⌜ Scoping (now text) 65534 base n m (now spans) (now links) (now heads) (now roles) (now pendings) × Inside (now text) span × (state < 47) × (now admissions ≡ admissionTable) ⌝ }
     ensures { λ r. ⌜ NameNoted (stateOf state) declaresFirst (nameOf (now (text .entry)) span) (heldScope (now (text .entry)) base n m (now (spans .entry)) (now (roles .entry)) (now (pendings .entry))) (now (text .entry)) (n + m + 1) (r .ok) (r .base) (r .all) (r .waiting) (now (spans .exit)) (now (links .exit)) (now (heads .exit)) (now (roles .exit)) (now (pendings .entry)) ⌝ }
 {
     if base != n {
-        return Counts {
+        return ScopeCounts {
             ok: false,
             base,
             all: n,
@@ -189,7 +189,7 @@ fn note_first(
         roles,
         admissions,
     ) {
-        return Counts {
+        return ScopeCounts {
             ok: false,
             base,
             all: n,
@@ -206,7 +206,7 @@ fn note_first(
         heads,
         roles,
     );
-    Counts {
+    ScopeCounts {
         ok: true,
         base: all + 1,
         all: all + 1,
@@ -228,12 +228,12 @@ fn note_next(
     roles: &mut NameRoles,
     pendings: &Spans,
     admissions: &Admissions,
-) -> Counts
+) -> ScopeCounts
     requires { ⌜ Scoping (now text) 65534 base n m (now spans) (now links) (now heads) (now roles) (now pendings) × Inside (now text) span × (state < 47) × (now admissions ≡ admissionTable) ⌝ }
     ensures { λ r. ⌜ NameNoted (stateOf state) declaresNext (nameOf (now (text .entry)) span) (heldScope (now (text .entry)) base n m (now (spans .entry)) (now (roles .entry)) (now (pendings .entry))) (now (text .entry)) (n + m + 1) (r .ok) (r .base) (r .all) (r .waiting) (now (spans .exit)) (now (links .exit)) (now (heads .exit)) (now (roles .exit)) (now (pendings .entry)) ⌝ }
 {
     if base != n {
-        return Counts {
+        return ScopeCounts {
             ok: false,
             base,
             all: n,
@@ -252,7 +252,7 @@ fn note_next(
         roles,
         admissions,
     ) {
-        return Counts {
+        return ScopeCounts {
             ok: false,
             base,
             all: n,
@@ -269,7 +269,7 @@ fn note_next(
         heads,
         roles,
     );
-    Counts {
+    ScopeCounts {
         ok: true,
         base: base + 1,
         all: base + 1,
@@ -291,12 +291,12 @@ fn note_pair(
     roles: &mut NameRoles,
     pendings: &Spans,
     admissions: &Admissions,
-) -> Counts
+) -> ScopeCounts
     requires { ⌜ Scoping (now text) 65534 base n m (now spans) (now links) (now heads) (now roles) (now pendings) × Inside (now text) span × (state < 47) × (now admissions ≡ admissionTable) ⌝ }
     ensures { λ r. ⌜ NameNoted (stateOf state) declaresPending (nameOf (now (text .entry)) span) (heldScope (now (text .entry)) base n m (now (spans .entry)) (now (roles .entry)) (now (pendings .entry))) (now (text .entry)) (n + m + 1) (r .ok) (r .base) (r .all) (r .waiting) (now (spans .exit)) (now (links .exit)) (now (heads .exit)) (now (roles .exit)) (now (pendings .entry)) ⌝ }
 {
     if base != n {
-        return Counts {
+        return ScopeCounts {
             ok: false,
             base,
             all: n,
@@ -315,7 +315,7 @@ fn note_pair(
         roles,
         admissions,
     ) {
-        return Counts {
+        return ScopeCounts {
             ok: false,
             base,
             all: n,
@@ -340,7 +340,7 @@ pub fn note_name(
     roles: &mut NameRoles,
     pendings: &mut Spans,
     admissions: &Admissions,
-) -> Counts
+) -> ScopeCounts
     requires { ⌜ Scoping (now text) 65534 base n m (now spans) (now links) (now heads) (now roles) (now pendings) × Inside (now text) span × (state < 47) × (now admissions ≡ admissionTable) ⌝ }
     ensures { λ r. ⌜ NameNoted (stateOf state) (effectOf effect) (nameOf (now (text .entry)) span) (heldScope (now (text .entry)) base n m (now (spans .entry)) (now (roles .entry)) (now (pendings .entry))) (now (text .entry)) (n + m + 1) (r .ok) (r .base) (r .all) (r .waiting) (now (spans .exit)) (now (links .exit)) (now (heads .exit)) (now (roles .exit)) (now (pendings .exit)) ⌝ }
 {
@@ -404,7 +404,7 @@ pub fn note_name(
         roles,
         admissions,
     ) {
-        return Counts {
+        return ScopeCounts {
             ok: false,
             base,
             all: n,
@@ -413,7 +413,7 @@ pub fn note_name(
     }
     if effect == PENDS {
         pendings[m] = span;
-        return Counts {
+        return ScopeCounts {
             ok: true,
             base,
             all: n,
@@ -422,14 +422,14 @@ pub fn note_name(
     }
     if effect == BINDS {
         bind(text, span, base, n, spans, links, heads, roles);
-        return Counts {
+        return ScopeCounts {
             ok: true,
             base,
             all: n + 1,
             waiting: m,
         };
     }
-    Counts {
+    ScopeCounts {
         ok: true,
         base,
         all: n,
@@ -449,14 +449,14 @@ pub fn note_other(
     heads: &mut Heads,
     roles: &mut NameRoles,
     pendings: &Spans,
-) -> Counts
+) -> ScopeCounts
     requires { ⌜ Scoping (now text) 65534 base n m (now spans) (now links) (now heads) (now roles) (now pendings) ⌝ }
     ensures { λ r. ⌜ Rescoped (endedBy (effectOf effect) (heldScope (now (text .entry)) base n m (now (spans .entry)) (now (roles .entry)) (now (pendings .entry)))) (now (text .entry)) (n + m + 1) (r .base) (r .all) (r .waiting) (now (spans .exit)) (now (links .exit)) (now (heads .exit)) (now (roles .exit)) (now (pendings .entry)) ⌝ }
 {
     if effect == BINDS_PENDING {
         if m != 0 {
             bind(text, pendings[m - 1], base, n, spans, links, heads, roles);
-            return Counts {
+            return ScopeCounts {
                 ok: true,
                 base,
                 all: n + 1,
@@ -467,7 +467,7 @@ pub fn note_other(
     if effect == UNBINDS {
         if base < n {
             pop_name(text, n, spans, links, heads);
-            return Counts {
+            return ScopeCounts {
                 ok: true,
                 base,
                 all: n - 1,
@@ -475,7 +475,7 @@ pub fn note_other(
             };
         }
     }
-    Counts {
+    ScopeCounts {
         ok: true,
         base,
         all: n,

@@ -9,7 +9,7 @@ ghost use Rattle.naming.specs.Declared.{sameName, input};
 ghost use Rattle.symbols.specs.Names.{nameOf, Inside, hashOf, nearest, Hashed, Roles, roleAmong, declaredRole, BoundRoles};
 
 // One more than the bytes of a text, and so than its names.
-pub const NAMES: usize = 65536;
+pub const SYMBOLS: usize = 65536;
 
 // The numbers of hashes, and the factor from letter to letter.
 const HASHES: usize = 4096;
@@ -19,13 +19,13 @@ const FACTOR: usize = 31;
 // A span is the place of a name times this, and the number of its letters.
 pub const SPAN: usize = 32;
 
-pub type Spans = [u32; NAMES];
+pub type Spans = [u32; SYMBOLS];
 
-pub type Links = [u32; NAMES];
+pub type Links = [u32; SYMBOLS];
 
 pub type Heads = [u32; HASHES];
 
-pub type NameRoles = [u8; NAMES];
+pub type NameRoles = [u8; SYMBOLS];
 
 pub const ROLE_TYPE: u8 = 0;
 
@@ -40,7 +40,7 @@ pub const ROLE_NONE: u8 = 4;
 pub fn no_spans() -> Spans
     ensures { λ r. ⌜ length r ≡ 65536 ⌝ }
 {
-    [0; NAMES]
+    [0; SYMBOLS]
 }
 
 pub fn no_heads() -> Heads
@@ -52,7 +52,7 @@ pub fn no_heads() -> Heads
 pub fn no_roles() -> NameRoles
     ensures { λ r. ⌜ Roles r 0 ⌝ }
 {
-    [0; NAMES]
+    [0; SYMBOLS]
 }
 
 fn letter(b: u8) -> usize

@@ -104,7 +104,7 @@ use Rattle.text_meaning.specs.NamedRules.{
   Binding,
   binding,
   nearestBinding,
-  Gives,
+  CircuitGives,
   gives-bound,
   gives-constructor,
   gives-always,
@@ -189,7 +189,7 @@ pub record Followed
     pub known : KnownType ds τ
     pub typed : Typed Declared Γ f τ
     pub after : Circuit
-    pub gives : Gives (afterAll atFirst ds) ρ c (nameTree ds k) after
+    pub gives : CircuitGives (afterAll atFirst ds) ρ c (nameTree ds k) after
     pub related : Related ds bound f after
 
 -- and an iteration
