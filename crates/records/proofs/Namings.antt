@@ -61,8 +61,8 @@ use Rattle.records.specs.Kinds.{
   free,
   total,
   never,
-  askNumber,
 }
+use Rattle.records.specs.AskNumbers.{askNumber}
 use Rattle.records.specs.Says.{kindAt, sortAt, askAt, Naming, names, namesAt, ifNamed, namingsIn, namingsBelow, namings, byWordD, wellNamed}
 use Rattle.records.specs.Written.{Written, WellNamed}
 use Rattle.records.proofs.Tests.{never-both, both-left, both-right}

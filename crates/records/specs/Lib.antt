@@ -11,5 +11,6 @@ pub mod SheetOf
 pub mod DecodingRows
 -- What functions ask and give, and their proofs need:
 pub mod Sized
+pub mod AskNumbers
 pub mod Written
 pub mod Rewritten

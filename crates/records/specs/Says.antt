@@ -1,6 +1,6 @@
 -- What the words of a record say, and which words name a record.
 use Prim.Native.Nat.{ℕ, zero, suc}
-use mathlib.Core.Bool.{Bool, true, false, cond, _&&_, _||_}
+use mathlib.Core.Bool.{Bool, true, false, _&&_, _||_}
 use mathlib.Core.List.{List, [], _∷_, _++_}
 use lib.Dec.{eqb, ltb, leb}
 use Rattle.records.specs.Words.{word, count, kindWord, wordA}
@@ -72,11 +72,6 @@ meetsAt s r k = meets s r (askAt s r k) (word s r k)
 -- every word of record r is what the table asks
 unfoldable pub wellSaid : List ℕ → ℕ → Bool
 wellSaid s r = meetsAt s r 1 && (meetsAt s r 2 && (meetsAt s r 3 && (meetsAt s r 4 && meetsAt s r 5)))
-
--- what the asks counted, byte, free and total ask of a number, by the ask's number
-abbrev pub boundedBy : ℕ → ℕ → ℕ → Bool
-boundedBy n ask w =
-    cond (eqb ask 5) (ltb 0 w && leb w 255) (cond (eqb ask 6) (leb w 255) (cond (eqb ask 8) (eqb w n) (eqb ask 7)))
 
 -- Which words name a record, and when it is well named (docs/SHEETS.md, "Numbering and naming": "Every record but 0 is named exactly
 -- once; type words that aren't next do not count as naming", amended by "The first record of a pattern may now be named by the d word

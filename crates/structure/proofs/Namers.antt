@@ -27,8 +27,8 @@ use Rattle.records.specs.Kinds.{
   total,
   never,
   sortNumber,
-  askNumber,
 }
+use Rattle.records.specs.AskNumbers.{askNumber}
 use Rattle.records.specs.Says.{askAt, Naming, names, namesAt, ifNamed, namings, namingsIn, namingsBelow, byWordD, wellNamed}
 use Rattle.records.proofs.Tests.{both-left, both-right}
 use Rattle.structure.specs.Rules.{wrongNaming}

@@ -46,9 +46,9 @@ use Rattle.records.specs.Kinds.{
   free,
   total,
   never,
-  askNumber,
   isHeader,
 }
+use Rattle.records.specs.AskNumbers.{askNumber}
 use Rattle.records.specs.Says.{kindAt, sortAt, askAt, Naming, names, namings, wellNamed}
 use Rattle.records.specs.Trees.{treeAt, typeRecordOf}
 use Rattle.records.specs.Written.{Written}
