@@ -21,7 +21,7 @@ same-length-2 : tie.Need-same-length-2
 same-length-2 c = search needs
 
 returns-2 : tie.Need-returns-2
-returns-2 c = pair-put (c .before .before .before .before .before .before .args .pair) (c .before .before .before .before .if1 .left) (c .before .before .put2 .ensures)
+returns-2 c = pair-put (c .before .before .before .before .before .before .args .pair) (c .before .before .before .before .if1 .left) (c .before .before .put-record2 .ensures)
 
 pub put-type-spec : {M : Type 1} → statement M
 put-type-spec =

@@ -49,7 +49,7 @@ add-r-4 : tie.Need-add-r-4
 add-r-4 c = (let h = c .before .before .before .before .before .before .before .before .before .before .before .before .before .pre .0 .few-instructions in let l = c .before .before .before .before .before .before .before .before .before .before .before .before .before .pre .1 in omega arith)
 
 returns-5 : tie.Need-returns-5
-returns-5 c = (let done = wait-step (c .before .before .before .before .before .before .before .before .before .before .before .before .before .pre .0) (c .before .before .before .before .before .before .before .before .before .before .before .before .before .args .s .input) (c .before .before .before .before .before .before .before .before .before .before .before .before .before .args .s .place) (c .before .before .before .before .before .before .before .before .before .before .before .before .before .args .s .bad) (c .before .before .before .before .before .before .before .before .before .before .before .before .before .args .s .ok) (heldCode (c .before .before .before .before .before .before .before .before .before .before .before .before .before .args .wait-ops .now) (c .before .before .before .before .before .before .before .before .before .before .before .before .before .args .wait-firsts .now) (c .before .before .before .before .before .before .before .before .before .before .before .before .before .args .wait-seconds .now) (c .before .before .before .before .before .before .before .before .before .before .before .before .before .args .s .waiting)) (c .before .before .before .before .before .before .before .before .before .before .before .before .before .args .op) (c .before .before .before .before .before .before .before .before .before .before .before .before .before .args .a) (c .before .before .before .before .before .before .before .before .before .before .before .before .before .args .b) _ (c .before .before .before .before .before .before .records-added2 .result) (let x = c .before .before .before .before .before .before .before .before .before .before .if3 .left in let y = c .before .before .before .before .before .before .before .before .before .if4 .left in omega (arith, y)) (c .before .before .before .before .before .before .before .before .if5 .taken) (c .before .push2 .ensures .1) (c .before .before .before .before .before .before .records-added2 .ensures .1 (c .before .before .before .before .before .before .before .before .before .before .before .before .before .args .pairs .now) (c .before .before .before .before .before .before .before .before .before .before .before .before .before .args .firsts .now) (c .before .before .before .before .before .before .before .before .before .before .before .before .before .args .seconds .now) (c .before .before .before .before .before .before .before .before .before .before .before .before .before .pre .0 .gathered .held)) in (done .0, c .before .push2 .ensures .0, done .1))
+returns-5 c = (let done = wait-step (c .before .before .before .before .before .before .before .before .before .before .before .before .before .pre .0) (c .before .before .before .before .before .before .before .before .before .before .before .before .before .args .s .input) (c .before .before .before .before .before .before .before .before .before .before .before .before .before .args .s .place) (c .before .before .before .before .before .before .before .before .before .before .before .before .before .args .s .bad) (c .before .before .before .before .before .before .before .before .before .before .before .before .before .args .s .ok) (heldCode (c .before .before .before .before .before .before .before .before .before .before .before .before .before .args .wait-ops .now) (c .before .before .before .before .before .before .before .before .before .before .before .before .before .args .wait-firsts .now) (c .before .before .before .before .before .before .before .before .before .before .before .before .before .args .wait-seconds .now) (c .before .before .before .before .before .before .before .before .before .before .before .before .before .args .s .waiting)) (c .before .before .before .before .before .before .before .before .before .before .before .before .before .args .op) (c .before .before .before .before .before .before .before .before .before .before .before .before .before .args .a) (c .before .before .before .before .before .before .before .before .before .before .before .before .before .args .b) _ (c .before .before .before .before .before .before .records-added2 .result) (let x = c .before .before .before .before .before .before .before .before .before .before .if3 .left in let y = c .before .before .before .before .before .before .before .before .before .if4 .left in omega (arith, y)) (c .before .before .before .before .before .before .before .before .if5 .taken) (c .before .push-instruction2 .ensures .1) (c .before .before .before .before .before .before .records-added2 .ensures .1 (c .before .before .before .before .before .before .before .before .before .before .before .before .before .args .pairs .now) (c .before .before .before .before .before .before .before .before .before .before .before .before .before .args .firsts .now) (c .before .before .before .before .before .before .before .before .before .before .before .before .before .args .seconds .now) (c .before .before .before .before .before .before .before .before .before .before .before .before .before .pre .0 .gathered .held)) in (done .0, c .before .push-instruction2 .ensures .0, done .1))
 
 step-constant-requires : tie.Need-step-constant-requires
 step-constant-requires c κs = (c .before .before .before .before .before .before .before .before .before .before .before .before .before .pre .0, c .before .before .before .before .before .before .before .before .before .before .before .before .before .pre .1, (let t = c .before .before .before .before .before .before .before .before .if5 .left in omega arith))

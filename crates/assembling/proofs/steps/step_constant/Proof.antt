@@ -53,7 +53,7 @@ judge-requires : tie.Need-judge-requires
 judge-requires c κs = search needs
 
 returns-3 : tie.Need-returns-3
-returns-3 c = (end-step (c .before .before .before .before .before .before .before .before .before .before .before .pre .0) (c .before .before .before .before .before .before .before .before .before .before .before .args .s .input) (c .before .before .before .before .before .before .before .before .before .before .before .args .s .place) (c .before .before .before .before .before .before .before .before .before .before .before .args .s .bad) (c .before .before .before .before .before .before .before .before .before .before .before .args .s .ok) [] (c .before .before .before .before .before .before .before .before .before .before .before .args .op) (c .before .before .before .before .before .before .before .before .before .before .before .args .a) (c .before .before .before .before .before .before .before .before .before .before .before .args .b) (c .before .before .before .before .before .before .top-number .result) (c .judge .result .bad) (c .judge .result .ok) (c .before .before .before .before .before .before .before .before .if3 .taken) (c .before .before .before .before .before .before .top-number .ensures) (c .before .before .push2 .ensures .0) (c .before .before .push2 .ensures .1) (c .judge .ensures) .0, λ f. end-step (c .before .before .before .before .before .before .before .before .before .before .before .pre .0) (c .before .before .before .before .before .before .before .before .before .before .before .args .s .input) (c .before .before .before .before .before .before .before .before .before .before .before .args .s .place) (c .before .before .before .before .before .before .before .before .before .before .before .args .s .bad) (c .before .before .before .before .before .before .before .before .before .before .before .args .s .ok) (f (c .before .before .before .before .before .before .before .before .before .before .before .args .s .waiting)) (c .before .before .before .before .before .before .before .before .before .before .before .args .op) (c .before .before .before .before .before .before .before .before .before .before .before .args .a) (c .before .before .before .before .before .before .before .before .before .before .before .args .b) (c .before .before .before .before .before .before .top-number .result) (c .judge .result .bad) (c .judge .result .ok) (c .before .before .before .before .before .before .before .before .if3 .taken) (c .before .before .before .before .before .before .top-number .ensures) (c .before .before .push2 .ensures .0) (c .before .before .push2 .ensures .1) (c .judge .ensures) .1)
+returns-3 c = (end-step (c .before .before .before .before .before .before .before .before .before .before .before .pre .0) (c .before .before .before .before .before .before .before .before .before .before .before .args .s .input) (c .before .before .before .before .before .before .before .before .before .before .before .args .s .place) (c .before .before .before .before .before .before .before .before .before .before .before .args .s .bad) (c .before .before .before .before .before .before .before .before .before .before .before .args .s .ok) [] (c .before .before .before .before .before .before .before .before .before .before .before .args .op) (c .before .before .before .before .before .before .before .before .before .before .before .args .a) (c .before .before .before .before .before .before .before .before .before .before .before .args .b) (c .before .before .before .before .before .before .top-number .result) (c .judge .result .bad) (c .judge .result .ok) (c .before .before .before .before .before .before .before .before .if3 .taken) (c .before .before .before .before .before .before .top-number .ensures) (c .before .before .push-instruction2 .ensures .0) (c .before .before .push-instruction2 .ensures .1) (c .judge .ensures) .0, λ f. end-step (c .before .before .before .before .before .before .before .before .before .before .before .pre .0) (c .before .before .before .before .before .before .before .before .before .before .before .args .s .input) (c .before .before .before .before .before .before .before .before .before .before .before .args .s .place) (c .before .before .before .before .before .before .before .before .before .before .before .args .s .bad) (c .before .before .before .before .before .before .before .before .before .before .before .args .s .ok) (f (c .before .before .before .before .before .before .before .before .before .before .before .args .s .waiting)) (c .before .before .before .before .before .before .before .before .before .before .before .args .op) (c .before .before .before .before .before .before .before .before .before .before .before .args .a) (c .before .before .before .before .before .before .before .before .before .before .before .args .b) (c .before .before .before .before .before .before .top-number .result) (c .judge .result .bad) (c .judge .result .ok) (c .before .before .before .before .before .before .before .before .if3 .taken) (c .before .before .before .before .before .before .top-number .ensures) (c .before .before .push-instruction2 .ensures .0) (c .before .before .push-instruction2 .ensures .1) (c .judge .ensures) .1)
 
 returns-4 : tie.Need-returns-4
 returns-4 c = (nothing-step (c .before .before .before .before .pre .0) (c .before .before .before .before .args .s .input) (c .before .before .before .before .args .s .place) (c .before .before .before .before .args .s .bad) (c .before .before .before .before .args .s .ok) [] (c .before .before .before .before .args .op) (c .before .before .before .before .args .a) (c .before .before .before .before .args .b) (c .if4 .taken) .0, λ f. nothing-step (c .before .before .before .before .pre .0) (c .before .before .before .before .args .s .input) (c .before .before .before .before .args .s .place) (c .before .before .before .before .args .s .bad) (c .before .before .before .before .args .s .ok) (f (c .before .before .before .before .args .s .waiting)) (c .before .before .before .before .args .op) (c .before .before .before .before .args .a) (c .before .before .before .before .args .b) (c .if4 .taken) .1)

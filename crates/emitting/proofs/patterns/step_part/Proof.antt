@@ -25,7 +25,7 @@ add-t16 : tie.Need-add-t16
 add-t16 c = search needs
 
 returns-2 : tie.Need-returns-2
-returns-2 c = λ leaves types first second. ((λ T held R. the-same (emit-at T R (c .before .before .before .before .before .before .args .kinds .now) (c .before .before .before .before .before .before .args .values .now) (c .before .before .before .before .before .before .args .cursor) (c .before .before .before .before .before .before .args .height) (c .before .before .before .before .before .before .args .next) (c .before .before .before .before .before .before .args .op) first second 22 (c .before .before .before .if2 .taken)) (kept (sym (c .push2 .ensures .on-top)) refl (c .push2 .ensures .stacking))), omega arith)
+returns-2 c = λ leaves types first second. ((λ T held R. the-same (emit-at T R (c .before .before .before .before .before .before .args .kinds .now) (c .before .before .before .before .before .before .args .values .now) (c .before .before .before .before .before .before .args .cursor) (c .before .before .before .before .before .before .args .height) (c .before .before .before .before .before .before .args .next) (c .before .before .before .before .before .before .args .op) first second 22 (c .before .before .before .if2 .taken)) (kept (sym (c .push-slot2 .ensures .on-top)) refl (c .push-slot2 .ensures .stacking))), omega arith)
 
 returns-3 : tie.Need-returns-3
 returns-3 c = λ leaves types first second. ((λ T held R. the-same (emit-at T R (c .before .before .before .args .kinds .now) (c .before .before .before .args .values .now) (c .before .before .before .args .cursor) (c .before .before .before .args .height) (c .before .before .before .args .next) (c .before .before .before .args .op) first second 23 (let a = c .if2 .left in let b = c .before .if1 .left in let i = c .before .before .before .pre .1 in let j = c .before .before .before .pre .2 in omega arith)) (kept refl refl (c .before .before .before .pre .0 .stacking))), omega arith)
