@@ -18,8 +18,8 @@ use instructions::no_operands;
 use instructions::no_ops;
 use reading::Illegal;
 use reading::first_illegal;
-use records::RECORDS;
 use records::RECORD_BYTES;
+use records::RECORDS;
 use resolving::Resolved;
 use resolving::resolve;
 
