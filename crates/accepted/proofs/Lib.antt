@@ -3,11 +3,14 @@ pub mod AcceptedAgain
 pub mod LabelsAgain
 pub mod FittingWidths
 pub mod Refusing
+pub mod Callable
 pub mod Calls
 pub mod Laws
 pub mod LeafBounds
+pub mod PairWitness
 pub mod PassesAgain
 pub mod Requirements
 pub mod Scopes
 pub mod Small
+pub mod TypeTables
 pub mod Witness

@@ -1,15 +1,14 @@
 -- What the functions of the check ask of their callers can be had: on every sheet that passes codes 1 to 6 there are tables, scopes and
 -- places with each of the records that a `requires` names. `Witness` has such a sheet. Assumes nothing.
-use mathlib.Core.Path.{_≡_, refl, sym, _∙_, ap}
+use mathlib.Core.Path.{_≡_, refl, sym, _∙_, ap, subst}
 use mathlib.Core.Bool.{cond}
 use mathlib.Core.List.{List, [], _∷_, _++_}
-use Prim.Native.Nat.{ℕ, zero, suc, min, _+_, _*_, _≤_, _<_}
+use Prim.Native.Nat.{ℕ, zero, suc, min, _+_, _*_, _-_, _≤_, _<_}
 use native.Mathlib.Omega.{arith}
 use native.Mathlib.Decide.{ℕ-discrete}
-use native.Mathlib.Numerals.{add-one}
 use borrow.Author.Tests.{lt-ltb, le-ltb}
 use lib.Dec.{ltb}
-use lib.ListN.{length, getD, length-append, List·getD-append}
+use lib.ListN.{length, getD, replicate, length-append, length-replicate, getD-replicate, List·getD-append}
 use lib.Seq.{getD-at}
 use Rattle.records.specs.Words.{count, wordA, wordB}
 use Rattle.records.specs.Kinds.{Sort, sortNumber}
@@ -42,6 +41,10 @@ tabulated f (suc n) = go (tabulated f n)
         at r h (yes e) = rw e (getD-at (t .0) (f n) [] 0 n (t .1))
         at r h (no d) = List·getD-append (t .0) (f n ∷ []) 0 r (omega (arith, t .1)) ∙ t .2 r (omega arith)
 
+-- a table of no namings
+pub none-held : Holds (λ _. []) (replicate 4096 0)
+none-held = record { long = length-replicate {A = ℕ} 4096 0; entries = λ r h. getD-replicate {A = ℕ} 4096 r 0 0 h }
+
 module _ (s : List ℕ) (p : Passes s) (whole : length s ≡ 12 * count s) where
   few : count s ≤ 4096
   few = length-fits s (p .length) .1
@@ -62,17 +65,19 @@ module _ (s : List ℕ) (p : Passes s) (whole : length s ≡ 12 * count s) where
     types = p .types;
   }
 
-  pub counts : (table : List ℕ) × Counts s (count s) table
-  counts =
-      let t = tabulated (λ r. cond (ltb r (count s)) (typeLeaves s r) 0) 4096 in
-      let f = few in (
+  pub counts-below : (m : ℕ) → m ≤ 4096 → (table : List ℕ) × Counts s m table
+  counts-below m l =
+      let t = tabulated (λ r. cond (ltb r m) (typeLeaves s r) 0) 4096 in (
         t .0,
         record {
           long = t .1;
-          below = λ r h. t .2 r (omega arith) ∙ rw (lt-ltb r (count s) h);
-          rest = λ r h l. t .2 r l ∙ rw (le-ltb r (count s) h);
+          below = λ r h. t .2 r (omega arith) ∙ rw (lt-ltb r m h);
+          rest = λ r h k. t .2 r k ∙ rw (le-ltb r m h);
         },
       )
+
+  pub counts : (table : List ℕ) × Counts s (count s) table
+  counts = counts-below (count s) few
 
   pub held : (namers : List ℕ) × Holds (namings s) namers
   held = let t = tabulated (λ r. summary (namings s r)) 4096 in (t .0, record { long = t .1; entries = t .2 })
@@ -91,10 +96,11 @@ module _ (s : List ℕ) (p : Passes s) (whole : length s ≡ 12 * count s) where
   pub placed : (depths : List ℕ) × (nestings : List ℕ) × Placed s (count s) depths nestings
   placed = placed-at (count s) few
 
-  pub placing : (namers : List ℕ) × (depths : List ℕ) × (nestings : List ℕ) × Placing s (count s) 1 namers depths nestings
-  placing =
+  pub placing-at : (m : ℕ) → 0 < m → m ≤ 4096
+      → (namers : List ℕ) × (depths : List ℕ) × (nestings : List ℕ) × Placing s (count s) m namers depths nestings
+  placing-at m some h =
       let n = held in
-      let d = placed-at 1 (omega arith) in (
+      let d = placed-at m h in (
         n .0,
         d .0,
         d .1,
@@ -103,10 +109,13 @@ module _ (s : List ℕ) (p : Passes s) (whole : length s ≡ 12 * count s) where
           written = written p;
           well = well-named p;
           named = n .1;
-          some = omega arith;
+          some = some;
           placed = d .2;
         },
       )
+
+  pub placing : (namers : List ℕ) × (depths : List ℕ) × (nestings : List ℕ) × Placing s (count s) 1 namers depths nestings
+  placing = placing-at 1 (omega arith) (omega arith)
 
   pub ground : (table : List ℕ) × Ground s (count s) table
   ground = let c = counts in (c .0, record { sized = sized; passes = p; leaves = counts-leaves s (count s) (c .0) refl p (c .1) })
@@ -144,10 +153,15 @@ module _ (s : List ℕ) (p : Passes s) (whole : length s ≡ 12 * count s) where
       go Kinds.leafs e = other Kinds.leafs e (λ z. let y = ap sortNumber z in omega arith)
       go Kinds.noSort e = other Kinds.noSort e (λ z. let y = ap sortNumber z in omega arith)
 
-  all-lower : (m : ℕ) → m ≤ count s → (table : List ℕ) → PatternsFrom s m table → (lower : List ℕ) × PatternsFrom s 0 lower
-  all-lower zero h table o = (table, o)
-  all-lower (suc m) h table o =
-      let x = one-lower m (omega arith) table (rw (add-one m) o) in all-lower m (omega arith) (x .0) (x .1)
+  patterns-above : (k m : ℕ) → m + k ≡ count s → (table : List ℕ) × PatternsFrom s m table
+  patterns-above zero m e =
+      let q = patterns in
+      let c : count s ≡ m = omega arith in
+      (q .0, subst (λ (k : ℕ). PatternsFrom s k (q .0)) c (q .1))
+  patterns-above (suc k) m e = let x = patterns-above k (m + 1) (omega arith) in one-lower m (omega arith) (x .0) (x .1)
+
+  pub patterns-from : (m : ℕ) → m ≤ count s → (table : List ℕ) × PatternsFrom s m table
+  patterns-from m h = patterns-above (count s - m) m (omega arith)
 
   pub widths : (table : List ℕ) × Widths s table
-  widths = let q = patterns in let x = all-lower (count s) (omega arith) (q .0) (q .1) in (x .0, whole-table (x .1))
+  widths = let x = patterns-from 0 (omega arith) in (x .0, whole-table (x .1))

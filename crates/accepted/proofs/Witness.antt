@@ -1,13 +1,27 @@
 -- The laws speak of some sheet: the sheet T of docs/SHEETS.md is accepted with type 1, by computation; so it passes codes 1 to 6,
--- is well typed, and its root is an expression of an accepted circuit.
--- Assumes nothing.
-use Prim.Native.Nat.{ℕ, _*_, _%_, _/_}
+-- is well typed, and its root is an expression of an accepted circuit. What the functions of the check ask can be had at its
+-- records; `PairWitness` has a sheet for those of pairs, LETs and parts. Assumes nothing.
+use Prim.Native.Nat.{ℕ, _+_, _*_, _%_, _/_, _<_}
 use mathlib.Core.List.{List, [], _∷_}
 use mathlib.Core.Path.{_≡_, refl}
-use Rattle.records.specs.Words.{word, count, wordB}
-use Rattle.records.specs.Kinds.{rowOf, kindOf, askOf}
-use Rattle.records.specs.Says.{wellSaid, namings}
-use Rattle.records.specs.Trees.{typeWithin, typeAt, pairOf, chainWithin, chain, alternativesWithin, alternatives, treeWithin, treeAt, circuit}
+use Rattle.records.specs.Words.{word, count, wordB, kindWord}
+use Rattle.records.specs.Kinds.{rowOf, kindOf, askOf, expression, feedback, delay, ifMatches, name, constant}
+use Rattle.records.specs.AskNumbers.{askNumbers}
+use Rattle.records.specs.Kinds as Kinds
+use Rattle.records.specs.Says.{wellSaid, kindAt, sortAt, namings}
+use Rattle.records.specs.Trees.{
+  typeWithin,
+  typeAt,
+  pairOf,
+  TypeRecord,
+  chainWithin,
+  chain,
+  alternativesWithin,
+  alternatives,
+  treeWithin,
+  treeAt,
+  circuit,
+}
 use Rattle.structure.specs.Rules.{ancestryWithin, ancestry, depth, nesting, wrongLength, wrongHeader, wrongRecord, wrongNaming, wrongType, tooDeep}
 use Rattle.structure.specs.Passes.{Passes}
 use Rattle.verdict.specs.Verdict.{inputs, byTypes, byRecords, verdict}
@@ -17,11 +31,20 @@ use Rattle.verdict.specs.declared.Verdict.the-variants.{Accepted}
 use native.Mathlib.Omega.{arith}
 use lib.ListN.{length}
 use Rattle.records.specs.Sized.{Sized}
+use Rattle.records.specs.Written.{Written}
+use Rattle.picoella.specs.Language.{leaves}
+use Rattle.structure.specs.NamerTable.{Holds}
+use Rattle.structure.specs.LeafTable.{Counts}
+use Rattle.structure.specs.PairIndex.{Indexed}
 use Rattle.structure.specs.DepthTable.{Placed, Placing}
-use Rattle.typing.specs.Judging.{Judging, Closing, Fitting}
-use Rattle.verdict.specs.Stages.{CheckingDepths}
+use Rattle.typing.specs.Judging.{Ground, Judging, Closing, Fitting}
+use Rattle.typing.specs.LeafChains.{LeafOrEnd}
+use Rattle.typing.specs.PatternTable.{PatternsTyped, TypingPattern, TypeTables}
+use Rattle.verdict.specs.Stages.{CheckingRecords, CheckingNamings, CheckingTypes, CheckingDepths}
 use Rattle.verdict.specs.Widths.{PatternsFrom}
-use Rattle.accepted.proofs.Requirements.{sized, fitted, placing, placed, ready, closing, patterns}
+use Rattle.accepted.specs.Accepting.{Accepting}
+use Rattle.accepted.proofs.Requirements.{sized, fitted, placing, placed, ready, closing, patterns, widths}
+use Rattle.accepted.proofs.Callable as Callable
 use Rattle.verdict.proofs.Exact.{exact}
 use Rattle.accepted.proofs.Scopes.{Checked, scope-checked}
 
@@ -99,3 +122,148 @@ matching-there = record {
   sort = refl;
   typed = record { past = omega arith; there = omega arith; sort = refl };
 }
+
+-- and what each function of the check asks, at a record of T and with the tables of `Callable`
+abbrev table : List ℕ
+table = Callable.table sheet (passes .0) full
+
+abbrev scope : List ℕ
+scope = Callable.scope sheet (passes .0) full
+
+abbrev noted : List ℕ
+noted = Callable.noted sheet (passes .0) full
+
+abbrev index : List ℕ
+index = Callable.index sheet (passes .0) full
+
+abbrev types : List ℕ
+types = Callable.types sheet (passes .0) full
+
+below : (r : ℕ) → r < 17 → r < count sheet
+unfolding count
+below r h = let c : count sheet ≡ 17 = refl in omega arith
+
+kinds
+    : (kindAt sheet 2 ≡ expression feedback)
+    × (kindAt sheet 3 ≡ expression delay)
+    × (kindAt sheet 5 ≡ expression ifMatches)
+    × (kindAt sheet 6 ≡ expression name)
+    × (kindAt sheet 11 ≡ expression constant)
+unfolding kindOf rowOf word
+kinds = (refl, refl, refl, refl, refl)
+
+sorts : (sortAt sheet 1 ≡ Kinds.types) × (sortAt sheet 2 ≡ Kinds.expressions) × (sortAt sheet 4 ≡ Kinds.leafs) × (sortAt sheet 7 ≡ Kinds.patterns)
+unfolding kindOf rowOf word
+sorts = (refl, refl, refl, refl)
+
+type-there : TypeRecord sheet 1
+type-there = record { past = omega arith; there = below 1 (omega arith); sort = sorts .0 }
+
+one-leaf : 0 < leaves (typeAt sheet 1)
+unfolding typeAt typeWithin kindOf rowOf word
+one-leaf = let e : leaves (typeAt sheet 1) ≡ 1 = refl in omega arith
+
+note-word-there
+    : (asks : List ℕ) × (namers : List ℕ) × Sized sheet (count sheet) × (2 < count sheet)
+    × (asks ≡ askNumbers (rowOf (kindWord sheet 2)))
+    × (0 < 3)
+    × (3 < 6)
+    × (length namers ≡ 4096)
+note-word-there = Callable.note-word-callable sheet (passes .0) full 2 3 (below 2 (omega arith)) (omega arith) (omega arith)
+
+note-all-there : (namers : List ℕ) × Sized sheet (count sheet) × Holds (λ _. []) namers
+note-all-there = Callable.note-all-callable sheet (passes .0) full
+
+count-type-there : (counted : List ℕ) × Sized sheet (count sheet) × (1 < count sheet) × Written sheet × Counts sheet 1 counted
+count-type-there = Callable.count-type-callable sheet (passes .0) full 1 (below 1 (omega arith))
+
+count-types-there : (counted : List ℕ) × Sized sheet (count sheet) × Written sheet × Counts sheet 0 counted
+count-types-there = Callable.count-types-callable sheet (passes .0) full
+
+first-wrong-type-there : (counted : List ℕ) × Sized sheet (count sheet) × Counts sheet (count sheet) counted
+first-wrong-type-there = Callable.first-wrong-type-callable sheet (passes .0) full
+
+place-there
+    : (namers : List ℕ) × (depths : List ℕ) × (nestings : List ℕ) × Placing sheet (count sheet) 3 namers depths nestings
+    × (3 < count sheet)
+place-there = Callable.place-callable sheet (passes .0) full 3 (omega arith) (below 3 (omega arith))
+
+judge-expression-there : Judging sheet (count sheet) table scope 1 2 noted × TypeTables sheet (count sheet) index types
+judge-expression-there = Callable.judge-expression-callable sheet (passes .0) full 2 (below 2 (omega arith)) (sorts .1)
+
+of-feedback-there
+    : Judging sheet (count sheet) table scope 1 2 noted
+    × (kindAt sheet 2 ≡ expression feedback)
+    × TypeTables sheet (count sheet) index types
+of-feedback-there = Callable.of-kind-callable sheet (passes .0) full feedback 2 (below 2 (omega arith)) (kinds .0)
+
+of-delay-there
+    : Judging sheet (count sheet) table scope 1 3 noted
+    × (kindAt sheet 3 ≡ expression delay)
+    × TypeTables sheet (count sheet) index types
+of-delay-there = Callable.of-kind-callable sheet (passes .0) full delay 3 (below 3 (omega arith)) (kinds .1)
+
+of-if-there
+    : Judging sheet (count sheet) table scope 1 5 noted
+    × (kindAt sheet 5 ≡ expression ifMatches)
+    × TypeTables sheet (count sheet) index types
+of-if-there = Callable.of-kind-callable sheet (passes .0) full ifMatches 5 (below 5 (omega arith)) (kinds .2)
+
+of-name-there : Judging sheet (count sheet) table scope 1 6 noted × (kindAt sheet 6 ≡ expression name)
+of-name-there = Callable.of-name-callable sheet (passes .0) full 6 (below 6 (omega arith)) (kinds .3)
+
+of-constant-there : Closing sheet (count sheet) table 11 noted × (kindAt sheet 11 ≡ expression constant)
+of-constant-there = Callable.of-constant-callable sheet (passes .0) full 11 (below 11 (omega arith)) (kinds .4)
+
+note-there : Closing sheet (count sheet) table 2 noted × TypeRecord sheet 1
+note-there = Callable.note-callable sheet (passes .0) full 2 1 (below 2 (omega arith)) type-there
+
+bound-at-there : Ground sheet (count sheet) table × TypeRecord sheet 1 × (0 < leaves (typeAt sheet 1))
+bound-at-there = Callable.bound-at-callable sheet (passes .0) full 1 0 type-there one-leaf
+
+take-off-there : Sized sheet (count sheet) × Passes sheet × TypeRecord sheet 1 × LeafOrEnd sheet 4
+take-off-there = Callable.take-off-callable sheet (passes .0) full 1 4 type-there (below 4 (omega arith)) (sorts .2)
+
+leaves-fit-there : Sized sheet (count sheet) × Passes sheet × TypeRecord sheet 1 × (4 < count sheet) × (sortAt sheet 4 ≡ Kinds.leafs)
+leaves-fit-there = Callable.leaves-fit-callable sheet (passes .0) full 1 4 type-there (below 4 (omega arith)) (sorts .2)
+
+note-type-there : (above : List ℕ) × TypingPattern sheet (count sheet) index above 7
+note-type-there = Callable.note-type-callable sheet (passes .0) full 7 (below 7 (omega arith))
+
+one-type-there : (above : List ℕ) × TypingPattern sheet (count sheet) index above 7 × (sortAt sheet 7 ≡ Kinds.patterns)
+one-type-there = Callable.one-type-callable sheet (passes .0) full 7 (below 7 (omega arith)) (sorts .3)
+
+note-types-there
+    : (none : List ℕ) × Sized sheet (count sheet) × Passes sheet × Indexed sheet (count sheet) index
+    × PatternsTyped sheet (count sheet) none
+note-types-there = Callable.note-types-callable sheet (passes .0) full
+
+pattern-type-there : Fitting sheet (count sheet) 7 1 × PatternsTyped sheet 0 types
+pattern-type-there = Callable.pattern-type-callable sheet (passes .0) full 7 1 (below 7 (omega arith)) (sorts .3) type-there
+
+check-rules-there : Ground sheet (count sheet) table × (length noted ≡ 4096)
+check-rules-there = Callable.check-rules-callable sheet (passes .0) full
+
+check-depths-there
+    : (namers : List ℕ) × (counted : List ℕ) × CheckingDepths sheet (count sheet) × Holds (namings sheet) namers
+    × Counts sheet (count sheet) counted
+    × (length noted ≡ 4096)
+check-depths-there = Callable.check-depths-callable sheet (passes .0) full
+
+check-types-there : (namers : List ℕ) × CheckingTypes sheet (count sheet) × Holds (namings sheet) namers
+check-types-there = Callable.check-types-callable sheet (passes .0) full
+
+check-names-there : CheckingNamings sheet (count sheet)
+check-names-there = Callable.check-names-callable sheet (passes .0) full
+
+check-records-there : CheckingRecords sheet (count sheet)
+check-records-there = Callable.check-records-callable sheet (passes .0) full
+
+note-pattern-there
+    : (above : List ℕ) × Sized sheet (count sheet) × Passes sheet × (7 < count sheet) × PatternsFrom sheet (7 + 1) above
+note-pattern-there = Callable.note-pattern-callable sheet (passes .0) full 7 (below 7 (omega arith))
+
+fill-bounds-there
+    : (out : List ℕ) × Accepting sheet (count sheet) (widths sheet (passes .0) full .0) × TypeRecord sheet 1
+    × (length out ≡ leaves (typeAt sheet 1))
+fill-bounds-there = Callable.fill-bounds-callable sheet (passes .0) full 1 1 accepted type-there

@@ -5,12 +5,25 @@
 use Prim.Native.Nat.{ℕ, _*_}
 use mathlib.Core.List.{List, [], _∷_}
 use mathlib.Core.Path.{_≡_, refl}
+use native.Mathlib.Omega.{arith}
 use lib.ListN.{length}
-use Rattle.picoella.specs.Language.{OfType}
+use Rattle.picoella.specs.Language.{leaves, OfType}
 use Rattle.records.specs.Words.{word, count}
 use Rattle.records.specs.Kinds.{rowOf, kindOf, askOf}
 use Rattle.records.specs.Says.{wellSaid, namings}
-use Rattle.records.specs.Trees.{typeWithin, typeAt, pairOf, chainWithin, chain, alternativesWithin, alternatives, treeWithin, treeAt, circuit}
+use Rattle.records.specs.Trees.{
+  typeWithin,
+  typeAt,
+  pairOf,
+  TypeRecord,
+  chainWithin,
+  chain,
+  alternativesWithin,
+  alternatives,
+  treeWithin,
+  treeAt,
+  circuit,
+}
 use Rattle.structure.specs.Rules.{ancestryWithin, ancestry, depth, nesting, wrongLength, wrongHeader, wrongRecord, wrongNaming, wrongType, tooDeep}
 use Rattle.structure.specs.Passes.{Passes}
 use Rattle.verdict.specs.Verdict.{byTypes, byRecords, verdict}
@@ -71,3 +84,9 @@ told = (refl, refl, refl, refl, refl, refl)
 one-of-type : OfType (inputType paired) (1 ∷ 2 ∷ [])
 unfolding notOneCycle wrongStimulus wrongByte typeAt typeWithin kindOf rowOf word
 one-of-type = one-cycle-typed paired (1 ∷ 2 ∷ []) (refl, (refl, tt))
+
+above-asked : (widths : List ℕ) × Accepting paired (count paired) widths × TypeRecord paired 2 × (2 ≡ leaves (typeAt paired 2))
+unfolding typeAt typeWithin kindOf rowOf word count
+above-asked =
+    let a = paired-accepting in
+    (a .0, a .1, record { past = omega arith; there = omega arith; sort = refl }, refl)

@@ -1,2 +1,7 @@
--- The theorems.
+-- The theorems, and instances of what the functions on texts ask.
 pub mod Kept
+pub mod TextTables
+pub mod WitnessNames
+pub mod WitnessWalk
+pub mod WitnessOrder
+pub mod WitnessSheet
