@@ -29,7 +29,7 @@ use Rattle.naming.specs.Names.{afterAll, declarationsChecks, constantNames}
 use Rattle.naming.specs.Records.{leafCounts, patternRecords, constantLeaves}
 use Rattle.translation.specs.Resolved.{TypeEntry, afterEntry, typeNumber, typeEntries}
 use Rattle.translation.specs.Layout.{numberOr}
-use Rattle.translation.proofs.Tables.{pass-both}
+use Rattle.translation.proofs.ConstructorTables.{pass-both}
 use Rattle.instructions.specs.Instruction.{
   Instruction,
   openParts,

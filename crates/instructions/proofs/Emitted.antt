@@ -31,7 +31,8 @@ use Rattle.naming.specs.Records.{leafCountOf, leafCounts, patternRecords, const
 use Rattle.translation.specs.Resolved.{typeMeant, typeEntries, distance}
 use Rattle.translation.specs.Distances.{constantValues}
 use Rattle.translation.specs.Layout.{leavesLaid, numberOr, roomOf, patternLaid, laid}
-use Rattle.translation.proofs.Tables.{Tables, pass-both, passes, pass-rest, after-new}
+use Rattle.translation.proofs.ConstructorTables.{pass-both, passes, pass-rest, after-new}
+use Rattle.translation.proofs.Tables.{Tables}
 use Rattle.translation.proofs.Sizes.{constant-length}
 use Rattle.instructions.specs.Instruction.{
   Instruction,

@@ -22,7 +22,7 @@ use Rattle.naming.specs.Names.{afterDeclaration, afterAll, addAll, declarationC
 use Rattle.naming.specs.TokenWalk.{NameScope, scope}
 use Rattle.naming.proofs.ByTokens.{firstScope}
 use Rattle.translation.specs.Resolved.{TypeEntry, typeNumber, afterEntry, typeEntries, typeEntriesFrom, distance}
-use Rattle.translation.proofs.Tables.{pass-both, passes, pass-rest, type-or-constructor}
+use Rattle.translation.proofs.ConstructorTables.{pass-both, passes, pass-rest, type-or-constructor}
 use Rattle.instructions.specs.Instruction.{
   Instruction,
   instructionOf,

@@ -31,7 +31,7 @@ use Rattle.translation.specs.Resolved.{
   Meant,
   constructorMeant,
 }
-use Rattle.translation.proofs.Tables.{pass-both, passes, pass-rest}
+use Rattle.translation.proofs.ConstructorTables.{pass-both, passes, pass-rest}
 use Rattle.instructions.specs.TokenOrder.{namedFrom, typesAmong, constructorsAmong}
 
 pub never : {P : Type 0} → false ≡ true → P

@@ -29,7 +29,8 @@ use Rattle.translation.specs.Resolved.{
   constructorMeant,
 }
 use Rattle.translation.specs.Layout.{numberOr}
-use Rattle.translation.proofs.Tables.{pass-both, passes, pass-rest, isNamed, types-known, no-type, none-matched, isEntry, a-constructor}
+use Rattle.translation.proofs.ConstructorTables.{pass-both, passes, pass-rest, isEntry, a-constructor}
+use Rattle.translation.proofs.Tables.{isNamed, types-known, no-type, none-matched}
 use Rattle.instructions.specs.Assembly.{DeclaredType, flatType, pairType, numberOrElse, pairNumbered, constantPairNumbered}
 use Rattle.instructions.specs.RecordOrder.{typesOnto, declaredTypes}
 use Rattle.instructions.proofs.LeavesNumbered.{NumberedTypes, types-numbered}

@@ -21,7 +21,8 @@ use Rattle.naming.proofs.ByTokens.{firstScope}
 use Rattle.scanning.specs.Scanned.{blanksIn, FirstToken, FoundFrom, tokenEnd}
 use Rattle.scanning.proofs.Found.{found-from}
 use Rattle.scoping.specs.Scoped.{heldScope, Scoping, effectOf, effectNumber, effectBy}
-use Rattle.scoping.proofs.ScopeLaws.{roomier, first-scoping}
+use Rattle.scoping.proofs.EffectLaws.{first-scoping}
+use Rattle.scoping.proofs.ScopeLaws.{roomier}
 use Rattle.reading.proofs.Loop.{ready-first}
 use Rattle.symbols.specs.Names.{nameOf, Hashed, Roles}
 use Rattle.resolving.specs.Walked.{Walks, WalksHeld, Walking, WalkedOn, TokenTaken, TokenNoted, FoundWith, tokenHolds}

@@ -54,31 +54,13 @@ use Rattle.naming.specs.Names.{
 use Rattle.naming.proofs.SameName.{equal-same, same-equal}
 use Rattle.translation.specs.Resolved.{typeMeant, typeEntries, constructorMeant, constructorEntries, distance}
 use Rattle.translation.specs.Distances.{asConstant, nameMeant, byDistances, unplaced}
-use Rattle.translation.proofs.Tables.{pass-both, passes, pass-rest, after-new}
+use Rattle.translation.proofs.ConstructorTables.{pass-both, passes, pass-rest, after-new}
 use Rattle.text_meaning.specs.Circuits.{Circuit, Uses, circuitOf}
 use Rattle.text_meaning.proofs.Naming.{KnownType}
-use Rattle.text_meaning.proofs.Simulates.{
-  At,
-  at-input,
-  at-here,
-  at-there,
-  NotIn,
-  not-input,
-  not-here,
-  Related,
-  related-name,
-  related-constructor,
-  related-always,
-  related-pair,
-  related-first,
-  related-second,
-  related-let,
-  related-feedback,
-  related-if,
-  related-delay,
-}
+use Rattle.text_meaning.proofs.Related.{At, at-input, at-here, at-there, NotIn, not-input, not-here, Related, related-name, related-constructor, related-always, related-pair, related-first, related-second, related-let, related-feedback, related-if, related-delay}
 use Rattle.text_meaning.proofs.NamesStand.{all-differ, numbered, type-known, unknown-is}
-use Rattle.text_meaning.proofs.ConstantsStand.{new-name, constructor-stands, constructor-known, unknown-stands, held-stands}
+use Rattle.text_meaning.proofs.TakenNames.{new-name}
+use Rattle.text_meaning.proofs.ConstantsStand.{constructor-stands, constructor-known, unknown-stands, held-stands}
 
 -- a declared value that is no constructor is `input`
 record OnlyInput (D : List DeclaredName) : Type 0 where

@@ -29,7 +29,7 @@ use Rattle.behaviour.specs.Afterwards.{WellFormed}
 use Rattle.behaviour.proofs.ByRules.{call-by-rules}
 use Rattle.translation.specs.Layout.{sheetOfText}
 use Rattle.translation.specs.Distances.{byDistances, expressionMeant, unplaced}
-use Rattle.translation.proofs.Tables.{pass-both}
+use Rattle.translation.proofs.ConstructorTables.{pass-both}
 use Rattle.translation.proofs.Kept as Translation
 use Rattle.translation.proofs.Kept.{names-good}
 use Rattle.text_meaning.specs.NamedValues.{NamedValue, valueOf}
@@ -38,7 +38,8 @@ use Rattle.text_meaning.specs.NamedRules.{GivesSeq, no-cycle, one-cycle}
 use Rattle.text_meaning.specs.TextPromises.{declarations, Means, OneMeaning, RunGivesMeaning, MeaningExists, TextPromises}
 use Rattle.text_meaning.proofs.OneMeaning.{run-one}
 use Rattle.text_meaning.proofs.Naming.{nameTree, KnownType, value-of}
-use Rattle.text_meaning.proofs.Simulates.{Related, scoped-input, none-known, one-known, follows}
+use Rattle.text_meaning.proofs.Related.{Related, scoped-input, none-known, one-known}
+use Rattle.text_meaning.proofs.Simulates.{follows}
 use Rattle.text_meaning.proofs.NamesStand.{all-differ, numbered, type-known}
 use Rattle.text_meaning.proofs.Begins.{begins, placed}
 

@@ -35,7 +35,7 @@ use Rattle.meaning.specs.Constants.{glb}
 use Rattle.meaning.specs.Rules.{branch}
 use Rattle.translation.specs.Resolved.{typeMeant, typeEntries, Meant, constructorMeant, constructorEntries}
 use Rattle.translation.specs.Distances.{asPattern, patternMeant}
-use Rattle.translation.proofs.Tables.{pass-both, passes, type-or-constructor}
+use Rattle.translation.proofs.ConstructorTables.{pass-both, passes, type-or-constructor}
 use Rattle.naming.specs.Checks.{AllPass}
 use Rattle.meaning.specs.Undecided.{undecidedConstant}
 use Rattle.text_meaning.specs.NamedValues.{NamedValue, constructorOn, matchesNamed, chosenValue, constructorsOf, leafValue}

@@ -31,7 +31,7 @@ use Rattle.translation.specs.Resolved.{
   constructorEntries,
   constructorMeant,
 }
-use Rattle.translation.proofs.Tables.{pass-both, passes, pass-rest, isEntry, a-constructor}
+use Rattle.translation.proofs.ConstructorTables.{pass-both, passes, pass-rest, isEntry, a-constructor}
 use Rattle.text_meaning.specs.NamedValues.{NamedValue, Unknown, Couple, constructorsOf}
 use Rattle.text_meaning.specs.Circuits.{UnknownOf, unknownOf, unknownIn, unknownsFrom, unknownNamed}
 use Rattle.text_meaning.proofs.Naming.{nameTree, Differ, KnownType, known-flat, known-pair}

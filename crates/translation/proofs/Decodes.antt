@@ -59,7 +59,8 @@ use Rattle.translation.specs.Resolved.{
 use Rattle.translation.specs.Distances.{constantValues, typeOr, asConstant, nameMeant, byDistances, unplaced, undefinedLeavesOf}
 use Rattle.translation.specs.Layout.{leavesLaid, constantLaid, nameLaid, patternLaid, numberOr, roomOf, laid}
 use Rattle.translation.proofs.Standing.{RecordIs, Stands, none-stand, one-stands, stands-append}
-use Rattle.translation.proofs.Tables.{Tables, pass-both, passes, pass-rest, after-new}
+use Rattle.translation.proofs.ConstructorTables.{pass-both, passes, pass-rest, after-new}
+use Rattle.translation.proofs.Tables.{Tables}
 use Rattle.translation.proofs.Sizes.{leaves-length, pattern-length, constant-length, expression-length}
 use Rattle.translation.proofs.PatternsRead.{chain-read, SaysPattern, pattern-read}
 

@@ -61,7 +61,8 @@ use Rattle.translation.specs.Resolved.{typeMeant, typeEntries, typeNumbe
 use Rattle.translation.specs.Distances.{patternMeant}
 use Rattle.translation.specs.Layout.{leavesLaid, patternLaid}
 use Rattle.translation.proofs.Standing.{RecordIs, Stands, none-stand, one-stands, stands-append}
-use Rattle.translation.proofs.Tables.{Tables, pass-both, passes, pass-rest, type-or-constructor}
+use Rattle.translation.proofs.ConstructorTables.{pass-both, passes, pass-rest, type-or-constructor}
+use Rattle.translation.proofs.Tables.{Tables}
 use Rattle.translation.proofs.Sizes.{leaves-length, pattern-length}
 
 -- a chain of one or more leaves

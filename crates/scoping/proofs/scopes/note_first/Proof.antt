@@ -8,7 +8,8 @@ use mathlib.Core.Bool.{true, false}
 use Rattle.reading.specs.Coded.{stateOf}
 use Rattle.symbols.specs.Names.{nameOf}
 use Rattle.scoping.specs.Scoped.{heldScope}
-use Rattle.scoping.proofs.ScopeLaws.{refused-name, some-bound, first-told, based, roles-as, first-noted}
+use Rattle.scoping.proofs.EffectLaws.{first-told, based, roles-as, first-noted}
+use Rattle.scoping.proofs.ScopeLaws.{refused-name, some-bound}
 use Rattle.scoping.proofs.scopes.note_first.Statement.{statement}
 use Rattle.scoping.proofs.scopes.note_first.Tie as tie
 

@@ -8,7 +8,8 @@ use mathlib.Core.Bool.{true, false}
 use Rattle.reading.specs.Coded.{stateOf}
 use Rattle.symbols.specs.Names.{nameOf}
 use Rattle.scoping.specs.Scoped.{heldScope}
-use Rattle.scoping.proofs.ScopeLaws.{refused-name, noted-name, as-effect, plain-told, plain-noted, pend-after, bind-after}
+use Rattle.scoping.proofs.EffectLaws.{as-effect, plain-told, plain-noted}
+use Rattle.scoping.proofs.ScopeLaws.{refused-name, noted-name, pend-after, bind-after}
 use Rattle.scoping.proofs.scopes.note_name.Statement.{statement}
 use Rattle.scoping.proofs.scopes.note_name.Tie as tie
 

@@ -8,7 +8,8 @@ use mathlib.Core.Bool.{true, false}
 use Rattle.reading.specs.Coded.{stateOf}
 use Rattle.symbols.specs.Names.{nameOf}
 use Rattle.scoping.specs.Scoped.{heldScope}
-use Rattle.scoping.proofs.ScopeLaws.{refused-name, noted-name, some-bound, base-told, based, constructor-after}
+use Rattle.scoping.proofs.EffectLaws.{base-told, based}
+use Rattle.scoping.proofs.ScopeLaws.{refused-name, noted-name, some-bound, constructor-after}
 use Rattle.scoping.proofs.scopes.note_next.Statement.{statement}
 use Rattle.scoping.proofs.scopes.note_next.Tie as tie
 

@@ -6,7 +6,8 @@ use Prim.Native.Nat.{_-_}
 use mathlib.Core.Path.{sym, subst, refl}
 use mathlib.Core.Logic.{⊎-elim, inl, inr}
 use Rattle.scoping.specs.Scoped.{heldScope}
-use Rattle.scoping.proofs.ScopeLaws.{as-ended, bind-pending-after, unbind-after, none-unbound, other-kept}
+use Rattle.scoping.proofs.EffectLaws.{as-ended}
+use Rattle.scoping.proofs.ScopeLaws.{bind-pending-after, unbind-after, none-unbound, other-kept}
 use Rattle.scoping.proofs.scopes.note_other.Statement.{statement}
 use Rattle.scoping.proofs.scopes.note_other.Tie as tie
 

@@ -8,7 +8,8 @@ use mathlib.Core.Bool.{true, false}
 use Rattle.reading.specs.Coded.{stateOf}
 use Rattle.symbols.specs.Names.{nameOf}
 use Rattle.scoping.specs.Scoped.{heldScope}
-use Rattle.scoping.proofs.ScopeLaws.{refused-name, some-bound, base-told, based, pair-noted}
+use Rattle.scoping.proofs.EffectLaws.{base-told, based, pair-noted}
+use Rattle.scoping.proofs.ScopeLaws.{refused-name, some-bound}
 use Rattle.scoping.proofs.scopes.note_pair.Statement.{statement}
 use Rattle.scoping.proofs.scopes.note_pair.Tie as tie
 
