@@ -30,7 +30,7 @@ use Rattle.translation.proofs.Tables.{isNamed}
 
 -- every type name in the table is taken
 pub record AllTaken (D : List DeclaredName) (T : List TypeEntry) : Type 0 where
-  taken : (w : List ℕ) → isNamed w T ≡ true → isTaken w D ≡ true
+  pub taken : (w : List ℕ) → isNamed w T ≡ true → isTaken w D ≡ true
 
 taken-added : (w : List ℕ) (D : List DeclaredName) (cs : List Identifier) → isTaken w D ≡ true → isTaken w (addAll cs D) ≡ true
 taken-added w D [] h = h
