@@ -40,7 +40,7 @@ use Rattle.records.specs.Rewritten.{Rewritten}
 use Rattle.records.proofs.Table.{is-pair}
 use Rattle.records.proofs.Rewritten.{SameWords, same-kind, same-pair-of, same-circuit, leaf-or-same}
 use Rattle.typing.specs.Judgements.{patternFits}
-use Rattle.structure.specs.Passes.{Passes}
+use Rattle.structure.specs.Rules.{Passes}
 use Rattle.verdict.specs.Verdict.{inputs, verdict}
 use Rattle.verdict.specs.declared.Verdict.the-variants.{Accepted}
 use Rattle.structure.proofs.Passes.{written}

@@ -17,8 +17,7 @@ use Rattle.records.specs.Sized.{Sized}
 use Rattle.records.specs.Trees.{typeAt, TypeRecord}
 use Rattle.records.specs.Written.{Written}
 use Rattle.records.proofs.Asked.{past-header}
-use Rattle.structure.specs.Passes.{Passes}
-use Rattle.structure.specs.Rules.{depth}
+use Rattle.structure.specs.Rules.{Passes, depth}
 use Rattle.structure.specs.NamerTable.{Holds}
 use Rattle.structure.specs.LeafTable.{Counts}
 use Rattle.structure.specs.PairIndex.{Linked, Indexed}

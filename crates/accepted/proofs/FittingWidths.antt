@@ -34,7 +34,7 @@ use Rattle.records.proofs.Asked.{part-of-kind}
 use Rattle.records.proofs.Types.{flat-type, pair-type, few-leaves}
 use Rattle.records.proofs.TypeRecords.{first-part, second-part}
 use Rattle.records.proofs.Grown.{GrownPattern, grown-pattern}
-use Rattle.structure.specs.Passes.{Passes}
+use Rattle.structure.specs.Rules.{Passes}
 use Rattle.structure.proofs.Passes.{written, types-fit}
 use Rattle.typing.specs.Judgements.{patternFits}
 use Rattle.typing.specs.Judging.{width}

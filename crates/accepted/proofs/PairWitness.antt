@@ -30,8 +30,19 @@ use Rattle.records.specs.Trees.{
   treeAt,
   circuit,
 }
-use Rattle.structure.specs.Rules.{ancestryWithin, ancestry, depth, nesting, wrongLength, wrongHeader, wrongRecord, wrongNaming, wrongType, tooDeep}
-use Rattle.structure.specs.Passes.{Passes}
+use Rattle.structure.specs.Rules.{
+  ancestryWithin,
+  ancestry,
+  depth,
+  nesting,
+  wrongLength,
+  wrongHeader,
+  wrongRecord,
+  wrongNaming,
+  wrongType,
+  tooDeep,
+  Passes,
+}
 use Rattle.structure.specs.LeafTable.{Counts}
 use Rattle.structure.specs.PairIndex.{EndsAt, Linked, Indexed}
 use Rattle.typing.specs.Judgements.{patternFits}

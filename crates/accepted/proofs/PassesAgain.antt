@@ -31,8 +31,8 @@ use Rattle.structure.specs.Rules.{
   wrongNaming,
   wrongType,
   tooDeep,
+  Passes,
 }
-use Rattle.structure.specs.Passes.{Passes}
 use Rattle.answers.proofs.Lowest.{lowest-none}
 use Rattle.structure.proofs.Passes.{written}
 

@@ -15,8 +15,7 @@ use Rattle.records.specs.Kinds.{Sort, sortNumber}
 use Rattle.records.specs.Kinds as Kinds
 use Rattle.records.specs.Says.{sortAt, namings}
 use Rattle.records.specs.Sized.{Sized}
-use Rattle.structure.specs.Passes.{Passes}
-use Rattle.structure.specs.Rules.{depth, nesting}
+use Rattle.structure.specs.Rules.{Passes, depth, nesting}
 use Rattle.structure.specs.NamerTable.{summary, Holds}
 use Rattle.structure.specs.LeafTable.{typeLeaves, Counts}
 use Rattle.structure.specs.DepthTable.{Capped, Placed, Placing}

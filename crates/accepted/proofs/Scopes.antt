@@ -35,8 +35,7 @@ use Rattle.records.proofs.Types.{few-leaves, leaves-of-bounds}
 use Rattle.records.proofs.TypeRecords.{type-word}
 use Rattle.records.proofs.Trees.{tree-of}
 use Rattle.records.proofs.Grown.{grown-tree}
-use Rattle.structure.specs.Rules.{depth}
-use Rattle.structure.specs.Passes.{Passes}
+use Rattle.structure.specs.Rules.{depth, Passes}
 use Rattle.verdict.specs.Verdict.{verdict}
 use Rattle.verdict.specs.Scopes.{
   Scope,

@@ -15,8 +15,7 @@ use Rattle.records.specs.Sized.{Sized}
 use Rattle.records.specs.Trees.{typeAt, TypeRecord}
 use Rattle.records.proofs.Tests.{neither-left, neither-right}
 use Rattle.records.proofs.Types.{few-leaves}
-use Rattle.structure.specs.Passes.{Passes}
-use Rattle.structure.specs.Rules.{wrongLength}
+use Rattle.structure.specs.Rules.{Passes, wrongLength}
 use Rattle.structure.proofs.Passes.{types-fit}
 use Rattle.verdict.specs.Verdict.{verdict}
 use Rattle.verdict.specs.declared.Verdict.the-variants.{Accepted}

@@ -18,7 +18,7 @@ use Rattle.records.specs.Trees.{pairBelow}
 use Rattle.records.specs.Written.{Written}
 use Rattle.records.proofs.Table.{askOfKind, kind-of-sort}
 use Rattle.records.proofs.Asked.{as-kind-asks, part-of-kind}
-use Rattle.structure.specs.Passes.{Passes}
+use Rattle.structure.specs.Rules.{Passes}
 use Rattle.structure.specs.PairIndex.{another, onwards, Ends, EndsAt, Linked, Indexed}
 use Rattle.structure.proofs.Passes.{written}
 use Rattle.structure.proofs.PairSearch.{no-pairs-indexed, goes-on, no-pair-noted, lower-noted, pair-noted}

@@ -22,8 +22,19 @@ use Rattle.records.specs.Trees.{
   treeAt,
   circuit,
 }
-use Rattle.structure.specs.Rules.{ancestryWithin, ancestry, depth, nesting, wrongLength, wrongHeader, wrongRecord, wrongNaming, wrongType, tooDeep}
-use Rattle.structure.specs.Passes.{Passes}
+use Rattle.structure.specs.Rules.{
+  ancestryWithin,
+  ancestry,
+  depth,
+  nesting,
+  wrongLength,
+  wrongHeader,
+  wrongRecord,
+  wrongNaming,
+  wrongType,
+  tooDeep,
+  Passes,
+}
 use Rattle.verdict.specs.Verdict.{inputs, byTypes, byRecords, verdict}
 use Rattle.verdict.specs.Promises.{WellTyped}
 use Rattle.verdict.specs.Scopes.{root}

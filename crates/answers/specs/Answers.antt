@@ -1,5 +1,5 @@
 -- The answer of a call, the lowest number that passes a test, and the checks of a call as a list.
-use Prim.Native.Nat.{ℕ, _+_, _*_, _^_, zero, suc, _<_}
+use Prim.Native.Nat.{ℕ, _+_, _*_, _^_, zero, suc}
 use mathlib.Core.List.{List, [], _∷_, _++_}
 use Rattle.answers.specs.declared.Answer.{Answer}
 use Rattle.answers.specs.declared.Answer.the-variants.{Done, Refused}
@@ -8,7 +8,7 @@ use mathlib.Core.Option.{Option, none, some}
 use mathlib.Core.Path.{_≡_}
 
 -- The answer of a call (docs/SHEETS.md, "Codes"): done, with the place that the call gives beside 0, or refused, with a code and its
--- place; both in one number of 64 bits. One data type for all calls, the code's own enum; a call that answers by another enum says
+-- place; both in one number of 64 bits. One data type for all calls, the enum of `src/lib.rt`; a call that answers by another enum says
 -- once what each of its cases stands for here.
 
 abbrev pub code : Answer → ℕ

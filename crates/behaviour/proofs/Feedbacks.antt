@@ -16,7 +16,7 @@ use Rattle.records.proofs.Rewritten.{same-type, same-tree}
 use Rattle.records.proofs.Asked.{past-header}
 use Rattle.records.proofs.Trees.{tree-of}
 use Rattle.records.proofs.Decoding.{expressions-there}
-use Rattle.structure.specs.Passes.{Passes}
+use Rattle.structure.specs.Rules.{Passes}
 use Rattle.accepted.proofs.Laws.{written, well-named}
 use Rattle.verdict.specs.Verdict.{verdict}
 use Rattle.verdict.specs.Scopes.{Scope}

@@ -30,9 +30,9 @@ use Rattle.records.specs.Trees.{
   listed,
   held,
   delayLeaves,
-  Distinct,
   typeRecordOf,
 }
+use Rattle.records.specs.Written.{Distinct}
 use Rattle.records.specs.Decoding.{leafValues}
 use Rattle.behaviour.specs.Terms.{term}
 use Rattle.behaviour.specs.Delays.{Entry, assigned, entries, places}

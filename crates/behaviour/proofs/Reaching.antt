@@ -25,7 +25,7 @@ use Rattle.records.specs.Says.{sortAt, Naming}
 use Rattle.records.specs.Trees.{treeAt, typeRecordOf}
 use Rattle.records.proofs.Table.{askOfKind}
 use Rattle.records.proofs.Asked.{past-header}
-use Rattle.structure.specs.Passes.{Passes}
+use Rattle.structure.specs.Rules.{Passes}
 use Rattle.verdict.specs.Verdict.{inputs}
 use Rattle.verdict.specs.Scopes.{
   Scope,

@@ -10,7 +10,8 @@ use mathlib.Core.Logic.{_⊎_, inl, inr}
 use native.Mathlib.Omega.{arith}
 use lib.ListN.{length, getD, length-set}
 use Rattle.records.specs.Words.{wordA}
-use Rattle.records.specs.Trees.{circuit, delayLeaves, Distinct}
+use Rattle.records.specs.Trees.{circuit, delayLeaves}
+use Rattle.records.specs.Written.{Distinct}
 use Rattle.records.proofs.Leaves.{circuit-leaves}
 use Rattle.records.proofs.Distinct.{circuit-distinct}
 use Rattle.accepted.proofs.Laws.{well-named}

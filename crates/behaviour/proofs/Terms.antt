@@ -36,7 +36,7 @@ use Rattle.records.proofs.Types.{pair-type}
 use Rattle.records.proofs.Pairs.{pair-of-found}
 use Rattle.records.proofs.TypeRecords.{found-pair}
 use Rattle.records.proofs.Grown.{Grown, grown-tree, grown-circuit}
-use Rattle.structure.specs.Passes.{Passes}
+use Rattle.structure.specs.Rules.{Passes}
 use Rattle.accepted.proofs.Laws.{written}
 use Rattle.typing.specs.Judging.{Context}
 use Rattle.verdict.specs.Verdict.{inputs, verdict}

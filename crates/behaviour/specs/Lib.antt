@@ -4,6 +4,7 @@ pub mod Run
 pub mod Afterwards
 pub mod Firing
 pub mod Reaching
+pub mod Evaluated
 pub mod SheetOrder
 pub mod Promises
 -- What the promises pin down, so that it need not be believed:
@@ -16,4 +17,3 @@ pub mod Bench
 pub mod FiringBench
 -- What functions ask and give, and their proofs need:
 pub mod Copies
-pub mod Evaluated

@@ -1,7 +1,8 @@
 -- The run (docs/SHEETS.md, "The run"): over a list of inputs from a sheet, and for every call. "The first cycle begins from the
 -- sheet handed in, each later one from the sheet after the cycle before." On the empty list a run gives no outputs and leaves the
 -- sheet as it is. The answer is the lowest number that applies, with its place; "a refusal leaves every lent slice unaltered".
--- What an undecided IF gives is a parameter of the run over a list; the call takes the rule in force.
+-- What an undecided IF gives is a parameter of the run over a list; the call takes the rule in force. At the end stands a well-formed
+-- call as a run of 000's rules.
 use Prim.Native.Nat.{ℕ, zero, suc, _*_}
 use mathlib.Core.Path.{_≡_}
 use mathlib.Core.Bool.{not}

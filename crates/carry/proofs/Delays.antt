@@ -13,7 +13,7 @@ use Rattle.records.specs.Written.{Written, WellNamed}
 use Rattle.records.proofs.Table.{askOfKind}
 use Rattle.records.proofs.Asked.{part-of-kind, past-header}
 use Rattle.records.proofs.TypeRecords.{type-word}
-use Rattle.structure.specs.Passes.{Passes}
+use Rattle.structure.specs.Rules.{Passes}
 use Rattle.verdict.specs.Verdict.{verdict}
 use Rattle.verdict.specs.declared.Verdict.the-variants.{Accepted}
 use Rattle.accepted.proofs.Laws.{written, well-named, accepted-by-types}

@@ -13,9 +13,9 @@ use Rattle.picoella.specs.Language.{leaves}
 use Rattle.records.specs.Words.{count, wordA, wordB}
 use Rattle.records.specs.Kinds.{Kind, expression, delay, leaf, leafs, part}
 use Rattle.records.specs.Says.{kindAt}
-use Rattle.records.specs.Trees.{chain, circuit, delayLeaves, Distinct}
+use Rattle.records.specs.Trees.{chain, circuit, delayLeaves}
+use Rattle.records.specs.Written.{Distinct, Written, WellNamed}
 use Rattle.records.specs.Decoding.{leafValues}
-use Rattle.records.specs.Written.{Written, WellNamed}
 use Rattle.records.specs.Rewritten.{Rewritten}
 use Rattle.records.proofs.Table.{askOfKind}
 use Rattle.records.proofs.Leaves.{chain-leaves}

@@ -19,7 +19,7 @@ use Rattle.records.specs.Written.{Written}
 use Rattle.records.proofs.Table.{askOfKind}
 use Rattle.records.proofs.Asked.{part-of-kind}
 use Rattle.records.proofs.Types.{few-leaves}
-use Rattle.structure.specs.Passes.{Passes}
+use Rattle.structure.specs.Rules.{Passes}
 use Rattle.accepted.proofs.Laws.{written, types-fit}
 use Rattle.verdict.specs.Scopes.{Scope}
 use Rattle.accepted.proofs.Laws.{exact}

@@ -48,7 +48,7 @@ use Rattle.instructions.specs.Instruction.{
   nextAlternative,
   beginPattern,
   matchType,
-  matchConstructor,
+  matchOne,
   constantHas,
 }
 use Rattle.instructions.specs.TextOrder.{numberOfType, constructorIn, alternativeOf, valueInstruction}
@@ -134,7 +134,7 @@ module _ (ds : List Declaration) where
   all = emitAll (declaredTypes ds)
 
   alone-emitted : (b : Bool) (t u k next r c : ℕ) (R : List Record) (S : List Slot) (C : List Instruction) → c - 1 ≡ r
-      → all (emission R c S next) (cond b (matchType t) (matchConstructor u k) ∷ C)
+      → all (emission R c S next) (cond b (matchType t) (matchOne u k) ∷ C)
       ≡ all (emission (cond b (words 48 next t 0 0 0 ∷ []) (words 49 next u k 0 0 ∷ []) ++ R) r S 0) C
   alone-emitted true t u k next r c R S C f = ap (λ x. all (emission (words 48 next t 0 0 0 ∷ R) x S 0) C) f
   alone-emitted false t u k next r c R S C f = ap (λ x. all (emission (words 49 next u k 0 0 ∷ R) x S 0) C) f

@@ -1,5 +1,5 @@
 -- The language picoELLA on an abstract tree: types, patterns, expressions, and the static semantics. Nothing here knows of bytes or
--- records beyond the number that a flat type carries.
+-- records beyond the numbers that flat types, constructor patterns and delays carry.
 use Prim.Native.Nat.{ℕ, _+_, _≤_, zero, suc}
 use mathlib.Core.List.{List, [], _∷_, _++_}
 
@@ -63,8 +63,8 @@ pub data Expr : Type 0 where
   If : Expr → Pattern → Expr → Expr → Expr
   Delay : (places : List ℕ) → Ty → List ℕ → Expr → Expr
 
--- The static semantics of expressions (000, §3.3.2 rules 3.9 to 3.18, §4.2.3 `typeOfExpr`), one constructor a rule, with the
--- premises that 000 leaves to the declared types: the type of a pair is declared, and a constant's constructors are at most
+-- The static semantics of expressions (000, §3.3.2 rules 3.9 to 3.19, §4.2.3 `typeOfExpr`), one constructor a rule, with the
+-- premises that docs/SHEETS.md adds: the type of a pair is declared, and a constant's constructors are at most
 -- their type's count. `Declared` says which types are; a context lists the types of the names in scope, the innermost first.
 
 -- the name at this distance has this type (000: `elem`)

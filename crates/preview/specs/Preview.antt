@@ -1,4 +1,4 @@
--- Look before Grind (docs/SHEETS.md, "The preview"): "The preview takes a sheet and one cycle of input and writes the outputs."
+-- The preview (docs/SHEETS.md, "The preview"): "The preview takes a sheet and one cycle of input and writes the outputs."
 -- "Checks: 1 to 10, with 10 for one cycle's outputs." Where nothing refuses, it gives 0 at place 0.
 use Prim.Native.Nat.{ℕ}
 use mathlib.Core.Path.{_≡_}

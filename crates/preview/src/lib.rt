@@ -1,4 +1,4 @@
-// Look before Grind: the outputs of one cycle, without taking it.
+// The preview: the outputs of one cycle, without taking it.
 ghost use mathlib.Core.Path.{_≡_};
 ghost use Rattle.verdict.specs.Verdict.{verdict};
 ghost use Rattle.verdict.specs.declared.Verdict.the-variants.{Accepted};

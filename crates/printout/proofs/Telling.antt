@@ -26,7 +26,8 @@ use Rattle.stimulus.specs.Stimulus.{inputType, wrongStimulus, stimulusChecks, c
 use Rattle.behaviour.specs.Run.{outputNeeded, callChecks, bySlices, answer, finalOut, finalNext, Gives}
 use Rattle.behaviour.specs.Promises.{SaysOfCall}
 use Rattle.behaviour.proofs.Answers.{lowest-first, places-small, refused-by-verdict, stimulus-refused}
-use Rattle.simulator.specs.Running.{Measured, Ran}
+use Rattle.simulator.specs.Running.{Measured}
+use Rattle.simulator.specs.Calls.{Ran}
 use Rattle.listing.specs.Lines.{refusedLine}
 use Rattle.printout.specs.Printout.{outputRecord, runAnswer, runOutputs, runSheet, printed, toldText, Tells, OutputsLong}
 

@@ -5,25 +5,7 @@ use mathlib.Core.Path.{_≡_, refl}
 use mathlib.Core.Bool.{Bool, true, false, _&&_}
 use mathlib.Core.List.{List, map}
 use mathlib.Core.Option.{Option, none, some}
-use Rattle.picoella.specs.Language.{
-  Ty,
-  Flat,
-  Pattern,
-  Whole,
-  Constructor,
-  Parts,
-  Bar,
-  Expr,
-  Const,
-  Var,
-  Tuple,
-  Index1,
-  Index2,
-  Let,
-  LetRec,
-  If,
-  Delay,
-}
+use Rattle.picoella.specs.Language.{Flat, Pattern, Whole, Constructor, Parts, Bar, Expr, Const, Var, Tuple, Index1, Index2, Let, LetRec, If, Delay}
 use Rattle.records.specs.Words.{word, count, wordA}
 use Rattle.records.specs.SheetOf.{sheetOf}
 use Rattle.records.specs.Kinds.{rowOf, kindOf}

@@ -6,11 +6,11 @@ pub mod Kinds
 pub mod Says
 pub mod Trees
 pub mod Decoding
--- Examples, by computation:
 pub mod SheetOf
+pub mod Rewritten
+-- Examples, by computation:
 pub mod DecodingRows
 -- What functions ask and give, and their proofs need:
 pub mod Sized
 pub mod AskNumbers
 pub mod Written
-pub mod Rewritten

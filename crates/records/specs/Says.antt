@@ -26,9 +26,7 @@ use Rattle.records.specs.Kinds.{
   sortOf,
   sameSort,
   isFlat,
-  isHeader,
 }
-use lib.ListN.{length}
 
 -- What a record says (docs/SHEETS.md, "Numbering and naming"): its kind, and for each word whether the number in it is what the
 -- table asks. "Outside the header a type word names a type record with a lower number; each other named record, and every next

@@ -2,7 +2,7 @@
 use Prim.Native.Nat.{ℕ, zero, suc, _<_}
 use mathlib.Core.Path.{_≡_}
 use mathlib.Core.Bool.{Bool, true, false, cond, _&&_}
-use mathlib.Core.List.{List, [], _∷_, _++_, List·Memᴰ}
+use mathlib.Core.List.{List, [], _∷_, _++_}
 use lib.ListN.{getD}
 use lib.Dec.{eqb}
 use Rattle.picoella.specs.Language.{Ty, Flat, TyTuple}
@@ -197,16 +197,5 @@ held x c d (feedbackOf r t a b) = listed x (r ∷ []) ++ (held x c d a ++ held x
 held x c d (ifOf r a p b e) = listed x (r ∷ []) ++ (held x c d a ++ (held x c d b ++ held x c d e))
 held x c d (delayOf r t ls a) = listed x (r ∷ []) ++ (listed d ls ++ held x c d a)
 
-abbrev pub expressionRecords : Tree → List ℕ
-expressionRecords e = held true false false e
-
-abbrev pub leafRecords : Tree → List ℕ
-leafRecords e = held false true true e
-
 abbrev pub delayLeaves : Tree → List ℕ
 delayLeaves e = held false false true e
-
--- no number twice
-abbrev pub Distinct : List ℕ → Type 0
-Distinct [] = Unit {0}
-Distinct (r ∷ rs) = (List·Memᴰ r rs → ⊥) × Distinct rs

@@ -14,12 +14,12 @@ use Rattle.naming.specs.Declared.{declaredAs, aType, aConstructor}
 use Rattle.grammar.specs.Rows.{State}
 use Rattle.naming.specs.TokenWalk.{NameScope, scope, declarePending, ScopeEffect, mayTake, holdsIn, metIn, leftBy, noneBound}
 use Rattle.naming.specs.TokenWalk.{declaresNext, pends, binds, bindPending, unbind, endedBy}
-use Rattle.symbols.specs.Names.{nameOf, Inside, declaredNames, boundNames, Hashed, Roles}
+use Rattle.symbols.specs.Names.{lettersAt, Inside, declaredNames, boundNames, Hashed, Roles}
 use Rattle.scoping.specs.Scoped.{pendingNames, heldScope, Scoping, Rescoped, NameBound, NameNoted, effectOf}
 
 -- the name that waits on top
 pub pending-top : (text pendings : List ℕ) (m : ℕ) → (m ≡ 0 → ⊥)
-    → pendingNames text pendings m ≡ nameOf text (getD pendings (m - 1) 0) ∷ pendingNames text pendings (m - 1)
+    → pendingNames text pendings m ≡ lettersAt text (getD pendings (m - 1) 0) ∷ pendingNames text pendings (m - 1)
 pending-top text pendings m h = let e : m ≡ suc (m - 1) = omega (arith, h) in ap (pendingNames text pendings) e
 
 no-bound : (text spans : List ℕ) (base : ℕ) → boundNames text spans base (base - base) ≡ []
@@ -45,7 +45,7 @@ module _ {text : List ℕ} {base m : ℕ} {spans links heads roles pendings : Li
   }
 
   pub one-pending : {spans′ links′ heads′ roles′ : List ℕ} → (m ≡ 0 → ⊥) → Hashed text (base + 1) spans′ links′ heads′ → Roles roles′ (base + 1)
-      → declaredNames text spans′ roles′ (base + 1) ≡ declaredAs (nameOf text (getD pendings (m - 1) 0)) aType ∷ declaredNames text spans roles base
+      → declaredNames text spans′ roles′ (base + 1) ≡ declaredAs (lettersAt text (getD pendings (m - 1) 0)) aType ∷ declaredNames text spans roles base
       → Rescoped (declarePending (heldScope text base base m spans roles pendings)) text (base + m) (base + 1) (base + 1) (m - 1) spans′ links′ heads′ roles′ pendings
   one-pending {spans′} {roles′} nz t r e = record {
     scoping = record {
@@ -66,7 +66,7 @@ module _ {text : List ℕ} {base m : ℕ} {spans links heads roles pendings : Li
 
 -- names that are declared where something is bound
 bound-some : (text spans : List ℕ) (base n : ℕ) → base < n
-    → boundNames text spans base (n - base) ≡ nameOf text (getD spans (base + (n - base - 1)) 0) ∷ boundNames text spans base (n - base - 1)
+    → boundNames text spans base (n - base) ≡ lettersAt text (getD spans (base + (n - base - 1)) 0) ∷ boundNames text spans base (n - base - 1)
 bound-some text spans base n h = let e : n - base ≡ suc (n - base - 1) = omega arith in ap (boundNames text spans base) e
 
 -- nothing changes but the room
@@ -160,10 +160,10 @@ module _ {text : List ℕ} {base n m : ℕ} {spans links heads roles pendings : 
   pending-kept : (v k : ℕ) → k ≤ m → pendingNames text (set pendings m v) k ≡ pendingNames text pendings k
   pending-kept v zero h = refl
   pending-kept v (suc k) h =
-      ap₂ (λ x P. nameOf text x ∷ P) (getD-set-other pendings m k v 0 (λ e. omega arith)) (pending-kept v k (omega arith))
+      ap₂ (λ x P. lettersAt text x ∷ P) (getD-set-other pendings m k v 0 (λ e. omega arith)) (pending-kept v k (omega arith))
 
   pub pend-after : (span : ℕ) → Inside text span
-      → Rescoped (leftBy pends (nameOf text span) before) text (n + m + 1) base n (m + 1) spans links heads roles (set pendings m span)
+      → Rescoped (leftBy pends (lettersAt text span) before) text (n + m + 1) base n (m + 1) spans links heads roles (set pendings m span)
   pend-after span h = record {
     scoping = record {
       hashed = s .hashed;
@@ -178,11 +178,11 @@ module _ {text : List ℕ} {base n m : ℕ} {spans links heads roles pendings : 
     same-scope =
         ap (λ P. scope P (boundNames text spans base (n - base)) (declaredNames text spans roles base))
         (ap (pendingNames text (set pendings m span)) (add-one m)
-        ∙ ap₂ (λ x P. nameOf text x ∷ P) (getD-set-same pendings m span 0 (omega (arith, s .pendings-long, s .few))) (pending-kept span m (omega arith)));
+        ∙ ap₂ (λ x P. lettersAt text x ∷ P) (getD-set-same pendings m span 0 (omega (arith, s .pendings-long, s .few))) (pending-kept span m (omega arith)));
   }
 
   pub bind-after : {span : ℕ} {spans′ links′ heads′ roles′ : List ℕ} → NameBound text span base n spans roles spans′ links′ heads′ roles′
-      → Rescoped (leftBy binds (nameOf text span) before) text (n + m + 1) base (n + 1) m spans′ links′ heads′ roles′ pendings
+      → Rescoped (leftBy binds (lettersAt text span) before) text (n + m + 1) base (n + 1) m spans′ links′ heads′ roles′ pendings
   bind-after b = record {
     scoping = record {
       hashed = b .hashed;

@@ -6,7 +6,7 @@ ghost use Prim.Native.Nat.{ℕ, _+_, _≤_, _<_};
 ghost use Rattle.naming.specs.Declared.{declaredAs};
 ghost use Rattle.naming.specs.TokenWalk.{holdsIn, declarePending, declaresFirst, declaresNext, declaresPending, endedBy};
 ghost use Rattle.reading.specs.Coded.{stateOf};
-ghost use Rattle.symbols.specs.Names.{nameOf, Inside, Hashed, Roles, BoundRoles, roleNamed, declaredNames};
+ghost use Rattle.symbols.specs.Names.{lettersAt, Inside, Hashed, Roles, BoundRoles, roleNamed, declaredNames};
 ghost use Rattle.scoping.specs.Scoped.{admissionTable, heldScope, Scoping, Rescoped, NameBound, NameNoted, effectOf};
 use crate::tables::Admissions;
 use reading::numbers::wide;
@@ -58,7 +58,7 @@ fn declare(
     roles: &mut NameRoles,
 )
     requires { ⌜ Hashed (now text) n (now spans) (now links) (now heads) × Inside (now text) span × (n < 65536) × Roles (now roles) n × (kind < 2) ⌝ }
-    ensures { λ _. ⌜ Hashed (now (text .entry)) (n + 1) (now (spans .exit)) (now (links .exit)) (now (heads .exit)) × Roles (now (roles .exit)) (n + 1) × (declaredNames (now (text .entry)) (now (spans .exit)) (now (roles .exit)) (n + 1) ≡ declaredAs (nameOf (now (text .entry)) span) (roleNamed kind) ∷ declaredNames (now (text .entry)) (now (spans .entry)) (now (roles .entry)) n) ⌝ }
+    ensures { λ _. ⌜ Hashed (now (text .entry)) (n + 1) (now (spans .exit)) (now (links .exit)) (now (heads .exit)) × Roles (now (roles .exit)) (n + 1) × (declaredNames (now (text .entry)) (now (spans .exit)) (now (roles .exit)) (n + 1) ≡ declaredAs (lettersAt (now (text .entry)) span) (roleNamed kind) ∷ declaredNames (now (text .entry)) (now (spans .entry)) (now (roles .entry)) n) ⌝ }
 {
     push_name(text, span, n, spans, links, heads);
     roles[n] = kind;
@@ -137,7 +137,7 @@ fn holds(
     admissions: &Admissions,
 ) -> bool
     requires { ⌜ Hashed (now text) n (now spans) (now links) (now heads) × Inside (now text) span × (base ≤ n) × Roles (now roles) base × BoundRoles (now text) (now spans) (now roles) base n × (state < 47) × (now admissions ≡ admissionTable) ⌝ }
-    ensures { λ r. ⌜ ((m : ℕ) (pendings : List ℕ) → r ≡ holdsIn (stateOf state) (nameOf (now (text .entry)) span) (heldScope (now (text .entry)) base n m (now (spans .entry)) (now (roles .entry)) pendings)) ⌝ }
+    ensures { λ r. ⌜ ((m : ℕ) (pendings : List ℕ) → r ≡ holdsIn (stateOf state) (lettersAt (now (text .entry)) span) (heldScope (now (text .entry)) base n m (now (spans .entry)) (now (roles .entry)) pendings)) ⌝ }
 {
     let row = wide(state);
     if admissions[row][SEARCHES_BOUND] == 1 {
@@ -164,7 +164,7 @@ fn note_first(
     admissions: &Admissions,
 ) -> ScopeCounts
     requires { ⌜ Scoping (now text) 65534 base n m (now spans) (now links) (now heads) (now roles) (now pendings) × Inside (now text) span × (state < 47) × (now admissions ≡ admissionTable) ⌝ }
-    ensures { λ r. ⌜ NameNoted (stateOf state) declaresFirst (nameOf (now (text .entry)) span) (heldScope (now (text .entry)) base n m (now (spans .entry)) (now (roles .entry)) (now (pendings .entry))) (now (text .entry)) (n + m + 1) (r .ok) (r .base) (r .all) (r .waiting) (now (spans .exit)) (now (links .exit)) (now (heads .exit)) (now (roles .exit)) (now (pendings .entry)) ⌝ }
+    ensures { λ r. ⌜ NameNoted (stateOf state) declaresFirst (lettersAt (now (text .entry)) span) (heldScope (now (text .entry)) base n m (now (spans .entry)) (now (roles .entry)) (now (pendings .entry))) (now (text .entry)) (n + m + 1) (r .ok) (r .base) (r .all) (r .waiting) (now (spans .exit)) (now (links .exit)) (now (heads .exit)) (now (roles .exit)) (now (pendings .entry)) ⌝ }
 {
     if base != n {
         return ScopeCounts {
@@ -230,7 +230,7 @@ fn note_next(
     admissions: &Admissions,
 ) -> ScopeCounts
     requires { ⌜ Scoping (now text) 65534 base n m (now spans) (now links) (now heads) (now roles) (now pendings) × Inside (now text) span × (state < 47) × (now admissions ≡ admissionTable) ⌝ }
-    ensures { λ r. ⌜ NameNoted (stateOf state) declaresNext (nameOf (now (text .entry)) span) (heldScope (now (text .entry)) base n m (now (spans .entry)) (now (roles .entry)) (now (pendings .entry))) (now (text .entry)) (n + m + 1) (r .ok) (r .base) (r .all) (r .waiting) (now (spans .exit)) (now (links .exit)) (now (heads .exit)) (now (roles .exit)) (now (pendings .entry)) ⌝ }
+    ensures { λ r. ⌜ NameNoted (stateOf state) declaresNext (lettersAt (now (text .entry)) span) (heldScope (now (text .entry)) base n m (now (spans .entry)) (now (roles .entry)) (now (pendings .entry))) (now (text .entry)) (n + m + 1) (r .ok) (r .base) (r .all) (r .waiting) (now (spans .exit)) (now (links .exit)) (now (heads .exit)) (now (roles .exit)) (now (pendings .entry)) ⌝ }
 {
     if base != n {
         return ScopeCounts {
@@ -293,7 +293,7 @@ fn note_pair(
     admissions: &Admissions,
 ) -> ScopeCounts
     requires { ⌜ Scoping (now text) 65534 base n m (now spans) (now links) (now heads) (now roles) (now pendings) × Inside (now text) span × (state < 47) × (now admissions ≡ admissionTable) ⌝ }
-    ensures { λ r. ⌜ NameNoted (stateOf state) declaresPending (nameOf (now (text .entry)) span) (heldScope (now (text .entry)) base n m (now (spans .entry)) (now (roles .entry)) (now (pendings .entry))) (now (text .entry)) (n + m + 1) (r .ok) (r .base) (r .all) (r .waiting) (now (spans .exit)) (now (links .exit)) (now (heads .exit)) (now (roles .exit)) (now (pendings .entry)) ⌝ }
+    ensures { λ r. ⌜ NameNoted (stateOf state) declaresPending (lettersAt (now (text .entry)) span) (heldScope (now (text .entry)) base n m (now (spans .entry)) (now (roles .entry)) (now (pendings .entry))) (now (text .entry)) (n + m + 1) (r .ok) (r .base) (r .all) (r .waiting) (now (spans .exit)) (now (links .exit)) (now (heads .exit)) (now (roles .exit)) (now (pendings .entry)) ⌝ }
 {
     if base != n {
         return ScopeCounts {
@@ -342,7 +342,7 @@ pub fn note_name(
     admissions: &Admissions,
 ) -> ScopeCounts
     requires { ⌜ Scoping (now text) 65534 base n m (now spans) (now links) (now heads) (now roles) (now pendings) × Inside (now text) span × (state < 47) × (now admissions ≡ admissionTable) ⌝ }
-    ensures { λ r. ⌜ NameNoted (stateOf state) (effectOf effect) (nameOf (now (text .entry)) span) (heldScope (now (text .entry)) base n m (now (spans .entry)) (now (roles .entry)) (now (pendings .entry))) (now (text .entry)) (n + m + 1) (r .ok) (r .base) (r .all) (r .waiting) (now (spans .exit)) (now (links .exit)) (now (heads .exit)) (now (roles .exit)) (now (pendings .exit)) ⌝ }
+    ensures { λ r. ⌜ NameNoted (stateOf state) (effectOf effect) (lettersAt (now (text .entry)) span) (heldScope (now (text .entry)) base n m (now (spans .entry)) (now (roles .entry)) (now (pendings .entry))) (now (text .entry)) (n + m + 1) (r .ok) (r .base) (r .all) (r .waiting) (now (spans .exit)) (now (links .exit)) (now (heads .exit)) (now (roles .exit)) (now (pendings .exit)) ⌝ }
 {
     if effect == DECLARES_FIRST {
         return note_first(

@@ -2,7 +2,7 @@
 ghost use mathlib.Core.Path.{_≡_};
 ghost use Rattle.answers.specs.Answers.{packed};
 ghost use Rattle.verdict.specs.Verdict.{verdict, verdictAnswer};
-ghost use Rattle.simulator.specs.Running.{Ran};
+ghost use Rattle.simulator.specs.Calls.{Ran};
 ghost use Rattle.carry.specs.Carry.{CarryGives};
 ghost use Rattle.firing.specs.Telling.{ToldFired};
 ghost use Rattle.preview.specs.Preview.{Previewed};

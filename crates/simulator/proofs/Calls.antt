@@ -38,7 +38,8 @@ use Rattle.behaviour.proofs.Answers.{
 }
 use Rattle.behaviour.proofs.ByRules.{call-by-rules}
 use Rattle.evaluator.proofs.Frames.{put-whole}
-use Rattle.simulator.specs.Running.{RunningCycles, RanCycles, RunningAccepted, Measured, Ran}
+use Rattle.simulator.specs.Running.{RunningCycles, RanCycles, RunningAccepted, Measured}
+use Rattle.simulator.specs.Calls.{Ran}
 
 module _ {s : List ℕ} {n : ℕ} {W : List ℕ} {t : ℕ} (g : RunningAccepted s n W t) where
   pub call-accepting : Accepting s n W

@@ -30,7 +30,7 @@ use Rattle.records.specs.Kinds.{
 }
 use Rattle.records.specs.Says.{kindAt, sortAt}
 use Rattle.records.specs.Trees.{typeWithin, typeAt, TypeRecord, chainWithin, chain, alternativesWithin, alternatives}
-use Rattle.structure.specs.Passes.{Passes}
+use Rattle.structure.specs.Rules.{Passes}
 use Rattle.accepted.proofs.Laws.{written}
 use Rattle.typing.specs.Judgements.{patternFits}
 use Rattle.verdict.specs.Verdict.{inputs}

@@ -24,8 +24,19 @@ use Rattle.records.specs.Trees.{
   treeAt,
   circuit,
 }
-use Rattle.structure.specs.Rules.{ancestryWithin, ancestry, depth, nesting, wrongLength, wrongHeader, wrongRecord, wrongNaming, wrongType, tooDeep}
-use Rattle.structure.specs.Passes.{Passes}
+use Rattle.structure.specs.Rules.{
+  ancestryWithin,
+  ancestry,
+  depth,
+  nesting,
+  wrongLength,
+  wrongHeader,
+  wrongRecord,
+  wrongNaming,
+  wrongType,
+  tooDeep,
+  Passes,
+}
 use Rattle.verdict.specs.Verdict.{byTypes, byRecords, verdict}
 use Rattle.verdict.specs.declared.Verdict.the-variants.{Accepted}
 use Rattle.answers.specs.Answers.{firstApplying}

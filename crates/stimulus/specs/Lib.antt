@@ -2,7 +2,7 @@
 -- To believe:
 pub mod Stimulus
 pub mod OneCycle
+pub mod OneCycleCalls
 -- What functions ask and give, and their proofs need:
 pub mod Tests
 pub mod Holding
-pub mod OneCycleCalls

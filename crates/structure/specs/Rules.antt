@@ -22,7 +22,6 @@ use Rattle.records.specs.Kinds.{
   ifMatches,
   delay,
   sameSort,
-  sortOf,
   expressions,
   isPair,
   isHeader,
@@ -30,7 +29,10 @@ use Rattle.records.specs.Kinds.{
 use Rattle.records.specs.Says.{kindAt, Naming, namings, sortAt, wellSaid, wellNamed}
 use Rattle.records.specs.Trees.{follow, typeAt, pairBelow}
 use Rattle.picoella.specs.Language.{leaves}
-use Rattle.records.specs.Words.{wordA, wordB}
+use Rattle.records.specs.Words.{wordA, wordB, count}
+use mathlib.Core.Path.{_≡_}
+use mathlib.Core.Option.{none}
+use Rattle.answers.specs.Answers.{lowest}
 
 -- How deep an expression lies, and in how many feedbacks' defining parts (docs/SHEETS.md, "Limits": "An expression may lie at most
 -- 64 deep, the root being at depth 1 .. No expression lies in the defining parts of more than three feedbacks"). Both are read off
@@ -105,3 +107,12 @@ wrongType s r = isPair (kindAt s r) && (ltb 0 (pairBelow s (wordA s r) (wordB s 
 -- 6: too deep, or in over three feedbacks
 unfoldable pub tooDeep : List ℕ → ℕ → Bool
 tooDeep s r = sameSort (sortAt s r) expressions && (ltb 64 (depth s r) || ltb 3 (nesting s r))
+
+-- None of the codes 1 to 6 applies: what the type rules stand on.
+pub record Passes (s : List ℕ) : Type 0 where
+  pub length : wrongLength s ≡ false
+  pub header : wrongHeader s ≡ false
+  pub records : lowest (wrongRecord s) (count s) ≡ none
+  pub namings : lowest (wrongNaming s) (count s) ≡ none
+  pub types : lowest (wrongType s) (count s) ≡ none
+  pub depths : lowest (tooDeep s) (count s) ≡ none

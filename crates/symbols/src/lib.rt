@@ -6,7 +6,7 @@ ghost use Prim.Native.Nat.{ℕ, _+_, _-_, _/_, _%_, _≤_, _<_};
 ghost use mathlib.Core.List.{List};
 ghost use lib.ListN.{length, set};
 ghost use Rattle.naming.specs.Declared.{sameName, input};
-ghost use Rattle.symbols.specs.Names.{nameOf, Inside, hashOf, nearest, Hashed, Roles, roleAmong, declaredRole, BoundRoles};
+ghost use Rattle.symbols.specs.Names.{lettersAt, Inside, hashOf, nearest, Hashed, Roles, roleAmong, declaredRole, BoundRoles};
 
 // One more than the bytes of a text, and so than its names.
 pub const SYMBOLS: usize = 65536;
@@ -82,7 +82,7 @@ fn count(span: u32) -> usize
 // The hash of a name.
 fn hash(text: &[u8], span: u32) -> usize
     requires { ⌜ Inside (now text) span ⌝ }
-    ensures { λ r. ⌜ (r ≡ hashOf (nameOf (now (text .entry)) span)) × (r < 4096) ⌝ }
+    ensures { λ r. ⌜ (r ≡ hashOf (lettersAt (now (text .entry)) span)) × (r < 4096) ⌝ }
 {
     let p = place(span);
     let letters = count(span);
@@ -98,7 +98,7 @@ fn hash(text: &[u8], span: u32) -> usize
 // Whether two names have the same letters.
 fn same(text: &[u8], a: u32, b: u32) -> bool
     requires { ⌜ Inside (now text) a × Inside (now text) b ⌝ }
-    ensures { λ r. ⌜ r ≡ sameName (nameOf (now (text .entry)) a) (nameOf (now (text .entry)) b) ⌝ }
+    ensures { λ r. ⌜ r ≡ sameName (lettersAt (now (text .entry)) a) (lettersAt (now (text .entry)) b) ⌝ }
 {
     let letters = count(a);
     if letters != count(b) {
@@ -119,7 +119,7 @@ fn same(text: &[u8], a: u32, b: u32) -> bool
 // Whether a name is `input`.
 fn is_input(text: &[u8], span: u32) -> bool
     requires { ⌜ Inside (now text) span ⌝ }
-    ensures { λ r. ⌜ r ≡ sameName (nameOf (now (text .entry)) span) input ⌝ }
+    ensures { λ r. ⌜ r ≡ sameName (lettersAt (now (text .entry)) span) input ⌝ }
 {
     let p = place(span);
     if count(span) != 5 {
@@ -151,7 +151,7 @@ pub fn find_name(
     heads: &Heads,
 ) -> usize
     requires { ⌜ Hashed (now text) n (now spans) (now links) (now heads) × Inside (now text) span × (limit ≤ n) ⌝ }
-    ensures { λ r. ⌜ r ≡ nearest (now (text .entry)) (now (spans .entry)) (nameOf (now (text .entry)) span) limit ⌝ }
+    ensures { λ r. ⌜ r ≡ nearest (now (text .entry)) (now (spans .entry)) (lettersAt (now (text .entry)) span) limit ⌝ }
 {
     let mut k = number(heads[hash(text, span)]);
     while k != 0 {
@@ -257,7 +257,7 @@ pub fn find_declared(
     roles: &NameRoles,
 ) -> usize
     requires { ⌜ Hashed (now text) n (now spans) (now links) (now heads) × Inside (now text) span × (base ≤ n) × Roles (now roles) base × BoundRoles (now text) (now spans) (now roles) base n ⌝ }
-    ensures { λ r. ⌜ r ≡ nearest (now (text .entry)) (now (spans .entry)) (nameOf (now (text .entry)) span) base ⌝ }
+    ensures { λ r. ⌜ r ≡ nearest (now (text .entry)) (now (spans .entry)) (lettersAt (now (text .entry)) span) base ⌝ }
 {
     let k = find_name(text, span, n, n, spans, links, heads);
     if k <= base {

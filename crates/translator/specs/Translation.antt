@@ -1,4 +1,4 @@
--- The translation of a text (docs/SHEETS.md, "Sheets as text"): "The call gives 0 with the sheet's length, or 13 (text outside the grammar ..),
+-- The translation of a text (docs/SHEETS.md, "Text"): "The call gives 0 with the sheet's length, or 13 (text outside the grammar ..),
 -- then 14 (first name that breaks the rules .., or with none the first constant pair without a type ..), then 15 (slice too short, or over
 -- 4,096 records, place: length needed)". "Writes the sheet into a lent slice, with zeros after it."
 use Prim.Native.Nat.{ℕ, _*_, _-_}

@@ -20,7 +20,7 @@ use Rattle.records.proofs.CodeTable.{pair-number}
 use Rattle.records.proofs.Types.{leaves-of-bounds, flat-type, pair-type, few-leaves}
 use Rattle.records.proofs.TypeRecords.{first-part, second-part}
 use Rattle.records.proofs.Types.{pair-parts}
-use Rattle.structure.specs.Passes.{Passes}
+use Rattle.structure.specs.Rules.{Passes}
 use Rattle.structure.specs.LeafTable.{Counts}
 use Rattle.structure.proofs.Passes.{written, types-fit}
 use Rattle.structure.proofs.LeafCounts.{pair-kind}

@@ -1,11 +1,11 @@
 -- The type rules (docs/SHEETS.md, "Type rules") as a list of judgements in the order of code 7 ("Codes"): parts a, b, c, then the
 -- whole; an IF's pattern after a, reported at the IF. A judgement is a rule and the record at which it is reported. Types are type
 -- records, and the same only as the same record; 0 stands for none, and comes only after a judgement that fails.
-use Prim.Native.Nat.{ℕ, zero, suc}
+use Prim.Native.Nat.{ℕ}
 use mathlib.Core.Bool.{Bool, true, false, cond, _&&_}
 use mathlib.Core.List.{List, [], _∷_, _++_}
 use mathlib.Core.Option.{Option, none, some}
-use lib.ListN.{length, getD}
+use lib.ListN.{length}
 use lib.Dec.{eqb, ltb, leb}
 use Rattle.picoella.specs.Language.{bounds}
 use Rattle.records.specs.Words.{wordA, wordB}

@@ -39,8 +39,7 @@ use Rattle.records.specs.Trees.{
   end,
   typeRecordOf,
 }
-use Rattle.structure.specs.Rules.{depth}
-use Rattle.structure.specs.Passes.{Passes}
+use Rattle.structure.specs.Rules.{depth, Passes}
 use Rattle.typing.specs.Judgements.{Rule, holds, judgements, firstFailing, patternFits}
 use Rattle.typing.specs.Rows.{TypingRow, judgedTo}
 use Rattle.typing.specs.NameRows.{nameRows}

@@ -11,7 +11,7 @@ use Rattle.records.specs.Says.{sortAt}
 use Rattle.records.specs.Sized.{Sized}
 use Rattle.records.specs.Trees.{TypeRecord, alternatives}
 use Rattle.structure.specs.PairIndex.{Indexed}
-use Rattle.structure.specs.Passes.{Passes}
+use Rattle.structure.specs.Rules.{Passes}
 use Rattle.typing.specs.Judgements.{patternFits}
 use Rattle.typing.specs.Judging.{FittedOne}
 

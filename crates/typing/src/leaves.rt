@@ -8,7 +8,7 @@ ghost use Rattle.records.specs.Says.{sortAt};
 ghost use Rattle.records.specs.Sized.{Sized};
 ghost use Rattle.records.specs.Trees.{typeAt, TypeRecord, chain};
 ghost use Rattle.records.specs.Decoding.{leafValues};
-ghost use Rattle.structure.specs.Passes.{Passes};
+ghost use Rattle.structure.specs.Rules.{Passes};
 ghost use Rattle.typing.specs.Judgements.{within, holds, leavesFit};
 ghost use Rattle.typing.specs.Judging.{Ground, lastly};
 ghost use Rattle.typing.specs.LeafChains.{LeafOrEnd, TakenOff};

@@ -29,7 +29,7 @@ use Rattle.records.specs.Trees.{chain, treeAt, circuit, typeRecordOf}
 use Rattle.records.proofs.Table.{askOfKind, kind-of-sort}
 use Rattle.records.proofs.Asked.{root-is}
 use Rattle.records.proofs.Trees.{tree-of}
-use Rattle.structure.specs.Passes.{Passes}
+use Rattle.structure.specs.Rules.{Passes}
 use Rattle.structure.proofs.Passes.{written}
 use Rattle.typing.specs.Judgements.{Judgement, Rule, leavesFit, inScope, pairDeclared, pairType, sameType, holds, judge, judgements, firstFailing}
 use Rattle.typing.proofs.Failing.{first-of-both, judgement-holds}

@@ -11,8 +11,7 @@ use lib.ListN.{length}
 use Rattle.records.specs.Words.{count}
 use Rattle.records.specs.Sized.{Sized}
 use Rattle.records.specs.Trees.{circuit}
-use Rattle.structure.specs.Passes.{Passes}
-use Rattle.structure.specs.Rules.{wrongLength, wrongHeader}
+use Rattle.structure.specs.Rules.{Passes, wrongLength, wrongHeader}
 use Rattle.structure.specs.LeafTable.{Counts}
 use Rattle.typing.specs.Judging.{noted}
 use Rattle.verdict.specs.Stages.{CheckingRecords, Tabled}

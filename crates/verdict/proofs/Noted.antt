@@ -38,8 +38,8 @@ use Rattle.records.specs.Kinds.{
   part,
 }
 use Rattle.records.specs.Says.{kindAt, sortAt}
-use Rattle.records.specs.Trees.{Tree, treeStep, treeAt, circuit, expressionRecords, typeRecordOf}
-use Rattle.records.specs.Written.{Written, WellNamed}
+use Rattle.records.specs.Trees.{Tree, treeStep, treeAt, circuit, typeRecordOf}
+use Rattle.records.specs.Written.{expressionRecords, Written, WellNamed}
 use Rattle.records.proofs.Table.{askOfKind, kind-of-sort}
 use Rattle.records.proofs.Asked.{part-of-kind, root-is}
 use Rattle.records.proofs.Trees.{from-above, tree-of}

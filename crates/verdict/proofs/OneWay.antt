@@ -14,7 +14,7 @@ use Rattle.records.specs.Says.{kindAt, sortAt, Naming, names}
 use Rattle.records.proofs.Table.{askOfKind}
 use Rattle.records.proofs.Asked.{part-of-kind, root-is, past-header}
 use Rattle.records.proofs.Namings.{Names, namer-lower, part-names, part-word-other, only-naming}
-use Rattle.structure.specs.Passes.{Passes}
+use Rattle.structure.specs.Rules.{Passes}
 use Rattle.structure.proofs.Passes.{written, well-named}
 use Rattle.structure.proofs.Depths.{root-names}
 use Rattle.verdict.proofs.EveryScoped.{from-below}

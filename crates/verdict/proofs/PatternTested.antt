@@ -11,7 +11,7 @@ use Rattle.records.specs.Trees.{typeAt, alternatives, treeAt, typeRecordOf}
 use Rattle.records.proofs.Table.{askOfKind}
 use Rattle.records.proofs.Asked.{part-of-kind}
 use Rattle.records.proofs.Grown.{GrownPattern, grown-tree, grown-pattern}
-use Rattle.structure.specs.Passes.{Passes}
+use Rattle.structure.specs.Rules.{Passes}
 use Rattle.structure.proofs.Passes.{written, types-fit}
 use Rattle.typing.specs.Judgements.{Rule, patternHas, holds}
 use Rattle.typing.proofs.PatternTypes.{fits-typed, typed-fits}

@@ -26,7 +26,7 @@ use Rattle.records.proofs.Table.{askOfKind}
 use Rattle.records.proofs.Asked.{part-of-kind, root-is}
 use Rattle.records.proofs.TypeRecords.{type-word}
 use Rattle.records.proofs.Grown.{grown-tree}
-use Rattle.structure.specs.Passes.{Passes}
+use Rattle.structure.specs.Rules.{Passes}
 use Rattle.structure.proofs.Passes.{written, types-fit}
 use Rattle.typing.specs.Judging.{Context}
 use Rattle.typing.proofs.Judged.{RulesHold, Passed, passed-judged, judged-passed}

@@ -15,8 +15,7 @@ use Rattle.records.proofs.Asked.{root-is}
 use Rattle.records.proofs.TypeRecords.{input-type}
 use Rattle.answers.specs.Answers.{lowest, code}
 use Rattle.answers.specs.Searches.{found}
-use Rattle.structure.specs.Passes.{Passes}
-use Rattle.structure.specs.Rules.{wrongHeader, wrongRecord, wrongNaming, wrongType, tooDeep, depth, nesting}
+use Rattle.structure.specs.Rules.{Passes, wrongHeader, wrongRecord, wrongNaming, wrongType, tooDeep, depth, nesting}
 use Rattle.structure.specs.NamerTable.{Holds}
 use Rattle.structure.specs.LeafTable.{Counts}
 use Rattle.structure.specs.DepthTable.{Capped, Placed, Placing}

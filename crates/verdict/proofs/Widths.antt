@@ -31,7 +31,8 @@ use Rattle.records.specs.Kinds.{
   sameSort,
 }
 use Rattle.records.specs.Says.{kindAt, sortAt}
-use Rattle.records.specs.Trees.{typeAt, TypeRecord, alternatives, treeAt, circuit, expressionRecords}
+use Rattle.records.specs.Trees.{typeAt, TypeRecord, alternatives, treeAt, circuit}
+use Rattle.records.specs.Written.{expressionRecords}
 use Rattle.records.proofs.Tests.{never-both}
 use Rattle.records.proofs.Table.{askOfKind}
 use Rattle.records.proofs.Asked.{part-of-kind}
@@ -39,7 +40,7 @@ use Rattle.records.proofs.Trees.{alternatives-of}
 use Rattle.records.proofs.Types.{few-leaves}
 use Rattle.records.proofs.TypeRecords.{type-word}
 use Rattle.structure.specs.LeafTable.{Counts}
-use Rattle.structure.specs.Passes.{Passes}
+use Rattle.structure.specs.Rules.{Passes}
 use Rattle.structure.proofs.Passes.{written, well-named, types-fit}
 use Rattle.typing.specs.Judging.{width, noted}
 use Rattle.verdict.specs.Verdict.{inputs}

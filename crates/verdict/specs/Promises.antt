@@ -15,9 +15,8 @@ use Rattle.records.specs.Decoding.{decode}
 use Rattle.answers.specs.Answers.{lowest, place, firstApplying}
 use Rattle.answers.specs.Promises.{LowestBreaking}
 use Rattle.answers.specs.declared.Answer.the-variants.{Done}
-use Rattle.structure.specs.Rules.{wrongLength, wrongHeader, wrongRecord, wrongNaming, wrongType, tooDeep}
+use Rattle.structure.specs.Rules.{wrongLength, wrongHeader, wrongRecord, wrongNaming, wrongType, tooDeep, Passes}
 use Rattle.typing.specs.Judgements.{Judgement, holds, judgements}
-use Rattle.structure.specs.Passes.{Passes}
 use Rattle.verdict.specs.Verdict.{inputs, outputType, sheetChecks, verdictAnswer, verdict}
 use Rattle.verdict.specs.Scopes.{Scope, FirstIllTyped}
 use Rattle.verdict.specs.Widths.{Widths}

@@ -3,7 +3,7 @@
 use borrow.Author.Needs.{needs}
 use native.Mathlib.Omega.{arith}
 use mathlib.Core.Path.{sym, _∙_}
-use Rattle.symbols.specs.Names.{nameOf}
+use Rattle.symbols.specs.Names.{lettersAt}
 use Rattle.symbols.proofs.Search.{nearest-below}
 use Rattle.symbols.proofs.Roles.{entry-alone, input-alone, nothing-alone}
 use Rattle.symbols.proofs.declared_role.Statement.{statement}
@@ -16,7 +16,7 @@ sub-result : tie.Need-sub-result
 sub-result c = search needs
 
 element-copy-out-result : tie.Need-element-copy-out-result
-element-copy-out-result c = (let l = nearest-below (c .before .before .before .args .text .now) (c .before .before .before .args .spans .now) (nameOf (c .before .before .before .args .text .now) (c .before .before .before .args .span)) (c .before .before .before .args .n) in let e = c .before .find-name .ensures in let r = c .before .before .before .pre .0 .room in omega (arith, c .if1 .taken))
+element-copy-out-result c = (let l = nearest-below (c .before .before .before .args .text .now) (c .before .before .before .args .spans .now) (lettersAt (c .before .before .before .args .text .now) (c .before .before .before .args .span)) (c .before .before .before .args .n) in let e = c .before .find-name .ensures in let r = c .before .before .before .pre .0 .room in omega (arith, c .if1 .taken))
 
 returns : tie.Need-returns
 returns c = entry-alone (c .before .before .before .before .args .text .now) (c .before .before .before .before .args .spans .now) (c .before .before .before .before .args .roles .now) (c .before .before .before .before .args .base) (c .before .before .before .before .args .n) (c .before .before .before .before .args .span) (c .before .before .find-name .result) (c .before .before .before .before .pre .2) (c .before .before .before .before .pre .3) (c .before .before .find-name .ensures) (c .before .before .before .before .pre .4) (c .before .if1 .taken)

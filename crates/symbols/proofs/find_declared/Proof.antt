@@ -2,7 +2,7 @@
 -- Assumes nothing.
 use borrow.Author.Needs.{needs}
 use native.Mathlib.Omega.{arith}
-use Rattle.symbols.specs.Names.{nameOf}
+use Rattle.symbols.specs.Names.{lettersAt}
 use Rattle.symbols.proofs.Search.{nearest-below}
 use Rattle.symbols.proofs.Roles.{declared-there, declared-nowhere}
 use Rattle.symbols.proofs.find_declared.Statement.{statement}
@@ -18,7 +18,7 @@ sub-if2 : tie.Need-sub-if2
 sub-if2 c = search needs
 
 element-copy-out-if2 : tie.Need-element-copy-out-if2
-element-copy-out-if2 c = (let l = nearest-below (c .before .before .before .args .text .now) (c .before .before .before .args .spans .now) (nameOf (c .before .before .before .args .text .now) (c .before .before .before .args .span)) (c .before .before .before .args .n) in let e = c .before .find-name .ensures in let r = c .before .before .before .pre .0 .room in let h = c .if1 .left in omega arith)
+element-copy-out-if2 c = (let l = nearest-below (c .before .before .before .args .text .now) (c .before .before .before .args .spans .now) (lettersAt (c .before .before .before .args .text .now) (c .before .before .before .args .span)) (c .before .before .before .args .n) in let e = c .before .find-name .ensures in let r = c .before .before .before .pre .0 .room in let h = c .if1 .left in omega arith)
 
 returns-2 : tie.Need-returns-2
 returns-2 c = declared-nowhere (c .before .before .before .before .before .args .text .now) (c .before .before .before .before .before .args .spans .now) (c .before .before .before .before .before .args .roles .now) (c .before .before .before .before .before .args .base) (c .before .before .before .before .before .args .n) (c .before .before .before .before .before .args .span) (c .before .before .before .find-name .result) (c .before .before .before .before .before .pre .2) (c .before .before .before .before .before .pre .3) (c .before .before .before .find-name .ensures) (c .before .before .before .before .before .pre .4) (c .before .before .if1 .left) (c .if2 .taken)

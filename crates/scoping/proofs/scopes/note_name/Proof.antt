@@ -6,7 +6,7 @@ use mathlib.Core.Path.{sym, ap, subst, _∙_, refl}
 use borrow.Author.Tests.{not-true, not-false}
 use mathlib.Core.Bool.{true, false}
 use Rattle.reading.specs.Coded.{stateOf}
-use Rattle.symbols.specs.Names.{nameOf}
+use Rattle.symbols.specs.Names.{lettersAt}
 use Rattle.scoping.specs.Scoped.{heldScope}
 use Rattle.scoping.proofs.EffectLaws.{as-effect, plain-told, plain-noted}
 use Rattle.scoping.proofs.ScopeLaws.{refused-name, noted-name, pend-after, bind-after}
@@ -35,7 +35,7 @@ holds-requires : tie.Need-holds-requires
 holds-requires c κs = (c .before .before .before .before .before .before .before .before .pre .0 .hashed, c .before .before .before .before .before .before .before .before .pre .1, c .before .before .before .before .before .before .before .before .pre .0 .above, c .before .before .before .before .before .before .before .before .pre .0 .named, c .before .before .before .before .before .before .before .before .pre .0 .bound-roles, c .before .before .before .before .before .before .before .before .pre .2, c .before .before .before .before .before .before .before .before .pre .3)
 
 returns-4 : tie.Need-returns-4
-returns-4 c = refused-name (plain-told (stateOf (c .before .before .before .before .before .before .before .before .before .before .args .state)) (nameOf (c .before .before .before .before .before .before .before .before .before .before .args .text .now) (c .before .before .before .before .before .before .before .before .before .before .args .span)) (c .before .before .before .before .before .before .before .before .before .before .args .effect) (heldScope (c .before .before .before .before .before .before .before .before .before .before .args .text .now) (c .before .before .before .before .before .before .before .before .before .before .args .base) (c .before .before .before .before .before .before .before .before .before .before .args .n) (c .before .before .before .before .before .before .before .before .before .before .args .m) (c .before .before .before .before .before .before .before .before .before .before .args .spans .now) (c .before .before .before .before .before .before .before .before .before .before .args .roles .now) (c .before .before .before .before .before .before .before .before .before .before .args .pendings .now)) false (c .before .before .before .before .before .before .before .before .if1 .left) (c .before .before .before .before .before .before .before .if2 .left) (c .before .before .before .before .before .before .if3 .left) (sym (not-true _ (c .if4 .taken)) ∙ c .before .holds .ensures (c .before .before .before .before .before .before .before .before .before .before .args .m) (c .before .before .before .before .before .before .before .before .before .before .args .pendings .now)))
+returns-4 c = refused-name (plain-told (stateOf (c .before .before .before .before .before .before .before .before .before .before .args .state)) (lettersAt (c .before .before .before .before .before .before .before .before .before .before .args .text .now) (c .before .before .before .before .before .before .before .before .before .before .args .span)) (c .before .before .before .before .before .before .before .before .before .before .args .effect) (heldScope (c .before .before .before .before .before .before .before .before .before .before .args .text .now) (c .before .before .before .before .before .before .before .before .before .before .args .base) (c .before .before .before .before .before .before .before .before .before .before .args .n) (c .before .before .before .before .before .before .before .before .before .before .args .m) (c .before .before .before .before .before .before .before .before .before .before .args .spans .now) (c .before .before .before .before .before .before .before .before .before .before .args .roles .now) (c .before .before .before .before .before .before .before .before .before .before .args .pendings .now)) false (c .before .before .before .before .before .before .before .before .if1 .left) (c .before .before .before .before .before .before .before .if2 .left) (c .before .before .before .before .before .before .if3 .left) (sym (not-true _ (c .if4 .taken)) ∙ c .before .holds .ensures (c .before .before .before .before .before .before .before .before .before .before .args .m) (c .before .before .before .before .before .before .before .before .before .before .args .pendings .now)))
 
 mul-pendings : tie.Need-mul-pendings
 mul-pendings c = (let h = c .before .before .before .before .before .before .before .before .before .before .before .pre .0 .few in omega arith)
@@ -59,7 +59,7 @@ returns-6 : tie.Need-returns-6
 returns-6 c = as-effect _ 4 (c .before .before .before .before .before .if6 .taken) refl (noted-name (sym (not-false _ (c .before .before .before .before .before .before .before .if4 .left)) ∙ c .before .before .before .before .before .before .before .before .holds .ensures (c .before .before .before .before .before .before .before .before .before .before .before .before .before .before .before .before .before .args .m) (c .before .before .before .before .before .before .before .before .before .before .before .before .before .before .before .before .before .args .pendings .now)) (bind-after (c .before .before .before .before .before .before .before .before .before .before .before .before .before .before .before .before .before .pre .0) (c .bind .ensures)))
 
 returns-7 : tie.Need-returns-7
-returns-7 c = plain-noted (c .before .before .before .before .before .before .before .before .before .before .before .before .pre .0) (c .before .before .before .before .before .before .before .before .before .before .before .before .args .effect) (nameOf (c .before .before .before .before .before .before .before .before .before .before .before .before .args .text .now) (c .before .before .before .before .before .before .before .before .before .before .before .before .args .span)) (c .before .if5 .left) (c .before .before .before .before .before .before .before .before .before .before .if1 .left) (c .before .before .before .before .before .before .before .before .before .if2 .left) (c .if6 .left) (c .before .before .before .before .before .before .before .before .if3 .left) (plain-told (stateOf (c .before .before .before .before .before .before .before .before .before .before .before .before .args .state)) (nameOf (c .before .before .before .before .before .before .before .before .before .before .before .before .args .text .now) (c .before .before .before .before .before .before .before .before .before .before .before .before .args .span)) (c .before .before .before .before .before .before .before .before .before .before .before .before .args .effect) (heldScope (c .before .before .before .before .before .before .before .before .before .before .before .before .args .text .now) (c .before .before .before .before .before .before .before .before .before .before .before .before .args .base) (c .before .before .before .before .before .before .before .before .before .before .before .before .args .n) (c .before .before .before .before .before .before .before .before .before .before .before .before .args .m) (c .before .before .before .before .before .before .before .before .before .before .before .before .args .spans .now) (c .before .before .before .before .before .before .before .before .before .before .before .before .args .roles .now) (c .before .before .before .before .before .before .before .before .before .before .before .before .args .pendings .now)) true (c .before .before .before .before .before .before .before .before .before .before .if1 .left) (c .before .before .before .before .before .before .before .before .before .if2 .left) (c .before .before .before .before .before .before .before .before .if3 .left) (sym (not-false _ (c .before .before .if4 .left)) ∙ c .before .before .before .holds .ensures (c .before .before .before .before .before .before .before .before .before .before .before .before .args .m) (c .before .before .before .before .before .before .before .before .before .before .before .before .args .pendings .now)))
+returns-7 c = plain-noted (c .before .before .before .before .before .before .before .before .before .before .before .before .pre .0) (c .before .before .before .before .before .before .before .before .before .before .before .before .args .effect) (lettersAt (c .before .before .before .before .before .before .before .before .before .before .before .before .args .text .now) (c .before .before .before .before .before .before .before .before .before .before .before .before .args .span)) (c .before .if5 .left) (c .before .before .before .before .before .before .before .before .before .before .if1 .left) (c .before .before .before .before .before .before .before .before .before .if2 .left) (c .if6 .left) (c .before .before .before .before .before .before .before .before .if3 .left) (plain-told (stateOf (c .before .before .before .before .before .before .before .before .before .before .before .before .args .state)) (lettersAt (c .before .before .before .before .before .before .before .before .before .before .before .before .args .text .now) (c .before .before .before .before .before .before .before .before .before .before .before .before .args .span)) (c .before .before .before .before .before .before .before .before .before .before .before .before .args .effect) (heldScope (c .before .before .before .before .before .before .before .before .before .before .before .before .args .text .now) (c .before .before .before .before .before .before .before .before .before .before .before .before .args .base) (c .before .before .before .before .before .before .before .before .before .before .before .before .args .n) (c .before .before .before .before .before .before .before .before .before .before .before .before .args .m) (c .before .before .before .before .before .before .before .before .before .before .before .before .args .spans .now) (c .before .before .before .before .before .before .before .before .before .before .before .before .args .roles .now) (c .before .before .before .before .before .before .before .before .before .before .before .before .args .pendings .now)) true (c .before .before .before .before .before .before .before .before .before .before .if1 .left) (c .before .before .before .before .before .before .before .before .before .if2 .left) (c .before .before .before .before .before .before .before .before .if3 .left) (sym (not-false _ (c .before .before .if4 .left)) ∙ c .before .before .before .holds .ensures (c .before .before .before .before .before .before .before .before .before .before .before .before .args .m) (c .before .before .before .before .before .before .before .before .before .before .before .before .args .pendings .now)))
 
 pub note-name-spec : {M : Type 1} → statement M
 note-name-spec =
