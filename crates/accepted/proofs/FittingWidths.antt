@@ -62,7 +62,7 @@ fitting-leaves {s} w (pairOfPatterns r a b m) t u g f =
     rw (pair-type w t (u .there) k, ea, eb)
 
 -- an IF of an accepted circuit
-module _ (s : List ℕ) (q : ℕ) (Γ : List ℕ) (t : ℕ) (p : Passes s) (v : verdict s ≡ Accepted t) (c : Scope s q Γ)
+module _ {s : List ℕ} {q : ℕ} {Γ : List ℕ} {t : ℕ} (p : Passes s) (v : verdict s ≡ Accepted t) (c : Scope s q Γ)
     (e : kindAt s q ≡ expression ifMatches)
   where
     pub tested-type : TypeRecord s (typeRecordOf s Γ (treeAt s (wordA s q)))

@@ -77,7 +77,7 @@ pub record Filled (bs : List ℕ) (i : ℕ) (out : List ℕ) : Type 0 where
   pub long : length out ≡ length bs
   pub so-far : take i out ≡ take i bs
 
-module _ (bs : List ℕ) where
+module _ {bs : List ℕ} where
   pub none-filled : (out : List ℕ) → length out ≡ length bs → Filled bs 0 out
   none-filled out e = record { few = omega arith; long = e; so-far = refl }
 

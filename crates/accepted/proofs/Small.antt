@@ -22,7 +22,7 @@ use Rattle.verdict.specs.declared.Verdict.the-variants.{Accepted}
 use Rattle.verdict.proofs.Exact.{exact}
 use Rattle.accepted.proofs.Requirements.{sized}
 
-module _ (s : List ℕ) (t : ℕ) (v : verdict s ≡ Accepted t) where
+module _ (s : List ℕ) {t : ℕ} (v : verdict s ≡ Accepted t) where
   pub accepted-passes : Passes s
   accepted-passes = exact s t .0 v .0
 
@@ -47,7 +47,7 @@ module _ (s : List ℕ) (t : ℕ) (v : verdict s ≡ Accepted t) where
 
   pub accepted-sized : Sized s (length s / 12)
   unfolding count
-  accepted-sized = sized s accepted-passes accepted-records
+  accepted-sized = sized accepted-passes accepted-records
 
   pub type-few : (r : ℕ) → TypeRecord s r → leaves (typeAt s r) ≤ 64
   type-few r u = few-leaves (types-fit accepted-passes) r (u .there) (u .sort)

@@ -131,7 +131,7 @@ slices-small s t stim out next v =
     (λ p h. let z = when-some (not (eqb (length out) needed)) needed p h in omega arith)
     (λ h. place-or 11 (when (not (eqb (length next) (length s))) (length s)) done
     (λ p k. let z = when-some (not (eqb (length next) (length s))) (length s) p k in
-    let l = accepted-length s t v in omega arith)
+    let l = accepted-length s v in omega arith)
     (λ k. omega arith))))
   where
     cycles-few : (s : List ℕ) (t : ℕ) (stim : List ℕ) → verdict s ≡ Accepted t → wrongStimulus s stim ≡ false
@@ -140,7 +140,7 @@ slices-small s t stim out next v =
         let h = stimulus-whole s stim whole in
         let some = some-leaves (inputType s) in
         let m : cycleCount s stim * 1 ≤ cycleCount s stim * inputLeaves s = mul-le-mul-left (cycleCount s stim) (omega arith) in
-        let few = accepted-few s t v in
+        let few = accepted-few s v in
         let n : cycleCount s stim * leaves (typeAt s t) ≤ cycleCount s stim * 64 = mul-le-mul-left (cycleCount s stim) few in
         let e = h .1 in
         let f = h .0 in

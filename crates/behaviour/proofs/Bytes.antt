@@ -34,4 +34,4 @@ put-bytes (e ∷ es) s small b =
 
 pub write-bytes : (s : List ℕ) (t : ℕ) → verdict s ≡ Accepted t → (e : Term) → Writable s t e → Bytes s → Bytes (write s e)
 unfolding write
-write-bytes s t v e h b = put-bytes (entries e) s (written-small s t v e h) b
+write-bytes s t v e h b = put-bytes (entries e) s (written-small v h) b

@@ -29,7 +29,7 @@ module _
     (undecided : List ℕ → List ℕ → List ℕ)
     (law : Lawful undecided)
     (s : List ℕ)
-    (t : ℕ)
+    {t : ℕ}
     (v : verdict s ≡ Accepted t)
     (i : List ℕ)
     (given : OfType (typeAt s (wordA s 0)) i)
@@ -58,7 +58,7 @@ module _
 
     -- types are read off the sheet after it as off the sheet
     pub after-types : (r : ℕ) → typeAt (afterBy undecided s i) r ≡ typeAt s r
-    after-types = same-type s (afterBy undecided s i) (only-leaves (accepted-written s v) after-only-delays)
+    after-types = same-type (only-leaves (accepted-written s v) after-only-delays)
 
     pub after-input : wordA (afterBy undecided s i) 0 ≡ wordA s 0
     after-input = header-same (accepted-written s v) after-only-delays 2 (omega arith)

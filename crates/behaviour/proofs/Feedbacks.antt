@@ -128,13 +128,13 @@ module _ (s : List ℕ) {t : ℕ} (v : verdict s ≡ Accepted t) {q : ℕ} (belo
     only = only-leaves (written passes) o
 
     scope-there : Scope s′ q (scoped .0)
-    scope-there = scope-again s s′ only t v (scoped .1)
+    scope-there = scope-again only v (scoped .1)
 
     tree-there : treeAt s′ q ≡ feedbackOf q (wordA s q) defining body
-    tree-there = same-tree s s′ only q ∙ own-tree
+    tree-there = same-tree only q ∙ own-tree
 
     types-there : typeAt s′ ≡ typeAt s
-    types-there = fun-ext (same-type s s′ only)
+    types-there = fun-ext (same-type only)
 
     -- with these names in scope
     module _ {Γ : List ℕ} (scope : Scope s′ q Γ) where
@@ -150,7 +150,7 @@ module _ (s : List ℕ) {t : ℕ} (v : verdict s ≡ Accepted t) {q : ℕ} (belo
       whole-there : term s′ Γ (treeAt s′ q) ≡ Feedback (typeAt s (wordA s q)) (part-of defining) (part-of body)
       whole-there =
           ap (term s′ Γ) tree-there
-          ∙ ap (λ σ. Feedback σ (part-of defining) (part-of body)) (same-type s s′ only (wordA s q))
+          ∙ ap (λ σ. Feedback σ (part-of defining) (part-of body)) (same-type only (wordA s q))
 
       decodes-there
           : decodedAt s′ q ≡ some (LetRec (typeAt s (wordA s q)) (erase (part-of defining)) (erase (part-of body)))

@@ -16,7 +16,7 @@ only-delays-same s = record { length = refl; bytes = λ i other. refl }
 
 module _ {s t : List ℕ} {τ : ℕ} (v : verdict s ≡ Accepted τ) (a : OnlyDelays s t) where
   pub only-delays-circuit : circuit t ≡ circuit s
-  only-delays-circuit = same-circuit s t (only-leaves (accepted-written s v) a)
+  only-delays-circuit = same-circuit (only-leaves (accepted-written s v) a)
 
   pub only-delays-back : OnlyDelays t s
   only-delays-back = record {

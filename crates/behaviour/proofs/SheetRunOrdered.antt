@@ -74,7 +74,7 @@ pieces-ordered w (suc n) b (all-more h r) (all-more k s) =
 inputs-same : (s s′ : List ℕ) (t : ℕ) → verdict s ≡ Accepted t → SheetBelow s s′ → inputType s′ ≡ inputType s
 inputs-same s s′ t v b =
     let w = accepted-written s v in
-    same-type s s′ (only-leaves w (b .only-delays)) (wordA s′ 0)
+    same-type (only-leaves w (b .only-delays)) (wordA s′ 0)
     ∙ ap (typeAt s) (header-same w (b .only-delays) 2 (omega arith))
 
 module _

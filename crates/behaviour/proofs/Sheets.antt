@@ -169,8 +169,8 @@ module _ (s : List ℕ) {t : ℕ} (v : verdict s ≡ Accepted t) where
       let p = passes in
       let only = only-leaves accepted-written o in
       let input : inputs s′ ≡ inputs s = ap (λ u. u ∷ []) (header-same accepted-written o 2 (omega arith)) in
-      rw (same-circuit s s′ only, input)
-      (term-again s s′ only accepted-written (inputs s) (circuit s) (grown-circuit accepted-written) (input-context p)
+      rw (same-circuit only, input)
+      (term-again only accepted-written (inputs s) (circuit s) (grown-circuit accepted-written) (input-context p)
       (accepted-judged t p v .0) (constants-stay o))
 
   module _ {e : Term} (h : Writable s t e) where
@@ -217,8 +217,8 @@ module _ (s : List ℕ) {t : ℕ} (v : verdict s ≡ Accepted t) where
     pub write-accepted : verdict (write s e) ≡ verdict s
     unfolding circuitTerm
     write-accepted =
-        let same = same-circuit s (write s e) write-only-leaves in
+        let same = same-circuit write-only-leaves in
         let fits : Valued (circuitTerm (write s e)) = rw write-read (typed-valued (h .typed)) in
-        accepted-again s (write s e) write-only-leaves t v leaves-small
+        accepted-again write-only-leaves t v leaves-small
         (rw same at (valued-fitting (write s e) (inputs (write s e)) (circuit (write s e)) fits))
         ∙ sym v

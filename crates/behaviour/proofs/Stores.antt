@@ -97,7 +97,7 @@ leaves-in-table s t v l m =
     let there = circuit-leaves w false true l m .there in
     omega arith
 
-module _ (s : List ℕ) (t : ℕ) (v : verdict s ≡ Accepted t) (e : Term) (h : Writable s t e) where
+module _ {s : List ℕ} {t : ℕ} (v : verdict s ≡ Accepted t) {e : Term} (h : Writable s t e) where
   leaves-distinct : Distinct (places e)
   leaves-distinct =
       framed-places s e (h .frame) .distinct

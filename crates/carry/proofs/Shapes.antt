@@ -75,7 +75,7 @@ module _ {s : List ℕ} {n t : ℕ} (g : OfTypes s n t) where
       rw eb
       (record { sized = g .sized; written = g .written; type = second-part (g .written) t (g .type .there) d }, pair-parts (g .written) t (g .type .there) d .2)
 
-module _ {old : List ℕ} {n t : ℕ} {new : List ℕ} {m u : ℕ} (g : Comparing old n t new m u) (k : ℕ) (ek : k ≡ word old t 0) (j : ℕ) (ej : j ≡ word new u 0) where
+module _ {old : List ℕ} {n t : ℕ} {new : List ℕ} {m u : ℕ} (g : Comparing old n t new m u) {k : ℕ} (ek : k ≡ word old t 0) {j : ℕ} (ej : j ≡ word new u 0) where
   -- a flat and a pair
   pub unlike : (j ≡ k → ⊥) → false ≡ sameShape (typeAt old t) (typeAt new u)
   unlike f = go (by-kind (g .before)) (by-kind (g .after))

@@ -113,9 +113,9 @@ module _ {old : List ℕ} {n : ℕ} {new : List ℕ} {m : ℕ} {table next : Lis
           pub taking : Taking old n b new m d next
           taking =
               let many : length (chain old (wordB old (getD table l 0))) ≡ length (chain new (wordB new rec)) =
-              delay-many old (g .before .type) (g .before .accepted) (getD table l 0) (delay-in (g .before) (getD table l 0) giving-in giving-kind) giving-kind
+              delay-many old (g .before .accepted) (getD table l 0) (delay-in (g .before) (getD table l 0) giving-in giving-kind) giving-kind
               ∙ shape-leaves old new (getD table l 0) rec (shape-is ∙ not-false x nz)
-              ∙ sym (delay-many new (g .after .type) (g .after .accepted) rec (delay-in (g .after) rec h taking-kind) taking-kind) in
+              ∙ sym (delay-many new (g .after .accepted) rec (delay-in (g .after) rec h taking-kind) taking-kind) in
               record {
                 before = delay-leaves (g .before) (getD table l 0) giving-in giving-kind b eb;
                 after = delay-leaves (g .after) rec h taking-kind d ed;

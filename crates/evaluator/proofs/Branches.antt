@@ -153,16 +153,16 @@ module _ {s : List ℕ} {n : ℕ} {W env : List ℕ} {names rec : ℕ} {out Γ :
             wide₁ = room-wide r tested-scope ec eR p₁
 
             tested-is : tested ≡ o₁
-            tested-is = back-part c R o₁ wide₁ fits₁
+            tested-is = back-part R o₁ wide₁ fits₁
 
             otherwise-is : otherwise ≡ o₃
-            otherwise-is = back-part (length o₂) Q o₃ else-long else-fits
+            otherwise-is = back-part Q o₃ else-long else-fits
 
             pub tested-inside : c ≤ length (o₁ ++ drop (c - 0) R)
-            tested-inside = let l = back-long c R o₁ wide₁ fits₁ in let f = fits₁ in omega arith
+            tested-inside = let l = back-long R o₁ wide₁ fits₁ in let f = fits₁ in omega arith
 
             pub otherwise-inside : length o₂ ≤ length (o₃ ++ drop (length o₂ - 0) Q)
-            otherwise-inside = let l = back-long (length o₂) Q o₃ else-long else-fits in let f = else-fits in omega arith
+            otherwise-inside = let l = back-long Q o₃ else-long else-fits in let f = else-fits in omega arith
 
             pub as-long : length otherwise ≡ length o₂
             as-long = ap length otherwise-is ∙ else-long

@@ -121,12 +121,12 @@ module _ {s : List ℕ} {n : ℕ} {W env : List ℕ} {names rec : ℕ} {out Γ :
 
       value-is : value ≡ o₁
       value-is =
-          back-part c R o₁ (room-wide r defining-scope ec eR p₁)
+          back-part R o₁ (room-wide r defining-scope ec eR p₁)
           (fits-room r defining-scope ec eR)
 
       pub let-inside : c ≤ length (o₁ ++ drop (c - 0) R)
       let-inside =
-          let l = back-long c R o₁ (room-wide r defining-scope ec eR p₁)
+          let l = back-long R o₁ (room-wide r defining-scope ec eR p₁)
           (fits-room r defining-scope ec eR) in
           let f = fits-room r defining-scope ec eR in
           omega arith

@@ -109,7 +109,7 @@ module _ (s stim out : List ℕ) where
       omega arith
 
   leaves-few : (t : ℕ) → verdict s ≡ Accepted t → outputLeaves s ≤ 64
-  leaves-few t v = rw (accepted-output s t v) at (accepted-few s t v)
+  leaves-few t v = rw (accepted-output s t v) at (accepted-few s v)
 
   shown-small : (t : ℕ) → verdict s ≡ Accepted t → place (firstApplying (shownChecks s stim out) (Done 0)) < 2 ^ 32
   shown-small t v =
@@ -199,4 +199,4 @@ unfolding finalPreview
 typed s stim out e =
     let h = says-where s stim out (Done 0) e .0 in
     let passes : NoneApplies (oneCycleChecks s stim) = (rw (h .one-cycle) refl, (h .fitting, tt)) in
-    rw e (output-typed undecidedRule rule-lawful s (outputType s) (h .accepted) stim (one-cycle-typed s stim passes))
+    rw e (output-typed undecidedRule rule-lawful s (h .accepted) stim (one-cycle-typed s stim passes))

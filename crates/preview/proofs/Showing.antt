@@ -45,13 +45,13 @@ preview-refused-sheet s stim out w e o result q =
 module _ {s : List ℕ} {n : ℕ} {W : List ℕ} {t : ℕ} (g : Accepting s n W) (v : verdict s ≡ Accepted t) where
   pub preview-type-there : t < 4096
   preview-type-there =
-      let c = g .sized .counted in let f = g .sized .few in let h = output-typed s t v .there in omega arith
+      let c = g .sized .counted in let f = g .sized .few in let h = output-typed s v .there in omega arith
 
   output-width : getD W t 0 ≡ leaves (typeAt s t)
-  output-width = g .table .types t (output-typed s t v)
+  output-width = g .table .types t (output-typed s v)
 
   pub preview-room-few : getD W t 0 ≤ 64
-  preview-room-few = let f = accepted-few s t v in let e = output-width in omega arith
+  preview-room-few = let f = accepted-few s v in let e = output-width in omega arith
 
   needed : getD W t 0 ≡ outputLeaves s
   needed = output-width ∙ ap (λ (u : ℕ). leaves (typeAt s u)) (accepted-output s t v)

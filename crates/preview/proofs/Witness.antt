@@ -50,21 +50,21 @@ unfolding verdict byRecords byTypes wrongLength wrongHeader wrongRecord wrongNam
 toggle-accepted = refl
 
 passes : Passes toggle
-passes = accepted-passes toggle 1 toggle-accepted
+passes = accepted-passes toggle toggle-accepted
 
 full : length toggle ≡ 12 * count toggle
-full = accepted-records toggle 1 toggle-accepted
+full = accepted-records toggle toggle-accepted
 
 abbrev table : List ℕ
-table = Requirements.widths toggle passes full .0
+table = Requirements.widths passes full .0
 
 toggle-accepting : Accepting toggle (count toggle) table
 toggle-accepting =
     record {
-      sized = Requirements.sized toggle passes full;
+      sized = Requirements.sized passes full;
       type = 1;
       accepted = toggle-accepted;
-      table = Requirements.widths toggle passes full .1;
+      table = Requirements.widths passes full .1;
     }
 
 toggle-showing : Showing toggle (count toggle) table (1 ∷ []) (9 ∷ [])

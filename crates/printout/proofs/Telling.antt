@@ -138,7 +138,7 @@ module _ (s stim : List ℕ) (i o many : ℕ) (m : Measured s i o) (q : OutputsL
           let a : verdict s ≡ Accepted t = formed .1 .accepted in
           let l : o ≡ leaves (typeAt s t) = m .leaves-of t a .1 in
           let some = some-leaves (typeAt s t) in
-          let few = accepted-few s t a in
+          let few = accepted-few s a in
           ew .2 (omega arith) (omega arith) ∙ l ∙ rw a refl
 
       done-text : printed s stim ≡ toldText (r / 2 ^ 32) (r % 2 ^ 32) (v % 2 ^ 32) w ro

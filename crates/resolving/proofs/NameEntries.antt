@@ -204,7 +204,7 @@ ranks-few roles (suc k) = go (eqb (getD roles k 0) 0) (ranks-few roles k)
     go true h = omega arith
     go false h = omega arith
 
-module _ {roles types ranks : List ℕ} (k : ℕ) (s : Numbered roles types ranks k) where
+module _ {roles types ranks : List ℕ} {k : ℕ} (s : Numbered roles types ranks k) where
   pub types-before : entryIn types k ≡ typesBelow roles k
   types-before = go k (s .types-right)
     where

@@ -209,9 +209,9 @@ module _ {s : List ℕ} {n : ℕ} {W stim : List ℕ} {wi wo count : ℕ} {curre
         output-long : length (output begins input) ≡ wo
         output-long =
             value-length (typeAt begins (r .type))
-            (output-typed undecidedRule rule-lawful begins (r .type) begins-accepted input
-            (rw (header-same (accepted-written s (r .accepted)) delays 2 (omega arith), same-type s begins begins-leaves (wordA s 0)) input-typed))
-            ∙ rw (same-type s begins begins-leaves (r .type)) (sym (r .gives))
+            (output-typed undecidedRule rule-lawful begins begins-accepted input
+            (rw (header-same (accepted-written s (r .accepted)) delays 2 (omega arith), same-type begins-leaves (wordA s 0)) input-typed))
+            ∙ rw (same-type begins-leaves (r .type)) (sym (r .gives))
 
         next-output : getD outs k [] ≡ output begins input
         next-output = output-at undecidedRule s (cycles s stim) k (in-list k h) ∙ ap (output begins) input-is

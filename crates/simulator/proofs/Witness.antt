@@ -62,21 +62,21 @@ names = replicate 4096 0
 -- a well-formed call with a first cycle
 module _ {s stim out next : List ℕ} {t : ℕ} (h : WellFormed s stim out next t) (some : 0 < length stim) where
   passes : Passes s
-  passes = accepted-passes s t (h .accepted)
+  passes = accepted-passes s (h .accepted)
 
   full : length s ≡ 12 * count s
-  full = accepted-records s t (h .accepted)
+  full = accepted-records s (h .accepted)
 
   abbrev table : List ℕ
-  table = widths s passes full .0
+  table = widths passes full .0
 
   running : RunningCycles s (count s) table stim (inputLeaves s) (leaves (typeAt s t)) (cycleCount s stim) s out
   running =
       record {
-        sized = Requirements.sized s passes full;
+        sized = Requirements.sized passes full;
         type = t;
         accepted = h .accepted;
-        table = widths s passes full .1;
+        table = widths passes full .1;
         whole = h .whole;
         fitting = h .fitting;
         takes = refl;
@@ -88,7 +88,7 @@ module _ {s stim out next : List ℕ} {t : ℕ} (h : WellFormed s stim out next 
 
   running-accepted : RunningAccepted s (count s) table t
   running-accepted =
-      record { sized = Requirements.sized s passes full; accepted = h .accepted; table = widths s passes full .1 }
+      record { sized = Requirements.sized passes full; accepted = h .accepted; table = widths passes full .1 }
 
   -- there is a first cycle
   some-cycle : 0 < cycleCount s stim
@@ -129,15 +129,15 @@ module _ {s stim out next : List ℕ} {t : ℕ} (h : WellFormed s stim out next 
   -- a chain of leaves, and a pattern
   chained : (l : ℕ) → l < count s → sortAt s l ≡ leafs → Chained s (count s) l (length (chain s l))
   chained l k e =
-      record { sized = Requirements.sized s passes full; written = written passes; there = k; sort = e; many = refl }
+      record { sized = Requirements.sized passes full; written = written passes; there = k; sort = e; many = refl }
 
   matched : (p u : ℕ) (v : List ℕ) → p < count s → sortAt s p ≡ patterns → TypeRecord s u → patternFits s (alternatives s p) u ≡ true
       → length v ≡ leaves (typeAt s u) → Matching s (count s) table p v
   matched p u v k e typed f l =
       record {
         type = u;
-        against = record { sized = Requirements.sized s passes full; passes = passes; there = k; sort = e; typed = typed };
-        table = widths s passes full .1 .patterns;
+        against = record { sized = Requirements.sized passes full; passes = passes; there = k; sort = e; typed = typed };
+        table = widths passes full .1 .patterns;
         fits = f;
         long = l;
       }

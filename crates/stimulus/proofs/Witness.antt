@@ -68,11 +68,11 @@ paired-full = refl
 
 paired-accepting : (widths : List ℕ) × Accepting paired (count paired) widths
 paired-accepting =
-    let p : Passes paired = accepted-passes paired 2 paired-accepted in
-    let t = Requirements.widths paired p paired-full in (
+    let p : Passes paired = accepted-passes paired paired-accepted in
+    let t = Requirements.widths p paired-full in (
       t .0,
       record {
-        sized = Requirements.sized paired p paired-full;
+        sized = Requirements.sized p paired-full;
         type = 2;
         accepted = paired-accepted;
         table = t .1;

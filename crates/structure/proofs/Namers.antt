@@ -74,7 +74,7 @@ summary-none (n ∷ ns) e = absurd (go (wellNamed (n ∷ ns)) e)
     go false f = omega arith
 
 -- what the entry of a record is with the naming m beside those that it has
-module _ (entry : ℕ) (m : Naming) (ns : List Naming) (words : ByWords ns) (e : entry ≡ summary ns) where
+module _ {entry : ℕ} (m : Naming) (ns : List Naming) (words : ByWords ns) (e : entry ≡ summary ns) where
   pub entry-first : entry ≡ 0 → 8 * m .by + m .at + 1 ≡ summary (ns ++ m ∷ [])
   entry-first z = rw (summary-none ns (sym e ∙ z))
 

@@ -159,7 +159,7 @@ not-in w (v ∷ bound) h i = go (sameName w v) refl (λ n. not-in w bound n i) h
     go true e f h = absurd (let no : _≡_ {A = ℕ} 0 1 = cc in omega arith)
     go false e f h = not-here e (f h)
 
-module _ (ds : List Declaration) (good : AllPass (declarationsChecks atFirst ds)) where
+module _ {ds : List Declaration} (good : AllPass (declarationsChecks atFirst ds)) where
   name-related : (bound : List (List ℕ)) (w : List ℕ) → cond (isAmong w bound) true (isDeclared valueRoles w (afterAll atFirst ds)) ≡ true
       → Related ds bound (nameMeant ds bound w) (Uses w)
   name-related bound w h = go (isAmong w bound) (isDeclared constructorRole w (afterAll atFirst ds)) refl refl h

@@ -44,7 +44,7 @@ use Rattle.text_meaning.proofs.NamesStand.{all-differ, numbered, type-k
 use Rattle.text_meaning.proofs.Begins.{begins, placed}
 
 one-meaning : OneMeaning
-one-meaning t inputs outputs others x y = run-one _ (x .1) (y .1) .0
+one-meaning t inputs outputs others x y = run-one (x .1) (y .1) .0
 
 -- values of a list of constants
 all-values : (ds : List Declaration) {τ : Ty} {cs : List ConstantTree} → AllConstantsOf τ cs
@@ -101,7 +101,7 @@ run-gives-meaning ts (text d ds (identifier w p) e) rd h stim out next τ result
     let related =
     placed (rules .expression)
     (subst (λ f. Related (d ∷ ds) [] f (circuitOf (d ∷ ds) e)) (sym (ap unplaced (sym also) ∙ meant .2))
-    (begins (d ∷ ds) (good .0) [] e (good .1) (constants-good d ds (identifier w p) e h))) in
+    (begins (good .0) [] e (good .1) (constants-good d ds (identifier w p) e h))) in
     let known =
     subst (KnownType (d ∷ ds)) (sym (Translation.kept .input-as-declared t h))
     (type-known (d ∷ ds) (all-differ atFirst (d ∷ ds) (good .0)) w) in

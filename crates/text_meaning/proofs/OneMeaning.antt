@@ -43,7 +43,7 @@ first-of p = cc
 second-of : {a b c d : NamedValue} → Couple a b ≡ Couple c d → b ≡ d
 second-of p = cc
 
-module _ (D : List DeclaredName) where
+module _ {D : List DeclaredName} where
   mutual
     pub gives-one : {ρ : List Binding} {c c′ c″ : Circuit} {v w : NamedValue}
         → CircuitGives D ρ c v c′ → CircuitGives D ρ c w c″ → (v ≡ w) × (c′ ≡ c″)

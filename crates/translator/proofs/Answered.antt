@@ -41,7 +41,7 @@ unfolding finalSheet
 translated {bytes} {t} entry a k r e =
     subst (λ x. Translated bytes entry x (whenDone x (sheetOfText t ++ replicate (length entry - lengthNeeded t) 0) entry)) e (in-grammar k r)
 
-module _ {bytes : List ℕ} {ts : List Token} {t : Text} (entry : List ℕ) (k : Keeps bytes) (r : Reading bytes ts t) where
+module _ {bytes : List ℕ} {ts : List Token} {t : Text} {entry : List ℕ} (k : Keeps bytes) (r : Reading bytes ts t) where
   pub bad-name : (p : ℕ) → firstBadPlace (nameChecks t) ≡ some p → Translated bytes entry (Refused 14 p) entry
   bad-name p e = translated entry (Refused 14 p) k r (answered t (length entry) e refl refl)
 

@@ -44,7 +44,7 @@ module _ {s : List ℕ} {n : ℕ} {widths : List ℕ} {p : ℕ} {value : List �
   w = written (m .against .passes)
 
   there : p < count s
-  there = in-sheet s n p (m .type) (m .against)
+  there = in-sheet (m .against)
 
   abbrev rest : Bool
   rest = patternFits s (follow end (alternatives s) (nextWord s p)) (m .type)
@@ -88,7 +88,7 @@ module _ {s : List ℕ} {n : ℕ} {widths : List ℕ} {p : ℕ} {value : List �
 
   pub next-matched : {x : ℕ} → x ≡ word s p 1 → (x ≡ 0 → ⊥) → (p < x) × Matching s n widths x value
   next-matched {x} e f =
-      let q = next-matching s n p (m .type) (m .against) x e f in
+      let q = next-matching (m .against) x e f in
       (q .0, record { type = m .type; against = q .1; table = m .table; fits = rw (← follows x f, e) rest-fits; long = m .long })
     where
       follows : (x : ℕ) → (x ≡ 0 → ⊥) → follow end (alternatives s) x ≡ alternatives s x
@@ -169,13 +169,13 @@ module _ {s : List ℕ} {n : ℕ} {widths : List ℕ} {p : ℕ} {value : List �
       module _ {x : ℕ} (ex : x ≡ word s p 2) where
         first-against : (p < x) × Fitting s n x (wordA s t)
         first-against =
-            first-matching s n p t (m .against) k ek fifty (word s t 0) refl seventeen x (wordA s t) ex refl
+            first-matching (m .against) k ek fifty (word s t 0) refl seventeen x (wordA s t) ex refl
 
         first-does-fit : patternFits s (alternatives s x) (wordA s t) ≡ true
         first-does-fit = rw ex (both-left first-fits (second-fits && rest) parts-fit)
 
         pub first-in : x < count s
-        first-in = in-sheet s n x (wordA s t) (first-against .1)
+        first-in = in-sheet (first-against .1)
 
         first-leaves : patternLeaves s (alternatives s x) ≡ leaves (typeAt s (wordA s t))
         first-leaves =
@@ -216,7 +216,7 @@ module _ {s : List ℕ} {n : ℕ} {widths : List ℕ} {p : ℕ} {value : List �
 
           pub second-matched : {y : ℕ} → y ≡ word s p 3 → (p < y) × Matching s n widths y (drop c value)
           second-matched {y} ey =
-              let q = second-matching s n p t (m .against) k ek fifty (word s t 0) refl seventeen y (wordB s t) ey refl in (
+              let q = second-matching (m .against) k ek fifty (word s t 0) refl seventeen y (wordB s t) ey refl in (
                 q .0,
                 record {
                   type = wordB s t;

@@ -118,7 +118,7 @@ module _ (s : List ℕ) (low : 12 ≤ length s) (high : length s ≤ 49152) (eve
           let n = t .notes (u .0) (u .1) in (
             measured .sized,
             accepted-passes,
-            rw (n .2) (judged-widths s (length s / 12) (n .0) accepted-passes (measured .sized .counted) (n .1)),
+            rw (n .2) (judged-widths accepted-passes (measured .sized .counted) (n .1)),
           )
 
       pub accepted-lent : (before table : List ℕ) → Widths s table → Checked s answer before table

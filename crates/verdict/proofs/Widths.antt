@@ -69,7 +69,7 @@ few-of : {s : List ℕ} → Passes s → (t : ℕ) → TypeRecord s t → leaves
 few-of p t r = few-leaves (types-fit p) t (r .there) (r .sort)
 
 -- after judging
-module _ (s : List ℕ) (n : ℕ) (w : List ℕ) (p : Passes s) (counted : n ≡ count s) (c : Counts s n w) where
+module _ {s : List ℕ} {n : ℕ} {w : List ℕ} (p : Passes s) (counted : n ≡ count s) (c : Counts s n w) where
   stored : Stored (expressionRecords (circuit s)) (notes s (inputs s) (circuit s)) w (noted s (inputs s) (circuit s) w)
   stored = circuit-stored (written p) (well-named p) w (c .long)
 
@@ -104,7 +104,7 @@ module _ (s : List ℕ) (n : ℕ) (w : List ℕ) (p : Passes s) (counted : n ≡
   }
 
 -- one record lower
-module _ (s : List ℕ) (n m : ℕ) (table : List ℕ) (p : Passes s) (counted : n ≡ count s) (h : m < n) (o : PatternsFrom s (m + 1) table)
+module _ {s : List ℕ} (n m : ℕ) {table : List ℕ} (p : Passes s) (counted : n ≡ count s) (h : m < n) (o : PatternsFrom s (m + 1) table)
   where
     in-sheet : m < count s
     in-sheet = omega arith
