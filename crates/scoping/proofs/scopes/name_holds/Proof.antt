@@ -3,8 +3,8 @@
 use borrow.Author.Needs.{needs}
 use native.Mathlib.Omega.{arith}
 use Rattle.scoping.proofs.TableLaws.{nearest-admitted, declared-admitted}
-use Rattle.scoping.proofs.scopes.holds.Statement.{statement}
-use Rattle.scoping.proofs.scopes.holds.Tie as tie
+use Rattle.scoping.proofs.scopes.name_holds.Statement.{statement}
+use Rattle.scoping.proofs.scopes.name_holds.Tie as tie
 
 wide-requires : tie.Need-wide-requires
 wide-requires c κs = search needs
@@ -54,8 +54,8 @@ index-2-result-2 c = (let h = c .before .declared-role .ensures .1 in let e = c 
 returns-2 : tie.Need-returns-2
 returns-2 c = declared-admitted (c .before .before .before .before .before .before .before .pre .6) (c .before .before .before .before .before .before .before .pre .5) (c .before .before .before .before .before .wide .ensures) (c .before .before .before .before .before .before .before .args .text .now) (c .before .before .before .before .before .before .before .args .spans .now) (c .before .before .before .before .before .before .before .args .roles .now) (c .before .before .before .before .before .before .before .args .base) (c .before .before .before .before .before .before .before .args .n) (c .before .before .before .before .before .before .before .args .span) _ _ (c .before .before .before .if1 .left) (c .before .wide3 .ensures) (c .before .before .declared-role .ensures .0) (c .before .before .declared-role .ensures .1)
 
-pub holds-spec : {M : Type 1} → statement M
-holds-spec =
+pub name-holds-spec : {M : Type 1} → statement M
+name-holds-spec =
     tie.close
     (tie.spec
     wide-requires

@@ -3,8 +3,8 @@
 use borrow.Author.Needs.{needs}
 use native.Mathlib.Omega.{arith}
 use Rattle.scoping.proofs.EntryLaws.{name-bound}
-use Rattle.scoping.proofs.scopes.bind.Statement.{statement}
-use Rattle.scoping.proofs.scopes.bind.Tie as tie
+use Rattle.scoping.proofs.scopes.bind_name.Statement.{statement}
+use Rattle.scoping.proofs.scopes.bind_name.Tie as tie
 
 declared-role-requires : tie.Need-declared-role-requires
 declared-role-requires c κs = search needs
@@ -18,8 +18,8 @@ element-write-roles c = search needs
 returns : tie.Need-returns
 returns c = name-bound (c .push-name .ensures .0) (c .push-name .ensures .1) (c .before .before .before .before .before .before .before .before .before .before .pre .0 .spans-long) (c .before .before .before .before .before .before .before .before .before .before .pre .2) (c .before .before .before .before .before .before .before .before .before .before .pre .3) (c .before .before .before .before .before .before .before .before .before .before .pre .4) (c .before .before .before .before .before .before .before .before .before .before .pre .5) (c .before .before .before .before .declared-role .ensures .0)
 
-pub bind-spec : {M : Type 1} → statement M
-bind-spec =
+pub bind-name-spec : {M : Type 1} → statement M
+bind-name-spec =
     tie.close
     (tie.spec
     declared-role-requires

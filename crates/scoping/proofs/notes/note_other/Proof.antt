@@ -8,20 +8,20 @@ use mathlib.Core.Logic.{⊎-elim, inl, inr}
 use Rattle.scoping.specs.Scoped.{heldScope}
 use Rattle.scoping.proofs.EffectLaws.{as-ended}
 use Rattle.scoping.proofs.ScopeLaws.{bind-pending-after, unbind-after, none-unbound, other-kept}
-use Rattle.scoping.proofs.scopes.note_other.Statement.{statement}
-use Rattle.scoping.proofs.scopes.note_other.Tie as tie
+use Rattle.scoping.proofs.notes.note_other.Statement.{statement}
+use Rattle.scoping.proofs.notes.note_other.Tie as tie
 
-sub-bind : tie.Need-sub-bind
-sub-bind c = omega (arith, c .if2 .taken)
+sub-bind-name : tie.Need-sub-bind-name
+sub-bind-name c = omega (arith, c .if2 .taken)
 
-mul-bind : tie.Need-mul-bind
-mul-bind c = (let h = c .before .before .before .pre .few in omega (arith, c .if2 .taken))
+mul-bind-name : tie.Need-mul-bind-name
+mul-bind-name c = (let h = c .before .before .before .pre .few in omega (arith, c .if2 .taken))
 
-element-copy-out-bind : tie.Need-element-copy-out-bind
-element-copy-out-bind c = (let h = c .before .before .before .pre .few in let l = c .before .before .before .pre .pendings-long in omega (arith, c .if2 .taken))
+element-copy-out-bind-name : tie.Need-element-copy-out-bind-name
+element-copy-out-bind-name c = (let h = c .before .before .before .pre .few in let l = c .before .before .before .pre .pendings-long in omega (arith, c .if2 .taken))
 
-bind-requires : tie.Need-bind-requires
-bind-requires c κs = (c .before .before .before .before .before .before .before .before .pre .hashed, c .before .before .before .before .before .before .before .before .pre .pendings-inside (c .before .before .before .before .before .before .before .before .args .m - 1) (omega (arith, c .before .before .before .before .before .if2 .taken)), (let h = c .before .before .before .before .before .before .before .before .pre .few in omega arith), c .before .before .before .before .before .before .before .before .pre .above, c .before .before .before .before .before .before .before .before .pre .named, c .before .before .before .before .before .before .before .before .pre .bound-roles)
+bind-name-requires : tie.Need-bind-name-requires
+bind-name-requires c κs = (c .before .before .before .before .before .before .before .before .pre .hashed, c .before .before .before .before .before .before .before .before .pre .pendings-inside (c .before .before .before .before .before .before .before .before .args .m - 1) (omega (arith, c .before .before .before .before .before .if2 .taken)), (let h = c .before .before .before .before .before .before .before .before .pre .few in omega arith), c .before .before .before .before .before .before .before .before .pre .above, c .before .before .before .before .before .before .before .before .pre .named, c .before .before .before .before .before .before .before .before .pre .bound-roles)
 
 add-t14 : tie.Need-add-t14
 add-t14 c = (let h = c .before .before .before .before .before .before .before .before .before .pre .few in omega arith)
@@ -30,7 +30,7 @@ sub-t15 : tie.Need-sub-t15
 sub-t15 c = omega (arith, c .before .before .before .before .before .before .if2 .taken)
 
 returns : tie.Need-returns
-returns c = as-ended (heldScope (c .before .before .before .before .before .before .before .before .before .args .text .now) (c .before .before .before .before .before .before .before .before .before .args .base) (c .before .before .before .before .before .before .before .before .before .args .n) (c .before .before .before .before .before .before .before .before .before .args .m) (c .before .before .before .before .before .before .before .before .before .args .spans .now) (c .before .before .before .before .before .before .before .before .before .args .roles .now) (c .before .before .before .before .before .before .before .before .before .args .pendings .now)) _ 5 (c .before .before .before .before .before .before .before .if1 .taken) refl (bind-pending-after (c .before .before .before .before .before .before .before .before .before .pre) (c .before .before .before .before .before .before .if2 .taken) (c .bind .ensures))
+returns c = as-ended (heldScope (c .before .before .before .before .before .before .before .before .before .args .text .now) (c .before .before .before .before .before .before .before .before .before .args .base) (c .before .before .before .before .before .before .before .before .before .args .n) (c .before .before .before .before .before .before .before .before .before .args .m) (c .before .before .before .before .before .before .before .before .before .args .spans .now) (c .before .before .before .before .before .before .before .before .before .args .roles .now) (c .before .before .before .before .before .before .before .before .before .args .pendings .now)) _ 5 (c .before .before .before .before .before .before .before .if1 .taken) refl (bind-pending-after (c .before .before .before .before .before .before .before .before .before .pre) (c .before .before .before .before .before .before .if2 .taken) (c .bind-name .ensures))
 
 pop-name-requires : tie.Need-pop-name-requires
 pop-name-requires c κs = (c .before .before .before .before .before .before .before .pre .hashed, (let h = c .before .before .before .if4 .taken in omega arith))
@@ -51,10 +51,10 @@ pub note-other-spec : {M : Type 1} → statement M
 note-other-spec =
     tie.close
     (tie.spec
-    sub-bind
-    mul-bind
-    element-copy-out-bind
-    bind-requires
+    sub-bind-name
+    mul-bind-name
+    element-copy-out-bind-name
+    bind-name-requires
     add-t14
     sub-t15
     returns
