@@ -19,11 +19,11 @@ use records::WORD_A;
 use records::WORD_B;
 use records::WORD_KIND;
 use records::WORD_NEXT;
-use records::Widths;
+use records::WidthTable;
 use records::word;
 
 // The constructor count of leaf i of type t.
-pub fn bound_at(sheet: &[u8], n: usize, table: &Widths, t: usize, i: usize) -> usize
+pub fn bound_at(sheet: &[u8], n: usize, table: &WidthTable, t: usize, i: usize) -> usize
     requires { ⌜ Ground (now sheet) n (now table) × TypeRecord (now sheet) t × (i < leaves (typeAt (now sheet) t)) ⌝ }
     ensures { λ r. ⌜ r ≡ getD (bounds (typeAt (now (sheet .entry)) t)) i 0 ⌝ }
 {
