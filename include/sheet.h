@@ -98,7 +98,7 @@ enum sheet_code {
     /* The first record that breaks a type rule, parts before the whole. */
     SHEET_ILL_TYPED = 7,
 
-    /* The sheet is accepted and the run or the preview is refused. */
+    /* The sheet is accepted and the run, the preview or sheet_fired is refused. */
     /* Place 0. */
     SHEET_WRONG_STIMULUS = 8,
     /* The first such byte of the stimulus, counted from 0. */

@@ -8,12 +8,13 @@ use mathlib.Core.List.{List, [], _∷_}
 use mathlib.Core.Path.{_≡_, refl, ap, ap₂, _∙_}
 use mathlib.Core.Logic.{_⊎_, inl, inr}
 use native.Mathlib.Omega.{arith}
-use Rattle.picoella.specs.Types.{OfType, bounds}
+use Rattle.picoella.specs.Language.{OfType, bounds}
 use Rattle.records.specs.Words.{word, count, wordA, wordB}
 use Rattle.records.specs.Kinds.{leaf, isPair}
 use Rattle.records.specs.Says.{kindAt}
-use Rattle.records.specs.TypeRecords.{typeAt, pairOf}
 use Rattle.records.specs.Trees.{
+  typeAt,
+  pairOf,
   Alternatives,
   end,
   noPattern,
@@ -32,13 +33,14 @@ use Rattle.records.specs.Trees.{
   ifOf,
   delayOf,
   circuit,
+  typeRecordOf,
 }
 use Rattle.records.specs.Decoding.{leafValues}
 use Rattle.records.specs.Rewritten.{Rewritten}
 use Rattle.records.proofs.Table.{is-pair}
 use Rattle.records.proofs.Rewritten.{SameWords, same-kind, same-pair-of, same-circuit, leaf-or-same}
-use Rattle.typing.specs.Judgements.{patternFits, typeRecordOf}
-use Rattle.structure.specs.Passes.{Passes}
+use Rattle.typing.specs.Judgements.{patternFits}
+use Rattle.structure.specs.Rules.{Passes}
 use Rattle.verdict.specs.Verdict.{inputs, verdict}
 use Rattle.verdict.specs.declared.Verdict.the-variants.{Accepted}
 use Rattle.structure.proofs.Passes.{written}
@@ -74,18 +76,18 @@ judged-fitting s Γ (feedbackOf r t a b) j = (judged-fitting s (t ∷ Γ) a (j .
 judged-fitting s Γ (ifOf r a p b c) j = (judged-fitting s Γ a (j .0), judged-fitting s Γ b (j .2), judged-fitting s Γ c (j .3))
 judged-fitting s Γ (delayOf r t ls a) j = (within-fits (bounds (typeAt s t)) (leafValues s ls) (j .1), judged-fitting s Γ a (j .0))
 
-module _ (s s′ : List ℕ) (o : Rewritten s s′) where
+module _ {s s′ : List ℕ} (o : Rewritten s s′) where
   pub pattern-again : (m : Alternatives) (t : ℕ) → patternFits s′ m t ≡ patternFits s m t
   pattern-again end t = refl
   pattern-again noPattern t = refl
   pattern-again (wholeType r u m) t = rw (pattern-again m t)
   pattern-again (oneConstructor r u k m) t = rw (pattern-again m t)
-  pattern-again (pairOfPatterns r a b m) t = go (leaf-or-same s s′ o t) (pattern-again a) (pattern-again b) (pattern-again m t)
+  pattern-again (pairOfPatterns r a b m) t = go (leaf-or-same o t) (pattern-again a) (pattern-again b) (pattern-again m t)
     where
       go : (kindAt s t ≡ leaf) ⊎ SameWords s s′ t → ((u : ℕ) → patternFits s′ a u ≡ patternFits s a u)
           → ((u : ℕ) → patternFits s′ b u ≡ patternFits s b u) → patternFits s′ m t ≡ patternFits s m t
           → patternFits s′ (pairOfPatterns r a b m) t ≡ patternFits s (pairOfPatterns r a b m) t
-      go (inl e) fa fb fm = rw (same-kind s s′ o t, e)
+      go (inl e) fa fb fm = rw (same-kind o t, e)
       go (inr e) fa fb fm =
           rw (e 0 (omega arith), e 2 (omega arith), e 3 (omega arith), fa (wordA s t), fb (wordB s t), fm)
 
@@ -101,14 +103,14 @@ module _ (s s′ : List ℕ) (o : Rewritten s s′) where
       let ja = judged-again Γ a (j .0) (f .0) in
       let jb = judged-again Γ b (j .1) (f .1) in
       let e : pairOf s′ (typeRecordOf s′ Γ a) (typeRecordOf s′ Γ b) ≡ pairOf s (typeRecordOf s Γ a) (typeRecordOf s Γ b) =
-      ap₂ (pairOf s′) (ja .1) (jb .1) ∙ same-pair-of s s′ o (typeRecordOf s Γ a) (typeRecordOf s Γ b) in
+      ap₂ (pairOf s′) (ja .1) (jb .1) ∙ same-pair-of o (typeRecordOf s Γ a) (typeRecordOf s Γ b) in
       ((ja .0, jb .0, rw e (j .2)), e)
   judged-again Γ (firstOf r a) j f =
       let ja = judged-again Γ a (j .0) f in
-      ((ja .0, rw (ja .1, same-kind s s′ o (typeRecordOf s Γ a)) (j .1)), rw (ja .1) (pair-words (typeRecordOf s Γ a) (j .1) 2 (omega arith)))
+      ((ja .0, rw (ja .1, same-kind o (typeRecordOf s Γ a)) (j .1)), rw (ja .1) (pair-words (typeRecordOf s Γ a) (j .1) 2 (omega arith)))
   judged-again Γ (secondOf r a) j f =
       let ja = judged-again Γ a (j .0) f in
-      ((ja .0, rw (ja .1, same-kind s s′ o (typeRecordOf s Γ a)) (j .1)), rw (ja .1) (pair-words (typeRecordOf s Γ a) (j .1) 3 (omega arith)))
+      ((ja .0, rw (ja .1, same-kind o (typeRecordOf s Γ a)) (j .1)), rw (ja .1) (pair-words (typeRecordOf s Γ a) (j .1) 3 (omega arith)))
   judged-again Γ (letOf r a b) j f =
       let ja = judged-again Γ a (j .0) (f .0) in
       let jb = judged-again (typeRecordOf s Γ a ∷ Γ) b (j .1) (f .1) in
@@ -134,11 +136,11 @@ module _ (s s′ : List ℕ) (o : Rewritten s s′) where
       let j = accepted-judged t p v in
       let again = judged-again (inputs s) (circuit s) (j .0) f in
       let input : inputs s′ ≡ inputs s = ap (λ u. u ∷ []) (input-same p) in
-      let passed : RulesHold s′ (inputs s′) (circuit s′) = rw (same-circuit s s′ o, input) (again .0) in
+      let passed : RulesHold s′ (inputs s′) (circuit s′) = rw (same-circuit o, input) (again .0) in
       accepted-by-types s′ t .1 (
-        passes-again s s′ o p small,
+        passes-again o p small,
         types-accept s′ t .1
-            (judged-passed s′ (inputs s′) (circuit s′) passed, rw (same-circuit s s′ o, input) (again .1 ∙ j .1)),
+            (judged-passed s′ (inputs s′) (circuit s′) passed, rw (same-circuit o, input) (again .1 ∙ j .1)),
       )
     where
       input-same : Passes s → wordA s′ 0 ≡ wordA s 0

@@ -8,17 +8,16 @@ use mathlib.Core.List.{List, [], _∷_}
 use Prim.Native.Nat.{ℕ, _+_, _*_, _≤_, _<_}
 use native.Mathlib.Omega.{arith}
 use lib.ListN.{length, replicate, length-replicate}
-use Rattle.picoella.specs.Types.{leaves}
+use Rattle.picoella.specs.Language.{leaves}
 use Rattle.records.specs.Words.{count, wordB, kindWord}
-use Rattle.records.specs.Kinds.{ExpressionKind, constant, name, expression, expressions, patterns, leafs, rowOf, askNumbers}
-use Rattle.records.specs.Says.{kindAt, sortAt}
+use Rattle.records.specs.Kinds.{ExpressionKind, constant, name, expression, expressions, patterns, leafs, rowOf}
+use Rattle.records.specs.AskNumbers.{askNumbers}
+use Rattle.records.specs.Says.{kindAt, sortAt, Naming, namings, wellNamed}
 use Rattle.records.specs.Sized.{Sized}
-use Rattle.records.specs.Namings.{Naming, namings, wellNamed}
-use Rattle.records.specs.TypeRecords.{typeAt, TypeRecord}
+use Rattle.records.specs.Trees.{typeAt, TypeRecord}
 use Rattle.records.specs.Written.{Written}
 use Rattle.records.proofs.Asked.{past-header}
-use Rattle.structure.specs.Passes.{Passes}
-use Rattle.structure.specs.Depth.{depth}
+use Rattle.structure.specs.Rules.{Passes, depth}
 use Rattle.structure.specs.NamerTable.{Holds}
 use Rattle.structure.specs.LeafTable.{Counts}
 use Rattle.structure.specs.PairIndex.{Linked, Indexed}
@@ -36,9 +35,9 @@ use Rattle.accepted.specs.Accepting.{Accepting}
 use Rattle.accepted.proofs.Requirements.{sized, fitted, counts, counts-below, none-held, held, placed, placing, placing-at, ready, patterns-from, widths}
 use Rattle.accepted.proofs.TypeTables.{pairs-below, pairs, types-from, typing-pattern, type-tables}
 
-module _ (s : List ℕ) (p : Passes s) (full : length s ≡ 12 * count s) where
+module _ {s : List ℕ} (p : Passes s) (full : length s ≡ 12 * count s) where
   size : Sized s (count s)
-  size = sized s p full
+  size = sized p full
 
   w : Written s
   w = written p
@@ -64,18 +63,18 @@ module _ (s : List ℕ) (p : Passes s) (full : length s ≡ 12 * count s) where
 
   -- structure: types
   pub count-type-callable : (r : ℕ) → r < count s → (table : List ℕ) × Sized s (count s) × (r < count s) × Written s × Counts s r table
-  count-type-callable r h = let f = few in let c = counts-below s p full r (omega arith) in (c .0, size, h, w, c .1)
+  count-type-callable r h = let f = few in let c = counts-below p full r (omega arith) in (c .0, size, h, w, c .1)
 
   pub count-types-callable : (table : List ℕ) × Sized s (count s) × Written s × Counts s 0 table
-  count-types-callable = let c = counts-below s p full 0 (omega arith) in (c .0, size, w, c .1)
+  count-types-callable = let c = counts-below p full 0 (omega arith) in (c .0, size, w, c .1)
 
   pub wrong-type-callable : (r : ℕ) → r < count s
       → (table : List ℕ) × (index : List ℕ) × Sized s (count s) × (r < count s) × Counts s (count s) table × Indexed s r index
   wrong-type-callable r h =
-      let c = counts s p full in let x = pairs-below s p full r (omega arith) in (c .0, x .0, size, h, c .1, x .1)
+      let c = counts p full in let x = pairs-below s p full r (omega arith) in (c .0, x .0, size, h, c .1, x .1)
 
   pub first-wrong-type-callable : (table : List ℕ) × Sized s (count s) × Counts s (count s) table
-  first-wrong-type-callable = let c = counts s p full in (c .0, size, c .1)
+  first-wrong-type-callable = let c = counts p full in (c .0, size, c .1)
 
   -- structure: the index of pair types
   abbrev pub index : List ℕ
@@ -100,33 +99,33 @@ module _ (s : List ℕ) (p : Passes s) (full : length s ≡ 12 * count s) where
   pub place-callable : (r : ℕ) → 0 < r → r < count s
       → (namers : List ℕ) × (depths : List ℕ) × (nestings : List ℕ) × Placing s (count s) r namers depths nestings × (r < count s)
   place-callable r low h =
-      let f = few in let x = placing-at s p full r low (omega arith) in (x .0, x .1, x .2, x .3, h)
+      let f = few in let x = placing-at p full r low (omega arith) in (x .0, x .1, x .2, x .3, h)
 
   pub place-all-callable : (namers : List ℕ) × (depths : List ℕ) × (nestings : List ℕ) × Placing s (count s) 1 namers depths nestings
-  place-all-callable = placing s p full
+  place-all-callable = placing p full
 
   pub too-deep-callable : (r : ℕ) → r < count s
       → (depths : List ℕ) × (nestings : List ℕ) × Sized s (count s) × (r < count s) × Placed s (count s) depths nestings
-  too-deep-callable r h = let x = placed s p full in (x .0, x .1, size, h, x .2)
+  too-deep-callable r h = let x = placed p full in (x .0, x .1, size, h, x .2)
 
   pub first-too-deep-callable : (depths : List ℕ) × (nestings : List ℕ) × Sized s (count s) × Placed s (count s) depths nestings
-  first-too-deep-callable = let x = placed s p full in (x .0, x .1, size, x .2)
+  first-too-deep-callable = let x = placed p full in (x .0, x .1, size, x .2)
 
   -- typing: an expression, with a table of leaf counts, the input in scope, a table of widths, and the type tables
   abbrev pub table : List ℕ
-  table = ready s p full .0
+  table = ready p full .0
 
   abbrev pub scope : List ℕ
-  scope = ready s p full .1
+  scope = ready p full .1
 
   abbrev pub noted : List ℕ
-  noted = ready s p full .2
+  noted = ready p full .2
 
   abbrev pub types : List ℕ
   types = type-tables s p full .0
 
   at-root : Judging s (count s) table scope 1 (wordB s 0) noted
-  at-root = ready s p full .3
+  at-root = ready p full .3
 
   pub tables : TypeTables s (count s) index types
   tables = type-tables s p full .1
@@ -226,29 +225,29 @@ module _ (s : List ℕ) (p : Passes s) (full : length s ≡ 12 * count s) where
   pub check-depths-callable : (namers : List ℕ) × (counted : List ℕ) × CheckingDepths s (count s) × Holds (namings s) namers
       × Counts s (count s) counted × (length noted ≡ 4096)
   check-depths-callable =
-      let n = held s p full in let c = counts s p full in (n .0, c .0, fitted s p full, n .1, c .1, at-root .long)
+      let n = held p full in let c = counts p full in (n .0, c .0, fitted p full, n .1, c .1, at-root .long)
 
   pub check-types-callable : (namers : List ℕ) × CheckingTypes s (count s) × Holds (namings s) namers
-  check-types-callable = let n = held s p full in (n .0, fitted s p full .named, n .1)
+  check-types-callable = let n = held p full in (n .0, fitted p full .named, n .1)
 
   pub check-names-callable : CheckingNamings s (count s)
-  check-names-callable = fitted s p full .named .recorded
+  check-names-callable = fitted p full .named .recorded
 
   pub check-records-callable : CheckingRecords s (count s)
-  check-records-callable = fitted s p full .named .recorded .measured
+  check-records-callable = fitted p full .named .recorded .measured
 
   pub note-pattern-callable : (r : ℕ) → r < count s
       → (above : List ℕ) × Sized s (count s) × Passes s × (r < count s) × PatternsFrom s (r + 1) above
-  note-pattern-callable r h = let x = patterns-from s p full (r + 1) (omega arith) in (x .0, size, p, h, x .1)
+  note-pattern-callable r h = let x = patterns-from p full (r + 1) (omega arith) in (x .0, size, p, h, x .1)
 
   pub note-patterns-callable : (none : List ℕ) × Sized s (count s) × Passes s × PatternsFrom s (count s) none
-  note-patterns-callable = let x = patterns-from s p full (count s) (omega arith) in (x .0, size, p, x .1)
+  note-patterns-callable = let x = patterns-from p full (count s) (omega arith) in (x .0, size, p, x .1)
 
   -- accepted
-  pub accepting : (t : ℕ) → verdict s ≡ Accepted t → Accepting s (count s) (widths s p full .0)
-  accepting t e = record { sized = size; type = t; accepted = e; table = widths s p full .1 }
+  pub accepting : (t : ℕ) → verdict s ≡ Accepted t → Accepting s (count s) (widths p full .0)
+  accepting t e = record { sized = size; type = t; accepted = e; table = widths p full .1 }
 
   pub fill-bounds-callable : (t u : ℕ) → verdict s ≡ Accepted t → TypeRecord s u
-      → (out : List ℕ) × Accepting s (count s) (widths s p full .0) × TypeRecord s u × (length out ≡ leaves (typeAt s u))
+      → (out : List ℕ) × Accepting s (count s) (widths p full .0) × TypeRecord s u × (length out ≡ leaves (typeAt s u))
   fill-bounds-callable t u e h =
       (replicate (leaves (typeAt s u)) 0, accepting t e, h, length-replicate {A = ℕ} (leaves (typeAt s u)) 0)

@@ -6,8 +6,7 @@ use mathlib.Core.List.{List, _++_}
 use mathlib.Core.Path.{_≡_, refl, sym, ap, subst, _∙_}
 use native.Mathlib.Omega.{arith}
 use lib.ListN.{length}
-use Rattle.answers.specs.Answers.{place, onDone}
-use Rattle.answers.specs.Checks.{Check, firstApplying, SaysOf}
+use Rattle.answers.specs.Answers.{place, onDone, Check, firstApplying, SaysOf}
 use Rattle.answers.specs.declared.Answer.{Answer}
 use Rattle.answers.specs.declared.Answer.the-variants.{Done, Refused}
 use Rattle.answers.proofs.First.{first-says, first-both, first-then}
@@ -64,4 +63,4 @@ pub accepting-checked : (s : List ℕ) (n : ℕ) → n ≡ length s / 12 → (w 
     → w ≡ Accepted t → Accepting s n table × (verdict s ≡ Accepted t)
 accepting-checked s n c w before table t l e =
     let v : verdict s ≡ Accepted t = sym (l .answered) ∙ e in
-    (record { sized = rw c (accepted-sized s t v); type = t; accepted = v; table = l .accepted (rw e refl) }, v)
+    (record { sized = rw c (accepted-sized s v); type = t; accepted = v; table = l .accepted (rw e refl) }, v)

@@ -10,12 +10,13 @@ use native.Mathlib.Omega.{arith}
 use borrow.Author.Tests.{eqb-true}
 use lib.Dec.{eqb}
 use lib.ListN.{getD}
-use Rattle.picoella.specs.Types.{leaves}
+use Rattle.picoella.specs.Language.{leaves}
 use Rattle.records.specs.Words.{count, wordA, wordB, wordD}
 use Rattle.records.specs.Kinds.{expression, ifMatches, patterns, isPair}
 use Rattle.records.specs.Says.{kindAt, sortAt}
-use Rattle.records.specs.TypeRecords.{typeAt, TypeRecord}
 use Rattle.records.specs.Trees.{
+  typeAt,
+  TypeRecord,
   Alternatives,
   end,
   noPattern,
@@ -24,6 +25,7 @@ use Rattle.records.specs.Trees.{
   pairOfPatterns,
   alternatives,
   treeAt,
+  typeRecordOf,
 }
 use Rattle.records.specs.Written.{Written}
 use Rattle.records.proofs.Tests.{both-left, both-right}
@@ -32,9 +34,9 @@ use Rattle.records.proofs.Asked.{part-of-kind}
 use Rattle.records.proofs.Types.{flat-type, pair-type, few-leaves}
 use Rattle.records.proofs.TypeRecords.{first-part, second-part}
 use Rattle.records.proofs.Grown.{GrownPattern, grown-pattern}
-use Rattle.structure.specs.Passes.{Passes}
+use Rattle.structure.specs.Rules.{Passes}
 use Rattle.structure.proofs.Passes.{written, types-fit}
-use Rattle.typing.specs.Judgements.{patternFits, typeRecordOf}
+use Rattle.typing.specs.Judgements.{patternFits}
 use Rattle.typing.specs.Judging.{width}
 use Rattle.verdict.specs.Verdict.{verdict}
 use Rattle.verdict.specs.Scopes.{Scope, if-tested}
@@ -60,7 +62,7 @@ fitting-leaves {s} w (pairOfPatterns r a b m) t u g f =
     rw (pair-type w t (u .there) k, ea, eb)
 
 -- an IF of an accepted circuit
-module _ (s : List ℕ) (q : ℕ) (Γ : List ℕ) (t : ℕ) (p : Passes s) (v : verdict s ≡ Accepted t) (c : Scope s q Γ)
+module _ {s : List ℕ} {q : ℕ} {Γ : List ℕ} {t : ℕ} (p : Passes s) (v : verdict s ≡ Accepted t) (c : Scope s q Γ)
     (e : kindAt s q ≡ expression ifMatches)
   where
     pub tested-type : TypeRecord s (typeRecordOf s Γ (treeAt s (wordA s q)))

@@ -9,12 +9,12 @@ use native.Mathlib.Omega.{arith}
 use native.Mathlib.Numerals.{add-one}
 use lib.ListN.{length, getD, set, take, length-set}
 use lib.Seq.{take-length, take-suc, take-suc-set}
-use Rattle.picoella.specs.Types.{bounds, leaves}
+use Rattle.picoella.specs.Language.{bounds, leaves}
 use Rattle.records.specs.Words.{wordA, wordB}
 use Rattle.records.specs.Kinds.{TypeKind, flat, pair, types}
 use Rattle.records.specs.Kinds as Kinds
 use Rattle.records.specs.Says.{kindAt}
-use Rattle.records.specs.TypeRecords.{typeAt, TypeRecord}
+use Rattle.records.specs.Trees.{typeAt, TypeRecord}
 use Rattle.records.specs.Written.{Written}
 use Rattle.records.proofs.Table.{askOfKind, kind-of-sort}
 use Rattle.records.proofs.Asked.{as-kind-asks}
@@ -77,7 +77,7 @@ pub record Filled (bs : List ℕ) (i : ℕ) (out : List ℕ) : Type 0 where
   pub long : length out ≡ length bs
   pub so-far : take i out ≡ take i bs
 
-module _ (bs : List ℕ) where
+module _ {bs : List ℕ} where
   pub none-filled : (out : List ℕ) → length out ≡ length bs → Filled bs 0 out
   none-filled out e = record { few = omega arith; long = e; so-far = refl }
 

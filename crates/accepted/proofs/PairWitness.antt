@@ -14,14 +14,35 @@ use Rattle.records.specs.DecodingRows.{DecodingRow, saysExpression, decodingRow
 use Rattle.records.specs.Words.{word, count}
 use Rattle.records.specs.Kinds.{rowOf, kindOf, askOf, expression, tuple, first, second, letIn}
 use Rattle.records.specs.Kinds as Kinds
-use Rattle.records.specs.Says.{wellSaid, kindAt, sortAt}
+use Rattle.records.specs.Says.{wellSaid, kindAt, sortAt, namings}
 use Rattle.records.specs.Sized.{Sized}
-use Rattle.records.specs.Namings.{namings}
-use Rattle.records.specs.TypeRecords.{typeWithin, typeAt, pairBelow, pairOf, TypeRecord}
-use Rattle.records.specs.Trees.{chainWithin, chain, alternativesWithin, alternatives, treeWithin, treeAt, circuit}
-use Rattle.structure.specs.Depth.{ancestryWithin, ancestry, depth, nesting}
-use Rattle.structure.specs.Rules.{wrongLength, wrongHeader, wrongRecord, wrongNaming, wrongType, tooDeep}
-use Rattle.structure.specs.Passes.{Passes}
+use Rattle.records.specs.Trees.{
+  typeWithin,
+  typeAt,
+  pairBelow,
+  pairOf,
+  TypeRecord,
+  chainWithin,
+  chain,
+  alternativesWithin,
+  alternatives,
+  treeWithin,
+  treeAt,
+  circuit,
+}
+use Rattle.structure.specs.Rules.{
+  ancestryWithin,
+  ancestry,
+  depth,
+  nesting,
+  wrongLength,
+  wrongHeader,
+  wrongRecord,
+  wrongNaming,
+  wrongType,
+  tooDeep,
+  Passes,
+}
 use Rattle.structure.specs.LeafTable.{Counts}
 use Rattle.structure.specs.PairIndex.{EndsAt, Linked, Indexed}
 use Rattle.typing.specs.Judgements.{patternFits}
@@ -72,40 +93,40 @@ type-there : TypeRecord sheet 3
 type-there = record { past = omega arith; there = below 3 (omega arith); sort = sorts .0 }
 
 abbrev table : List ℕ
-table = Callable.table sheet passes full
+table = Callable.table passes full
 
 abbrev scope : List ℕ
-scope = Callable.scope sheet passes full
+scope = Callable.scope passes full
 
 abbrev noted : List ℕ
-noted = Callable.noted sheet passes full
+noted = Callable.noted passes full
 
 abbrev index : List ℕ
-index = Callable.index sheet passes full
+index = Callable.index passes full
 
 abbrev types : List ℕ
-types = Callable.types sheet passes full
+types = Callable.types passes full
 
 -- the index of pair types, before record 3 and whole
 note-pairs-there : (none : List ℕ) × Sized sheet (count sheet) × Indexed sheet 0 none
-note-pairs-there = Callable.note-pairs-callable sheet passes full
+note-pairs-there = Callable.note-pairs-callable passes full
 
 note-pair-there : (lower : List ℕ) × Sized sheet (count sheet) × (3 < count sheet) × Indexed sheet 3 lower
-note-pair-there = Callable.note-pair-callable sheet passes full 3 (below 3 (omega arith))
+note-pair-there = Callable.note-pair-callable passes full 3 (below 3 (omega arith))
 
 wrong-type-there
     : (counted : List ℕ) × (lower : List ℕ) × Sized sheet (count sheet) × (3 < count sheet) × Counts sheet (count sheet) counted
     × Indexed sheet 3 lower
-wrong-type-there = Callable.wrong-type-callable sheet passes full 3 (below 3 (omega arith))
+wrong-type-there = Callable.wrong-type-callable passes full 3 (below 3 (omega arith))
 
 holds-another-there : Sized sheet (count sheet) × Linked (count sheet) index × (1 < 12288)
-holds-another-there = Callable.holds-another-callable sheet passes full 1 (omega arith)
+holds-another-there = Callable.holds-another-callable passes full 1 (omega arith)
 
 slot-of-there : Sized sheet (count sheet) × Linked (count sheet) index
-slot-of-there = Callable.slot-of-callable sheet passes full
+slot-of-there = Callable.slot-of-callable passes full
 
 pair-of-there : Sized sheet (count sheet) × Indexed sheet (count sheet) index
-pair-of-there = Callable.pair-of-callable sheet passes full
+pair-of-there = Callable.pair-of-callable passes full
 
 declared : pairBelow sheet 1 2 (count sheet) ≡ 3
 unfolding count kindOf rowOf word
@@ -118,13 +139,13 @@ pair-found =
 
 -- the types of patterns, at record 16
 note-type-there : (above : List ℕ) × TypingPattern sheet (count sheet) index above 16
-note-type-there = Callable.note-type-callable sheet passes full 16 (below 16 (omega arith))
+note-type-there = Callable.note-type-callable passes full 16 (below 16 (omega arith))
 
 one-type-there : (above : List ℕ) × TypingPattern sheet (count sheet) index above 16 × (sortAt sheet 16 ≡ Kinds.patterns)
-one-type-there = Callable.one-type-callable sheet passes full 16 (below 16 (omega arith)) (sorts .1)
+one-type-there = Callable.one-type-callable passes full 16 (below 16 (omega arith)) (sorts .1)
 
 pattern-type-there : Fitting sheet (count sheet) 16 3 × PatternsTyped sheet 0 types
-pattern-type-there = Callable.pattern-type-callable sheet passes full 16 3 (below 16 (omega arith)) (sorts .1) type-there
+pattern-type-there = Callable.pattern-type-callable passes full 16 3 (below 16 (omega arith)) (sorts .1) type-there
 
 fits : patternFits sheet (alternatives sheet 16) 3 ≡ true
 unfolding alternatives alternativesWithin kindOf rowOf word count
@@ -140,22 +161,22 @@ of-let-there
     : Judging sheet (count sheet) table scope 1 4 noted
     × (kindAt sheet 4 ≡ expression letIn)
     × TypeTables sheet (count sheet) index types
-of-let-there = Callable.of-kind-callable sheet passes full letIn 4 (below 4 (omega arith)) (kinds .0)
+of-let-there = Callable.of-kind-callable passes full letIn 4 (below 4 (omega arith)) (kinds .0)
 
 of-pair-there
     : Judging sheet (count sheet) table scope 1 5 noted
     × (kindAt sheet 5 ≡ expression tuple)
     × TypeTables sheet (count sheet) index types
-of-pair-there = Callable.of-kind-callable sheet passes full tuple 5 (below 5 (omega arith)) (kinds .1)
+of-pair-there = Callable.of-kind-callable passes full tuple 5 (below 5 (omega arith)) (kinds .1)
 
 of-first-there : Judging sheet (count sheet) table scope 1 6 noted × PartAt sheet 6 2 × TypeTables sheet (count sheet) index types
-of-first-there = Callable.of-part-callable sheet passes full 2 6 (below 6 (omega arith)) (at-first (kinds .2))
+of-first-there = Callable.of-part-callable passes full 2 6 (below 6 (omega arith)) (at-first (kinds .2))
 
 of-second-there : Judging sheet (count sheet) table scope 1 8 noted × PartAt sheet 8 3 × TypeTables sheet (count sheet) index types
-of-second-there = Callable.of-part-callable sheet passes full 3 8 (below 8 (omega arith)) (at-second (kinds .3))
+of-second-there = Callable.of-part-callable passes full 3 8 (below 8 (omega arith)) (at-second (kinds .3))
 
 pair-type-there : Closing sheet (count sheet) table 5 noted × Indexed sheet (count sheet) index
-pair-type-there = Callable.pair-type-callable sheet passes full 5 (below 5 (omega arith))
+pair-type-there = Callable.pair-type-callable passes full 5 (below 5 (omega arith))
 
 part-type-there : Closing sheet (count sheet) table 6 noted × TypeRecord sheet 3 × (1 < 2) × (2 < 4)
-part-type-there = Callable.part-type-callable sheet passes full 6 3 2 (below 6 (omega arith)) type-there (omega arith) (omega arith)
+part-type-there = Callable.part-type-callable passes full 6 3 2 (below 6 (omega arith)) type-there (omega arith) (omega arith)

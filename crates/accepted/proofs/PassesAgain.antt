@@ -17,10 +17,22 @@ use Rattle.records.specs.Rewritten.{Rewritten}
 use Rattle.records.specs.Written.{Written}
 use Rattle.records.proofs.Rewritten.{SameWords, same-count, same-kind, same-type, same-pair-below, same-namings, leaf-or-same}
 use Rattle.records.proofs.WrittenAgain.{written-again}
-use Rattle.answers.specs.Lowest.{lowest}
-use Rattle.structure.specs.Depth.{ancestryWithin, ancestry, depth, isFeedback, howMany, nesting}
-use Rattle.structure.specs.Rules.{wrongLength, wrongHeader, wrongRecord, wrongNaming, wrongType, tooDeep}
-use Rattle.structure.specs.Passes.{Passes}
+use Rattle.answers.specs.Answers.{lowest}
+use Rattle.structure.specs.Rules.{
+  ancestryWithin,
+  ancestry,
+  depth,
+  isFeedback,
+  howMany,
+  nesting,
+  wrongLength,
+  wrongHeader,
+  wrongRecord,
+  wrongNaming,
+  wrongType,
+  tooDeep,
+  Passes,
+}
 use Rattle.answers.proofs.Lowest.{lowest-none}
 use Rattle.structure.proofs.Passes.{written}
 
@@ -34,34 +46,34 @@ unfolding wrongRecord
 record-passes w zero h = refl
 record-passes w (suc r) h = rw (w .others (suc r) (omega arith) h, w .said (suc r) h) (and-false (ltb 0 (suc r)))
 
-module _ (s s′ : List ℕ) (o : Rewritten s s′) where
+module _ {s s′ : List ℕ} (o : Rewritten s s′) where
   pub same-length : wrongLength s′ ≡ wrongLength s
   unfolding wrongLength
   same-length = rw (o .length)
 
   pub same-naming-rule : (r : ℕ) → wrongNaming s′ r ≡ wrongNaming s r
   unfolding wrongNaming
-  same-naming-rule r = rw (same-namings s s′ o r)
+  same-naming-rule r = rw (same-namings o r)
 
   pub same-type-rule : (r : ℕ) → wrongType s′ r ≡ wrongType s r
   unfolding wrongType
-  same-type-rule r = go (leaf-or-same s s′ o r)
+  same-type-rule r = go (leaf-or-same o r)
     where
       go : (kindAt s r ≡ leaf) ⊎ SameWords s s′ r → wrongType s′ r ≡ wrongType s r
-      go (inl e) = rw (same-kind s s′ o r, e)
+      go (inl e) = rw (same-kind o r, e)
       go (inr e) =
           rw (
             e 0 (omega arith),
             e 2 (omega arith),
             e 3 (omega arith),
-            same-pair-below s s′ o (word s r 2) (word s r 3) r,
-            same-type s s′ o r,
+            same-pair-below o (word s r 2) (word s r 3) r,
+            same-type o r,
           )
 
   ancestries-same : (n : ℕ) → ancestryWithin s′ n ≡ ancestryWithin s n
   unfolding ancestryWithin
   ancestries-same zero = refl
-  ancestries-same (suc n) = fun-ext (λ r. rw (ancestries-same n, same-namings s s′ o r))
+  ancestries-same (suc n) = fun-ext (λ r. rw (ancestries-same n, same-namings o r))
 
   same-ancestry : (r : ℕ) → ancestry s′ r ≡ ancestry s r
   unfolding ancestry
@@ -73,20 +85,20 @@ module _ (s s′ : List ℕ) (o : Rewritten s s′) where
 
   same-nesting : (r : ℕ) → nesting s′ r ≡ nesting s r
   unfolding nesting
-  same-nesting r = ap₂ howMany (fun-ext (λ n. ap (λ k. isFeedback k && eqb (n .at) 3) (same-kind s s′ o (n .by)))) (same-ancestry r)
+  same-nesting r = ap₂ howMany (fun-ext (λ n. ap (λ k. isFeedback k && eqb (n .at) 3) (same-kind o (n .by)))) (same-ancestry r)
 
   pub same-depth-rule : (r : ℕ) → tooDeep s′ r ≡ tooDeep s r
   unfolding tooDeep
-  same-depth-rule r = rw (same-kind s s′ o r, same-depth r, same-nesting r)
+  same-depth-rule r = rw (same-kind o r, same-depth r, same-nesting r)
 
   -- a search finds the same where the rule is the same
   same-search : (rule rule′ : ℕ → Bool) → ((r : ℕ) → rule′ r ≡ rule r) → lowest rule (count s) ≡ none
       → lowest rule′ (count s′) ≡ none
-  same-search rule rule′ same e = rw (same-count s s′ o) (ap (λ p. lowest p (count s)) (fun-ext same) ∙ e)
+  same-search rule rule′ same e = rw (same-count o) (ap (λ p. lowest p (count s)) (fun-ext same) ∙ e)
 
   pub passes-again : Passes s → ((r : ℕ) → r < count s → kindAt s r ≡ leaf → wordA s′ r ≤ 255) → Passes s′
   passes-again p small =
-      let w = written-again s s′ (written p) o small in
+      let w = written-again (written p) o small in
       record {
         length = same-length ∙ p .length;
         header = header-passes w;

@@ -13,11 +13,9 @@ use lib.Seq.{getD-at}
 use Rattle.records.specs.Words.{count, wordA, wordB}
 use Rattle.records.specs.Kinds.{Sort, sortNumber}
 use Rattle.records.specs.Kinds as Kinds
-use Rattle.records.specs.Says.{sortAt}
+use Rattle.records.specs.Says.{sortAt, namings}
 use Rattle.records.specs.Sized.{Sized}
-use Rattle.records.specs.Namings.{namings}
-use Rattle.structure.specs.Passes.{Passes}
-use Rattle.structure.specs.Depth.{depth, nesting}
+use Rattle.structure.specs.Rules.{Passes, depth, nesting}
 use Rattle.structure.specs.NamerTable.{summary, Holds}
 use Rattle.structure.specs.LeafTable.{typeLeaves, Counts}
 use Rattle.structure.specs.DepthTable.{Capped, Placed, Placing}
@@ -46,7 +44,7 @@ tabulated f (suc n) = go (tabulated f n)
 pub none-held : Holds (λ _. []) (replicate 4096 0)
 none-held = record { long = length-replicate {A = ℕ} 4096 0; entries = λ r h. getD-replicate {A = ℕ} 4096 r 0 0 h }
 
-module _ (s : List ℕ) (p : Passes s) (whole : length s ≡ 12 * count s) where
+module _ {s : List ℕ} (p : Passes s) (whole : length s ≡ 12 * count s) where
   few : count s ≤ 4096
   few = length-fits s (p .length) .1
 
@@ -129,7 +127,7 @@ module _ (s : List ℕ) (p : Passes s) (whole : length s ≡ 12 * count s) where
         g .0,
         t .0,
         w .0,
-        root-ready s (count s) (g .0) (g .1) (t .0) (w .0) (wordA s 0) (wordB s 0) refl refl (ap (λ (x : ℕ). x ∷ []) (t .2 0 (omega arith)))
+        root-ready (g .1) (t .0) (w .0) refl refl (ap (λ (x : ℕ). x ∷ []) (t .2 0 (omega arith)))
             (t .1) (w .1),
       )
 
@@ -137,17 +135,17 @@ module _ (s : List ℕ) (p : Passes s) (whole : length s ≡ 12 * count s) where
   closing = let r = ready in (r .0, r .2, record { ground = r .3 .ground; there = r .3 .there; long = r .3 .long })
 
   pub patterns : (table : List ℕ) × PatternsFrom s (count s) table
-  patterns = let c = counts in (_, judged-widths s (count s) (c .0) p refl (c .1))
+  patterns = let c = counts in (_, judged-widths p refl (c .1))
 
   -- the patterns' entries added one by one, the last record first
   one-lower : (m : ℕ) → m < count s → (table : List ℕ) → PatternsFrom s (m + 1) table → (lower : List ℕ) × PatternsFrom s m lower
   one-lower m h table o = go (sortAt s m) refl
     where
       other : (σ : Sort) → sortAt s m ≡ σ → (σ ≡ Kinds.patterns → ⊥) → (lower : List ℕ) × PatternsFrom s m lower
-      other σ e f = (table, unpatterned s (count s) m table p refl h o (λ z. f (sym e ∙ z)))
+      other σ e f = (table, unpatterned (count s) m p refl h o (λ z. f (sym e ∙ z)))
 
       go : (σ : Sort) → sortAt s m ≡ σ → (lower : List ℕ) × PatternsFrom s m lower
-      go Kinds.patterns e = (_, entry-stored s (count s) m table p refl h o (patternEntry s m) e refl)
+      go Kinds.patterns e = (_, entry-stored (count s) m p refl h o (patternEntry s m) e refl)
       go Kinds.headers e = other Kinds.headers e (λ z. let y = ap sortNumber z in omega arith)
       go Kinds.types e = other Kinds.types e (λ z. let y = ap sortNumber z in omega arith)
       go Kinds.expressions e = other Kinds.expressions e (λ z. let y = ap sortNumber z in omega arith)

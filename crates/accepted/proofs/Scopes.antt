@@ -10,8 +10,7 @@ use mathlib.Core.Path.{_≡_, refl, sym, ap, _∙_}
 use native.Mathlib.Omega.{arith}
 use lib.ListN.{length, getD, length-map}
 use lib.Dec.{ltb}
-use Rattle.picoella.specs.Types.{Ty, leaves, bounds, Within, within-none, within-leaf, OfType}
-use Rattle.picoella.specs.Typing.{Typed}
+use Rattle.picoella.specs.Language.{Ty, leaves, bounds, Within, within-none, within-leaf, OfType, Typed}
 use Rattle.records.specs.Words.{word, count, wordA, wordB, wordC, wordD}
 use Rattle.records.specs.Kinds.{
   ExpressionKind,
@@ -28,8 +27,7 @@ use Rattle.records.specs.Kinds.{
   part,
 }
 use Rattle.records.specs.Says.{kindAt, sortAt}
-use Rattle.records.specs.TypeRecords.{typeAt, TypeRecord, Declared}
-use Rattle.records.specs.Trees.{chain, treeStep, treeAt, circuit}
+use Rattle.records.specs.Trees.{typeAt, TypeRecord, Declared, chain, treeStep, treeAt, circuit, typeRecordOf}
 use Rattle.records.specs.Decoding.{leafValues, expressionOf}
 use Rattle.records.proofs.Table.{askOfKind}
 use Rattle.records.proofs.Asked.{part-of-kind, root-is}
@@ -37,9 +35,7 @@ use Rattle.records.proofs.Types.{few-leaves, leaves-of-bounds}
 use Rattle.records.proofs.TypeRecords.{type-word}
 use Rattle.records.proofs.Trees.{tree-of}
 use Rattle.records.proofs.Grown.{grown-tree}
-use Rattle.structure.specs.Depth.{depth}
-use Rattle.typing.specs.Judgements.{typeRecordOf}
-use Rattle.structure.specs.Passes.{Passes}
+use Rattle.structure.specs.Rules.{depth, Passes}
 use Rattle.verdict.specs.Verdict.{verdict}
 use Rattle.verdict.specs.Scopes.{
   Scope,

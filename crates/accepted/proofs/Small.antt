@@ -9,21 +9,20 @@ use native.Mathlib.Nat.{div-add-mod'}
 use borrow.Author.Tests.{eqb-true, ltb-false, not-false}
 use lib.Dec.{eqb, ltb}
 use lib.ListN.{length}
-use Rattle.picoella.specs.Types.{leaves}
+use Rattle.picoella.specs.Language.{leaves}
 use Rattle.records.specs.Words.{count}
 use Rattle.records.specs.Sized.{Sized}
-use Rattle.records.specs.TypeRecords.{typeAt, TypeRecord}
+use Rattle.records.specs.Trees.{typeAt, TypeRecord}
 use Rattle.records.proofs.Tests.{neither-left, neither-right}
 use Rattle.records.proofs.Types.{few-leaves}
-use Rattle.structure.specs.Passes.{Passes}
-use Rattle.structure.specs.Rules.{wrongLength}
+use Rattle.structure.specs.Rules.{Passes, wrongLength}
 use Rattle.structure.proofs.Passes.{types-fit}
 use Rattle.verdict.specs.Verdict.{verdict}
 use Rattle.verdict.specs.declared.Verdict.the-variants.{Accepted}
 use Rattle.verdict.proofs.Exact.{exact}
 use Rattle.accepted.proofs.Requirements.{sized}
 
-module _ (s : List ℕ) (t : ℕ) (v : verdict s ≡ Accepted t) where
+module _ (s : List ℕ) {t : ℕ} (v : verdict s ≡ Accepted t) where
   pub accepted-passes : Passes s
   accepted-passes = exact s t .0 v .0
 
@@ -48,7 +47,7 @@ module _ (s : List ℕ) (t : ℕ) (v : verdict s ≡ Accepted t) where
 
   pub accepted-sized : Sized s (length s / 12)
   unfolding count
-  accepted-sized = sized s accepted-passes accepted-records
+  accepted-sized = sized accepted-passes accepted-records
 
   pub type-few : (r : ℕ) → TypeRecord s r → leaves (typeAt s r) ≤ 64
   type-few r u = few-leaves (types-fit accepted-passes) r (u .there) (u .sort)

@@ -14,11 +14,11 @@ use Rattle.records.specs.Words.{count, word}
 use Rattle.records.specs.Kinds.{PatternKind, pattern, whole, constructor, parts, patterns, typeOf, flat}
 use Rattle.records.specs.Kinds as Kinds
 use Rattle.records.specs.Says.{kindAt, sortAt}
-use Rattle.records.specs.TypeRecords.{pairBelow}
+use Rattle.records.specs.Trees.{pairBelow}
 use Rattle.records.specs.Written.{Written}
 use Rattle.records.proofs.Table.{askOfKind, kind-of-sort}
 use Rattle.records.proofs.Asked.{as-kind-asks, part-of-kind}
-use Rattle.structure.specs.Passes.{Passes}
+use Rattle.structure.specs.Rules.{Passes}
 use Rattle.structure.specs.PairIndex.{another, onwards, Ends, EndsAt, Linked, Indexed}
 use Rattle.structure.proofs.Passes.{written}
 use Rattle.structure.proofs.PairSearch.{no-pairs-indexed, goes-on, no-pair-noted, lower-noted, pair-noted}
@@ -166,7 +166,7 @@ module _ (s : List ℕ) (p : Passes s) (full : length s ≡ 12 * count s) where
   types-above (suc k) m e =
       let x = types-above k (m + 1) (omega arith) in
       let q : TypingPattern s (count s) (pairs .0) (x .0) m =
-      record { sized = sized s p full; passes = p; indexed = pairs .1; there = omega arith; above = x .1 } in
+      record { sized = sized p full; passes = p; indexed = pairs .1; there = omega arith; above = x .1 } in
       one-more-typed q
 
   pub types-from : (m : ℕ) → m ≤ count s → (types : List ℕ) × PatternsTyped s m types
@@ -176,7 +176,7 @@ module _ (s : List ℕ) (p : Passes s) (full : length s ≡ 12 * count s) where
   typing-pattern r h =
       let x = types-from (r + 1) (omega arith) in (
         x .0,
-        record { sized = sized s p full; passes = p; indexed = pairs .1; there = h; above = x .1 },
+        record { sized = sized p full; passes = p; indexed = pairs .1; there = h; above = x .1 },
       )
 
   pub type-tables : (types : List ℕ) × TypeTables s (count s) (pairs .0) types

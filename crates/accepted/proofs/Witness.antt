@@ -5,15 +5,36 @@ use Prim.Native.Nat.{ℕ, _+_, _*_, _%_, _/_, _<_}
 use mathlib.Core.List.{List, [], _∷_}
 use mathlib.Core.Path.{_≡_, refl}
 use Rattle.records.specs.Words.{word, count, wordB, kindWord}
-use Rattle.records.specs.Kinds.{rowOf, kindOf, askOf, askNumbers, expression, feedback, delay, ifMatches, name, constant}
+use Rattle.records.specs.Kinds.{rowOf, kindOf, askOf, expression, feedback, delay, ifMatches, name, constant}
+use Rattle.records.specs.AskNumbers.{askNumbers}
 use Rattle.records.specs.Kinds as Kinds
-use Rattle.records.specs.Says.{wellSaid, kindAt, sortAt}
-use Rattle.records.specs.Namings.{namings}
-use Rattle.records.specs.TypeRecords.{typeWithin, typeAt, pairOf, TypeRecord}
-use Rattle.records.specs.Trees.{chainWithin, chain, alternativesWithin, alternatives, treeWithin, treeAt, circuit}
-use Rattle.structure.specs.Depth.{ancestryWithin, ancestry, depth, nesting}
-use Rattle.structure.specs.Rules.{wrongLength, wrongHeader, wrongRecord, wrongNaming, wrongType, tooDeep}
-use Rattle.structure.specs.Passes.{Passes}
+use Rattle.records.specs.Says.{wellSaid, kindAt, sortAt, namings}
+use Rattle.records.specs.Trees.{
+  typeWithin,
+  typeAt,
+  pairOf,
+  TypeRecord,
+  chainWithin,
+  chain,
+  alternativesWithin,
+  alternatives,
+  treeWithin,
+  treeAt,
+  circuit,
+}
+use Rattle.structure.specs.Rules.{
+  ancestryWithin,
+  ancestry,
+  depth,
+  nesting,
+  wrongLength,
+  wrongHeader,
+  wrongRecord,
+  wrongNaming,
+  wrongType,
+  tooDeep,
+  Passes,
+}
 use Rattle.verdict.specs.Verdict.{inputs, byTypes, byRecords, verdict}
 use Rattle.verdict.specs.Promises.{WellTyped}
 use Rattle.verdict.specs.Scopes.{root}
@@ -22,7 +43,7 @@ use native.Mathlib.Omega.{arith}
 use lib.ListN.{length}
 use Rattle.records.specs.Sized.{Sized}
 use Rattle.records.specs.Written.{Written}
-use Rattle.picoella.specs.Types.{leaves}
+use Rattle.picoella.specs.Language.{leaves}
 use Rattle.structure.specs.NamerTable.{Holds}
 use Rattle.structure.specs.LeafTable.{Counts}
 use Rattle.structure.specs.PairIndex.{Indexed}
@@ -82,25 +103,25 @@ unfolding count
 full = refl
 
 sized-there : Sized sheet (count sheet)
-sized-there = sized sheet (passes .0) full
+sized-there = sized (passes .0) full
 
 fitted-there : CheckingDepths sheet (count sheet)
-fitted-there = fitted sheet (passes .0) full
+fitted-there = fitted (passes .0) full
 
 placing-there : (namers : List ℕ) × (depths : List ℕ) × (nestings : List ℕ) × Placing sheet (count sheet) 1 namers depths nestings
-placing-there = placing sheet (passes .0) full
+placing-there = placing (passes .0) full
 
 placed-there : (depths : List ℕ) × (nestings : List ℕ) × Placed sheet (count sheet) depths nestings
-placed-there = placed sheet (passes .0) full
+placed-there = placed (passes .0) full
 
 ready-there : (table : List ℕ) × (stack : List ℕ) × (widths : List ℕ) × Judging sheet (count sheet) table stack 1 (wordB sheet 0) widths
-ready-there = ready sheet (passes .0) full
+ready-there = ready (passes .0) full
 
 closing-there : (table : List ℕ) × (widths : List ℕ) × Closing sheet (count sheet) table (wordB sheet 0) widths
-closing-there = closing sheet (passes .0) full
+closing-there = closing (passes .0) full
 
 patterns-there : (table : List ℕ) × PatternsFrom sheet (count sheet) table
-patterns-there = patterns sheet (passes .0) full
+patterns-there = patterns (passes .0) full
 
 -- the pattern of record 7 is held against the type of record 1
 matching-there : Fitting sheet (count sheet) 7 1
@@ -115,19 +136,19 @@ matching-there = record {
 
 -- and what each function of the check asks, at a record of T and with the tables of `Callable`
 abbrev table : List ℕ
-table = Callable.table sheet (passes .0) full
+table = Callable.table (passes .0) full
 
 abbrev scope : List ℕ
-scope = Callable.scope sheet (passes .0) full
+scope = Callable.scope (passes .0) full
 
 abbrev noted : List ℕ
-noted = Callable.noted sheet (passes .0) full
+noted = Callable.noted (passes .0) full
 
 abbrev index : List ℕ
-index = Callable.index sheet (passes .0) full
+index = Callable.index (passes .0) full
 
 abbrev types : List ℕ
-types = Callable.types sheet (passes .0) full
+types = Callable.types (passes .0) full
 
 below : (r : ℕ) → r < 17 → r < count sheet
 unfolding count
@@ -159,101 +180,101 @@ note-word-there
     × (0 < 3)
     × (3 < 6)
     × (length namers ≡ 4096)
-note-word-there = Callable.note-word-callable sheet (passes .0) full 2 3 (below 2 (omega arith)) (omega arith) (omega arith)
+note-word-there = Callable.note-word-callable (passes .0) full 2 3 (below 2 (omega arith)) (omega arith) (omega arith)
 
 note-all-there : (namers : List ℕ) × Sized sheet (count sheet) × Holds (λ _. []) namers
-note-all-there = Callable.note-all-callable sheet (passes .0) full
+note-all-there = Callable.note-all-callable (passes .0) full
 
 count-type-there : (counted : List ℕ) × Sized sheet (count sheet) × (1 < count sheet) × Written sheet × Counts sheet 1 counted
-count-type-there = Callable.count-type-callable sheet (passes .0) full 1 (below 1 (omega arith))
+count-type-there = Callable.count-type-callable (passes .0) full 1 (below 1 (omega arith))
 
 count-types-there : (counted : List ℕ) × Sized sheet (count sheet) × Written sheet × Counts sheet 0 counted
-count-types-there = Callable.count-types-callable sheet (passes .0) full
+count-types-there = Callable.count-types-callable (passes .0) full
 
 first-wrong-type-there : (counted : List ℕ) × Sized sheet (count sheet) × Counts sheet (count sheet) counted
-first-wrong-type-there = Callable.first-wrong-type-callable sheet (passes .0) full
+first-wrong-type-there = Callable.first-wrong-type-callable (passes .0) full
 
 place-there
     : (namers : List ℕ) × (depths : List ℕ) × (nestings : List ℕ) × Placing sheet (count sheet) 3 namers depths nestings
     × (3 < count sheet)
-place-there = Callable.place-callable sheet (passes .0) full 3 (omega arith) (below 3 (omega arith))
+place-there = Callable.place-callable (passes .0) full 3 (omega arith) (below 3 (omega arith))
 
 judge-expression-there : Judging sheet (count sheet) table scope 1 2 noted × TypeTables sheet (count sheet) index types
-judge-expression-there = Callable.judge-expression-callable sheet (passes .0) full 2 (below 2 (omega arith)) (sorts .1)
+judge-expression-there = Callable.judge-expression-callable (passes .0) full 2 (below 2 (omega arith)) (sorts .1)
 
 of-feedback-there
     : Judging sheet (count sheet) table scope 1 2 noted
     × (kindAt sheet 2 ≡ expression feedback)
     × TypeTables sheet (count sheet) index types
-of-feedback-there = Callable.of-kind-callable sheet (passes .0) full feedback 2 (below 2 (omega arith)) (kinds .0)
+of-feedback-there = Callable.of-kind-callable (passes .0) full feedback 2 (below 2 (omega arith)) (kinds .0)
 
 of-delay-there
     : Judging sheet (count sheet) table scope 1 3 noted
     × (kindAt sheet 3 ≡ expression delay)
     × TypeTables sheet (count sheet) index types
-of-delay-there = Callable.of-kind-callable sheet (passes .0) full delay 3 (below 3 (omega arith)) (kinds .1)
+of-delay-there = Callable.of-kind-callable (passes .0) full delay 3 (below 3 (omega arith)) (kinds .1)
 
 of-if-there
     : Judging sheet (count sheet) table scope 1 5 noted
     × (kindAt sheet 5 ≡ expression ifMatches)
     × TypeTables sheet (count sheet) index types
-of-if-there = Callable.of-kind-callable sheet (passes .0) full ifMatches 5 (below 5 (omega arith)) (kinds .2)
+of-if-there = Callable.of-kind-callable (passes .0) full ifMatches 5 (below 5 (omega arith)) (kinds .2)
 
 of-name-there : Judging sheet (count sheet) table scope 1 6 noted × (kindAt sheet 6 ≡ expression name)
-of-name-there = Callable.of-name-callable sheet (passes .0) full 6 (below 6 (omega arith)) (kinds .3)
+of-name-there = Callable.of-name-callable (passes .0) full 6 (below 6 (omega arith)) (kinds .3)
 
 of-constant-there : Closing sheet (count sheet) table 11 noted × (kindAt sheet 11 ≡ expression constant)
-of-constant-there = Callable.of-constant-callable sheet (passes .0) full 11 (below 11 (omega arith)) (kinds .4)
+of-constant-there = Callable.of-constant-callable (passes .0) full 11 (below 11 (omega arith)) (kinds .4)
 
 note-there : Closing sheet (count sheet) table 2 noted × TypeRecord sheet 1
-note-there = Callable.note-callable sheet (passes .0) full 2 1 (below 2 (omega arith)) type-there
+note-there = Callable.note-callable (passes .0) full 2 1 (below 2 (omega arith)) type-there
 
 bound-at-there : Ground sheet (count sheet) table × TypeRecord sheet 1 × (0 < leaves (typeAt sheet 1))
-bound-at-there = Callable.bound-at-callable sheet (passes .0) full 1 0 type-there one-leaf
+bound-at-there = Callable.bound-at-callable (passes .0) full 1 0 type-there one-leaf
 
 take-off-there : Sized sheet (count sheet) × Passes sheet × TypeRecord sheet 1 × LeafOrEnd sheet 4
-take-off-there = Callable.take-off-callable sheet (passes .0) full 1 4 type-there (below 4 (omega arith)) (sorts .2)
+take-off-there = Callable.take-off-callable (passes .0) full 1 4 type-there (below 4 (omega arith)) (sorts .2)
 
 leaves-fit-there : Sized sheet (count sheet) × Passes sheet × TypeRecord sheet 1 × (4 < count sheet) × (sortAt sheet 4 ≡ Kinds.leafs)
-leaves-fit-there = Callable.leaves-fit-callable sheet (passes .0) full 1 4 type-there (below 4 (omega arith)) (sorts .2)
+leaves-fit-there = Callable.leaves-fit-callable (passes .0) full 1 4 type-there (below 4 (omega arith)) (sorts .2)
 
 note-type-there : (above : List ℕ) × TypingPattern sheet (count sheet) index above 7
-note-type-there = Callable.note-type-callable sheet (passes .0) full 7 (below 7 (omega arith))
+note-type-there = Callable.note-type-callable (passes .0) full 7 (below 7 (omega arith))
 
 one-type-there : (above : List ℕ) × TypingPattern sheet (count sheet) index above 7 × (sortAt sheet 7 ≡ Kinds.patterns)
-one-type-there = Callable.one-type-callable sheet (passes .0) full 7 (below 7 (omega arith)) (sorts .3)
+one-type-there = Callable.one-type-callable (passes .0) full 7 (below 7 (omega arith)) (sorts .3)
 
 note-types-there
     : (none : List ℕ) × Sized sheet (count sheet) × Passes sheet × Indexed sheet (count sheet) index
     × PatternsTyped sheet (count sheet) none
-note-types-there = Callable.note-types-callable sheet (passes .0) full
+note-types-there = Callable.note-types-callable (passes .0) full
 
 pattern-type-there : Fitting sheet (count sheet) 7 1 × PatternsTyped sheet 0 types
-pattern-type-there = Callable.pattern-type-callable sheet (passes .0) full 7 1 (below 7 (omega arith)) (sorts .3) type-there
+pattern-type-there = Callable.pattern-type-callable (passes .0) full 7 1 (below 7 (omega arith)) (sorts .3) type-there
 
 check-rules-there : Ground sheet (count sheet) table × (length noted ≡ 4096)
-check-rules-there = Callable.check-rules-callable sheet (passes .0) full
+check-rules-there = Callable.check-rules-callable (passes .0) full
 
 check-depths-there
     : (namers : List ℕ) × (counted : List ℕ) × CheckingDepths sheet (count sheet) × Holds (namings sheet) namers
     × Counts sheet (count sheet) counted
     × (length noted ≡ 4096)
-check-depths-there = Callable.check-depths-callable sheet (passes .0) full
+check-depths-there = Callable.check-depths-callable (passes .0) full
 
 check-types-there : (namers : List ℕ) × CheckingTypes sheet (count sheet) × Holds (namings sheet) namers
-check-types-there = Callable.check-types-callable sheet (passes .0) full
+check-types-there = Callable.check-types-callable (passes .0) full
 
 check-names-there : CheckingNamings sheet (count sheet)
-check-names-there = Callable.check-names-callable sheet (passes .0) full
+check-names-there = Callable.check-names-callable (passes .0) full
 
 check-records-there : CheckingRecords sheet (count sheet)
-check-records-there = Callable.check-records-callable sheet (passes .0) full
+check-records-there = Callable.check-records-callable (passes .0) full
 
 note-pattern-there
     : (above : List ℕ) × Sized sheet (count sheet) × Passes sheet × (7 < count sheet) × PatternsFrom sheet (7 + 1) above
-note-pattern-there = Callable.note-pattern-callable sheet (passes .0) full 7 (below 7 (omega arith))
+note-pattern-there = Callable.note-pattern-callable (passes .0) full 7 (below 7 (omega arith))
 
 fill-bounds-there
-    : (out : List ℕ) × Accepting sheet (count sheet) (widths sheet (passes .0) full .0) × TypeRecord sheet 1
+    : (out : List ℕ) × Accepting sheet (count sheet) (widths (passes .0) full .0) × TypeRecord sheet 1
     × (length out ≡ leaves (typeAt sheet 1))
-fill-bounds-there = Callable.fill-bounds-callable sheet (passes .0) full 1 1 accepted type-there
+fill-bounds-there = Callable.fill-bounds-callable (passes .0) full 1 1 accepted type-there

@@ -2,14 +2,14 @@
 // with the table that the check filled.
 ghost use mathlib.Core.Path.{_≡_};
 ghost use lib.ListN.{length};
-ghost use Rattle.picoella.specs.Types.{bounds, leaves};
-ghost use Rattle.records.specs.TypeRecords.{typeAt, TypeRecord};
+ghost use Rattle.picoella.specs.Language.{bounds, leaves};
+ghost use Rattle.records.specs.Trees.{typeAt, TypeRecord};
 ghost use Rattle.accepted.specs.Accepting.{Accepting};
-use records::Widths;
+use records::WidthTable;
 use typing::bound_at;
 
 // The constructor counts of the leaves of type t.
-pub fn fill_bounds(sheet: &[u8], n: usize, widths: &Widths, t: usize, out: &mut [u8])
+pub fn fill_bounds(sheet: &[u8], n: usize, widths: &WidthTable, t: usize, out: &mut [u8])
     requires { ⌜ Accepting (now sheet) n (now widths) × TypeRecord (now sheet) t × (length (now out) ≡ leaves (typeAt (now sheet) t)) ⌝ }
     ensures { λ _. ⌜ now (out .exit) ≡ bounds (typeAt (now (sheet .entry)) t) ⌝ }
 {

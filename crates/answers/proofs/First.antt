@@ -11,10 +11,9 @@ use mathlib.Core.Logic.{_≢_}
 use native.Mathlib.Omega.{arith}
 use lib.Dec.{eqb}
 use borrow.Author.Tests.{eqb-true, not-false}
-use Rattle.answers.specs.Answers.{code, place, whenDone, onDone}
+use Rattle.answers.specs.Answers.{code, place, whenDone, onDone, Check, check, when, orRefused, firstApplying, NoneApplies, Refuses, SaysOf}
 use Rattle.answers.specs.declared.Answer.{Answer}
 use Rattle.answers.specs.declared.Answer.the-variants.{Done, Refused}
-use Rattle.answers.specs.Checks.{Check, check, when, orRefused, firstApplying, NoneApplies, Refuses, SaysOf}
 
 -- a test that does not apply fails
 pub when-none : (b : Bool) (p : ℕ) → when b p ≡ none → b ≡ false

@@ -2,10 +2,9 @@
 use Prim.Native.Nat.{ℕ, _*_, _+_, _/_, _%_, _^_, _<_}
 use mathlib.Core.Path.{_≡_, refl, subst}
 use native.Mathlib.Omega.{arith}
-use Rattle.answers.specs.Answers.{inOne}
+use Rattle.answers.specs.Answers.{inOne, SaysOf, firstApplying, Check}
 use Rattle.answers.specs.declared.Answer.{Answer}
 use Rattle.answers.specs.declared.Answer.the-variants.{Done}
-use Rattle.answers.specs.Checks.{SaysOf, firstApplying, Check}
 use Rattle.answers.specs.Promises.{AnswerPromises}
 use mathlib.Core.List.{List}
 use Rattle.answers.proofs.Lowest as Low

@@ -8,7 +8,7 @@ use mathlib.Core.Option.{Option, none, some}
 use mathlib.Core.Path.{_≡_, refl, subst}
 use native.Mathlib.Omega.{arith}
 use native.Mathlib.Decide.{ℕ-discrete, decLt}
-use Rattle.answers.specs.Lowest.{lowest, orHere}
+use Rattle.answers.specs.Answers.{lowest, orHere}
 
 never-both : (b : Bool) → b ≡ true → b ≡ false → ⊥
 never-both b t f = let z : _≡_ {A = ℕ} 0 1 = cc in omega arith

@@ -5,11 +5,9 @@ use mathlib.Core.Logic.{_↔_}
 use mathlib.Core.Bool.{Bool, true, false}
 use mathlib.Core.List.{List}
 use mathlib.Core.Option.{none, some}
-use Rattle.answers.specs.Answers.{inOne}
+use Rattle.answers.specs.Answers.{inOne, lowest, Check, firstApplying, SaysOf}
 use Rattle.answers.specs.declared.Answer.{Answer}
 use Rattle.answers.specs.declared.Answer.the-variants.{Done}
-use Rattle.answers.specs.Lowest.{lowest}
-use Rattle.answers.specs.Checks.{Check, firstApplying, SaysOf}
 
 -- the number r passes the test, and no lower one does
 abbrev pub LowestBreaking : (ℕ → Bool) → ℕ → ℕ → Type 0

@@ -11,7 +11,7 @@ use lib.ListN.{length, getD, set, length-set}
 use lib.Seq.{getD-set-same, getD-set-other}
 use lib.Dec.{eqb}
 use borrow.Author.Tests.{eq-eqb, ne-eqb}
-use Rattle.instructions.specs.Assembly.{DeclaredType, flatType, pairType, leavesNumbered, oneMore, withSecond}
+use Rattle.instructions.specs.Assembly.{DeclaredType, flatType, pairedType, leavesNumbered, oneMore, withSecond}
 use Rattle.assembling.specs.Held.{leavesOver, lastConstructors, TypesHeld, TypesGathered, typesAfter}
 use Rattle.instructions.specs.Assembly.{typeHeld, heldTypes}
 
@@ -22,7 +22,7 @@ ap₃ f {c = c} {x = x} {y = y} p q r = ap₂ (λ u v. f u v c) p q ∙ ap (f x 
 leaves-over : (x : DeclaredType) (T : List DeclaredType) (d : ℕ)
     → leavesNumbered (x ∷ T) d ≡ cond (eqb d (suc (length T))) (leavesOver T x) (leavesNumbered T d)
 leaves-over (flatType n) T d = refl
-leaves-over (pairType a b) T d = refl
+leaves-over (pairedType a b) T d = refl
 
 pub no-leaves : (T : List DeclaredType) → leavesNumbered T 0 ≡ 0
 no-leaves [] = refl
@@ -45,7 +45,7 @@ few-leaves (flatType n ∷ T) d = go (eqb d (suc (length T))) (few-leaves T d)
     go : (b : Bool) → leavesNumbered T d ≤ 64 → cond b 1 (leavesNumbered T d) ≤ 64
     go true l = omega arith
     go false l = l
-few-leaves (pairType x y ∷ T) d = go (eqb d (suc (length T))) (few-leaves T d)
+few-leaves (pairedType x y ∷ T) d = go (eqb d (suc (length T))) (few-leaves T d)
   where
     go : (b : Bool) → leavesNumbered T d ≤ 64 → cond b (min 64 (leavesNumbered T x + leavesNumbered T y)) (leavesNumbered T d) ≤ 64
     go true l = omega arith
@@ -199,7 +199,7 @@ pub flat-read : (p a b : ℕ) → p ≡ 0 → typeHeld p a b ≡ flatType a
 flat-read zero a b e = refl
 flat-read (suc p) a b e = absurd (omega arith)
 
-pub pair-read : (p a b : ℕ) → (p ≡ 0 → ⊥) → typeHeld p a b ≡ pairType a b
+pub pair-read : (p a b : ℕ) → (p ≡ 0 → ⊥) → typeHeld p a b ≡ pairedType a b
 pair-read zero a b e = absurd (e refl)
 pair-read (suc p) a b e = refl
 
@@ -212,7 +212,7 @@ pair-not-counted p a b T e = ap (λ x. oneMore (x ∷ T)) (pair-read p a b e) �
 pub flat-not-second : (p a b t : ℕ) (T : List DeclaredType) → p ≡ 0 → withSecond t (typeHeld p a b ∷ T) ≡ typeHeld p a b ∷ T
 flat-not-second p a b t T e = ap (λ x. withSecond t (x ∷ T)) (flat-read p a b e) ∙ ap (λ x. x ∷ T) (sym (flat-read p a b e))
 
-pub second-read : (p a b t : ℕ) (T : List DeclaredType) → (p ≡ 0 → ⊥) → withSecond t (typeHeld p a b ∷ T) ≡ pairType a t ∷ T
+pub second-read : (p a b t : ℕ) (T : List DeclaredType) → (p ≡ 0 → ⊥) → withSecond t (typeHeld p a b ∷ T) ≡ pairedType a t ∷ T
 second-read p a b t T e = ap (λ x. withSecond t (x ∷ T)) (pair-read p a b e)
 
 pub constructors-few : (P F S : List ℕ) {i k : ℕ} {L : List ℕ} (m : ℕ) → TypesGathered i k P F S L → k ≡ suc m → getD P m 0 ≡ 0 → getD F m 0 ≤ i

@@ -8,7 +8,7 @@ use lib.ListN.{length, getD}
 use lib.Dec.{eqb}
 use Rattle.instructions.specs.Instruction.{Instruction, instructionOf, heldCode}
 use Rattle.instructions.specs.Assembly.{typeHeld, heldTypes}
-use Rattle.instructions.specs.Assembly.{DeclaredType, flatType, pairType, leavesNumbered, oneMore, withFirst, withSecond, Assembly, assembly}
+use Rattle.instructions.specs.Assembly.{DeclaredType, flatType, pairedType, leavesNumbered, oneMore, withFirst, withSecond, Assembly, assembly}
 
 abbrev pub heldNumbers : List ℕ → ℕ → List ℕ
 heldNumbers table zero = []
@@ -27,7 +27,7 @@ untypedAt false p = some p
 -- the leaves of a type over those before it
 abbrev pub leavesOver : List DeclaredType → DeclaredType → ℕ
 leavesOver T (flatType n) = 1
-leavesOver T (pairType a b) = min 64 (leavesNumbered T a + leavesNumbered T b)
+leavesOver T (pairedType a b) = min 64 (leavesNumbered T a + leavesNumbered T b)
 
 -- tables of instructions
 pub record Threefold (ops firsts seconds : List ℕ) : Type 0 where
@@ -46,7 +46,7 @@ pub record TypesHeld (k : ℕ) (pairs firsts seconds leaves : List ℕ) : Type 0
 abbrev pub lastConstructors : List DeclaredType → ℕ
 lastConstructors [] = 0
 lastConstructors (flatType n ∷ T) = n
-lastConstructors (pairType a b ∷ T) = 0
+lastConstructors (pairedType a b ∷ T) = 0
 
 -- after i instructions there are at most i types, and the last has at most i constructors
 pub record TypesGathered (i k : ℕ) (pairs firsts seconds leaves : List ℕ) : Type 0 where

@@ -8,11 +8,12 @@ ghost use Rattle.instructions.specs.Assembly.{nothingAssembled, assembleAll};
 ghost use Rattle.assembling.specs.Held.{Threefold, heldAssembly, Assembling};
 ghost use Rattle.assembling.specs.Assembled.{Assembled};
 use crate::steps::Progress;
-use crate::steps::step;
-use crate::types::Operands;
-use crate::types::Ops;
-use crate::types::SIZE;
+use crate::steps::assembly_step;
 use crate::types::number;
+use instructions::Operands;
+use instructions::Ops;
+use instructions::no_operands;
+use instructions::no_ops;
 
 // The number of declared types, the input's type, the number of instructions in record order and of the expression's records, and whether
 // all constants have a type, or the place of the first that has none.
@@ -23,18 +24,6 @@ pub struct Totals {
     pub records: usize,
     pub ok: bool,
     pub place: usize,
-}
-
-pub fn no_ops() -> Ops
-    ensures { λ r. ⌜ length r ≡ 65536 ⌝ }
-{
-    [0; SIZE]
-}
-
-pub fn no_operands() -> Operands
-    ensures { λ r. ⌜ length r ≡ 65536 ⌝ }
-{
-    [0; SIZE]
 }
 
 // Before the first instruction.
@@ -78,7 +67,7 @@ fn assemble_all(
     let mut s = no_progress();
     let mut i = 0;
     while i < n {
-        s = step(
+        s = assembly_step(
             ops[i],
             firsts[i],
             seconds[i],

@@ -5,8 +5,8 @@ ghost use Prim.Native.Nat.{ℕ, _+_, _-_, _≤_, _<_};
 ghost use Rattle.instructions.specs.Instruction.{Instruction, instructionOf, close, heldCode};
 ghost use Rattle.instructions.specs.Assembly.{patternOnto, patternsBelow};
 ghost use Rattle.assembling.specs.Held.{Threefold, heldOnto};
-use crate::types::Operands;
-use crate::types::Ops;
+use instructions::Operands;
+use instructions::Ops;
 
 const CLOSE: u8 = 15;
 
@@ -19,7 +19,7 @@ pub struct Shifted {
 }
 
 // One instruction more.
-pub fn push(
+pub fn push_instruction(
     op: u8,
     a: u16,
     b: u16,
@@ -69,7 +69,7 @@ fn move_onto(
     let mut n = code;
     let mut k = from;
     while k < to {
-        push(
+        push_instruction(
             wait_ops[k],
             wait_firsts[k],
             wait_seconds[k],
@@ -110,7 +110,7 @@ pub fn close_if(
         wait_firsts,
         wait_seconds,
     );
-    push(CLOSE, 0, 0, n, ops, firsts, seconds);
+    push_instruction(CLOSE, 0, 0, n, ops, firsts, seconds);
     Shifted {
         code: n + 1,
         waiting: start,

@@ -6,9 +6,9 @@ ghost use lib.ListN.{length};
 ghost use Rattle.instructions.specs.Assembly.{outermost, pairClosed, topConstant};
 ghost use Rattle.assembling.specs.Held.{heldNumbers};
 ghost use Rattle.instructions.specs.Assembly.{heldTypes};
-use crate::types::Operands;
-use crate::types::Ops;
 use crate::types::constant_pair;
+use instructions::Operands;
+use instructions::Ops;
 
 // One number more.
 pub fn push_number(x: u16, n: usize, numbers: &mut Operands)

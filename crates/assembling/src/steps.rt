@@ -8,16 +8,16 @@ ghost use Rattle.instructions.specs.Assembly.{assemble, firstUntyped};
 ghost use Rattle.assembling.specs.Held.{TypesHeld, Threefold, recordCounts, recordsAdded, untypedAt, heldAssembly, Assembling};
 ghost use Rattle.instructions.specs.Assembly.{heldTypes};
 use crate::code::close_if;
-use crate::code::push;
+use crate::code::push_instruction;
 use crate::constants::close_pair;
 use crate::constants::outer_place;
 use crate::constants::push_number;
 use crate::constants::top_number;
-use crate::types::Operands;
-use crate::types::Ops;
+use crate::types::byte_number;
 use crate::types::leaf_count;
 use crate::types::note_type;
-use crate::types::wide;
+use instructions::Operands;
+use instructions::Ops;
 
 const INPUT_HAS: u8 = 4;
 
@@ -93,8 +93,8 @@ fn records_added(op: u8, a: u16, types: usize, leaves: &Ops) -> usize
     ensures { λ r. ⌜ (r < 512) × ((pairs firsts seconds : List ℕ) → TypesHeld types pairs firsts seconds (now (leaves .entry)) → r ≡ recordsAdded (heldTypes pairs firsts seconds types) op a) ⌝ }
 {
     let table = record_table();
-    let at = wide(op);
-    let own = wide(table[at]);
+    let at = byte_number(op);
+    let own = byte_number(table[at]);
     if op == USE_UNDEFINED {
         return own + leaf_count(a, types, leaves);
     }
@@ -148,7 +148,7 @@ fn step_constant(
     let mut r = s;
     if op <= USE_ZEROS {
         r.records = s.records + records_added(op, a, s.types, leaves);
-        push(op, a, b, s.code, code_ops, code_firsts, code_seconds);
+        push_instruction(op, a, b, s.code, code_ops, code_firsts, code_seconds);
         r.code = s.code + 1;
         push_number(a, s.constants, numbers);
         r.constants = s.constants + 1;
@@ -162,7 +162,7 @@ fn step_constant(
     }
     if op == END_CONSTANT {
         let t = top_number(s.constants, numbers);
-        push(
+        push_instruction(
             CONSTANT_HAS,
             t,
             0,
@@ -186,7 +186,7 @@ fn step_constant(
 }
 
 // One instruction; the counts after it.
-pub fn step(
+pub fn assembly_step(
     op: u8,
     a: u16,
     b: u16,
@@ -218,7 +218,7 @@ pub fn step(
     }
     if op < CLOSE_IF {
         r.records = s.records + records_added(op, a, s.types, leaves);
-        push(op, a, b, s.code, code_ops, code_firsts, code_seconds);
+        push_instruction(op, a, b, s.code, code_ops, code_firsts, code_seconds);
         r.code = s.code + 1;
         return r;
     }
@@ -239,7 +239,7 @@ pub fn step(
     }
     if op < USE_LEAF {
         r.records = s.records + records_added(op, a, s.types, leaves);
-        push(op, a, b, s.waiting, wait_ops, wait_firsts, wait_seconds);
+        push_instruction(op, a, b, s.waiting, wait_ops, wait_firsts, wait_seconds);
         r.waiting = s.waiting + 1;
         return r;
     }

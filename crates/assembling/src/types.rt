@@ -6,13 +6,8 @@ ghost use lib.ListN.{length};
 ghost use Rattle.instructions.specs.Assembly.{leavesNumbered, pairNumbered, constantPairNumbered, oneMore, withFirst, withSecond};
 ghost use Rattle.assembling.specs.Held.{leavesOver, TypesHeld, TypesGathered, typesAfter};
 ghost use Rattle.instructions.specs.Assembly.{typeHeld, heldTypes};
-
-// One more than the instructions of a text.
-pub const SIZE: usize = 65536;
-
-pub type Ops = [u8; SIZE];
-
-pub type Operands = [u16; SIZE];
+use instructions::Operands;
+use instructions::Ops;
 
 // The most leaves that are counted.
 const LEAVES: usize = 64;
@@ -34,7 +29,7 @@ pub fn number(x: u16) -> usize
     x as usize
 }
 
-pub fn wide(x: u8) -> usize
+pub fn byte_number(x: u8) -> usize
     ensures { λ r. ⌜ (r ≡ x) × (r < 256) ⌝ }
 {
     x as usize
@@ -52,7 +47,7 @@ pub fn leaf_count(d: u16, k: usize, leaves: &Ops) -> usize
     if k < at {
         return 0;
     }
-    wide(leaves[at - 1])
+    byte_number(leaves[at - 1])
 }
 
 // The leaves of a pair type over k types.

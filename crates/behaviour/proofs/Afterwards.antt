@@ -8,13 +8,13 @@ use mathlib.Core.Path.{_≡_, sym, ap, _∙_}
 use native.Mathlib.Omega.{arith}
 use lib.ListN.{length, getD}
 use borrow.Author.Tests.{eq-eqb}
-use Rattle.picoella.specs.Types.{Ty, leaves, OfType}
-use Rattle.records.specs.TypeRecords.{typeAt}
+use Rattle.picoella.specs.Language.{Ty, leaves, OfType}
+use Rattle.records.specs.Trees.{typeAt}
 use Rattle.verdict.specs.Verdict.{verdict}
 use Rattle.meaning.specs.Values.{AllOf, all-none, all-more}
 use Rattle.meaning.specs.Undecided.{undecidedRule}
 use Rattle.meaning.proofs.UndecidedRule.{rule-lawful}
-use Rattle.behaviour.specs.Sheets.{OnlyDelays}
+use Rattle.behaviour.specs.Afterwards.{OnlyDelays, WellFormed, inputOf, outputIn, Afterwards}
 use Rattle.behaviour.specs.Cycle.{output, sheetAfterCycle}
 use Rattle.behaviour.proofs.Cycle.{after-only-delays}
 use Rattle.stimulus.specs.Stimulus.{inputType, cycleCount, endToEnd, cycles}
@@ -30,7 +30,6 @@ use Rattle.behaviour.specs.Run.{
   finalOut,
   finalNext,
 }
-use Rattle.behaviour.specs.Afterwards.{WellFormed, inputOf, outputIn, Afterwards}
 use Rattle.stimulus.proofs.Pieces.{joined-length, joined-at, typed-wide}
 use Rattle.stimulus.proofs.Stimulus.{cycles-typed, cycles-counted, cycle-at}
 use Rattle.behaviour.proofs.Run.{
@@ -96,7 +95,7 @@ module _ {s stim out next : List ℕ} {t : ℕ} (h : WellFormed s stim out next 
   only-delays : (k : ℕ) → k < cycleCount s stim → OnlyDelays (sheet k) (sheet (suc k))
   only-delays k b =
       rw (sheet-next undecidedRule s (cycles s stim) k (in-list k b))
-      (after-only-delays undecidedRule rule-lawful (sheet k) t (accepted k ∙ h .accepted) (getD (cycles s stim) k [])
+      (after-only-delays undecidedRule rule-lawful (sheet k) (accepted k ∙ h .accepted) (getD (cycles s stim) k [])
       (input-at rule-lawful s (h .accepted) inputs-typed k (in-list k b)))
 
   among-outputs : (k : ℕ) → k < cycleCount s stim → k < length outs

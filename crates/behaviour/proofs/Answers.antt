@@ -12,9 +12,23 @@ use native.Mathlib.Nat.{mul-le-mul-left}
 use lib.ListN.{length}
 use lib.Dec.{eqb}
 use borrow.Author.Tests.{eqb-true, eqb-false, eq-eqb, ne-eqb, not-false}
-use Rattle.answers.specs.Answers.{code, place, inOne, packed, whenDone, onDone}
-use Rattle.answers.specs.Checks.{Check, check, when, orRefused, firstApplying, NoneApplies, Refuses, SaysOf}
-use Rattle.answers.specs.Lowest.{lowest}
+use Rattle.answers.specs.Answers.{
+  code,
+  place,
+  inOne,
+  packed,
+  whenDone,
+  onDone,
+  Check,
+  check,
+  when,
+  orRefused,
+  firstApplying,
+  NoneApplies,
+  Refuses,
+  SaysOf,
+  lowest,
+}
 use Rattle.answers.specs.declared.Answer.{Answer}
 use Rattle.answers.specs.declared.Answer.the-variants.{Done, Refused}
 use Rattle.answers.proofs.Lowest.{lowest-some-passes}
@@ -34,8 +48,8 @@ use Rattle.verdict.specs.Verdict.{verdictAnswer, sheetChecks, outputType, verdi
 use Rattle.verdict.specs.declared.Verdict.{Verdict}
 use Rattle.verdict.specs.declared.Verdict.the-variants.{Accepted}
 use Rattle.verdict.specs.declared.Verdict.the-variants as Verdicts
-use Rattle.picoella.specs.Types.{leaves}
-use Rattle.records.specs.TypeRecords.{typeAt}
+use Rattle.picoella.specs.Language.{leaves}
+use Rattle.records.specs.Trees.{typeAt}
 use Rattle.records.proofs.Types.{some-leaves}
 use Rattle.accepted.proofs.Calls.{accepted-output, call-place}
 use Rattle.accepted.proofs.Laws.{verdict-first, first-accepted}
@@ -117,7 +131,7 @@ slices-small s t stim out next v =
     (λ p h. let z = when-some (not (eqb (length out) needed)) needed p h in omega arith)
     (λ h. place-or 11 (when (not (eqb (length next) (length s))) (length s)) done
     (λ p k. let z = when-some (not (eqb (length next) (length s))) (length s) p k in
-    let l = accepted-length s t v in omega arith)
+    let l = accepted-length s v in omega arith)
     (λ k. omega arith))))
   where
     cycles-few : (s : List ℕ) (t : ℕ) (stim : List ℕ) → verdict s ≡ Accepted t → wrongStimulus s stim ≡ false
@@ -126,7 +140,7 @@ slices-small s t stim out next v =
         let h = stimulus-whole s stim whole in
         let some = some-leaves (inputType s) in
         let m : cycleCount s stim * 1 ≤ cycleCount s stim * inputLeaves s = mul-le-mul-left (cycleCount s stim) (omega arith) in
-        let few = accepted-few s t v in
+        let few = accepted-few s v in
         let n : cycleCount s stim * leaves (typeAt s t) ≤ cycleCount s stim * 64 = mul-le-mul-left (cycleCount s stim) few in
         let e = h .1 in
         let f = h .0 in

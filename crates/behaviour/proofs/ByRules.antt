@@ -5,8 +5,8 @@ use Prim.Native.Nat.{ℕ}
 use mathlib.Core.List.{List, [], _∷_, map}
 use mathlib.Core.Path.{_≡_, refl, sym, ap, ap₂, _∙_}
 use lib.ListN.{length, length-map}
-use Rattle.picoella.specs.Types.{Ty}
-use Rattle.records.specs.TypeRecords.{typeAt}
+use Rattle.picoella.specs.Language.{Ty}
+use Rattle.records.specs.Trees.{typeAt}
 use Rattle.meaning.specs.Elaboration.{erase}
 use Rattle.meaning.specs.Values.{AllOf, all-none, all-more}
 use Rattle.meaning.specs.Constants.{ConstantTree, AllConstantsOf, of-all-none, of-all-more, flatten}
@@ -17,9 +17,8 @@ use Rattle.meaning.proofs.UndecidedRule.{rule-lawful}
 use Rattle.stimulus.specs.Stimulus.{inputType, cycles, endToEnd}
 use Rattle.stimulus.proofs.Stimulus.{cycles-typed, cycles-joined, cycles-counted}
 use Rattle.behaviour.specs.Terms.{circuitTerm}
-use Rattle.behaviour.specs.Run.{outputsBy, finalOut, finalNext, sheetAfter}
+use Rattle.behaviour.specs.Run.{outputsBy, finalOut, finalNext, sheetAfter, RunsByRules}
 use Rattle.behaviour.specs.Afterwards.{WellFormed}
-use Rattle.behaviour.specs.ByRules.{RunsByRules}
 use Rattle.behaviour.specs.Promises.{CallByRules}
 use Rattle.behaviour.proofs.Run.{outputs-counted, outputs-typed}
 use Rattle.behaviour.proofs.Reduces.{decodes-to, decodes-after, run-reduces}

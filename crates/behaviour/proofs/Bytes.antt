@@ -11,7 +11,9 @@ use Rattle.verdict.specs.Verdict.{verdict}
 use Rattle.verdict.specs.declared.Verdict.the-variants.{Accepted}
 use Rattle.meaning.specs.Elaboration.{Term}
 use Rattle.behaviour.specs.Delays.{Entry, entries, putAll}
-use Rattle.behaviour.specs.Sheets.{lowByte, highByte, putWord, write, Bytes, Writable}
+use Rattle.records.specs.Words.{lowByte, highByte}
+use Rattle.behaviour.specs.Sheets.{putWord, write, Writable}
+use Rattle.behaviour.specs.Afterwards.{Bytes}
 use Rattle.behaviour.proofs.Frames.{Small}
 use Rattle.behaviour.proofs.Stores.{written-small}
 
@@ -32,4 +34,4 @@ put-bytes (e ∷ es) s small b =
 
 pub write-bytes : (s : List ℕ) (t : ℕ) → verdict s ≡ Accepted t → (e : Term) → Writable s t e → Bytes s → Bytes (write s e)
 unfolding write
-write-bytes s t v e h b = put-bytes (entries e) s (written-small s t v e h) b
+write-bytes s t v e h b = put-bytes (entries e) s (written-small v h) b

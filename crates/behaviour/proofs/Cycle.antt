@@ -6,9 +6,9 @@ use Prim.Native.Nat.{ℕ}
 use mathlib.Core.List.{List, [], _∷_}
 use mathlib.Core.Path.{_≡_}
 use native.Mathlib.Omega.{arith}
-use Rattle.picoella.specs.Types.{OfType}
+use Rattle.picoella.specs.Language.{OfType}
 use Rattle.records.specs.Words.{wordA}
-use Rattle.records.specs.TypeRecords.{typeAt, Declared}
+use Rattle.records.specs.Trees.{typeAt, Declared}
 use Rattle.records.proofs.Rewritten.{same-type}
 use Rattle.verdict.specs.Verdict.{verdict}
 use Rattle.verdict.specs.declared.Verdict.the-variants.{Accepted}
@@ -18,7 +18,8 @@ use Rattle.meaning.specs.Evaluation.{next}
 use Rattle.meaning.proofs.EvaluationMonotone.{eval-typed}
 use Rattle.meaning.proofs.NextTyped.{next-frame, next-typed}
 use Rattle.behaviour.specs.Terms.{circuitTerm}
-use Rattle.behaviour.specs.Sheets.{Bytes, Writable, OnlyDelays}
+use Rattle.behaviour.specs.Afterwards.{Bytes, OnlyDelays}
+use Rattle.behaviour.specs.Sheets.{Writable}
 use Rattle.behaviour.specs.Cycle.{outputBy, afterBy}
 use Rattle.behaviour.proofs.Terms.{circuit-typed}
 use Rattle.behaviour.proofs.Sheets.{write-only-delays, only-leaves, header-same, accepted-written, write-read, write-accepted}
@@ -28,7 +29,7 @@ module _
     (undecided : List ℕ → List ℕ → List ℕ)
     (law : Lawful undecided)
     (s : List ℕ)
-    (t : ℕ)
+    {t : ℕ}
     (v : verdict s ≡ Accepted t)
     (i : List ℕ)
     (given : OfType (typeAt s (wordA s 0)) i)
@@ -57,7 +58,7 @@ module _
 
     -- types are read off the sheet after it as off the sheet
     pub after-types : (r : ℕ) → typeAt (afterBy undecided s i) r ≡ typeAt s r
-    after-types = same-type s (afterBy undecided s i) (only-leaves (accepted-written s v) after-only-delays)
+    after-types = same-type (only-leaves (accepted-written s v) after-only-delays)
 
     pub after-input : wordA (afterBy undecided s i) 0 ≡ wordA s 0
     after-input = header-same (accepted-written s v) after-only-delays 2 (omega arith)

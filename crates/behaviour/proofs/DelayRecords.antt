@@ -42,13 +42,12 @@ use Rattle.records.specs.Kinds.{
   part,
 }
 use Rattle.records.specs.Says.{kindAt, sortAt}
-use Rattle.records.specs.Trees.{chain, treeStep, treeAt, circuit}
-use Rattle.records.specs.Held.{delayLeaves}
+use Rattle.records.specs.Trees.{chain, treeStep, treeAt, circuit, delayLeaves}
 use Rattle.records.specs.Written.{Written}
 use Rattle.records.proofs.Table.{askOfKind, kind-of-sort}
 use Rattle.records.proofs.Asked.{part-of-kind, root-is, past-header}
 use Rattle.records.proofs.Trees.{from-above, tree-of}
-use Rattle.structure.specs.Passes.{Passes}
+use Rattle.structure.specs.Rules.{Passes}
 use Rattle.accepted.proofs.Laws.{written, well-named}
 use Rattle.verdict.specs.Verdict.{verdict}
 use Rattle.verdict.specs.Scopes.{
@@ -132,7 +131,7 @@ pub circuit-delay-leaf : {s : List ℕ} → Written s → (l : ℕ) → List·Me
 unfolding circuit
 circuit-delay-leaf {s} w l m = let p = root-is w in tree-leaves w l (wordB s 0) (p .1) (p .2) m
 
-module _ (s : List ℕ) (t : ℕ) (v : verdict s ≡ Accepted t) where
+module _ {s : List ℕ} {t : ℕ} (v : verdict s ≡ Accepted t) where
   passes : Passes s
   passes = accepted-by-types s t .0 v .0
 
@@ -213,6 +212,6 @@ module _ (s : List ℕ) (t : ℕ) (v : verdict s ≡ Accepted t) where
       → ((l : ℕ) → List·Memᴰ l (delayLeaves (circuit s)) → l < length table)
       → write s e ≡ copied (store e table) (delayChains s (count s)) s
   write-copied-chains e h table room =
-      write-copied s t v e h table (delayChains s (count s)) room
+      write-copied v h table (delayChains s (count s)) room
       (λ l m. let d = circuit-delay-leaf (written passes) l m in leaf-in-chains (count s) l d (d .there))
       (λ l m n. absurd (n (record-delay-leaf l (chains-leaf (count s) l m (omega arith)))))

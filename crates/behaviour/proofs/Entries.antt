@@ -7,7 +7,7 @@ use Prim.Native.Nat.{ℕ}
 use mathlib.Core.List.{List, [], _∷_, _++_, map, List·Memᴰ, List·Memᴰ·head, List·Memᴰ·tail}
 use mathlib.Core.Path.{_≡_, refl, sym, ap, _∙_}
 use native.Mathlib.Decide.{ℕ-discrete}
-use Rattle.records.specs.Held.{Distinct}
+use Rattle.records.specs.Written.{Distinct}
 use Rattle.behaviour.specs.Delays.{Entry, putAll}
 
 -- the places of entries

@@ -7,7 +7,7 @@ use Prim.Native.Nat.{ℕ, _≤_, _<_}
 use mathlib.Core.List.{List, [], _∷_, _++_}
 use mathlib.Core.Path.{_≡_, refl, _∙_}
 use lib.ListN.{getD, take, drop}
-use Rattle.picoella.specs.Types.{Ty, leaves}
+use Rattle.picoella.specs.Language.{Ty, leaves}
 use Rattle.records.specs.Words.{count, wordA, wordB, wordC, wordD}
 use Rattle.records.specs.Kinds.{
   expression,
@@ -22,12 +22,10 @@ use Rattle.records.specs.Kinds.{
   delay,
 }
 use Rattle.records.specs.Says.{kindAt}
-use Rattle.records.specs.TypeRecords.{typeAt}
-use Rattle.records.specs.Trees.{chain, alternatives, treeAt, circuit}
+use Rattle.records.specs.Trees.{typeAt, chain, alternatives, treeAt, circuit, typeRecordOf}
 use Rattle.records.specs.Decoding.{leafValues, patternOf}
 use Rattle.records.specs.Written.{Written}
 use Rattle.records.proofs.Trees.{tree-of}
-use Rattle.typing.specs.Judgements.{typeRecordOf}
 use Rattle.verdict.specs.Verdict.{inputs}
 use Rattle.meaning.specs.Values.{undefined}
 use Rattle.meaning.specs.Matching.{matches}

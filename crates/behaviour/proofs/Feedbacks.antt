@@ -6,20 +6,17 @@ use Prim.Native.Nat.{ℕ, _≤_, _<_}
 use mathlib.Core.List.{List, [], _∷_, map}
 use mathlib.Core.Option.{some}
 use mathlib.Core.Path.{_≡_, refl, sym, ap, ap₂, subst, fun-ext, _∙_}
-use Rattle.picoella.specs.Types.{Ty}
-use Rattle.picoella.specs.Expressions.{Expr, Var, LetRec}
-use Rattle.picoella.specs.Typing.{here}
+use Rattle.picoella.specs.Language.{Ty, Expr, Var, LetRec, here}
 use Rattle.records.specs.Words.{count, kindWord, wordA, wordB, wordC}
 use Rattle.records.specs.Kinds.{expression, feedback, rowOf, kindOf}
 use Rattle.records.specs.Says.{kindAt}
-use Rattle.records.specs.TypeRecords.{typeAt, Declared}
-use Rattle.records.specs.Trees.{Tree, feedbackOf, treeAt}
+use Rattle.records.specs.Trees.{typeAt, Declared, Tree, feedbackOf, treeAt}
 use Rattle.records.specs.Rewritten.{Rewritten}
 use Rattle.records.proofs.Rewritten.{same-type, same-tree}
 use Rattle.records.proofs.Asked.{past-header}
 use Rattle.records.proofs.Trees.{tree-of}
 use Rattle.records.proofs.Decoding.{expressions-there}
-use Rattle.structure.specs.Passes.{Passes}
+use Rattle.structure.specs.Rules.{Passes}
 use Rattle.accepted.proofs.Laws.{written, well-named}
 use Rattle.verdict.specs.Verdict.{verdict}
 use Rattle.verdict.specs.Scopes.{Scope}
@@ -45,12 +42,11 @@ use Rattle.meaning.proofs.FeedbackLeast.{
   applications-fewest,
 }
 use Rattle.behaviour.specs.Terms.{term}
-use Rattle.behaviour.specs.Sheets.{OnlyDelays}
+use Rattle.behaviour.specs.Afterwards.{OnlyDelays, IteratesTo, FeedbackSettles, decodedAt, FeedbackAt}
 use Rattle.behaviour.proofs.Terms.{erase-term, checked-term}
 use Rattle.behaviour.proofs.Sheets.{only-leaves}
 use Rattle.behaviour.proofs.Scoped.{Scoped, every-expression}
 use Rattle.behaviour.proofs.ScopesAgain.{scope-again}
-use Rattle.behaviour.specs.Afterwards.{IteratesTo, FeedbackSettles, decodedAt, FeedbackAt}
 
 pub feedback-kind : (s : List ℕ) (q : ℕ) → kindWord s q ≡ 38 → kindAt s q ≡ expression feedback
 unfolding kindOf rowOf
@@ -132,13 +128,13 @@ module _ (s : List ℕ) {t : ℕ} (v : verdict s ≡ Accepted t) {q : ℕ} (belo
     only = only-leaves (written passes) o
 
     scope-there : Scope s′ q (scoped .0)
-    scope-there = scope-again s s′ only t v (scoped .1)
+    scope-there = scope-again only v (scoped .1)
 
     tree-there : treeAt s′ q ≡ feedbackOf q (wordA s q) defining body
-    tree-there = same-tree s s′ only q ∙ own-tree
+    tree-there = same-tree only q ∙ own-tree
 
     types-there : typeAt s′ ≡ typeAt s
-    types-there = fun-ext (same-type s s′ only)
+    types-there = fun-ext (same-type only)
 
     -- with these names in scope
     module _ {Γ : List ℕ} (scope : Scope s′ q Γ) where
@@ -154,7 +150,7 @@ module _ (s : List ℕ) {t : ℕ} (v : verdict s ≡ Accepted t) {q : ℕ} (belo
       whole-there : term s′ Γ (treeAt s′ q) ≡ Feedback (typeAt s (wordA s q)) (part-of defining) (part-of body)
       whole-there =
           ap (term s′ Γ) tree-there
-          ∙ ap (λ σ. Feedback σ (part-of defining) (part-of body)) (same-type s s′ only (wordA s q))
+          ∙ ap (λ σ. Feedback σ (part-of defining) (part-of body)) (same-type only (wordA s q))
 
       decodes-there
           : decodedAt s′ q ≡ some (LetRec (typeAt s (wordA s q)) (erase (part-of defining)) (erase (part-of body)))

@@ -15,12 +15,10 @@ use mathlib.Core.List.{
   Memᴰ·append-left,
   Memᴰ·append-right,
 }
-use mathlib.Core.Logic.{_⊎_, inl, inr}
 use mathlib.Core.Path.{_≡_, refl, sym, ap, _∙_}
 use native.Mathlib.Omega.{arith}
 use lib.Dec.{ltb}
 use lib.ListN.{length, getD, take, set, replicate, length-set, length-replicate}
-use lib.Seq.{getD-set-same}
 use Rattle.records.specs.Words.{word, count, wordA, wordB, wordC, wordD}
 use Rattle.records.specs.Kinds.{
   expression,
@@ -38,13 +36,12 @@ use Rattle.records.specs.Kinds.{
   part,
 }
 use Rattle.records.specs.Says.{kindAt, sortAt}
-use Rattle.records.specs.Trees.{alternatives, treeStep, treeAt, circuit}
+use Rattle.records.specs.Trees.{alternatives, treeStep, treeAt, circuit, typeRecordOf}
 use Rattle.records.specs.Written.{Written}
 use Rattle.records.proofs.Table.{askOfKind, kind-of-sort}
 use Rattle.records.proofs.Asked.{part-of-kind, root-is}
 use Rattle.records.proofs.Trees.{from-above, tree-of}
-use Rattle.structure.specs.Passes.{Passes}
-use Rattle.typing.specs.Judgements.{typeRecordOf}
+use Rattle.structure.specs.Rules.{Passes}
 use Rattle.verdict.specs.Verdict.{inputs, verdict}
 use Rattle.verdict.specs.declared.Verdict.the-variants.{Accepted}
 use Rattle.accepted.proofs.Laws.{written, accepted-by-types}
@@ -71,10 +68,11 @@ use Rattle.behaviour.specs.Reaching.{
   evaluates-delay,
   FiredWords,
 }
-use Rattle.behaviour.proofs.Members.{either, member-or-not}
-use Rattle.behaviour.proofs.Entries.{placesOf, place-of-member, put-leaves, put-elsewhere}
-use Rattle.behaviour.proofs.Cells.{entryAt, InTable, table-cells}
+use Rattle.behaviour.proofs.Members.{either}
+use Rattle.behaviour.proofs.Entries.{place-of-member, put-leaves, put-elsewhere}
+use Rattle.behaviour.proofs.Cells.{table-cells}
 use Rattle.behaviour.proofs.Reaching.{evaluates-scope, one-evaluation}
+use Rattle.behaviour.proofs.AgreedEntries.{entry-of-place, read-agreed, zeros}
 
 -- the entry of an IF that is reached with these names and values
 abbrev ifEntry : (sheet : List ℕ) → ℕ → List ℕ → List (List ℕ) → Entry
@@ -209,37 +207,6 @@ module _ (s : List ℕ) (t : ℕ) (v : verdict s ≡ Accepted t) (input : List �
   circuit-fires x m =
       let f = root-is (written passes) in
       tree-fires (written passes) (wordB s 0) (f .1) (f .2) (inputs s) (input ∷ []) evaluates-root m
-
--- a place of entries is that of one of them
-entry-of-place : (es : List Entry) (l : ℕ) → List·Memᴰ l (placesOf es) → (x : Entry) × List·Memᴰ x es × (x .place ≡ l)
-entry-of-place [] l m = elim m [ ]
-entry-of-place (x ∷ es) l (List·Memᴰ·head p) = (x, List·Memᴰ·head refl, sym p)
-entry-of-place (x ∷ es) l (List·Memᴰ·tail m) =
-    let o = entry-of-place es l m in (o .0, List·Memᴰ·tail (o .1), o .2)
-
--- where all entries of a place agree, their value is read there
-read-agreed : (es : List Entry) (h : List ℕ) (l n : ℕ) → l < length h → List·Memᴰ l (placesOf es)
-    → ((x : Entry) → List·Memᴰ x es → x .place ≡ l → x .value ≡ n) → getD (putAll enter es h) l 0 ≡ n
-read-agreed [] h l n room m agree = elim m [ ]
-read-agreed (x ∷ es) h l n room m agree =
-    go (member-or-not l (placesOf es)) m
-    (λ later. read-agreed es (set h (x .place) (x .value)) l n (rw (length-set h (x .place) (x .value)) room) later
-    (λ y k. agree y (List·Memᴰ·tail k)))
-  where
-    go : List·Memᴰ l (placesOf es) ⊎ (List·Memᴰ l (placesOf es) → ⊥) → List·Memᴰ l (placesOf (x ∷ es))
-        → (List·Memᴰ l (placesOf es) → getD (putAll enter es (set h (x .place) (x .value))) l 0 ≡ n)
-        → getD (putAll enter es (set h (x .place) (x .value))) l 0 ≡ n
-    go (inl later) m rest = rest later
-    go (inr last) (List·Memᴰ·tail later) rest = absurd (last later)
-    go (inr last) (List·Memᴰ·head p) rest =
-        put-elsewhere table-cells es l (set h (x .place) (x .value)) last
-        ∙ rw p (getD-set-same h (x .place) (x .value) 0 (rw p at room))
-        ∙ agree x (List·Memᴰ·head refl) (sym p)
-
-zeros : (n i : ℕ) → getD {A = ℕ} (replicate n 0) i 0 ≡ 0
-zeros zero i = refl
-zeros (suc n) zero = refl
-zeros (suc n) (suc i) = zeros n i
 
 pub fired-words : (s : List ℕ) (t : ℕ) → verdict s ≡ Accepted t → (input : List ℕ) → FiredWords s input
 unfolding fired

@@ -34,10 +34,10 @@ use Rattle.records.specs.Trees.{
   delayOf,
   alternatives,
   treeAt,
+  typeRecordOf,
 }
 use Rattle.records.specs.Written.{Written}
 use Rattle.records.proofs.Trees.{tree-of}
-use Rattle.typing.specs.Judgements.{typeRecordOf}
 use Rattle.behaviour.specs.Delays.{enter}
 use Rattle.behaviour.specs.Evaluated.{valueAt}
 use Rattle.behaviour.specs.Firing.{firstYes, firings, firedAt}

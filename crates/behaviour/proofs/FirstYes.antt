@@ -10,12 +10,12 @@ use mathlib.Core.Path.{_≡_, refl, sym, ap, ap₂, _∙_}
 use native.Mathlib.Omega.{arith}
 use lib.Dec.{ltb}
 use borrow.Author.Tests.{ltb-true, lt-ltb}
-use Rattle.picoella.specs.Patterns.{Pattern, Whole, Constructor, Parts}
+use Rattle.picoella.specs.Language.{Pattern, Whole, Constructor, Parts}
 use Rattle.records.specs.Words.{count, nextWord, wordA, wordB}
 use Rattle.records.specs.Kinds.{Kind, PatternKind, pattern, whole, constructor, parts, patterns, nextOf}
 use Rattle.records.specs.Says.{kindAt, sortAt}
-use Rattle.records.specs.TypeRecords.{typeAt}
 use Rattle.records.specs.Trees.{
+  typeAt,
   Alternatives,
   end,
   noPattern,

@@ -19,7 +19,7 @@ use mathlib.Core.List.{
 use mathlib.Core.Path.{_≡_, refl, sym, ap, ap₂, subst, _∙_}
 use native.Mathlib.Omega.{arith}
 use lib.ListN.{length}
-use Rattle.picoella.specs.Types.{Ty, bounds, leaves, Within, within-none, within-leaf, OfType}
+use Rattle.picoella.specs.Language.{Ty, bounds, leaves, Within, within-none, within-leaf, OfType}
 use Rattle.meaning.specs.Elaboration.{
   Term,
   Constant,

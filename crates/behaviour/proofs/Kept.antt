@@ -5,6 +5,10 @@ use Rattle.behaviour.proofs.Sheets.{write-only-delays, write-read, writ
 use Rattle.behaviour.proofs.Sheets as Sheets
 use Rattle.behaviour.specs.Promises.{RunPromises}
 use Rattle.stimulus.proofs.Stimulus.{cycles-joined, cycles-counted}
+use Rattle.records.specs.Trees.{treeAt}
+use Rattle.accepted.proofs.Small.{accepted-passes}
+use Rattle.accepted.proofs.Scopes.{scope-checked}
+use Rattle.behaviour.proofs.Terms.{checked-term, erase-term}
 use Rattle.behaviour.proofs.Run.{run-outputs, run-sheet}
 use Rattle.behaviour.proofs.Reduces.{run-reduces}
 use Rattle.behaviour.proofs.ByRules.{call-by-rules}
@@ -32,6 +36,8 @@ kept = record {
   run-reduces = run-reduces;
   call-by-rules = call-by-rules;
   holds-afterwards = λ s stim out next t result out′ next′ g h. gives-afterwards g h;
+  terms-elaborate = λ s t v q Γ c.
+      let p = accepted-passes s v in (checked-term p (scope-checked t p v c), erase-term s Γ (treeAt s q));
   sheet-run-ordered = sheet-run-ordered;
   late-scanner = late-scanner;
   late-input = late-input;

@@ -16,6 +16,7 @@ pub mod Scoped
 pub mod ScopesAgain
 pub mod Reaching
 pub mod DelayRecords
+pub mod AgreedEntries
 pub mod FiredWords
 pub mod FirstYes
 pub mod Evaluated

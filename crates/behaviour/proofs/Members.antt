@@ -16,7 +16,7 @@ use mathlib.Core.List.{
 use mathlib.Core.Path.{_≡_, refl}
 use mathlib.Core.Logic.{_⊎_, inl, inr}
 use native.Mathlib.Decide.{ℕ-discrete}
-use Rattle.records.specs.Held.{Distinct}
+use Rattle.records.specs.Written.{Distinct}
 
 -- a member of two lists laid end to end is one of either
 pub either {ℓ} : {A : Type ℓ} {B : Type 0} {x : A} (rs ls : List A)

@@ -8,7 +8,7 @@ use Rattle.records.specs.Trees.{circuit}
 use Rattle.records.proofs.Rewritten.{same-circuit}
 use Rattle.verdict.specs.Verdict.{verdict}
 use Rattle.verdict.specs.declared.Verdict.the-variants.{Accepted}
-use Rattle.behaviour.specs.Sheets.{OnlyDelays}
+use Rattle.behaviour.specs.Afterwards.{OnlyDelays}
 use Rattle.behaviour.proofs.Sheets.{only-leaves, accepted-written}
 
 pub only-delays-same : (s : List ℕ) → OnlyDelays s s
@@ -16,7 +16,7 @@ only-delays-same s = record { length = refl; bytes = λ i other. refl }
 
 module _ {s t : List ℕ} {τ : ℕ} (v : verdict s ≡ Accepted τ) (a : OnlyDelays s t) where
   pub only-delays-circuit : circuit t ≡ circuit s
-  only-delays-circuit = same-circuit s t (only-leaves (accepted-written s v) a)
+  only-delays-circuit = same-circuit (only-leaves (accepted-written s v) a)
 
   pub only-delays-back : OnlyDelays t s
   only-delays-back = record {

@@ -27,10 +27,13 @@ use Rattle.records.specs.Trees.{
   feedbackOf,
   ifOf,
   delayOf,
+  listed,
+  held,
+  delayLeaves,
+  typeRecordOf,
 }
-use Rattle.records.specs.Held.{listed, held, delayLeaves, Distinct}
+use Rattle.records.specs.Written.{Distinct}
 use Rattle.records.specs.Decoding.{leafValues}
-use Rattle.typing.specs.Judgements.{typeRecordOf}
 use Rattle.behaviour.specs.Terms.{term}
 use Rattle.behaviour.specs.Delays.{Entry, assigned, entries, places}
 use Rattle.behaviour.proofs.Entries.{placesOf, places-append}

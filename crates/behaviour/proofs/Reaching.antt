@@ -21,13 +21,11 @@ use Rattle.records.specs.Kinds.{
   delay,
   expressions,
 }
-use Rattle.records.specs.Says.{sortAt}
-use Rattle.records.specs.Namings.{Naming}
-use Rattle.records.specs.Trees.{treeAt}
+use Rattle.records.specs.Says.{sortAt, Naming}
+use Rattle.records.specs.Trees.{treeAt, typeRecordOf}
 use Rattle.records.proofs.Table.{askOfKind}
 use Rattle.records.proofs.Asked.{past-header}
-use Rattle.structure.specs.Passes.{Passes}
-use Rattle.typing.specs.Judgements.{typeRecordOf}
+use Rattle.structure.specs.Rules.{Passes}
 use Rattle.verdict.specs.Verdict.{inputs}
 use Rattle.verdict.specs.Scopes.{
   Scope,

@@ -5,9 +5,8 @@ use Prim.Native.Nat.{ℕ}
 use mathlib.Core.List.{List, [], map}
 use mathlib.Core.Option.{some}
 use mathlib.Core.Path.{_≡_, sym, ap, _∙_}
-use Rattle.picoella.specs.Types.{Ty}
-use Rattle.picoella.specs.Expressions.{Expr}
-use Rattle.records.specs.TypeRecords.{Declared}
+use Rattle.picoella.specs.Language.{Ty, Expr}
+use Rattle.records.specs.Trees.{Declared}
 use Rattle.records.specs.Decoding.{decode}
 use Rattle.records.proofs.Decoding.{decodes}
 use Rattle.verdict.specs.Verdict.{verdict}

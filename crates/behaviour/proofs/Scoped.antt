@@ -51,8 +51,7 @@ use Rattle.records.specs.Kinds.{
   total,
   never,
 }
-use Rattle.records.specs.Says.{kindAt, sortAt, askAt}
-use Rattle.records.specs.Namings.{Naming, names, namings, wellNamed}
+use Rattle.records.specs.Says.{kindAt, sortAt, askAt, Naming, names, namings, wellNamed}
 use Rattle.records.specs.Written.{Written, WellNamed}
 use Rattle.records.proofs.Tests.{never-both, both-left, both-right}
 use Rattle.records.proofs.Table.{askOfKind, ask-by-kind}

@@ -8,12 +8,11 @@ use native.Mathlib.Omega.{arith}
 use Rattle.records.specs.Words.{word, wordA, wordB}
 use Rattle.records.specs.Kinds.{ExpressionKind, expression, tuple, first, second, letIn, feedback, ifMatches, delay}
 use Rattle.records.specs.Says.{kindAt}
-use Rattle.records.specs.Trees.{treeAt}
+use Rattle.records.specs.Trees.{treeAt, typeRecordOf}
 use Rattle.records.specs.Rewritten.{Rewritten}
 use Rattle.records.proofs.Grown.{grown-tree}
 use Rattle.records.proofs.Rewritten.{same-kind, same-tree}
 use Rattle.accepted.proofs.Laws.{written}
-use Rattle.typing.specs.Judgements.{typeRecordOf}
 use Rattle.verdict.specs.Verdict.{inputs, verdict}
 use Rattle.verdict.specs.Scopes.{
   Scope,
@@ -36,7 +35,7 @@ use Rattle.accepted.proofs.Laws.{accepted-by-types}
 use Rattle.accepted.proofs.Scopes.{scope-checked}
 use Rattle.behaviour.proofs.TermsAgain.{type-of-same}
 
-module _ (s s′ : List ℕ) (o : Rewritten s s′) (t : ℕ) (v : verdict s ≡ Accepted t) where
+module _ {s s′ : List ℕ} (o : Rewritten s s′) {t : ℕ} (v : verdict s ≡ Accepted t) where
   -- the words of an expression
   expression-words : (q : ℕ) (k : ExpressionKind) → kindAt s q ≡ expression k → (j : ℕ) → j < 5 → word s′ q j ≡ word s q j
   expression-words q k e = o .others q (λ f. let z : _≡_ {A = ℕ} 0 1 = cc in omega arith)
@@ -46,7 +45,7 @@ module _ (s s′ : List ℕ) (o : Rewritten s s′) (t : ℕ) (v : verdict s ≡
       o .others 0 (λ f. let g = written (accepted-by-types s t .0 v .0) .headed in let z : _≡_ {A = ℕ} 0 1 = cc in omega arith)
 
   kind-again : (q : ℕ) (k : ExpressionKind) → kindAt s q ≡ expression k → kindAt s′ q ≡ expression k
-  kind-again q k e = same-kind s s′ o q ∙ e
+  kind-again q k e = same-kind o q ∙ e
 
   -- the type of a LET's defining part
   defining-type : {q : ℕ} {Γ : List ℕ} → kindAt s q ≡ expression letIn → Scope s q Γ
@@ -55,8 +54,8 @@ module _ (s s′ : List ℕ) (o : Rewritten s s′) (t : ℕ) (v : verdict s ≡
       let p = accepted-by-types s t .0 v .0 in
       let w = written p in
       let d = scope-checked t p v (let-defining e c) in
-      ap (typeRecordOf s′ Γ) (ap (treeAt s′) (expression-words q letIn e 2 (omega arith)) ∙ same-tree s s′ o (wordA s q))
-      ∙ type-of-same s s′ o w Γ (treeAt s (wordA s q)) (grown-tree w (wordA s q) (d .there) (d .sort)) (d .context) (d .judged)
+      ap (typeRecordOf s′ Γ) (ap (treeAt s′) (expression-words q letIn e 2 (omega arith)) ∙ same-tree o (wordA s q))
+      ∙ type-of-same o w Γ (treeAt s (wordA s q)) (grown-tree w (wordA s q) (d .there) (d .sort)) (d .context) (d .judged)
 
   pub scope-again : {q : ℕ} {Γ : List ℕ} → Scope s q Γ → Scope s′ q Γ
   scope-again root =

@@ -17,11 +17,9 @@ use mathlib.Core.List.{
 }
 use mathlib.Core.Logic.{inl, inr}
 use mathlib.Core.Path.{_≡_, refl}
-use Rattle.picoella.specs.Types.{Ty, Within, within-none, within-leaf}
+use Rattle.picoella.specs.Language.{Ty, Within, within-none, within-leaf}
 use Rattle.records.specs.Words.{wordA}
-use Rattle.records.specs.TypeRecords.{typeAt, Declared}
-use Rattle.records.specs.Trees.{circuit}
-use Rattle.records.specs.Held.{delayLeaves}
+use Rattle.records.specs.Trees.{typeAt, Declared, circuit, delayLeaves}
 use Rattle.verdict.specs.Verdict.{verdict}
 use Rattle.verdict.specs.declared.Verdict.the-variants.{Accepted}
 use Rattle.meaning.specs.Values.{LeafBelow, Both, both-none, both-leaf}
@@ -52,7 +50,7 @@ use Rattle.meaning.specs.Ordered.{
 }
 use Rattle.behaviour.specs.Terms.{circuitTerm}
 use Rattle.behaviour.specs.Delays.{Entry, assigned, entries}
-use Rattle.behaviour.specs.Sheets.{OnlyDelays}
+use Rattle.behaviour.specs.Afterwards.{OnlyDelays}
 use Rattle.behaviour.specs.SheetOrder.{SheetBelow}
 use Rattle.behaviour.proofs.Members.{either}
 use Rattle.behaviour.proofs.Entries.{place-of-member}

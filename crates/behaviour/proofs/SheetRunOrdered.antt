@@ -7,9 +7,9 @@ use mathlib.Core.List.{List, [], _∷_, _++_}
 use mathlib.Core.Path.{_≡_, refl, ap, _∙_}
 use native.Mathlib.Omega.{arith}
 use lib.ListN.{length, take, drop}
-use Rattle.picoella.specs.Types.{Ty}
+use Rattle.picoella.specs.Language.{Ty}
 use Rattle.records.specs.Words.{wordA}
-use Rattle.records.specs.TypeRecords.{typeAt, Declared}
+use Rattle.records.specs.Trees.{typeAt, Declared}
 use Rattle.records.proofs.Rewritten.{same-type}
 use Rattle.verdict.specs.Verdict.{verdict}
 use Rattle.verdict.specs.declared.Verdict.the-variants.{Accepted}
@@ -74,7 +74,7 @@ pieces-ordered w (suc n) b (all-more h r) (all-more k s) =
 inputs-same : (s s′ : List ℕ) (t : ℕ) → verdict s ≡ Accepted t → SheetBelow s s′ → inputType s′ ≡ inputType s
 inputs-same s s′ t v b =
     let w = accepted-written s v in
-    same-type s s′ (only-leaves w (b .only-delays)) (wordA s′ 0)
+    same-type (only-leaves w (b .only-delays)) (wordA s′ 0)
     ∙ ap (typeAt s) (header-same w (b .only-delays) 2 (omega arith))
 
 module _

@@ -14,8 +14,7 @@ use lib.ListN.{length, getD}
 use Rattle.records.specs.Words.{count, word, wordA}
 use Rattle.records.specs.Kinds.{leaf, leafs}
 use Rattle.records.specs.Says.{kindAt}
-use Rattle.records.specs.Trees.{circuit}
-use Rattle.records.specs.Held.{held, delayLeaves}
+use Rattle.records.specs.Trees.{circuit, held, delayLeaves}
 use Rattle.records.specs.Decoding.{leafValues}
 use Rattle.records.specs.Rewritten.{Rewritten}
 use Rattle.records.specs.Written.{Written}
@@ -25,7 +24,7 @@ use Rattle.records.proofs.Leaves.{circuit-leaves}
 use Rattle.records.proofs.Distinct.{circuit-distinct}
 use Rattle.records.proofs.Grown.{grown-circuit}
 use Rattle.records.proofs.Rewritten.{same-circuit}
-use Rattle.structure.specs.Passes.{Passes}
+use Rattle.structure.specs.Rules.{Passes}
 use Rattle.accepted.proofs.Laws.{written, well-named}
 use Rattle.verdict.specs.Verdict.{inputs, verdict}
 use Rattle.verdict.specs.declared.Verdict.the-variants.{Accepted}
@@ -35,7 +34,8 @@ use Rattle.accepted.proofs.AcceptedAgain.{accepted-again}
 use Rattle.meaning.specs.Elaboration.{Term, frame}
 use Rattle.behaviour.specs.Terms.{circuitTerm}
 use Rattle.behaviour.specs.Delays.{Entry, entries, places, putAll}
-use Rattle.behaviour.specs.Sheets.{putWord, write, Writable, OnlyDelays}
+use Rattle.behaviour.specs.Sheets.{putWord, write, Writable}
+use Rattle.behaviour.specs.Afterwards.{OnlyDelays}
 use Rattle.behaviour.proofs.Terms.{circuit-typed}
 use Rattle.behaviour.proofs.Entries.{placesOf, put-leaves, put-elsewhere, put-read}
 use Rattle.behaviour.proofs.Cells.{InSheet, put-length, put-byte, sheet-cells, put-own}
@@ -169,8 +169,8 @@ module _ (s : List ℕ) {t : ℕ} (v : verdict s ≡ Accepted t) where
       let p = passes in
       let only = only-leaves accepted-written o in
       let input : inputs s′ ≡ inputs s = ap (λ u. u ∷ []) (header-same accepted-written o 2 (omega arith)) in
-      rw (same-circuit s s′ only, input)
-      (term-again s s′ only accepted-written (inputs s) (circuit s) (grown-circuit accepted-written) (input-context p)
+      rw (same-circuit only, input)
+      (term-again only accepted-written (inputs s) (circuit s) (grown-circuit accepted-written) (input-context p)
       (accepted-judged t p v .0) (constants-stay o))
 
   module _ {e : Term} (h : Writable s t e) where
@@ -217,8 +217,8 @@ module _ (s : List ℕ) {t : ℕ} (v : verdict s ≡ Accepted t) where
     pub write-accepted : verdict (write s e) ≡ verdict s
     unfolding circuitTerm
     write-accepted =
-        let same = same-circuit s (write s e) write-only-leaves in
+        let same = same-circuit write-only-leaves in
         let fits : Valued (circuitTerm (write s e)) = rw write-read (typed-valued (h .typed)) in
-        accepted-again s (write s e) write-only-leaves t v leaves-small
+        accepted-again write-only-leaves t v leaves-small
         (rw same at (valued-fitting (write s e) (inputs (write s e)) (circuit (write s e)) fits))
         ∙ sym v

@@ -10,8 +10,8 @@ use mathlib.Core.Logic.{_⊎_, inl, inr}
 use native.Mathlib.Omega.{arith}
 use lib.ListN.{length, getD, length-set}
 use Rattle.records.specs.Words.{wordA}
-use Rattle.records.specs.Trees.{circuit}
-use Rattle.records.specs.Held.{delayLeaves, Distinct}
+use Rattle.records.specs.Trees.{circuit, delayLeaves}
+use Rattle.records.specs.Written.{Distinct}
 use Rattle.records.proofs.Leaves.{circuit-leaves}
 use Rattle.records.proofs.Distinct.{circuit-distinct}
 use Rattle.accepted.proofs.Laws.{well-named}
@@ -97,7 +97,7 @@ leaves-in-table s t v l m =
     let there = circuit-leaves w false true l m .there in
     omega arith
 
-module _ (s : List ℕ) (t : ℕ) (v : verdict s ≡ Accepted t) (e : Term) (h : Writable s t e) where
+module _ {s : List ℕ} {t : ℕ} (v : verdict s ≡ Accepted t) {e : Term} (h : Writable s t e) where
   leaves-distinct : Distinct (places e)
   leaves-distinct =
       framed-places s e (h .frame) .distinct

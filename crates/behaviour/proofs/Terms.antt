@@ -7,13 +7,13 @@ use mathlib.Core.Path.{_≡_, refl, ap, ap₂, _∙_}
 use native.Mathlib.Omega.{arith}
 use lib.ListN.{length, getD}
 use borrow.Author.Tests.{ltb-true, eqb-true}
-use Rattle.picoella.specs.Types.{TyTuple, bounds}
-use Rattle.picoella.specs.Expressions.{Tuple, Index1, Index2, Let, LetRec, If, Delay}
-use Rattle.picoella.specs.Typing.{Named, here, there}
+use Rattle.picoella.specs.Language.{TyTuple, bounds, Tuple, Index1, Index2, Let, LetRec, If, Delay, Named, here, there}
 use Rattle.records.specs.Words.{wordA}
 use Rattle.records.specs.Says.{kindAt}
-use Rattle.records.specs.TypeRecords.{typeAt, pairOf, Declared}
 use Rattle.records.specs.Trees.{
+  typeAt,
+  pairOf,
+  Declared,
   Tree,
   noExpression,
   constantOf,
@@ -27,6 +27,7 @@ use Rattle.records.specs.Trees.{
   delayOf,
   treeAt,
   circuit,
+  typeRecordOf,
 }
 use Rattle.records.specs.Decoding.{leafValues, patternOf, expressionOf}
 use Rattle.records.specs.Written.{Written}
@@ -35,9 +36,8 @@ use Rattle.records.proofs.Types.{pair-type}
 use Rattle.records.proofs.Pairs.{pair-of-found}
 use Rattle.records.proofs.TypeRecords.{found-pair}
 use Rattle.records.proofs.Grown.{Grown, grown-tree, grown-circuit}
-use Rattle.structure.specs.Passes.{Passes}
+use Rattle.structure.specs.Rules.{Passes}
 use Rattle.accepted.proofs.Laws.{written}
-use Rattle.typing.specs.Judgements.{typeRecordOf}
 use Rattle.typing.specs.Judging.{Context}
 use Rattle.verdict.specs.Verdict.{inputs, verdict}
 use Rattle.verdict.specs.declared.Verdict.the-variants.{Accepted}

@@ -17,13 +17,14 @@ use mathlib.Core.List.{
 }
 use mathlib.Core.Path.{_≡_, refl}
 use native.Mathlib.Omega.{arith}
-use Rattle.picoella.specs.Types.{bounds}
+use Rattle.picoella.specs.Language.{bounds}
 use Rattle.records.specs.Words.{wordA, wordB}
 use Rattle.records.specs.Kinds.{TypeKind, flat, pair, types}
 use Rattle.records.specs.Kinds as Kinds
 use Rattle.records.specs.Says.{kindAt}
-use Rattle.records.specs.TypeRecords.{typeAt, TypeRecord}
 use Rattle.records.specs.Trees.{
+  typeAt,
+  TypeRecord,
   Tree,
   noExpression,
   constantOf,
@@ -35,6 +36,7 @@ use Rattle.records.specs.Trees.{
   feedbackOf,
   ifOf,
   delayOf,
+  typeRecordOf,
 }
 use Rattle.records.specs.Decoding.{leafValues}
 use Rattle.records.specs.Written.{Written}
@@ -43,7 +45,6 @@ use Rattle.records.proofs.Asked.{as-kind-asks}
 use Rattle.records.proofs.Types.{pair-parts, flat-type, pair-type}
 use Rattle.records.proofs.TypeRecords.{first-part, second-part}
 use Rattle.records.proofs.Grown.{Grown}
-use Rattle.typing.specs.Judgements.{typeRecordOf}
 use Rattle.accepted.proofs.Scopes.{as-many-leaves}
 use Rattle.accepted.proofs.AcceptedAgain.{Fitting}
 use Rattle.accepted.proofs.LeafBounds.{bounds-small}

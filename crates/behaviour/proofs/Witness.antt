@@ -8,18 +8,14 @@ use native.Mathlib.Omega.{arith}
 use lib.ListN.{replicate}
 use Rattle.records.specs.Words.{word, count}
 use Rattle.records.specs.Kinds.{rowOf, kindOf, askOf}
-use Rattle.records.specs.Says.{wellSaid}
-use Rattle.records.specs.Namings.{namings}
-use Rattle.records.specs.TypeRecords.{typeWithin, typeAt, pairOf}
-use Rattle.records.specs.Trees.{chainWithin, chain, alternativesWithin, alternatives, treeWithin, treeAt, circuit}
-use Rattle.structure.specs.Depth.{ancestryWithin, ancestry, depth, nesting}
-use Rattle.structure.specs.Rules.{wrongLength, wrongHeader, wrongRecord, wrongNaming, wrongType, tooDeep}
+use Rattle.records.specs.Says.{wellSaid, namings}
+use Rattle.records.specs.Trees.{typeWithin, typeAt, pairOf, chainWithin, chain, alternativesWithin, alternatives, treeWithin, treeAt, circuit}
+use Rattle.structure.specs.Rules.{ancestryWithin, ancestry, depth, nesting, wrongLength, wrongHeader, wrongRecord, wrongNaming, wrongType, tooDeep}
 use Rattle.verdict.specs.Verdict.{byTypes, byRecords, verdict}
 use Rattle.stimulus.specs.Stimulus.{cycleCount, wrongStimulus, wrongByte}
 use Rattle.answers.specs.Answers.{packed}
-use Rattle.behaviour.specs.Run.{answer, finalOut, finalNext}
+use Rattle.behaviour.specs.Run.{answer, finalOut, finalNext, RunsByRules}
 use Rattle.behaviour.specs.Afterwards.{WellFormed, Afterwards, FeedbackAt}
-use Rattle.behaviour.specs.ByRules.{RunsByRules}
 use Rattle.behaviour.specs.Bench.{toggle}
 use Rattle.behaviour.proofs.Afterwards.{afterwards}
 use Rattle.behaviour.proofs.ByRules.{call-by-rules}

@@ -5,16 +5,14 @@ use Prim.Native.Nat.{ℕ, suc, _+_, _*_, _^_, _≤_, _<_}
 use mathlib.Core.Path.{_≡_}
 use mathlib.Core.Logic.{_≢_}
 use mathlib.Core.Bool.{false}
-use mathlib.Core.List.{List, _∷_, map}
+use mathlib.Core.List.{List, _∷_, map, List·Memᴰ}
 use mathlib.Core.Option.{Option, none, some}
-use lib.ListN.{length, take, drop}
-use Rattle.picoella.specs.Types.{Ty, leaves, OfType}
-use Rattle.picoella.specs.Expressions.{Expr, LetRec}
-use Rattle.records.specs.Words.{count, kindWord, wordA}
-use Rattle.records.specs.TypeRecords.{typeAt}
-use Rattle.records.specs.Trees.{Tree, feedbackOf, treeAt}
+use lib.ListN.{length, getD, take, drop}
+use Rattle.picoella.specs.Language.{Ty, leaves, OfType, Expr, LetRec}
+use Rattle.records.specs.Words.{count, kindWord, wordA, lowByte, highByte}
+use Rattle.records.specs.Trees.{typeAt, Tree, feedbackOf, treeAt, circuit, delayLeaves}
 use Rattle.records.specs.Decoding.{expressionOf, allThere, whenThere}
-use Rattle.answers.specs.Lowest.{lowest}
+use Rattle.answers.specs.Answers.{lowest}
 use Rattle.verdict.specs.Verdict.{verdict}
 use Rattle.verdict.specs.Scopes.{Scope}
 use Rattle.verdict.specs.declared.Verdict.the-variants.{Accepted}
@@ -25,7 +23,6 @@ use Rattle.meaning.specs.Undecided.{undecidedRule, undecidedConstant}
 use Rattle.meaning.specs.Evaluation.{iter, eval, application, settled, next}
 use Rattle.meaning.specs.Rules.{Iterates}
 use Rattle.behaviour.specs.Terms.{term}
-use Rattle.behaviour.specs.Sheets.{Bytes, OnlyDelays}
 use Rattle.behaviour.specs.Cycle.{output, sheetAfterCycle}
 use Rattle.stimulus.specs.Stimulus.{inputLeaves, cycleCount, wrongStimulus, wrongByte}
 use Rattle.behaviour.specs.Run.{outputNeeded}
@@ -38,6 +35,18 @@ pub record WellFormed (sheet stimulus out next : List ℕ) (t : ℕ) : Type 0 wh
   pub fitting : lowest (wrongByte sheet stimulus) (length stimulus) ≡ none
   pub room : length out ≡ outputNeeded sheet t stimulus
   pub long : length next ≡ length sheet
+
+-- each number is a byte
+abbrev pub Bytes : List ℕ → Type 0
+Bytes s = (i : ℕ) → getD s i 0 ≤ 255
+
+-- "The values that delays hold are the words a of the leaf records in the chains that the delays' words b begin." One sheet equals
+-- another but for these: it is as long, and each other byte is the same.
+pub record OnlyDelays (s s′ : List ℕ) : Type 0 where
+  pub length : length s′ ≡ length s
+  pub bytes : (i : ℕ)
+      → ((l : ℕ) → List·Memᴰ l (delayLeaves (circuit s)) → (i ≡ lowByte l → ⊥) × (i ≡ highByte l → ⊥))
+      → getD s′ i 0 ≡ getD s i 0
 
 -- the input of cycle k, and the part of the output slice that is cycle k's
 abbrev pub inputOf : (sheet stimulus : List ℕ) → ℕ → List ℕ

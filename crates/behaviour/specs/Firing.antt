@@ -4,10 +4,10 @@
 use Prim.Native.Nat.{ℕ}
 use mathlib.Core.List.{List, [], _∷_, _++_}
 use lib.ListN.{replicate}
-use Rattle.picoella.specs.Patterns.{Whole, Constructor, Parts}
+use Rattle.picoella.specs.Language.{Whole, Constructor, Parts}
 use Rattle.records.specs.Words.{count, wordA}
-use Rattle.records.specs.TypeRecords.{typeAt}
 use Rattle.records.specs.Trees.{
+  typeAt,
   Alternatives,
   end,
   noPattern,
@@ -27,9 +27,9 @@ use Rattle.records.specs.Trees.{
   delayOf,
   treeAt,
   circuit,
+  typeRecordOf,
 }
 use Rattle.records.specs.Decoding.{patternOf}
-use Rattle.typing.specs.Judgements.{typeRecordOf}
 use Rattle.verdict.specs.Verdict.{inputs}
 use Rattle.meaning.specs.Matching.{Decision, Yes, No, Undecided, matches}
 use Rattle.meaning.specs.Undecided.{undecidedRule}

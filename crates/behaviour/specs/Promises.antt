@@ -7,28 +7,27 @@ use mathlib.Core.Bool.{false}
 use mathlib.Core.List.{List, [], _∷_, map}
 use mathlib.Core.Option.{some}
 use lib.ListN.{length}
-use Rattle.picoella.specs.Expressions.{Expr}
-use Rattle.records.specs.TypeRecords.{typeAt}
-use Rattle.records.specs.Decoding.{decode}
-use Rattle.answers.specs.Answers.{code, place}
-use Rattle.answers.specs.Checks.{Refuses}
+use Rattle.picoella.specs.Language.{Expr}
+use Rattle.records.specs.Trees.{typeAt, Declared, treeAt, typeRecordOf}
+use Rattle.records.specs.Decoding.{decode, expressionOf}
+use Rattle.answers.specs.Answers.{code, place, Refuses}
 use Rattle.answers.specs.declared.Answer.{Answer}
 use Rattle.answers.specs.declared.Answer.the-variants.{Done, Refused}
 use Rattle.verdict.specs.Verdict.{verdict}
+use Rattle.verdict.specs.Scopes.{Scope}
 use Rattle.verdict.specs.declared.Verdict.the-variants.{Accepted}
-use Rattle.meaning.specs.Elaboration.{Term}
+use Rattle.meaning.specs.Elaboration.{Term, Elaborated, erase}
 use Rattle.meaning.specs.Values.{_⊑_, AllOf}
 use Rattle.meaning.specs.Constants.{ConstantTree, AllConstantsOf, flatten}
 use Rattle.meaning.specs.Undecided.{undefinedLeaves, undecidedRule, undecidedConstant, Lawful}
 use Rattle.meaning.specs.Ordered.{RuleBelow, AllBoth}
 use Rattle.meaning.specs.Rules.{ReducesSeq}
 use Rattle.meaning.specs.Run as Meaning
-use Rattle.behaviour.specs.Terms.{circuitTerm}
-use Rattle.behaviour.specs.Sheets.{write, Writable, OnlyDelays}
+use Rattle.behaviour.specs.Terms.{term, circuitTerm}
+use Rattle.behaviour.specs.Sheets.{write, Writable}
+use Rattle.behaviour.specs.Afterwards.{OnlyDelays, WellFormed, Afterwards}
 use Rattle.stimulus.specs.Stimulus.{inputType, endToEnd, cycles, cycleCount, wrongStimulus}
-use Rattle.behaviour.specs.Run.{outputsBy, sheetAfter, callChecks, answer, finalOut, finalNext, Gives}
-use Rattle.behaviour.specs.Afterwards.{WellFormed, Afterwards}
-use Rattle.behaviour.specs.ByRules.{RunsByRules}
+use Rattle.behaviour.specs.Run.{outputsBy, sheetAfter, callChecks, answer, finalOut, finalNext, Gives, RunsByRules}
 use Rattle.behaviour.specs.SheetOrder.{SheetBelow, FormedCall, StrictlyBelow, holding}
 use Rattle.behaviour.specs.Bench.{toggle, agreeing, agreed}
 
@@ -161,6 +160,15 @@ EarlierStrictlyBelow =
     × (sheetAfter undefinedLeaves agreeing ((0 ∷ []) ∷ (0 ∷ []) ∷ []) ≡ agreeing)
     × (sheetAfter undecidedRule agreeing ((0 ∷ []) ∷ (0 ∷ []) ∷ []) ≡ agreed)
 
+-- At every expression of an accepted sheet, in a scope that it has, `term` is the elaboration of the expression that the record says, of
+-- the type of its type record; by `ElaborationUnique` there is one. So what is evaluated inside, as the part of a feedback or what an IF
+-- tests, is what the rules speak of.
+abbrev pub TermsElaborate : Type 0
+TermsElaborate =
+    (s : List ℕ) (t : ℕ) → verdict s ≡ Accepted t → (q : ℕ) (Γ : List ℕ) → Scope s q Γ
+    → Elaborated (Declared s) (map (typeAt s) Γ) (term s Γ (treeAt s q)) (typeAt s (typeRecordOf s Γ (treeAt s q)))
+    × (erase (term s Γ (treeAt s q)) ≡ expressionOf s (treeAt s q))
+
 -- all of them
 pub record RunPromises : Type 0 where
   pub lowest-first : LowestFirst
@@ -174,6 +182,7 @@ pub record RunPromises : Type 0 where
   pub run-reduces : RunReduces
   pub call-by-rules : CallByRules
   pub holds-afterwards : HoldsAfterwards
+  pub terms-elaborate : TermsElaborate
   pub sheet-run-ordered : SheetRunOrdered
   pub late-scanner : LateScanner
   pub late-input : LateInput

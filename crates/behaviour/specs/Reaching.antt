@@ -3,29 +3,17 @@
 -- innermost first. The parts of a record are reached with its names and values; the body of a LET with the value of the defining
 -- part in front; both parts of a feedback with the settled value in front. All three parts of an IF are reached. And the alternatives of
 -- a chain, as a list.
-use Prim.Native.Nat.{ℕ, _<_}
+use Prim.Native.Nat.{ℕ}
 use mathlib.Core.Path.{_≡_}
 use mathlib.Core.Logic.{_↔_, _≢_}
 use mathlib.Core.List.{List, [], _∷_, _++_, List·Memᴰ}
 use lib.ListN.{length, getD}
-use Rattle.picoella.specs.Patterns.{Pattern, Whole, Constructor, Parts}
+use Rattle.picoella.specs.Language.{Pattern, Whole, Constructor, Parts}
 use Rattle.records.specs.Words.{count, wordA, wordB, wordC, wordD}
-use Rattle.records.specs.Kinds.{tuple, first, second, letIn, feedback, ifMatches, delay, expression, expressions, patterns}
-use Rattle.records.specs.Says.{kindAt, sortAt}
-use Rattle.records.specs.Namings.{Naming}
-use Rattle.records.specs.TypeRecords.{typeAt}
-use Rattle.records.specs.Trees.{
-  Alternatives,
-  end,
-  noPattern,
-  wholeType,
-  oneConstructor,
-  pairOfPatterns,
-  alternatives,
-  treeAt,
-}
+use Rattle.records.specs.Kinds.{tuple, first, second, letIn, feedback, ifMatches, delay, expression}
+use Rattle.records.specs.Says.{kindAt, Naming}
+use Rattle.records.specs.Trees.{typeAt, Alternatives, end, noPattern, wholeType, oneConstructor, pairOfPatterns, alternatives, treeAt, typeRecordOf}
 use Rattle.records.specs.Decoding.{patternOf}
-use Rattle.typing.specs.Judgements.{typeRecordOf}
 use Rattle.verdict.specs.Verdict.{inputs}
 use Rattle.meaning.specs.Matching.{Yes, matches}
 use Rattle.meaning.specs.Undecided.{undecidedRule}

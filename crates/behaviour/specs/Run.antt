@@ -1,23 +1,27 @@
 -- The run (docs/SHEETS.md, "The run"): over a list of inputs from a sheet, and for every call. "The first cycle begins from the
 -- sheet handed in, each later one from the sheet after the cycle before." On the empty list a run gives no outputs and leaves the
 -- sheet as it is. The answer is the lowest number that applies, with its place; "a refusal leaves every lent slice unaltered".
--- What an undecided IF gives is a parameter of the run over a list; the call takes the rule in force.
+-- What an undecided IF gives is a parameter of the run over a list; the call takes the rule in force. At the end stands a well-formed
+-- call as a run of 000's rules.
 use Prim.Native.Nat.{ℕ, zero, suc, _*_}
 use mathlib.Core.Path.{_≡_}
 use mathlib.Core.Bool.{not}
-use mathlib.Core.List.{List, [], _∷_, _++_}
+use mathlib.Core.List.{List, [], _∷_, _++_, map}
 use lib.ListN.{length}
 use lib.Dec.{eqb}
-use Rattle.picoella.specs.Types.{leaves}
-use Rattle.records.specs.TypeRecords.{typeAt}
-use Rattle.answers.specs.Answers.{packed, whenDone, onDone}
-use Rattle.answers.specs.Checks.{Check, check, when, firstApplying}
+use Rattle.picoella.specs.Language.{leaves, Expr}
+use Rattle.records.specs.Trees.{typeAt}
+use Rattle.answers.specs.Answers.{packed, whenDone, onDone, Check, check, when, firstApplying}
 use Rattle.answers.specs.declared.Answer.{Answer}
 use Rattle.answers.specs.declared.Answer.the-variants.{Done}
 use Rattle.verdict.specs.Verdict.{verdictAnswer, sheetChecks, outputType, verdict}
-use Rattle.meaning.specs.Undecided.{undecidedRule}
+use Rattle.meaning.specs.Undecided.{undecidedRule, undecidedConstant}
 use Rattle.behaviour.specs.Cycle.{outputBy, afterBy}
-use Rattle.stimulus.specs.Stimulus.{cycleCount, endToEnd, cycles, stimulusChecks}
+use Rattle.stimulus.specs.Stimulus.{cycleCount, endToEnd, cycles, stimulusChecks, inputType}
+use mathlib.Core.Option.{some}
+use Rattle.records.specs.Decoding.{decode}
+use Rattle.meaning.specs.Constants.{ConstantTree, AllConstantsOf, flatten}
+use Rattle.meaning.specs.Rules.{ReducesSeq}
 
 module _ (undecided : List ℕ → List ℕ → List ℕ) where
   -- the outputs in order
@@ -78,3 +82,30 @@ pub record Gives (sheet stimulus out next : List ℕ) (result : ℕ) (out′ nex
   pub result-is : result ≡ packed (answer sheet stimulus out next)
   pub out-is : out′ ≡ finalOut sheet stimulus out next
   pub next-is : next′ ≡ finalNext sheet stimulus out next
+
+-- From the bytes of a call to the rules of 000 in one statement: what a well-formed call takes and gives is a run of those rules. All
+-- that it speaks of is bytes, the expression that a sheet decodes to, 000's constants and 000's rules.
+
+-- of a sheet with output type t: `out` and `next` are the final bytes of the two slices
+pub record RunsByRules (sheet stimulus : List ℕ) (t : ℕ) (out next : List ℕ) : Type 0 where
+  -- the expression that the sheet decodes to
+  pub expression : Expr
+  pub decoded : decode sheet ≡ some expression
+  -- the inputs, constants of the input's type, one for each cycle
+  pub inputs : List ConstantTree
+  pub inputs-typed : AllConstantsOf (inputType sheet) inputs
+  pub one-each : length inputs ≡ cycleCount sheet stimulus
+  -- the outputs, constants of the output's type, equally many
+  pub outputs : List ConstantTree
+  pub outputs-typed : AllConstantsOf (typeAt sheet t) outputs
+  pub equally-many : length outputs ≡ length inputs
+  -- and the expression after
+  pub expression-after : Expr
+  -- such that the stimulus is the inputs flattened,
+  pub stimulus-is : stimulus ≡ endToEnd (map flatten inputs)
+  -- the rules reduce the expression over the inputs to the outputs and to that expression,
+  pub reduces : ReducesSeq undecidedConstant [] expression inputs outputs expression-after
+  -- the output slice is the outputs flattened end to end,
+  pub out-is : out ≡ endToEnd (map flatten outputs)
+  -- and the next slice decodes to that expression
+  pub next-decodes : decode next ≡ some expression-after

@@ -6,12 +6,11 @@ use mathlib.Core.Path.{_≡_}
 use mathlib.Core.List.{List, List·Memᴰ}
 use lib.ListN.{getD}
 use Rattle.records.specs.Words.{wordA}
-use Rattle.records.specs.Trees.{circuit}
-use Rattle.records.specs.Held.{delayLeaves}
+use Rattle.records.specs.Trees.{circuit, delayLeaves}
 use Rattle.meaning.specs.Values.{LeafBelow, _⊑_}
-use Rattle.behaviour.specs.Sheets.{putWord, OnlyDelays}
+use Rattle.behaviour.specs.Sheets.{putWord}
+use Rattle.behaviour.specs.Afterwards.{OnlyDelays, WellFormed}
 use Rattle.behaviour.specs.Run.{Gives}
-use Rattle.behaviour.specs.Afterwards.{WellFormed}
 use Rattle.behaviour.specs.Bench.{toggle}
 
 -- the second sheet differs from the first in delay leaves alone, and each of the first is at or below that of the second

@@ -2,24 +2,15 @@
 -- rewritten"; "The values that delays hold are the words a of the leaf records in the chains that the delays' words b begin").
 -- Any term of the circuit's frame can be written, not only what comes after a cycle. A value is at most 255, so the word's
 -- second byte is 0.
-use Prim.Native.Nat.{ℕ, _+_, _*_, _≤_}
+use Prim.Native.Nat.{ℕ}
 use mathlib.Core.Path.{_≡_}
-use mathlib.Core.List.{List, [], _∷_, List·Memᴰ}
-use lib.ListN.{length, getD, set}
-use Rattle.records.specs.Words.{wordA}
-use Rattle.records.specs.TypeRecords.{typeAt, Declared}
-use Rattle.records.specs.Trees.{circuit}
-use Rattle.records.specs.Held.{delayLeaves}
+use mathlib.Core.List.{List, [], _∷_}
+use lib.ListN.{set}
+use Rattle.records.specs.Words.{wordA, lowByte, highByte}
+use Rattle.records.specs.Trees.{typeAt, Declared}
 use Rattle.meaning.specs.Elaboration.{Term, Elaborated, frame}
 use Rattle.behaviour.specs.Terms.{circuitTerm}
 use Rattle.behaviour.specs.Delays.{entries, putAll}
-
--- the two bytes of word a of record l
-abbrev pub lowByte : ℕ → ℕ
-lowByte l = 12 * l + 4
-
-abbrev pub highByte : ℕ → ℕ
-highByte l = 12 * l + 5
 
 -- word a of record l becomes v
 abbrev pub putWord : (place value : ℕ) → List ℕ → List ℕ
@@ -29,18 +20,7 @@ putWord l v s = set (set s (lowByte l) v) (highByte l) 0
 unfoldable pub write : List ℕ → Term → List ℕ
 write s t = putAll putWord (entries t) s
 
--- each number is a byte
-abbrev pub Bytes : List ℕ → Type 0
-Bytes s = (i : ℕ) → getD s i 0 ≤ 255
-
 -- a term that can be written to an accepted sheet with output type t: of the circuit's frame, and of its type
 pub record Writable (s : List ℕ) (t : ℕ) (e : Term) : Type 0 where
   pub frame : frame e ≡ frame (circuitTerm s)
   pub typed : Elaborated (Declared s) (typeAt s (wordA s 0) ∷ []) e (typeAt s t)
-
--- one sheet equals another but for the delay leaves' words a: it is as long, and each other byte is the same
-pub record OnlyDelays (s s′ : List ℕ) : Type 0 where
-  pub length : length s′ ≡ length s
-  pub bytes : (i : ℕ)
-      → ((l : ℕ) → List·Memᴰ l (delayLeaves (circuit s)) → (i ≡ lowByte l → ⊥) × (i ≡ highByte l → ⊥))
-      → getD s′ i 0 ≡ getD s i 0

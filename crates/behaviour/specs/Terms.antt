@@ -5,8 +5,8 @@
 use Prim.Native.Nat.{ℕ}
 use mathlib.Core.List.{List, _∷_}
 use Rattle.records.specs.Words.{wordA}
-use Rattle.records.specs.TypeRecords.{typeAt}
 use Rattle.records.specs.Trees.{
+  typeAt,
   Tree,
   noExpression,
   constantOf,
@@ -19,9 +19,9 @@ use Rattle.records.specs.Trees.{
   ifOf,
   delayOf,
   circuit,
+  typeRecordOf,
 }
 use Rattle.records.specs.Decoding.{leafValues, patternOf}
-use Rattle.typing.specs.Judgements.{typeRecordOf}
 use Rattle.verdict.specs.Verdict.{inputs}
 use Rattle.meaning.specs.Elaboration.{
   Term,

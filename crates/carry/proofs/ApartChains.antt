@@ -8,9 +8,8 @@ use mathlib.Core.Logic.{_⊎_, inl, inr}
 use native.Mathlib.Omega.{arith}
 use Rattle.records.specs.Words.{count, nextWord, wordB}
 use Rattle.records.specs.Kinds.{Kind, leaf, leafs, part}
-use Rattle.records.specs.Says.{kindAt, sortAt}
+use Rattle.records.specs.Says.{kindAt, sortAt, Naming}
 use Rattle.records.specs.Trees.{chain, follow}
-use Rattle.records.specs.Namings.{Naming}
 use Rattle.records.specs.Written.{Written, WellNamed}
 use Rattle.records.proofs.Table.{askOfKind, kind-of-sort}
 use Rattle.records.proofs.Asked.{part-of-kind, past-header}

@@ -20,7 +20,7 @@ use Rattle.records.proofs.Tests.{both-left, both-right}
 use Rattle.records.proofs.Table.{is-delay}
 use Rattle.records.proofs.CodeTable.{delay-number}
 use Rattle.records.proofs.Asked.{past-header}
-use Rattle.answers.specs.Lowest.{lowest, orHere}
+use Rattle.answers.specs.Answers.{lowest, orHere}
 use Rattle.answers.specs.declared.Found.the-variants.{At, Nothing}
 use Rattle.answers.proofs.Lowest.{lowest-none, lowest-is}
 use Rattle.carry.specs.Labels.{label, bears, isSome, labelTwice}
@@ -91,7 +91,7 @@ pub no-bearer : (s : List ℕ) → Bearers s 0 (replicate {A = ℕ} 65536 0)
 no-bearer s =
     record { long = length-replicate {A = ℕ} 65536 0; entries = λ l h. ap entryBearer (getD-replicate {A = ℕ} 65536 l 0 0 h) }
 
-module _ {s : List ℕ} {n rec : ℕ} {table : List ℕ} (g : Labelling s n rec table) (l : ℕ) (e : l ≡ label s rec) where
+module _ {s : List ℕ} {n rec : ℕ} {table : List ℕ} (g : Labelling s n rec table) {l : ℕ} (e : l ≡ label s rec) where
   here-in : rec < count s
   here-in = let c = g .sized .counted in let h = g .there in omega arith
 

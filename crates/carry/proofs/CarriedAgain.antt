@@ -9,7 +9,7 @@ use mathlib.Core.Path.{_≡_, refl, sym, subst, _∙_}
 use mathlib.Core.Logic.{_⊎_, inl, inr}
 use native.Mathlib.Omega.{arith}
 use lib.Dec.{ltb}
-use Rattle.picoella.specs.Types.{Within, OfType}
+use Rattle.picoella.specs.Language.{Within, OfType}
 use Rattle.records.specs.Words.{count, word, wordA, wordB, wordC, wordD}
 use Rattle.records.specs.Kinds.{
   ExpressionKind,
@@ -29,8 +29,7 @@ use Rattle.records.specs.Kinds.{
   part,
 }
 use Rattle.records.specs.Says.{kindAt, sortAt}
-use Rattle.records.specs.TypeRecords.{typeAt}
-use Rattle.records.specs.Trees.{chain, treeStep, treeAt, circuit}
+use Rattle.records.specs.Trees.{typeAt, chain, treeStep, treeAt, circuit}
 use Rattle.records.specs.Decoding.{leafValues}
 use Rattle.records.specs.Written.{Written}
 use Rattle.records.proofs.Table.{askOfKind, kind-of-sort}
@@ -113,7 +112,7 @@ assigned-small (l ∷ ls) (v ∷ vs) small e (List·Memᴰ·tail m) = assigned-s
 
 module _ (old new : List ℕ) (t′ t : ℕ) (v′ : verdict old ≡ Accepted t′) (v : verdict new ≡ Accepted t) where
   w : Written new
-  w = is-written new t v
+  w = is-written new v
 
   -- what is taken is bytes
   taken-small : (r : ℕ) (e : Entry) → List·Memᴰ e (takenFrom old new r (giver old new r)) → e .value ≤ 255
@@ -123,8 +122,8 @@ module _ (old new : List ℕ) (t′ t : ℕ) (v′ : verdict old ≡ Accepted t�
       go none z m = elim m [ ]
       go (some q) z m =
           let d = bearer-delay old (label new r) q (giver-some old new q r z .bears) in
-          let wo = is-written old t′ v′ in
-          let f = first-leaf wo (is-well-named old t′ v′) q (d .0) (expression delay) (d .3) delay-chain in
+          let wo = is-written old v′ in
+          let f = first-leaf wo (is-well-named old v′) q (d .0) (expression delay) (d .3) delay-chain in
           assigned-small (leavesAt new r) (heldAt old q)
           (mapped-small (wordA old) (leavesAt old q)
           (λ x n. let l = chain-leaves wo (wordB old q) (f .0) (f .1) x n in
@@ -138,10 +137,10 @@ module _ (old new : List ℕ) (t′ t : ℕ) (v′ : verdict old ≡ Accepted t�
           → wordA (carried old new) r ≤ 255
       go (inl m) =
           let f = entry-at r (takenBelow old new (count new)) m in
-          let s = source old new t v (count new) (omega arith) (f .0) (f .1) in
+          let s = source old new v (count new) (omega arith) (f .0) (f .1) in
           let z = f .2 in
           subst (λ x. wordA (carried old new) x ≤ 255) z
-          (rw (reads-carried old new t v (s .at) (s .there) (f .0) (s .member)) (taken-small (s .at) (f .0) (s .member)))
+          (rw (reads-carried old new v (s .at) (s .there) (f .0) (s .member)) (taken-small (s .at) (f .0) (s .member)))
       go (inr n) =
           rw (put-elsewhere sheet-cells (takenBelow old new (count new)) r new n) (leaf-small w r h k)
 
@@ -156,11 +155,11 @@ module _ (old new : List ℕ) (t′ t : ℕ) (v′ : verdict old ≡ Accepted t�
   constants-fit : (r : ℕ) → r < count new → kindAt new r ≡ expression constant
       → OfType (typeAt (carried old new) (wordA new r)) (leafValues (carried old new) (leavesAt new r))
   constants-fit r h e =
-      let p = accepted-passes new t v in
-      let c = every-expression w (is-well-named new t v) r (past-header w r (rw e refl)) h (rw e refl) in
+      let p = accepted-passes new v in
+      let c = every-expression w (is-well-named new v) r (past-header w r (rw e refl)) h (rw e refl) in
       rw (
-        same-type new (carried old new) (carried-rewritten old new t v) (wordA new r),
-        holds-same old new t v r h (expression constant) e (unfold askOfKind in refl) (constant-keeps r e),
+        same-type (carried-rewritten old new v) (wordA new r),
+        holds-same old new v r h (expression constant) e (unfold askOfKind in refl) (constant-keeps r e),
       )
       (constant-fits p (scope-checked t p v (c .1)) e)
 
@@ -169,18 +168,18 @@ module _ (old new : List ℕ) (t′ t : ℕ) (v′ : verdict old ≡ Accepted t�
   delays-fit r h e = go (giver old new r) refl
     where
       types : typeAt (carried old new) (wordA new r) ≡ delayType new r
-      types = same-type new (carried old new) (carried-rewritten old new t v) (wordA new r)
+      types = same-type (carried-rewritten old new v) (wordA new r)
 
       go : (o : Option ℕ) → giver old new r ≡ o → OfType (typeAt (carried old new) (wordA new r)) (leafValues (carried old new) (leavesAt new r))
-      go none z = rw (types, holds-same old new t v r h (expression delay) e delay-chain z) (delay-holds new t v r h e)
+      go none z = rw (types, holds-same old new v r h (expression delay) e delay-chain z) (delay-holds new v r h e)
       go (some q) z =
           let g = giver-some old new q r z in
           let d = bearer-delay old (label new r) q (g .bears) in
-          rw (types, holds-taken old new t v t′ v′ q r h z)
-          (subst (λ b. Within b (heldAt old q)) (shape-bounds (delayType old q) (delayType new r) (g .shape)) (delay-holds old t′ v′ q (d .0) (d .3)))
+          rw (types, holds-taken old new v t′ v′ q r h z)
+          (subst (λ b. Within b (heldAt old q)) (shape-bounds (delayType old q) (delayType new r) (g .shape)) (delay-holds old v′ q (d .0) (d .3)))
 
   pub carried-again : verdict (carried old new) ≡ verdict new
   carried-again =
-      accepted-again new (carried old new) (carried-rewritten old new t v) t v leaves-small
+      accepted-again (carried-rewritten old new v) t v leaves-small
       (circuit-fitting new (carried old new) w constants-fit delays-fit)
       ∙ sym v

@@ -12,22 +12,20 @@ use native.Mathlib.Omega.{arith}
 use native.Mathlib.Decide.{ℕ-discrete}
 use lib.ListN.{length, getD}
 use lib.Seq.{ext-getD}
-use Rattle.records.specs.Words.{count, wordA, wordB}
+use Rattle.records.specs.Words.{count, wordA, wordB, lowByte, highByte}
 use Rattle.records.specs.Kinds.{expression, delay, leafs}
 use Rattle.records.specs.Says.{kindAt}
-use Rattle.records.specs.TypeRecords.{typeAt}
-use Rattle.records.specs.Trees.{chain, circuit}
-use Rattle.records.specs.Held.{delayLeaves}
+use Rattle.records.specs.Trees.{typeAt, chain, circuit, delayLeaves}
 use Rattle.records.specs.Decoding.{leafValues}
 use Rattle.records.specs.Rewritten.{Rewritten}
 use Rattle.records.proofs.Table.{kind-of-sort}
 use Rattle.records.proofs.Rewritten.{same-count, same-kind, same-type, same-chain}
 use Rattle.records.proofs.Leaves.{circuit-leaves}
-use Rattle.answers.specs.Lowest.{lowest}
+use Rattle.answers.specs.Answers.{lowest}
 use Rattle.answers.proofs.Lowest.{lowest-is, lowest-none-fails}
 use Rattle.verdict.specs.Verdict.{verdict}
 use Rattle.verdict.specs.declared.Verdict.the-variants.{Accepted}
-use Rattle.behaviour.specs.Sheets.{lowByte, highByte, OnlyDelays}
+use Rattle.behaviour.specs.Afterwards.{OnlyDelays}
 use Rattle.behaviour.proofs.Cells.{word-a}
 use Rattle.behaviour.proofs.Members.{member-or-not}
 use Rattle.behaviour.proofs.Sheets.{same-word, only-leaves, leaf-small, accepted-written}
@@ -100,14 +98,14 @@ module _ {old new next : List ℕ} (f : CarryFormed old new next) where
   pub carries-over : CarriesOver old new
   carries-over =
       record {
-        only-delays = carried-only-delays old new (f .newType) (f .new-accepted);
+        only-delays = carried-only-delays old new (f .new-accepted);
         again = carried-again old new (f .oldType) (f .newType) (f .old-accepted) (f .new-accepted);
         taken = λ q r p.
-            ap (leafValues (carried old new)) (leaves-same old new (f .newType) (f .new-accepted) r)
-            ∙ holds-taken old new (f .newType) (f .new-accepted) (f .oldType) (f .old-accepted) q r (p .new-there) (partner-gives q r p);
+            ap (leafValues (carried old new)) (leaves-same old new (f .new-accepted) r)
+            ∙ holds-taken old new (f .new-accepted) (f .oldType) (f .old-accepted) q r (p .new-there) (partner-gives q r p);
         kept = λ r h e n.
-            ap (leafValues (carried old new)) (leaves-same old new (f .newType) (f .new-accepted) r)
-            ∙ holds-same old new (f .newType) (f .new-accepted) r h (expression delay) e delay-chain (giver-partner r h n);
+            ap (leafValues (carried old new)) (leaves-same old new (f .new-accepted) r)
+            ∙ holds-same old new (f .new-accepted) r h (expression delay) e delay-chain (giver-partner r h n);
       }
 
 -- two lists of values that are the same are the same leaf by leaf
@@ -120,13 +118,13 @@ each-value f g (x ∷ ls) e l (List·Memᴰ·tail m) = each-value f g ls (ap res
     rest [] = []
     rest (x ∷ xs) = xs
 
-module _ (s running : List ℕ) (t t′ : ℕ) (v : verdict s ≡ Accepted t) (v′ : verdict running ≡ Accepted t′) (o : OnlyDelays s running) where
+module _ {s running : List ℕ} {t t′ : ℕ} (v : verdict s ≡ Accepted t) (v′ : verdict running ≡ Accepted t′) (o : OnlyDelays s running) where
   only : Rewritten s running
   only = only-leaves (accepted-written s v) o
 
   -- labels are the same
   pub running-label : (r : ℕ) → label running r ≡ label s r
-  running-label r = rw (same-kind s running only r, same-word o r 5 (omega arith) (λ l m e z. omega arith)) refl
+  running-label r = rw (same-kind only r, same-word o r 5 (omega arith) (λ l m e z. omega arith)) refl
 
   twice-same : (r : ℕ) → labelTwice running r ≡ labelTwice s r
   unfolding labelTwice
@@ -134,11 +132,11 @@ module _ (s running : List ℕ) (t t′ : ℕ) (v : verdict s ≡ Accepted t) (v
       rw (running-label r) (ap (λ (p : ℕ → Bool). isSome (lowest p r)) (fun-ext (λ q. rw (running-label q) refl)))
 
   pub running-once : lowest (labelTwice s) (count s) ≡ none → lowest (labelTwice running) (count running) ≡ none
-  running-once e = ap₂ lowest (fun-ext twice-same) (same-count s running only) ∙ e
+  running-once e = ap₂ lowest (fun-ext twice-same) (same-count only) ∙ e
 
   running-type : (r : ℕ) → r < count s → kindAt s r ≡ expression delay → delayType running r ≡ delayType s r
   running-type r h e =
-      ap (typeAt running) (only .others r (λ f. let z : _≡_ {A = ℕ} 0 1 = cc in omega arith) 2 (omega arith)) ∙ same-type s running only (wordA s r)
+      ap (typeAt running) (only .others r (λ f. let z : _≡_ {A = ℕ} 0 1 = cc in omega arith) 2 (omega arith)) ∙ same-type only (wordA s r)
 
   module _ (a : AllLabels s) where
     formed : (next : List ℕ) → length next ≡ length s → CarryFormed running s next
@@ -157,8 +155,8 @@ module _ (s running : List ℕ) (t t′ : ℕ) (v : verdict s ≡ Accepted t) (v
     own-partner : (r : ℕ) → r < count s → kindAt s r ≡ expression delay → Partners running s r r
     own-partner r h e =
         record {
-          old-there = rw (same-count s running only) h;
-          old-delay = same-kind s running only r ∙ e;
+          old-there = rw (same-count only) h;
+          old-delay = same-kind only r ∙ e;
           new-there = h;
           new-delay = e;
           labelled = a .each r h e;
@@ -173,9 +171,9 @@ module _ (s running : List ℕ) (t t′ : ℕ) (v : verdict s ≡ Accepted t) (v
         let g : giver running s (d .of) ≡ some (d .of) =
         partner-gives (formed s refl) (d .of) (d .of) (own-partner (d .of) (d .there) (d .kind)) in
         let same-leaves : leavesAt running (d .of) ≡ leavesAt s (d .of) =
-        ap (chain running) (only .leaves (d .of) 3 (omega arith) (λ e. omega arith)) ∙ same-chain s running only (wordB s (d .of)) in
+        ap (chain running) (only .leaves (d .of) 3 (omega arith) (λ e. omega arith)) ∙ same-chain only (wordB s (d .of)) in
         each-value (wordA (carried running s)) (wordA running) (leavesAt s (d .of))
-        (holds-taken running s t v t′ v′ (d .of) (d .of) (d .there) g ∙ ap (leafValues running) same-leaves) l (d .leaf)
+        (holds-taken running s v t′ v′ (d .of) (d .of) (d .there) g ∙ ap (leafValues running) same-leaves) l (d .leaf)
 
     -- a word below 256 is its low byte
     bytes-of : (x y : List ℕ) (l : ℕ) → wordA x l ≡ wordA y l → wordA y l ≤ 255
@@ -185,7 +183,7 @@ module _ (s running : List ℕ) (t t′ : ℕ) (v : verdict s ≡ Accepted t) (v
     pub back : carried running s ≡ running
     back =
         ext-getD 0 (carried running s) running
-        (carried-only-delays running s t v .length ∙ sym (o .length)) (λ i h. at i (member-or-not (i / 12) (delayLeaves (circuit s))))
+        (carried-only-delays running s v .length ∙ sym (o .length)) (λ i h. at i (member-or-not (i / 12) (delayLeaves (circuit s))))
       where
         small : (l : ℕ) → List·Memᴰ l (delayLeaves (circuit s)) → wordA running l ≤ 255
         small l m =
@@ -195,7 +193,7 @@ module _ (s running : List ℕ) (t t′ : ℕ) (v : verdict s ≡ Accepted t) (v
 
         elsewhere : (i : ℕ) → ((l : ℕ) → List·Memᴰ l (delayLeaves (circuit s)) → (i ≡ lowByte l → ⊥) × (i ≡ highByte l → ⊥))
             → getD (carried running s) i 0 ≡ getD running i 0
-        elsewhere i f = carried-only-delays running s t v .bytes i f ∙ sym (o .bytes i f)
+        elsewhere i f = carried-only-delays running s v .bytes i f ∙ sym (o .bytes i f)
 
         in-leaf : (i l : ℕ) → List·Memᴰ l (delayLeaves (circuit s)) → l ≡ i / 12 → Dec (i ≡ lowByte l) → Dec (i ≡ highByte l)
             → getD (carried running s) i 0 ≡ getD running i 0

@@ -12,9 +12,7 @@ use borrow.Author.Tests.{eq-eqb}
 use lib.ListN.{length}
 use lib.Dec.{eqb}
 use Rattle.records.specs.Words.{count}
-use Rattle.answers.specs.Lowest.{lowest}
-use Rattle.answers.specs.Answers.{code, place, onDone}
-use Rattle.answers.specs.Checks.{when, orRefused, firstApplying, NoneApplies, SaysOf}
+use Rattle.answers.specs.Answers.{lowest, code, place, onDone, when, orRefused, firstApplying, NoneApplies, SaysOf}
 use Rattle.answers.specs.declared.Answer.{Answer}
 use Rattle.answers.specs.declared.Answer.the-variants.{Done, Refused}
 use Rattle.answers.proofs.Lowest.{lowest-some-passes}
@@ -77,7 +75,7 @@ carry-lowest-first old new next a = (
 )
 
 -- the places of the checks after the old sheet's
-module _ (old new next : List ℕ) (t : ℕ) (v : verdict old ≡ Accepted t) where
+module _ (old new next : List ℕ) {t : ℕ} (v : verdict old ≡ Accepted t) where
   refused-small : (p : ℕ) → refusedBy (verdictAnswer (verdict new)) ≡ some p → p < 2 ^ 32
   refused-small p e =
       go (verdictAnswer (verdict new)) (code-small (verdict new) refl) e
@@ -88,7 +86,7 @@ module _ (old new next : List ℕ) (t : ℕ) (v : verdict old ≡ Accepted t) wh
 
   twice-small : (s : List ℕ) (t : ℕ) → verdict s ≡ Accepted t → (p : ℕ) → lowest (labelTwice s) (count s) ≡ some p → p < 2 ^ 32
   twice-small s t v p e =
-      let h = lowest-some-passes (labelTwice s) (count s) p e .0 in let f = is-written s t v .few in omega arith
+      let h = lowest-some-passes (labelTwice s) (count s) p e .0 in let f = is-written s v .few in omega arith
 
   rest-small : place (firstApplying (newChecks old new next) (Done 0)) < 2 ^ 32
   rest-small =
@@ -101,7 +99,7 @@ module _ (old new next : List ℕ) (t : ℕ) (v : verdict old ≡ Accepted t) wh
       (λ f. place-or 19 (lowest (labelTwice new) (count new)) last (twice-small new (a .0) (a .1))
       (λ g. place-or 11 (when (not (eqb (length next) (length new))) (length new)) (Done 0)
       (λ p k. let z = when-some (not (eqb (length next) (length new))) (length new) p k in
-      let l = accepted-length new (a .0) (a .1) in omega arith)
+      let l = accepted-length new (a .1) in omega arith)
       (λ k. omega arith))))
 
 pub carry-places-small : CarryPlacesSmall
@@ -112,7 +110,7 @@ carry-places-small old new next = rw (carry-answer old new next) (go (ℕ-discre
 
     go : Dec (code (verdictAnswer (verdict old)) ≡ 0)
         → place (onDone (verdictAnswer (verdict old)) (λ t. firstApplying (newChecks old new next) (Done 0))) < 2 ^ 32
-    go (yes e) = let a = accepts-by-code (verdict old) e in rw (a .1) (rest-small old new next (a .0) (a .1))
+    go (yes e) = let a = accepts-by-code (verdict old) e in rw (a .1) (rest-small old new next (a .1))
     go (no f) =
         let r = refuses-by-code (verdict old) f in
         let h = verdict-place old in

@@ -5,7 +5,7 @@ use mathlib.Core.List.{List}
 use mathlib.Core.Path.{_≡_, refl}
 use native.Mathlib.Omega.{arith}
 use lib.ListN.{length}
-use Rattle.picoella.specs.Types.{leaves, OfType}
+use Rattle.picoella.specs.Language.{leaves, OfType}
 use Rattle.records.specs.Words.{count, wordA, wordB}
 use Rattle.records.specs.Kinds.{expression, delay, leafs}
 use Rattle.records.specs.Says.{kindAt}
@@ -13,7 +13,7 @@ use Rattle.records.specs.Written.{Written, WellNamed}
 use Rattle.records.proofs.Table.{askOfKind}
 use Rattle.records.proofs.Asked.{part-of-kind, past-header}
 use Rattle.records.proofs.TypeRecords.{type-word}
-use Rattle.structure.specs.Passes.{Passes}
+use Rattle.structure.specs.Rules.{Passes}
 use Rattle.verdict.specs.Verdict.{verdict}
 use Rattle.verdict.specs.declared.Verdict.the-variants.{Accepted}
 use Rattle.accepted.proofs.Laws.{written, well-named, accepted-by-types}
@@ -23,7 +23,7 @@ use Rattle.carry.specs.Labels.{delayType}
 use Rattle.carry.specs.Carried.{leavesAt, heldAt}
 use Rattle.carry.specs.Carrying.{OfTypes, OfLeaves, IsAccepted}
 
-module _ (s : List ℕ) (t : ℕ) (v : verdict s ≡ Accepted t) where
+module _ (s : List ℕ) {t : ℕ} (v : verdict s ≡ Accepted t) where
   pub accepted-passes : Passes s
   accepted-passes = accepted-by-types s t .0 v .0
 
@@ -49,13 +49,13 @@ module _ {s : List ℕ} {n : ℕ} (g : IsAccepted s n) (r : ℕ) (h : r < n) (e 
 
   pub delay-type : (t : ℕ) → t ≡ wordA s r → OfTypes s n t
   delay-type t et =
-      let w = is-written s (g .type) (g .accepted) in
+      let w = is-written s (g .accepted) in
       rw et
       (record { sized = g .sized; written = w; type = type-word w r (expression delay) delay-in e 2 refl (unfold askOfKind in refl) })
 
   pub delay-leaves : (b : ℕ) → b ≡ wordB s r → OfLeaves s n b
   delay-leaves b eb =
-      let w = is-written s (g .type) (g .accepted) in
+      let w = is-written s (g .accepted) in
       let p = part-of-kind w r (expression delay) leafs delay-in e 3 refl (unfold askOfKind in refl) in
       let c = g .sized .counted in
       rw eb (record { sized = g .sized; written = w; there = let i = p .1 in omega arith; sort = p .2 })

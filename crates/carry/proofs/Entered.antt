@@ -9,24 +9,24 @@ use mathlib.Core.Path.{_≡_, refl, sym, ap, subst, _∙_}
 use native.Mathlib.Omega.{arith}
 use native.Mathlib.Decide.{ℕ-discrete}
 use lib.ListN.{length, getD, length-map}
-use Rattle.picoella.specs.Types.{leaves}
+use Rattle.picoella.specs.Language.{leaves}
 use Rattle.records.specs.Words.{count, wordA, wordB}
 use Rattle.records.specs.Kinds.{Kind, expression, delay, leaf, leafs, part}
 use Rattle.records.specs.Says.{kindAt}
-use Rattle.records.specs.Trees.{chain, circuit}
-use Rattle.records.specs.Held.{delayLeaves, Distinct}
+use Rattle.records.specs.Trees.{chain, circuit, delayLeaves}
+use Rattle.records.specs.Written.{Distinct, Written, WellNamed}
 use Rattle.records.specs.Decoding.{leafValues}
-use Rattle.records.specs.Written.{Written, WellNamed}
 use Rattle.records.specs.Rewritten.{Rewritten}
 use Rattle.records.proofs.Table.{askOfKind}
 use Rattle.records.proofs.Leaves.{chain-leaves}
 use Rattle.records.proofs.Distinct.{chain-only}
 use Rattle.records.proofs.Rewritten.{same-chain}
-use Rattle.answers.specs.Checks.{when}
+use Rattle.answers.specs.Answers.{when}
 use Rattle.verdict.specs.Verdict.{verdict}
 use Rattle.verdict.specs.declared.Verdict.the-variants.{Accepted}
 use Rattle.behaviour.specs.Delays.{Entry, putAll}
-use Rattle.behaviour.specs.Sheets.{putWord, OnlyDelays}
+use Rattle.behaviour.specs.Sheets.{putWord}
+use Rattle.behaviour.specs.Afterwards.{OnlyDelays}
 use Rattle.behaviour.proofs.Entries.{placesOf, place-of-member, put-append, put-leaves, put-elsewhere, put-read}
 use Rattle.behaviour.proofs.Cells.{InSheet, put-length, put-byte, sheet-cells}
 use Rattle.behaviour.proofs.Members.{either}
@@ -72,12 +72,12 @@ leafChain k = askOfKind k 3 ≡ part leafs
 pub delay-chain : leafChain (expression delay)
 delay-chain = unfold askOfKind in refl
 
-module _ (old new : List ℕ) (t : ℕ) (v : verdict new ≡ Accepted t) where
+module _ (old new : List ℕ) {t : ℕ} (v : verdict new ≡ Accepted t) where
   w : Written new
-  w = is-written new t v
+  w = is-written new v
 
   once : WellNamed new
-  once = is-well-named new t v
+  once = is-well-named new v
 
   abbrev pub taken : ℕ → List Entry
   taken r = takenFrom old new r (giver old new r)
@@ -192,7 +192,7 @@ module _ (old new : List ℕ) (t : ℕ) (v : verdict new ≡ Accepted t) where
           let s = source (count new) (omega arith) (f .0) (f .1) in
           let z = f .2 in
           let p = taken-place (s .at) (f .0 .place) (place-of-member (f .0) (taken (s .at)) (s .member)) in
-          record-delay-leaf new t v l (record { of = s .at; there = s .there; kind = p .0; leaf = rw z at (p .1) })
+          record-delay-leaf v l (record { of = s .at; there = s .there; kind = p .0; leaf = rw z at (p .1) })
 
   pub carried-rewritten : Rewritten new (carried old new)
   carried-rewritten = only-leaves (accepted-written new v) carried-only-delays
@@ -201,7 +201,7 @@ module _ (old new : List ℕ) (t : ℕ) (v : verdict new ≡ Accepted t) where
   pub leaves-same : (r : ℕ) → leavesAt (carried old new) r ≡ leavesAt new r
   leaves-same r =
       ap (chain (carried old new)) (carried-rewritten .leaves r 3 (omega arith) (λ e. omega arith))
-      ∙ same-chain new (carried old new) carried-rewritten (wordB new r)
+      ∙ same-chain carried-rewritten (wordB new r)
 
   pub holds-same : (r : ℕ) → r < count new → (k : Kind) → kindAt new r ≡ k → leafChain k → giver old new r ≡ none
       → leafValues (carried old new) (leavesAt new r) ≡ heldAt new r
@@ -214,9 +214,9 @@ module _ (old new : List ℕ) (t : ℕ) (v : verdict new ≡ Accepted t) where
         let g = giver-some old new q r e in
         let d = bearer-delay old (label new r) q (g .bears) in
         let many : length (leavesAt new r) ≡ length (heldAt old q) =
-        delay-many new t v r h (g .taking)
+        delay-many new v r h (g .taking)
         ∙ sym (shape-leaves old new q r (g .shape))
-        ∙ sym (delay-many old t′ v′ q (d .0) (d .3))
+        ∙ sym (delay-many old v′ q (d .0) (d .3))
         ∙ sym (length-map (leavesAt old q) (wordA old)) in
         read-assigned (wordA (carried old new)) (leavesAt new r) (heldAt old q) many
         (λ x m. reads-carried r h x (rw e m))

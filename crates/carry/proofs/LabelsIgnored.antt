@@ -8,11 +8,11 @@ use mathlib.Core.List.{List, [], _∷_, _++_}
 use mathlib.Core.Path.{_≡_, refl, sym, ap, ap₂, fun-ext, _∙_}
 use native.Mathlib.Omega.{arith}
 use lib.ListN.{length, getD, set, length-set}
-use Rattle.records.specs.Words.{word, wordA}
+use Rattle.records.specs.Words.{word, wordA, lowByte, highByte}
 use Rattle.records.specs.Kinds.{kindOf}
 use Rattle.records.specs.Says.{kindAt}
-use Rattle.records.specs.TypeRecords.{typeAt}
 use Rattle.records.specs.Trees.{
+  typeAt,
   Alternatives,
   end,
   noPattern,
@@ -31,17 +31,15 @@ use Rattle.records.specs.Trees.{
   ifOf,
   delayOf,
   circuit,
+  typeRecordOf,
 }
 use Rattle.records.specs.Decoding.{patternOf}
 use Rattle.records.specs.Rewritten.{Rewritten, OnlyLabels}
 use Rattle.records.proofs.Rewritten.{same-type, same-circuit}
 use Rattle.records.proofs.Labels.{labels-words, labels-rewritten}
-use Rattle.answers.specs.Lowest.{lowest}
-use Rattle.answers.specs.Answers.{whenDone, onDone}
-use Rattle.answers.specs.Checks.{check, when, firstApplying}
+use Rattle.answers.specs.Answers.{lowest, whenDone, onDone, check, when, firstApplying}
 use Rattle.answers.specs.declared.Answer.{Answer}
 use Rattle.answers.specs.declared.Answer.the-variants.{Done, Refused}
-use Rattle.typing.specs.Judgements.{typeRecordOf}
 use Rattle.verdict.specs.Verdict.{inputs, verdictAnswer}
 use Rattle.accepted.proofs.LabelsAgain.{leaf-values-same, type-record-same, verdict-same}
 use Rattle.meaning.specs.Undecided.{undecidedRule}
@@ -49,7 +47,7 @@ use Rattle.meaning.specs.Evaluation.{eval, next}
 use Rattle.stimulus.specs.Stimulus.{inputType, cycleCount, cycles, wrongStimulus, wrongByte, stimulusChecks}
 use Rattle.behaviour.specs.Terms.{term, circuitTerm}
 use Rattle.behaviour.specs.Delays.{Entry, entries, putAll}
-use Rattle.behaviour.specs.Sheets.{putWord, lowByte, highByte, write}
+use Rattle.behaviour.specs.Sheets.{putWord, write}
 use Rattle.behaviour.specs.Cycle.{outputBy, afterBy}
 use Rattle.behaviour.specs.Run.{outputsBy, sheetAfter, lengthChecks, bySlices, answer, finalOut, finalNext}
 use Rattle.behaviour.proofs.Cells.{put-length, put-byte}
@@ -58,38 +56,38 @@ use Rattle.carry.specs.Promises.{LabelsAlone}
 -- the same term
 module _ {s s′ : List ℕ} (o : OnlyLabels s s′) where
   only : Rewritten s s′
-  only = labels-rewritten s s′ o
+  only = labels-rewritten o
 
   pattern-same : (m : Alternatives) → patternOf s′ m ≡ patternOf s m
   pattern-same end = refl
   pattern-same noPattern = refl
-  pattern-same (wholeType r t m) = rw (same-type s s′ only t, pattern-same m)
-  pattern-same (oneConstructor r t k m) = rw (labels-words s s′ o t 2 (omega arith), pattern-same m)
+  pattern-same (wholeType r t m) = rw (same-type only t, pattern-same m)
+  pattern-same (oneConstructor r t k m) = rw (labels-words o t 2 (omega arith), pattern-same m)
   pattern-same (pairOfPatterns r a b m) = rw (pattern-same a, pattern-same b, pattern-same m)
 
   first-type : (Γ : List ℕ) (a : Tree) → typeAt s′ (wordA s′ (typeRecordOf s′ Γ a)) ≡ typeAt s (wordA s (typeRecordOf s Γ a))
   first-type Γ a =
-      same-type s s′ only (wordA s′ (typeRecordOf s′ Γ a))
-      ∙ ap (typeAt s) (ap (wordA s′) (type-record-same o Γ a) ∙ labels-words s s′ o (typeRecordOf s Γ a) 2 (omega arith))
+      same-type only (wordA s′ (typeRecordOf s′ Γ a))
+      ∙ ap (typeAt s) (ap (wordA s′) (type-record-same o Γ a) ∙ labels-words o (typeRecordOf s Γ a) 2 (omega arith))
 
   term-same : (Γ : List ℕ) (e : Tree) → term s′ Γ e ≡ term s Γ e
   term-same Γ noExpression = refl
-  term-same Γ (constantOf r t ls) = rw (same-type s s′ only t, leaf-values-same o ls)
+  term-same Γ (constantOf r t ls) = rw (same-type only t, leaf-values-same o ls)
   term-same Γ (nameOf r k) = refl
   term-same Γ (tupleOf r a b) = rw (term-same Γ a, term-same Γ b)
   term-same Γ (firstOf r a) = rw (first-type Γ a, term-same Γ a)
   term-same Γ (secondOf r a) = rw (first-type Γ a, term-same Γ a)
   term-same Γ (letOf r a b) = rw (term-same Γ a, type-record-same o Γ a, term-same (typeRecordOf s Γ a ∷ Γ) b)
-  term-same Γ (feedbackOf r t a b) = rw (same-type s s′ only t, term-same (t ∷ Γ) a, term-same (t ∷ Γ) b)
+  term-same Γ (feedbackOf r t a b) = rw (same-type only t, term-same (t ∷ Γ) a, term-same (t ∷ Γ) b)
   term-same Γ (ifOf r a p b c) = rw (term-same Γ a, pattern-same p, term-same Γ b, term-same Γ c)
-  term-same Γ (delayOf r t ls a) = rw (same-type s s′ only t, leaf-values-same o ls, term-same Γ a)
+  term-same Γ (delayOf r t ls a) = rw (same-type only t, leaf-values-same o ls, term-same Γ a)
 
   circuit-term-same : circuitTerm s′ ≡ circuitTerm s
   unfolding circuitTerm
-  circuit-term-same = rw (labels-words s s′ o 0 2 (omega arith), same-circuit s s′ only) (term-same (inputs s) (circuit s))
+  circuit-term-same = rw (labels-words o 0 2 (omega arith), same-circuit only) (term-same (inputs s) (circuit s))
 
   input-same : inputType s′ ≡ inputType s
-  input-same = same-type s s′ only (wordA s′ 0) ∙ ap (typeAt s) (labels-words s s′ o 0 2 (omega arith))
+  input-same = same-type only (wordA s′ 0) ∙ ap (typeAt s) (labels-words o 0 2 (omega arith))
 
 -- a put changes no kind
 put-kind : (l v : ℕ) (a : List ℕ) (r : ℕ) → kindAt (putWord l v a) r ≡ kindAt a r
@@ -148,7 +146,7 @@ module _ (undecided : List ℕ → List ℕ → List ℕ) where
   run-labels (i ∷ is) s s′ o = run-labels is (afterBy undecided s i) (afterBy undecided s′ i) (after-labels o i)
 
 -- a call of the run
-module _ (s s′ : List ℕ) (o : OnlyLabels s s′) (stim : List ℕ) where
+module _ {s s′ : List ℕ} (o : OnlyLabels s s′) (stim : List ℕ) where
   count-same : cycleCount s′ stim ≡ cycleCount s stim
   count-same = rw (input-same o) refl
 
@@ -170,7 +168,7 @@ module _ (s s′ : List ℕ) (o : OnlyLabels s s′) (stim : List ℕ) where
 
   module _ (out nextSlice : List ℕ) where
     length-checks-same : (t : ℕ) → lengthChecks s′ t stim out nextSlice ≡ lengthChecks s t stim out nextSlice
-    length-checks-same t = rw (input-same o, same-type s s′ (labels-rewritten s s′ o) t, o .length) refl
+    length-checks-same t = rw (input-same o, same-type (labels-rewritten o) t, o .length) refl
 
     slices-same : (t : ℕ) → bySlices s′ t stim out nextSlice ≡ bySlices s t stim out nextSlice
     unfolding bySlices
@@ -200,7 +198,7 @@ labels-alone s s′ o =
       same-verdict = verdict-same o;
       same-outputs = λ undecided is. outputs-same undecided is s s′ o;
       same-after = λ undecided is. run-labels undecided is s s′ o;
-      same-answer = λ stim out nextSlice. answer-same s s′ o stim out nextSlice;
-      same-out = λ stim out nextSlice. final-out-same s s′ o stim out nextSlice;
-      same-next = λ stim out nextSlice. final-next-labels s s′ o stim out nextSlice;
+      same-answer = λ stim out nextSlice. answer-same o stim out nextSlice;
+      same-out = λ stim out nextSlice. final-out-same o stim out nextSlice;
+      same-next = λ stim out nextSlice. final-next-labels o stim out nextSlice;
     }

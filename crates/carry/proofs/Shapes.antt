@@ -9,11 +9,11 @@ use mathlib.Core.Logic.{_⊎_, inl, inr}
 use native.Mathlib.Omega.{arith}
 use borrow.Author.Tests.{eqb-true, eq-eqb, not-true, not-false}
 use lib.Dec.{eqb}
-use Rattle.picoella.specs.Types.{Ty, Flat, TyTuple, bounds}
+use Rattle.picoella.specs.Language.{Ty, Flat, TyTuple, bounds}
 use Rattle.records.specs.Words.{word, wordA, wordB}
 use Rattle.records.specs.Kinds.{TypeKind, typeOf, flat, pair, types}
 use Rattle.records.specs.Says.{kindAt}
-use Rattle.records.specs.TypeRecords.{typeAt}
+use Rattle.records.specs.Trees.{typeAt}
 use Rattle.records.proofs.Tests.{both-left, both-right}
 use Rattle.records.proofs.Table.{kind-of-sort}
 use Rattle.records.proofs.CodeTable.{flat-number, pair-number}
@@ -75,7 +75,7 @@ module _ {s : List ℕ} {n t : ℕ} (g : OfTypes s n t) where
       rw eb
       (record { sized = g .sized; written = g .written; type = second-part (g .written) t (g .type .there) d }, pair-parts (g .written) t (g .type .there) d .2)
 
-module _ {old : List ℕ} {n t : ℕ} {new : List ℕ} {m u : ℕ} (g : Comparing old n t new m u) (k : ℕ) (ek : k ≡ word old t 0) (j : ℕ) (ej : j ≡ word new u 0) where
+module _ {old : List ℕ} {n t : ℕ} {new : List ℕ} {m u : ℕ} (g : Comparing old n t new m u) {k : ℕ} (ek : k ≡ word old t 0) {j : ℕ} (ej : j ≡ word new u 0) where
   -- a flat and a pair
   pub unlike : (j ≡ k → ⊥) → false ≡ sameShape (typeAt old t) (typeAt new u)
   unlike f = go (by-kind (g .before)) (by-kind (g .after))

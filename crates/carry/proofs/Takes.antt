@@ -10,15 +10,14 @@ use native.Mathlib.Omega.{arith}
 use native.Mathlib.Numerals.{add-one}
 use borrow.Author.Tests.{not-true, not-false}
 use lib.ListN.{length, getD}
-use Rattle.picoella.specs.Types.{leaves}
+use Rattle.picoella.specs.Language.{leaves}
 use Rattle.records.specs.Words.{count, word, wordB}
 use Rattle.records.specs.Kinds.{expression, delay}
 use Rattle.records.specs.Says.{kindAt}
-use Rattle.records.specs.TypeRecords.{typeAt}
-use Rattle.records.specs.Trees.{chain}
+use Rattle.records.specs.Trees.{typeAt, chain}
 use Rattle.records.specs.Decoding.{leafValues}
 use Rattle.records.proofs.Types.{leaves-of-bounds}
-use Rattle.answers.specs.Checks.{when}
+use Rattle.answers.specs.Answers.{when}
 use Rattle.answers.proofs.Lowest.{lowest-some-passes}
 use Rattle.behaviour.specs.Delays.{assigned, putAll}
 use Rattle.behaviour.specs.Sheets.{putWord}
@@ -114,9 +113,9 @@ module _ {old : List ℕ} {n : ℕ} {new : List ℕ} {m : ℕ} {table next : Lis
           pub taking : Taking old n b new m d next
           taking =
               let many : length (chain old (wordB old (getD table l 0))) ≡ length (chain new (wordB new rec)) =
-              delay-many old (g .before .type) (g .before .accepted) (getD table l 0) (delay-in (g .before) (getD table l 0) giving-in giving-kind) giving-kind
+              delay-many old (g .before .accepted) (getD table l 0) (delay-in (g .before) (getD table l 0) giving-in giving-kind) giving-kind
               ∙ shape-leaves old new (getD table l 0) rec (shape-is ∙ not-false x nz)
-              ∙ sym (delay-many new (g .after .type) (g .after .accepted) rec (delay-in (g .after) rec h taking-kind) taking-kind) in
+              ∙ sym (delay-many new (g .after .accepted) rec (delay-in (g .after) rec h taking-kind) taking-kind) in
               record {
                 before = delay-leaves (g .before) (getD table l 0) giving-in giving-kind b eb;
                 after = delay-leaves (g .after) rec h taking-kind d ed;

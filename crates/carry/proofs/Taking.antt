@@ -15,7 +15,7 @@ use Rattle.records.specs.Written.{Written}
 use Rattle.records.proofs.Table.{askOfKind, kind-of-sort}
 use Rattle.records.proofs.Asked.{as-kind-asks, past-header}
 use Rattle.records.proofs.Trees.{chain-of, next-leaf}
-use Rattle.values.proofs.Matches.{left, left-falls}
+use Rattle.values.proofs.Gathering.{left, left-falls}
 use Rattle.behaviour.specs.Delays.{Entry, assigned, putAll}
 use Rattle.behaviour.specs.Sheets.{putWord}
 use Rattle.carry.specs.Carrying.{OfLeaves, Taking}

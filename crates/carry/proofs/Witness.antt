@@ -14,15 +14,12 @@ use lib.Dec.{ltb}
 use lib.ListN.{getD, set, replicate}
 use Rattle.records.specs.Words.{word, count, wordA, wordB}
 use Rattle.records.specs.Kinds.{rowOf, kindOf, askOf, expression, delay}
-use Rattle.records.specs.Says.{kindAt, wellSaid}
-use Rattle.records.specs.Namings.{namings}
-use Rattle.records.specs.TypeRecords.{typeWithin, typeAt, pairOf}
-use Rattle.records.specs.Trees.{chainWithin, chain, alternativesWithin, alternatives, treeWithin, treeAt, circuit}
+use Rattle.records.specs.Says.{kindAt, wellSaid, namings}
+use Rattle.records.specs.Trees.{typeWithin, typeAt, pairOf, chainWithin, chain, alternativesWithin, alternatives, treeWithin, treeAt, circuit}
 use Rattle.records.specs.Sized.{Sized}
 use Rattle.records.specs.Written.{Written}
-use Rattle.structure.specs.Depth.{ancestryWithin, ancestry, depth, nesting}
-use Rattle.structure.specs.Rules.{wrongLength, wrongHeader, wrongRecord, wrongNaming, wrongType, tooDeep}
-use Rattle.answers.specs.Lowest.{lowest}
+use Rattle.structure.specs.Rules.{ancestryWithin, ancestry, depth, nesting, wrongLength, wrongHeader, wrongRecord, wrongNaming, wrongType, tooDeep}
+use Rattle.answers.specs.Answers.{lowest}
 use Rattle.answers.proofs.Lowest.{lowest-none-fails}
 use Rattle.verdict.specs.Verdict.{byTypes, byRecords, verdict}
 use Rattle.verdict.specs.declared.Verdict.the-variants.{Accepted}
@@ -50,14 +47,14 @@ unfolding verdict byRecords byTypes wrongLength wrongHeader wrongRecord wrongNam
 accepted-running = refl
 
 began-is : IsAccepted began 17
-began-is = record { sized = accepted-sized began 1 accepted-began; type = 1; accepted = accepted-began }
+began-is = record { sized = accepted-sized began accepted-began; type = 1; accepted = accepted-began }
 
 running-is : IsAccepted running 17
-running-is = record { sized = accepted-sized running 1 accepted-running; type = 1; accepted = accepted-running }
+running-is = record { sized = accepted-sized running accepted-running; type = 1; accepted = accepted-running }
 
 running-labelling : Labelling running 17 0 (replicate {A = ℕ} 65536 0)
 running-labelling =
-    record { sized = running-is .sized; written = is-written running 1 accepted-running; there = omega arith; below = no-bearer running }
+    record { sized = running-is .sized; written = is-written running accepted-running; there = omega arith; below = no-bearer running }
 
 carrying-all : CarryingAll running 17 began 17 began
 unfolding labelTwice kindOf rowOf word
@@ -105,10 +102,10 @@ module _ {s : List ℕ} {n : ℕ} (sized : Sized s n) (w : Written s) (small : (
           next table l = (table, subst (λ m. Bearers s m table) (add-one k) (l .entered refl))
 
           by : Dec (label s k ≡ 0) → Dec (getD (p .0) (label s k) 0 ≡ 0) → (table : List ℕ) × Bearers s (suc k) table
-          by (yes e) d = next (p .0) (unlabelled-noted g (label s k) refl e)
-          by (no f) (yes z) = next (set (p .0) (label s k) k) (newly-noted g (label s k) refl (small k (omega arith)) f z)
+          by (yes e) d = next (p .0) (unlabelled-noted g refl e)
+          by (no f) (yes z) = next (set (p .0) (label s k) k) (newly-noted g refl (small k (omega arith)) f z)
           by (no f) (no z) =
-              let t = twice-noted g (label s k) refl (small k (omega arith)) z .answered in
+              let t = twice-noted g refl (small k (omega arith)) z .answered in
               let o = once k (omega arith) in
               let y : _≡_ {A = ℕ} 0 1 = cc in
               absurd (omega arith)
@@ -122,7 +119,7 @@ running-small q h =
 running-table : (table : List ℕ) × Bearers running 17 table
 unfolding labelTwice kindOf rowOf word
 running-table =
-    table-of (running-is .sized) (is-written running 1 accepted-running) running-small
+    table-of (running-is .sized) (is-written running accepted-running) running-small
     (lowest-none-fails (labelTwice running) 17 refl) 17 (omega arith)
 
 carrying : Carrying running 17 began 17 (running-table .0) began

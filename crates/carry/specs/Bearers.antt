@@ -8,7 +8,7 @@ use mathlib.Core.Option.{Option, none, some}
 use lib.ListN.{length, getD}
 use Rattle.records.specs.Sized.{Sized}
 use Rattle.records.specs.Written.{Written}
-use Rattle.answers.specs.Lowest.{lowest}
+use Rattle.answers.specs.Answers.{lowest}
 use Rattle.answers.specs.Searches.{found}
 use Rattle.answers.specs.declared.Found.{Found}
 use Rattle.carry.specs.Labels.{bears, labelTwice}

@@ -7,7 +7,7 @@ use mathlib.Core.Option.{Option, none, some}
 use Rattle.records.specs.Words.{count, wordB}
 use Rattle.records.specs.Trees.{chain}
 use Rattle.records.specs.Decoding.{leafValues}
-use Rattle.answers.specs.Checks.{when}
+use Rattle.answers.specs.Answers.{when}
 use Rattle.behaviour.specs.Delays.{Entry, assigned, putAll}
 use Rattle.behaviour.specs.Sheets.{putWord}
 use Rattle.carry.specs.Labels.{label, bearer, delayType, sameShape}

@@ -9,11 +9,10 @@ use Rattle.records.specs.Kinds.{leafs}
 use Rattle.records.specs.Says.{sortAt}
 use Rattle.records.specs.Sized.{Sized}
 use Rattle.records.specs.Written.{Written}
-use Rattle.records.specs.TypeRecords.{TypeRecord}
-use Rattle.records.specs.Trees.{chain}
+use Rattle.records.specs.Trees.{TypeRecord, chain}
 use Rattle.verdict.specs.Verdict.{verdict}
 use Rattle.verdict.specs.declared.Verdict.the-variants.{Accepted}
-use Rattle.answers.specs.Lowest.{lowest}
+use Rattle.answers.specs.Answers.{lowest}
 use Rattle.carry.specs.Labels.{labelTwice}
 use Rattle.carry.specs.Bearers.{Bearers}
 

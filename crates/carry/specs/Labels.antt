@@ -5,12 +5,12 @@ use mathlib.Core.Bool.{Bool, true, false, cond, _&&_}
 use mathlib.Core.List.{List}
 use mathlib.Core.Option.{Option, none, some}
 use lib.Dec.{eqb, ltb}
-use Rattle.picoella.specs.Types.{Ty, Flat, TyTuple}
+use Rattle.picoella.specs.Language.{Ty, Flat, TyTuple}
 use Rattle.records.specs.Words.{count, wordA, wordD}
 use Rattle.records.specs.Kinds.{isDelay}
 use Rattle.records.specs.Says.{kindAt}
-use Rattle.records.specs.TypeRecords.{typeAt}
-use Rattle.answers.specs.Lowest.{lowest}
+use Rattle.records.specs.Trees.{typeAt}
+use Rattle.answers.specs.Answers.{lowest}
 
 -- the label of record r, 0 where it has none or is no delay
 abbrev pub label : List ℕ → ℕ → ℕ

@@ -1,8 +1,11 @@
--- Carrying held values from a running sheet into a new one. `Bearers` and `Carrying` are what the functions' proofs need.
+-- Carrying held values from a running sheet into a new one.
+-- To believe:
 pub mod Labels
 pub mod Carried
 pub mod Carry
-pub mod Cases
 pub mod Promises
+-- Examples, by computation:
+pub mod Cases
+-- What functions ask and give, and their proofs need:
 pub mod Bearers
 pub mod Carrying

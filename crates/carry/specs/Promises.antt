@@ -11,9 +11,7 @@ use Rattle.records.specs.Words.{count}
 use Rattle.records.specs.Kinds.{expression, delay}
 use Rattle.records.specs.Says.{kindAt}
 use Rattle.records.specs.Rewritten.{OnlyLabels}
-use Rattle.answers.specs.Lowest.{lowest}
-use Rattle.answers.specs.Answers.{code, place}
-use Rattle.answers.specs.Checks.{Refuses}
+use Rattle.answers.specs.Answers.{lowest, code, place, Refuses}
 use Rattle.answers.specs.declared.Answer.{Answer}
 use Rattle.answers.specs.declared.Answer.the-variants.{Done, Refused}
 use Rattle.verdict.specs.Verdict.{verdict}
@@ -21,7 +19,7 @@ use Rattle.verdict.specs.declared.Verdict.the-variants.{Accepted}
 use Rattle.meaning.specs.Values.{AllOf}
 use Rattle.meaning.specs.Undecided.{Lawful}
 use Rattle.stimulus.specs.Stimulus.{inputType}
-use Rattle.behaviour.specs.Sheets.{OnlyDelays}
+use Rattle.behaviour.specs.Afterwards.{OnlyDelays}
 use Rattle.behaviour.specs.Run.{outputsBy, sheetAfter, answer, finalOut, finalNext}
 use Rattle.carry.specs.Labels.{label, labelTwice, delayType, sameShape}
 use Rattle.carry.specs.Carried.{heldAt, carried}

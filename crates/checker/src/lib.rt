@@ -4,14 +4,14 @@ ghost use Rattle.answers.specs.Answers.{packed};
 ghost use Rattle.verdict.specs.Verdict.{verdict, verdictAnswer};
 ghost use Rattle.translator.specs.Translation.{TranslatedInOne};
 use translator::translate;
-use verdict::check;
+use verdict::check_sheet;
 
 // The check: the verdict's code times 2^32, plus its place.
 #[no_mangle]
 pub extern "C" fn sheet_check(sheet: &[u8]) -> u64
     ensures { λ r. ⌜ r ≡ packed (verdictAnswer (verdict (now (sheet .entry)))) ⌝ }
 {
-    check(sheet)
+    check_sheet(sheet)
 }
 
 // The translation of a text into a sheet: the code times 2^32, plus the place.

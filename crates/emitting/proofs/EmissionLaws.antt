@@ -6,7 +6,7 @@ use mathlib.Core.List.{List, [], _∷_}
 use native.Mathlib.Omega.{arith}
 use lib.ListN.{length}
 use Rattle.records.specs.SheetOf.{Record, words}
-use Rattle.instructions.specs.Instruction.{Instruction, declareType, countConstructor, firstType, secondType, inputHas, useName, useConstant, useUndefined, openPair, openLet, openRec, openIf, openDelay, takeFirst, takeSecond, close, closeIf, beginPattern, matchType, matchConstructor, openParts, nextPart, closeParts, nextAlternative, useLeaf, useZeros, openConstant, closeConstant, endConstant, constantHas}
+use Rattle.instructions.specs.Instruction.{Instruction, declareType, countConstructor, firstType, secondType, inputHas, useName, useConstant, useUndefined, openPair, openLet, openRec, openIf, openDelay, takeFirst, takeSecond, close, closeIf, beginPattern, matchType, matchOne, openParts, nextPart, closeParts, nextAlternative, useLeaf, useZeros, openConstant, closeConstant, endConstant, constantHas}
 use Rattle.instructions.specs.Assembly.{DeclaredType, leavesNumbered}
 use Rattle.instructions.specs.Emission.{Slot, number, barrier, firstWaits, secondWaits, Emission, emission, top, pop, completed, zerosWritten, emit, emitAll, writtenOf, cursorOf}
 use Rattle.emitting.proofs.AdvanceLaws.{completed-grows}
@@ -54,7 +54,7 @@ module _ (T : List DeclaredType) where
   emit-lower R c S x closeIf = omega arith
   emit-lower R c S x beginPattern = omega arith
   emit-lower R c S x (matchType t) = omega arith
-  emit-lower R c S x (matchConstructor t n) = omega arith
+  emit-lower R c S x (matchOne t n) = omega arith
   emit-lower R c S x openParts = omega arith
   emit-lower R c S x nextPart = omega arith
   emit-lower R c S x closeParts = omega arith
@@ -86,7 +86,7 @@ module _ (T : List DeclaredType) where
   emit-grows R c S x closeIf = omega arith
   emit-grows R c S x beginPattern = omega arith
   emit-grows R c S x (matchType t) = omega arith
-  emit-grows R c S x (matchConstructor t n) = omega arith
+  emit-grows R c S x (matchOne t n) = omega arith
   emit-grows R c S x openParts = omega arith
   emit-grows R c S x nextPart = omega arith
   emit-grows R c S x closeParts = omega arith
@@ -143,7 +143,7 @@ module _ (T : List DeclaredType) where
   emit-balance R c S x closeIf h = omega arith
   emit-balance R c S x beginPattern h = omega arith
   emit-balance R c S x (matchType t) h = omega arith
-  emit-balance R c S x (matchConstructor t n) h = omega arith
+  emit-balance R c S x (matchOne t n) h = omega arith
   emit-balance R c S x openParts h = omega arith
   emit-balance R c S x nextPart h = omega arith
   emit-balance R c S x closeParts h = omega arith

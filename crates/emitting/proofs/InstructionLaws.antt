@@ -6,7 +6,7 @@ use mathlib.Core.List.{List, [], _∷_}
 use native.Mathlib.Omega.{arith}
 use lib.ListN.{List·getD-eq-default}
 use Rattle.records.specs.SheetOf.{Record, words}
-use Rattle.instructions.specs.Instruction.{instructionOf, declareType, countConstructor, firstType, secondType, inputHas, useName, useConstant, useUndefined, openPair, openLet, openIf, openDelay, takeFirst, takeSecond, close, closeIf, openRec, beginPattern, openParts, nextPart, closeParts, nextAlternative, matchType, matchConstructor, useLeaf, useZeros, openConstant, closeConstant, endConstant, constantHas}
+use Rattle.instructions.specs.Instruction.{instructionOf, declareType, countConstructor, firstType, secondType, inputHas, useName, useConstant, useUndefined, openPair, openLet, openIf, openDelay, takeFirst, takeSecond, close, closeIf, openRec, beginPattern, openParts, nextPart, closeParts, nextAlternative, matchType, matchOne, useLeaf, useZeros, openConstant, closeConstant, endConstant, constantHas}
 use Rattle.instructions.specs.Assembly.{DeclaredType, leavesNumbered}
 use Rattle.instructions.specs.Emission.{Slot, emission, top, pop, completed, zerosWritten, zerosNext, emit}
 use Rattle.emitting.specs.Tables.{heldStack}
@@ -27,7 +27,7 @@ past-all op a b h =
     List·getD-eq-default
     (declareType ∷ countConstructor ∷ firstType a ∷ secondType a ∷ inputHas a ∷ useName a ∷ useConstant a b ∷ useUndefined a ∷ openPair
     ∷ openLet ∷ openRec a ∷ openIf ∷ openDelay ∷ takeFirst ∷ takeSecond ∷ close ∷ closeIf ∷ beginPattern ∷ matchType a
-    ∷ matchConstructor a b ∷ openParts ∷ nextPart ∷ closeParts ∷ nextAlternative ∷ useLeaf a b ∷ useZeros a ∷ openConstant a
+    ∷ matchOne a b ∷ openParts ∷ nextPart ∷ closeParts ∷ nextAlternative ∷ useLeaf a b ∷ useZeros a ∷ openConstant a
     ∷ closeConstant ∷ endConstant ∷ constantHas a ∷ []) closeConstant h
 
 module _ (T : List DeclaredType) (R : List Record) (kinds values : List ℕ) (c h x op a b : ℕ) where

@@ -15,7 +15,7 @@ use Rattle.emitting.proofs.ByteLaws.{record-on}
 use Rattle.emitting.proofs.PartLaws.{zeros-length}
 
 -- the leaves of a type in the table
-module _ (leaves : List ℕ) (types declared d : ℕ) (same : d ≡ declared) (T : List DeclaredType) (held : LeavesHeld T leaves types) where
+module _ {leaves : List ℕ} {types declared d : ℕ} (same : d ≡ declared) {T : List DeclaredType} (held : LeavesHeld T leaves types) where
   pub no-leaves-of-zero : d ≡ 0 → 0 ≡ leavesNumbered T declared
   no-leaves-of-zero e = sym (ap (leavesNumbered T) (sym same ∙ e) ∙ held .none-of-zero)
 

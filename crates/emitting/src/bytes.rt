@@ -8,7 +8,7 @@ use records::RECORD_BYTES;
 
 pub const LEAF: u16 = 64;
 
-pub fn wide(x: u16) -> usize
+pub fn word_number(x: u16) -> usize
     ensures { λ r. ⌜ r ≡ x ⌝ }
 {
     x as usize
@@ -35,7 +35,7 @@ fn put_word(sheet: &mut [u8], at: usize, w: u16)
 }
 
 // A record before the one at the cursor; its number.
-pub fn put(
+pub fn put_record(
     sheet: &mut [u8],
     cursor: u16,
     kind: u16,
@@ -51,7 +51,7 @@ pub fn put(
     if cursor == 0 {
         return 0;
     }
-    let at = RECORD_BYTES * wide(cursor);
+    let at = RECORD_BYTES * word_number(cursor);
     put_word(sheet, at - 2, d);
     put_word(sheet, at - 4, c);
     put_word(sheet, at - 6, b);
@@ -62,13 +62,13 @@ pub fn put(
 }
 
 // Where leaves begin, and the word next of the one before them.
-pub struct Leaves {
+pub struct LeafStart {
     pub cursor: u16,
     pub next: u16,
 }
 
 // So many undefined leaves, the last with a given next.
-pub fn put_zeros(sheet: &mut [u8], cursor: u16, next: u16, count: usize) -> Leaves
+pub fn put_zeros(sheet: &mut [u8], cursor: u16, next: u16, count: usize) -> LeafStart
     requires { ⌜ 12 * cursor ≤ length (now sheet) ⌝ }
     ensures { λ r. ⌜ ZerosPut count (now (sheet .entry)) (now (sheet .exit)) cursor next (r .cursor) (r .next) ⌝ }
 {
@@ -76,11 +76,11 @@ pub fn put_zeros(sheet: &mut [u8], cursor: u16, next: u16, count: usize) -> Leav
     let mut after = next;
     let mut left = count;
     while left != 0 {
-        at = put(sheet, at, LEAF, after, 0, 0, 0, 0);
+        at = put_record(sheet, at, LEAF, after, 0, 0, 0, 0);
         after = at;
         left -= 1;
     }
-    Leaves {
+    LeafStart {
         cursor: at,
         next: after,
     }

@@ -7,12 +7,12 @@ ghost use Rattle.instructions.specs.Assembly.{DeclaredType, leavesNumbered};
 ghost use Rattle.emitting.specs.Tables.{LeavesHeld};
 ghost use Rattle.emitting.specs.Emitting.{Advancing, Does};
 use crate::bytes::LEAF;
-use crate::bytes::put;
+use crate::bytes::put_record;
 use crate::bytes::put_zeros;
-use crate::bytes::wide;
+use crate::bytes::word_number;
 use crate::expressions::Place;
-use crate::stack::Operands;
-use crate::stack::Ops;
+use instructions::Operands;
+use instructions::Ops;
 
 pub const USE_LEAF: u8 = 24;
 
@@ -23,10 +23,10 @@ fn count(x: u8) -> usize
 }
 
 // How many leaves a type has, none for a number that is not declared.
-pub fn leaf_count(leaves: &Ops, types: usize, declared: u16) -> usize
+pub fn declared_leaves(leaves: &Ops, types: usize, declared: u16) -> usize
     ensures { λ r. ⌜ ((T : List DeclaredType) → LeavesHeld T (now (leaves .entry)) types → r ≡ leavesNumbered T declared) ⌝ }
 {
-    let d = wide(declared);
+    let d = word_number(declared);
     if d == 0 {
         return 0;
     }
@@ -54,14 +54,14 @@ pub fn step_leaf(
     ensures { λ r. ⌜ Does (now (leaves .entry)) types (instructionOf op first second) (now (sheet .entry)) (now (kinds .entry)) (now (values .entry)) cursor height next (now (sheet .exit)) (now (kinds .entry)) (now (values .entry)) (r .cursor) (r .height) (r .next) ⌝ }
 {
     if op == USE_LEAF {
-        let at = put(sheet, cursor, LEAF, next, second, 0, 0, 0);
+        let at = put_record(sheet, cursor, LEAF, next, second, 0, 0, 0);
         return Place {
             cursor: at,
             height,
             next: at,
         };
     }
-    let zeros = put_zeros(sheet, cursor, next, leaf_count(leaves, types, first));
+    let zeros = put_zeros(sheet, cursor, next, declared_leaves(leaves, types, first));
     Place {
         cursor: zeros.cursor,
         height,

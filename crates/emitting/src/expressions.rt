@@ -4,15 +4,15 @@ ghost use Rattle.emitting.specs.Tables.{heldStack};
 ghost use Rattle.emitting.specs.Expressions.{expressionWritten, twoWritten, recursionWritten, choiceWritten, delayWritten, constantWritten, undefinedWritten};
 ghost use Rattle.emitting.specs.Emitting.{Advancing, Completes};
 use crate::bytes::LEAF;
-use crate::bytes::put;
+use crate::bytes::put_record;
 use crate::bytes::put_zeros;
 use crate::stack::NUMBER;
-use crate::stack::Operands;
-use crate::stack::Ops;
 use crate::stack::below;
-use crate::stack::push;
+use crate::stack::push_slot;
 use crate::stack::top_below;
 use crate::stack::waiting_kind;
+use instructions::Operands;
+use instructions::Ops;
 
 const CONSTANT: u16 = 32;
 
@@ -44,11 +44,11 @@ pub fn complete(
     let mut left = height;
     let mut kind = waiting_kind(kinds, values, left);
     while kind != 0 {
-        at = put(sheet, at, kind, 0, at, 0, 0, 0);
+        at = put_record(sheet, at, kind, 0, at, 0, 0, 0);
         left -= 1;
         kind = waiting_kind(kinds, values, left);
     }
-    push(kinds, values, left, NUMBER, at);
+    push_slot(kinds, values, left, NUMBER, at);
     Place {
         cursor: at,
         height: left + 1,
@@ -72,7 +72,7 @@ pub fn put_expression(
     requires { ⌜ Advancing (now sheet) (now kinds) (now values) cursor height ⌝ }
     ensures { λ r. ⌜ Completes (expressionWritten (now (kinds .entry)) (now (values .entry)) cursor height kind a b c d) cursor height (now (sheet .entry)) (now (sheet .exit)) (now (kinds .exit)) (now (values .exit)) (r .cursor) (r .height) (r .next) ⌝ }
 {
-    let at = put(sheet, cursor, kind, 0, a, b, c, d);
+    let at = put_record(sheet, cursor, kind, 0, a, b, c, d);
     complete(sheet, kinds, values, at, height)
 }
 
@@ -201,7 +201,7 @@ pub fn put_constant(
     requires { ⌜ Advancing (now sheet) (now kinds) (now values) cursor height ⌝ }
     ensures { λ r. ⌜ Completes (constantWritten (now (kinds .entry)) (now (values .entry)) cursor height declared number) cursor height (now (sheet .entry)) (now (sheet .exit)) (now (kinds .exit)) (now (values .exit)) (r .cursor) (r .height) (r .next) ⌝ }
 {
-    let at = put(sheet, cursor, LEAF, 0, number, 0, 0, 0);
+    let at = put_record(sheet, cursor, LEAF, 0, number, 0, 0, 0);
     put_expression(
         sheet,
         kinds,

@@ -9,13 +9,13 @@ ghost use Rattle.instructions.specs.Assembly.{typeHeld, heldTypes};
 ghost use Rattle.emitting.specs.Tables.{SomeLeaves};
 ghost use Rattle.emitting.specs.Emitting.{RecordPut, emittedFrom, Emitting, Emitted, CodeWritten, TypesPut};
 use bytes::clear_from;
-use bytes::put;
+use bytes::put_record;
+use instructions::Operands;
+use instructions::Ops;
 use records::RECORD_BYTES;
-use stack::Operands;
-use stack::Ops;
 use stack::no_kinds;
 use stack::no_values;
-use steps::step;
+use steps::emission_step;
 
 pub mod bytes;
 pub mod constants;
@@ -52,7 +52,7 @@ fn write_code(
     let mut k = m;
     while k != 0 {
         k -= 1;
-        let place = step(
+        let place = emission_step(
             sheet,
             &mut kinds,
             &mut values,
@@ -77,9 +77,9 @@ fn put_type(sheet: &mut [u8], cursor: u16, next: u16, pair: u8, first: u16, seco
     ensures { λ r. ⌜ RecordPut (now (sheet .entry)) (now (sheet .exit)) cursor (typeRecord (typeHeld pair first second) next) r ⌝ }
 {
     if pair == 0 {
-        return put(sheet, cursor, FLAT_TYPE, next, first, 0, 0, 0);
+        return put_record(sheet, cursor, FLAT_TYPE, next, first, 0, 0, 0);
     }
-    put(sheet, cursor, PAIR_TYPE, next, first, second, 0, 0)
+    put_record(sheet, cursor, PAIR_TYPE, next, first, second, 0, 0)
 }
 
 // The records of the types, before those that stand.
@@ -127,7 +127,7 @@ pub fn write_sheet(
         sheet,
     );
     write_types(pairs, parts, others, types, sheet);
-    put(
+    put_record(
         sheet,
         1,
         HEADER,

@@ -3,14 +3,14 @@ ghost use mathlib.Core.List.{List};
 ghost use Prim.Native.Nat.{ℕ, _≤_, _<_};
 ghost use Rattle.instructions.specs.Instruction.{instructionOf};
 ghost use Rattle.emitting.specs.Emitting.{Advancing, Does};
-use crate::bytes::put;
+use crate::bytes::put_record;
 use crate::expressions::Place;
 use crate::stack::NUMBER;
-use crate::stack::Operands;
-use crate::stack::Ops;
 use crate::stack::below;
-use crate::stack::push;
+use crate::stack::push_slot;
 use crate::stack::top_below;
+use instructions::Operands;
+use instructions::Ops;
 
 const WHOLE_PATTERN: u16 = 48;
 
@@ -43,7 +43,7 @@ pub fn step_alternative(
     ensures { λ r. ⌜ ((leaves : List ℕ) (types : ℕ) → Does leaves types (instructionOf op first second) (now (sheet .entry)) (now (kinds .entry)) (now (values .entry)) cursor height next (now (sheet .exit)) (now (kinds .entry)) (now (values .entry)) (r .cursor) (r .height) (r .next)) ⌝ }
 {
     if op == MATCH_TYPE {
-        let at = put(sheet, cursor, WHOLE_PATTERN, next, first, 0, 0, 0);
+        let at = put_record(sheet, cursor, WHOLE_PATTERN, next, first, 0, 0, 0);
         return Place {
             cursor: at,
             height,
@@ -51,7 +51,7 @@ pub fn step_alternative(
         };
     }
     if op == MATCH_CONSTRUCTOR {
-        let at = put(
+        let at = put_record(
             sheet,
             cursor,
             CONSTRUCTOR_PATTERN,
@@ -69,7 +69,7 @@ pub fn step_alternative(
     }
     let after = top_below(kinds, values, height, 1);
     let part = top_below(kinds, values, height, 0);
-    let at = put(sheet, cursor, PAIR_PATTERN, after, cursor, part, 0, 0);
+    let at = put_record(sheet, cursor, PAIR_PATTERN, after, cursor, part, 0, 0);
     Place {
         cursor: at,
         height: below(height, 2),
@@ -91,7 +91,7 @@ pub fn step_part(
     ensures { λ r. ⌜ ((leaves : List ℕ) (types first second : ℕ) → Does leaves types (instructionOf op first second) (now (sheet .entry)) (now (kinds .entry)) (now (values .entry)) cursor height next (now (sheet .entry)) (now (kinds .exit)) (now (values .exit)) (r .cursor) (r .height) (r .next)) ⌝ }
 {
     if op == NEXT_PART {
-        push(kinds, values, height, NUMBER, cursor);
+        push_slot(kinds, values, height, NUMBER, cursor);
         return Place {
             cursor,
             height: height + 1,
@@ -99,7 +99,7 @@ pub fn step_part(
         };
     }
     if op == CLOSE_PARTS {
-        push(kinds, values, height, NUMBER, next);
+        push_slot(kinds, values, height, NUMBER, next);
         return Place {
             cursor,
             height: height + 1,

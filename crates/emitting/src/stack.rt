@@ -6,12 +6,9 @@ ghost use lib.ListN.{length};
 ghost use Rattle.instructions.specs.Emission.{top};
 ghost use Rattle.emitting.specs.Tables.{slotOf, heldStack, waitingKind};
 ghost use Rattle.emitting.specs.Emitting.{Stacking, Stacked};
-
-pub const SLOTS: usize = 65536;
-
-pub type Ops = [u8; SLOTS];
-
-pub type Operands = [u16; SLOTS];
+use instructions::INSTRUCTIONS;
+use instructions::Operands;
+use instructions::Ops;
 
 pub const NUMBER: u8 = 0;
 
@@ -28,13 +25,13 @@ const SECOND: u16 = 36;
 pub fn no_kinds() -> Ops
     ensures { λ r. ⌜ length r ≡ 65536 ⌝ }
 {
-    [0; SLOTS]
+    [0; INSTRUCTIONS]
 }
 
 pub fn no_values() -> Operands
     ensures { λ r. ⌜ length r ≡ 65536 ⌝ }
 {
-    [0; SLOTS]
+    [0; INSTRUCTIONS]
 }
 
 // The height with so many slots less.
@@ -87,7 +84,7 @@ pub fn waiting_kind(kinds: &Ops, values: &Operands, height: usize) -> u16
 }
 
 // A slot more.
-pub fn push(kinds: &mut Ops, values: &mut Operands, height: usize, kind: u8, value: u16)
+pub fn push_slot(kinds: &mut Ops, values: &mut Operands, height: usize, kind: u8, value: u16)
     requires { ⌜ Stacking (now kinds) (now values) height × (height < 65536) ⌝ }
     ensures { λ _. ⌜ Stacked (slotOf kind value) (now (kinds .entry)) (now (values .entry)) (now (kinds .exit)) (now (values .exit)) height ⌝ }
 {

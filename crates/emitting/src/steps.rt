@@ -4,7 +4,7 @@ ghost use Prim.Native.Nat.{ℕ, _≤_, _<_};
 ghost use Rattle.instructions.specs.Instruction.{instructionOf};
 ghost use Rattle.emitting.specs.Emitting.{Advancing, Does};
 use crate::constants::USE_LEAF;
-use crate::constants::leaf_count;
+use crate::constants::declared_leaves;
 use crate::constants::step_leaf;
 use crate::expressions::Place;
 use crate::expressions::put_choice;
@@ -21,10 +21,10 @@ use crate::patterns::step_part;
 use crate::stack::BARRIER;
 use crate::stack::FIRST_WAITS;
 use crate::stack::NUMBER;
-use crate::stack::Operands;
-use crate::stack::Ops;
 use crate::stack::SECOND_WAITS;
-use crate::stack::push;
+use crate::stack::push_slot;
+use instructions::Operands;
+use instructions::Ops;
 
 const NAME: u16 = 33;
 
@@ -82,7 +82,7 @@ fn step_expression(
         return put_constant(sheet, kinds, values, cursor, height, first, second);
     }
     if op == USE_UNDEFINED {
-        let leaves_of = leaf_count(leaves, types, first);
+        let leaves_of = declared_leaves(leaves, types, first);
         return put_undefined(sheet, kinds, values, cursor, height, first, leaves_of);
     }
     if op == OPEN_PAIR {
@@ -114,7 +114,7 @@ fn step_mark(
     ensures { λ r. ⌜ ((leaves : List ℕ) (types first second : ℕ) → Does leaves types (instructionOf op first second) (now (sheet .entry)) (now (kinds .entry)) (now (values .entry)) cursor height next (now (sheet .entry)) (now (kinds .exit)) (now (values .exit)) (r .cursor) (r .height) (r .next)) ⌝ }
 {
     if op == TAKE_FIRST {
-        push(kinds, values, height, FIRST_WAITS, 0);
+        push_slot(kinds, values, height, FIRST_WAITS, 0);
         return Place {
             cursor,
             height: height + 1,
@@ -122,7 +122,7 @@ fn step_mark(
         };
     }
     if op == TAKE_SECOND {
-        push(kinds, values, height, SECOND_WAITS, 0);
+        push_slot(kinds, values, height, SECOND_WAITS, 0);
         return Place {
             cursor,
             height: height + 1,
@@ -130,7 +130,7 @@ fn step_mark(
         };
     }
     if op == CLOSE {
-        push(kinds, values, height, BARRIER, 0);
+        push_slot(kinds, values, height, BARRIER, 0);
         return Place {
             cursor,
             height: height + 1,
@@ -144,7 +144,7 @@ fn step_mark(
             next,
         };
     }
-    push(kinds, values, height, NUMBER, cursor);
+    push_slot(kinds, values, height, NUMBER, cursor);
     Place {
         cursor,
         height: height + 1,
@@ -153,7 +153,7 @@ fn step_mark(
 }
 
 // One instruction.
-pub fn step(
+pub fn emission_step(
     sheet: &mut [u8],
     kinds: &mut Ops,
     values: &mut Operands,
@@ -225,7 +225,7 @@ pub fn step(
         );
     }
     if op == CONSTANT_HAS {
-        push(kinds, values, height, NUMBER, first);
+        push_slot(kinds, values, height, NUMBER, first);
         return Place {
             cursor,
             height: height + 1,

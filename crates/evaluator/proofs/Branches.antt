@@ -6,18 +6,16 @@ use mathlib.Core.Path.{_≡_, refl, sym, ap, _∙_}
 use native.Mathlib.Omega.{arith}
 use borrow.Author.Tests.{eqb-true}
 use lib.ListN.{length, getD, set, take, drop, replicate, length-map}
-use Rattle.picoella.specs.Types.{leaves}
+use Rattle.picoella.specs.Language.{leaves}
 use Rattle.records.specs.Words.{word, wordA, wordB, wordC, count}
 use Rattle.records.specs.Kinds.{expression, ifMatches, delay, leafs, patterns}
 use Rattle.records.specs.Says.{kindAt}
-use Rattle.records.specs.TypeRecords.{typeAt}
+use Rattle.records.specs.Trees.{typeAt, treeAt, chain, typeRecordOf}
 use Rattle.records.specs.Written.{Written}
-use Rattle.records.specs.Trees.{treeAt, chain}
 use Rattle.records.specs.Decoding.{leafValues}
 use Rattle.records.proofs.Table.{askOfKind}
 use Rattle.records.proofs.Asked.{part-of-kind}
 use Rattle.records.proofs.Trees.{tree-of}
-use Rattle.typing.specs.Judgements.{typeRecordOf}
 use Rattle.verdict.specs.Scopes.{Scope, if-tested, if-then, if-else, of-delay}
 use Rattle.accepted.proofs.Scopes.{judged-by-kind}
 use Rattle.meaning.specs.Undecided.{undecidedRule}
@@ -155,16 +153,16 @@ module _ {s : List ℕ} {n : ℕ} {W env : List ℕ} {names rec : ℕ} {out Γ :
             wide₁ = room-wide r tested-scope ec eR p₁
 
             tested-is : tested ≡ o₁
-            tested-is = back-part c R o₁ wide₁ fits₁
+            tested-is = back-part R o₁ wide₁ fits₁
 
             otherwise-is : otherwise ≡ o₃
-            otherwise-is = back-part (length o₂) Q o₃ else-long else-fits
+            otherwise-is = back-part Q o₃ else-long else-fits
 
             pub tested-inside : c ≤ length (o₁ ++ drop (c - 0) R)
-            tested-inside = let l = back-long c R o₁ wide₁ fits₁ in let f = fits₁ in omega arith
+            tested-inside = let l = back-long R o₁ wide₁ fits₁ in let f = fits₁ in omega arith
 
             pub otherwise-inside : length o₂ ≤ length (o₃ ++ drop (length o₂ - 0) Q)
-            otherwise-inside = let l = back-long (length o₂) Q o₃ else-long else-fits in let f = else-fits in omega arith
+            otherwise-inside = let l = back-long Q o₃ else-long else-fits in let f = else-fits in omega arith
 
             pub as-long : length otherwise ≡ length o₂
             as-long = ap length otherwise-is ∙ else-long

@@ -7,14 +7,12 @@ use native.Mathlib.Omega.{arith}
 use native.Mathlib.Numerals.{add-one}
 use borrow.Author.Tests.{eqb-true}
 use lib.ListN.{length, getD, take, replicate}
-use Rattle.picoella.specs.Types.{Ty, leaves}
+use Rattle.picoella.specs.Language.{Ty, leaves}
 use Rattle.records.specs.Words.{word, wordA, wordB, count}
 use Rattle.records.specs.Kinds.{expression, feedback}
 use Rattle.records.specs.Says.{kindAt}
-use Rattle.records.specs.TypeRecords.{typeAt, Declared}
+use Rattle.records.specs.Trees.{typeAt, Declared, treeAt, typeRecordOf}
 use Rattle.records.specs.Written.{Written}
-use Rattle.records.specs.Trees.{treeAt}
-use Rattle.typing.specs.Judgements.{typeRecordOf}
 use Rattle.verdict.specs.Scopes.{Scope, feedback-defining, feedback-body}
 use Rattle.accepted.proofs.Scopes.{judged-by-kind}
 use Rattle.meaning.specs.Values.{undefined, zeros, ValuesOf, more-values}

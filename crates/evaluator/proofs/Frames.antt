@@ -8,8 +8,8 @@ use native.Mathlib.Nat.{zero-add, suc-add}
 use native.Mathlib.Omega.{arith}
 use lib.ListN.{length, getD, take, drop, replicate, length-append, length-drop}
 use lib.Seq.{take-nil, drop-nil, take-append-le, drop-append-le, take-take, take-at, drop-at, drop-length, length-take-le}
-use Rattle.picoella.specs.Types.{leaves}
-use Rattle.records.specs.TypeRecords.{typeAt}
+use Rattle.picoella.specs.Language.{leaves}
+use Rattle.records.specs.Trees.{typeAt}
 use Rattle.values.specs.Slots.{slot, entered, frames}
 
 middle : (a w : ℕ) (l : List ℕ) → take w (drop a l) ≡ drop a (take (a + w) l)
@@ -76,7 +76,7 @@ pub to-the-end : (k : ℕ) → k ≤ k
 to-the-end k = omega arith
 
 -- a slice lent up to w, as it comes back with o there
-module _ (w : ℕ) (out o : List ℕ) (l : length o ≡ w) (h : w ≤ length out) where
+module _ {w : ℕ} (out o : List ℕ) (l : length o ≡ w) (h : w ≤ length out) where
   from-front : w - 0 ≡ w
   from-front = omega arith
 
@@ -144,7 +144,7 @@ end-own (suc n) (x ∷ v) = rw (one-off (length v) (length (drop n v)) (end-few 
     one-off a b h = omega arith
 
 -- a value in the front of some room, and a part of it copied to a slice of the part's length
-module _ (w : ℕ) (room o : List ℕ) (l : length o ≡ w) (m : ℕ) (h : m ≤ w) where
+module _ {w : ℕ} (room o : List ℕ) (l : length o ≡ w) (m : ℕ) (h : m ≤ w) where
   pub front-of-back : take (m - 0) (o ++ drop (w - 0) room) ≡ take m o
   front-of-back = rw (same m) (take-append-le m o (drop (w - 0) room) (omega arith))
     where

@@ -7,15 +7,13 @@ use native.Mathlib.Omega.{arith}
 use native.Mathlib.Numerals.{add-one}
 use borrow.Author.Tests.{ltb-true}
 use lib.ListN.{length, getD, take, drop, replicate}
-use Rattle.picoella.specs.Types.{leaves, OfType}
+use Rattle.picoella.specs.Language.{leaves, OfType}
 use Rattle.records.specs.Words.{word, wordA, count}
 use Rattle.records.specs.Kinds.{expression, name, letIn}
 use Rattle.records.specs.Says.{kindAt}
-use Rattle.records.specs.TypeRecords.{typeAt}
-use Rattle.records.specs.Trees.{treeAt}
+use Rattle.records.specs.Trees.{typeAt, treeAt, typeRecordOf}
 use Rattle.records.specs.Written.{Written}
 use Rattle.records.proofs.Trees.{tree-of}
-use Rattle.typing.specs.Judgements.{typeRecordOf}
 use Rattle.verdict.specs.Scopes.{Scope, let-defining, let-body}
 use Rattle.accepted.proofs.Scopes.{judged-by-kind}
 use Rattle.meaning.specs.Values.{ValuesOf}
@@ -123,12 +121,12 @@ module _ {s : List ℕ} {n : ℕ} {W env : List ℕ} {names rec : ℕ} {out Γ :
 
       value-is : value ≡ o₁
       value-is =
-          back-part c R o₁ (room-wide r defining-scope ec eR p₁)
+          back-part R o₁ (room-wide r defining-scope ec eR p₁)
           (fits-room r defining-scope ec eR)
 
       pub let-inside : c ≤ length (o₁ ++ drop (c - 0) R)
       let-inside =
-          let l = back-long c R o₁ (room-wide r defining-scope ec eR p₁)
+          let l = back-long R o₁ (room-wide r defining-scope ec eR p₁)
           (fits-room r defining-scope ec eR) in
           let f = fits-room r defining-scope ec eR in
           omega arith

@@ -5,17 +5,15 @@ use mathlib.Core.List.{List, _++_}
 use mathlib.Core.Path.{_≡_, refl, sym, ap, _∙_}
 use native.Mathlib.Omega.{arith}
 use lib.ListN.{length, getD, take, drop, replicate, length-append, length-map}
-use Rattle.picoella.specs.Types.{leaves}
+use Rattle.picoella.specs.Language.{leaves}
 use Rattle.records.specs.Words.{word, wordA, wordB, count}
 use Rattle.records.specs.Kinds.{expression, constant, tuple, first, second, leafs, part}
 use Rattle.records.specs.Says.{kindAt}
-use Rattle.records.specs.TypeRecords.{typeAt}
-use Rattle.records.specs.Trees.{treeAt, chain}
+use Rattle.records.specs.Trees.{typeAt, treeAt, chain, typeRecordOf}
 use Rattle.records.specs.Decoding.{leafValues}
 use Rattle.records.specs.Written.{Written}
 use Rattle.records.proofs.Table.{askOfKind}
 use Rattle.records.proofs.Asked.{part-of-kind}
-use Rattle.typing.specs.Judgements.{typeRecordOf}
 use Rattle.verdict.specs.Scopes.{Scope, tuple-first, tuple-second, of-first, of-second}
 use Rattle.meaning.specs.Undecided.{undecidedRule}
 use Rattle.behaviour.specs.Evaluated.{valueAt, storedAt}
@@ -109,7 +107,7 @@ module _ {s : List ℕ} {n : ℕ} {W env : List ℕ} {names rec : ℕ} {out Γ :
         first-wide = ap length (d₁ .value) ∙ value-long r scope-a (r .values) ∙ sym ew
 
         pub pair-rest : w ≤ length (o₁ ++ drop (w - 0) out)
-        pair-rest = let l = back-long w out o₁ first-wide pair-cut in let c = pair-cut in omega arith
+        pair-rest = let l = back-long out o₁ first-wide pair-cut in let c = pair-cut in omega arith
 
         abbrev rest : List ℕ
         rest = take (length (o₁ ++ drop (w - 0) out) - w) (drop w (o₁ ++ drop (w - 0) out))
@@ -117,7 +115,7 @@ module _ {s : List ℕ} {n : ℕ} {W env : List ℕ} {names rec : ℕ} {out Γ :
         pub pair-second-ready : EvaluatingIn s n W env₁ names y rest Γ
         pair-second-ready =
             ready-at r scope-b env₁ names rest (r .many) (d₁ .wide)
-            (let l = rest-long w out o₁ first-wide pair-cut in let p = pair-widths in omega arith)
+            (let l = rest-long out o₁ first-wide pair-cut in let p = pair-widths in omega arith)
             (same-values r env₁ (d₁ .kept))
 
         pub pair-done : {env₂ held₂ fired₂ o₂ : List ℕ} → Evaluated s n W env₁ names y held₁ fired₁ rest env₂ held₂ fired₂ o₂
@@ -131,7 +129,7 @@ module _ {s : List ℕ} {n : ℕ} {W env : List ℕ} {names rec : ℕ} {out Γ :
             let h₂ : held₂ ≡ storedAt undecidedRule s Γ ρ y held₁ = rw f at (d₂ .stored) in
             let k₂ : fired₂ ≡ firedAt undecidedRule s Γ ρ y fired₁ = rw f at (d₂ .noted) in
             record {
-              value = both-back w out o₁ first-wide pair-cut o₂ ∙ rw (d₁ .value, v₂) (sym parts);
+              value = both-back out o₁ first-wide pair-cut o₂ ∙ rw (d₁ .value, v₂) (sym parts);
               stored = h₂ ∙ rw (d₁ .stored, ex, ey) (sym (tuple-stored undecidedRule s sheet-written Γ ρ rec record-there e held));
               noted = k₂ ∙ rw (d₁ .noted, ex, ey) (sym (tuple-fired undecidedRule s sheet-written Γ ρ rec record-there e fired));
               wide = d₂ .wide;
@@ -183,12 +181,12 @@ module _ {s : List ℕ} {n : ℕ} {W env : List ℕ} {names rec : ℕ} {out Γ :
 
       part-is : take (length out - 0) (o₁ ++ drop (w - 0) R) ≡ take cut o₁
       part-is =
-          front-of-back w R o₁ (room-wide first-scope ew eR p₁) (length out) first-few
+          front-of-back R o₁ (room-wide first-scope ew eR p₁) (length out) first-few
           ∙ rw cut-long (front-own cut o₁)
 
       pub first-inside : length out ≤ length (o₁ ++ drop (w - 0) R)
       first-inside =
-          let a = back-long w R o₁ (room-wide first-scope ew eR p₁) (fits-room first-scope ew eR) in
+          let a = back-long R o₁ (room-wide first-scope ew eR p₁) (fits-room first-scope ew eR) in
           let b = fits-room first-scope ew eR in
           let c = first-few in
           omega arith
@@ -242,11 +240,11 @@ module _ {s : List ℕ} {n : ℕ} {W env : List ℕ} {names rec : ℕ} {out Γ :
       piece-is : piece ≡ drop cut′ o₁
       piece-is =
           let l = room-wide second-scope ew eR p₁ in
-          end-of-back w R o₁ l (length out) second-few ∙ rw (← l, end-long) (end-own cut′ o₁)
+          end-of-back R o₁ l (length out) second-few ∙ rw (← l, end-long) (end-own cut′ o₁)
 
       pub second-inside : w ≤ length (o₁ ++ drop (w - 0) R)
       second-inside =
-          let a = back-long w R o₁ (room-wide second-scope ew eR p₁) (fits-room second-scope ew eR) in
+          let a = back-long R o₁ (room-wide second-scope ew eR p₁) (fits-room second-scope ew eR) in
           let b = fits-room second-scope ew eR in
           omega arith
 

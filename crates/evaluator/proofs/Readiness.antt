@@ -9,20 +9,18 @@ use mathlib.Core.Path.{_≡_, sym, ap₂, _∙_}
 use native.Mathlib.Omega.{arith}
 use lib.Dec.{ltb}
 use lib.ListN.{length, getD, take}
-use Rattle.picoella.specs.Types.{leaves, OfType}
+use Rattle.picoella.specs.Language.{leaves, OfType}
 use Rattle.records.specs.Words.{word, count}
 use Rattle.records.specs.Kinds.{ExpressionKind, expression, expressions, part}
 use Rattle.records.specs.Says.{kindAt}
 use Rattle.records.specs.Sized.{Sized}
-use Rattle.records.specs.TypeRecords.{typeAt, TypeRecord, Declared}
-use Rattle.records.specs.Trees.{treeAt}
+use Rattle.records.specs.Trees.{typeAt, TypeRecord, Declared, treeAt, typeRecordOf}
 use Rattle.records.specs.Written.{Written}
 use Rattle.records.proofs.Table.{askOfKind}
 use Rattle.records.proofs.Asked.{part-of-kind}
 use Rattle.records.proofs.Types.{few-leaves}
-use Rattle.structure.specs.Passes.{Passes}
+use Rattle.structure.specs.Rules.{Passes}
 use Rattle.accepted.proofs.Laws.{written, types-fit}
-use Rattle.typing.specs.Judgements.{typeRecordOf}
 use Rattle.verdict.specs.Scopes.{Scope}
 use Rattle.accepted.proofs.Laws.{exact}
 use Rattle.accepted.proofs.Scopes.{Checked, scope-checked, few-names, small-names, checked-type}

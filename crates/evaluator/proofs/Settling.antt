@@ -9,9 +9,8 @@ use mathlib.Core.Path.{_≡_, refl, sym, ap, ap₂, _∙_}
 use mathlib.Core.Logic.{_≢_}
 use native.Mathlib.Omega.{arith}
 use lib.ListN.{length, getD, take}
-use Rattle.picoella.specs.Types.{Ty, bounds, leaves, OfType}
-use Rattle.records.specs.TypeRecords.{typeAt, Declared}
-use Rattle.records.specs.Trees.{treeAt}
+use Rattle.picoella.specs.Language.{Ty, bounds, leaves, OfType}
+use Rattle.records.specs.Trees.{typeAt, Declared, treeAt}
 use Rattle.meaning.specs.Values.{zeros, Both, ValuesOf, more-values}
 use Rattle.meaning.specs.Elaboration.{Term, Elaborated}
 use Rattle.meaning.specs.Undecided.{undecidedRule}

@@ -4,11 +4,9 @@ use Prim.Native.Nat.{ℕ, _+_, _*_}
 use mathlib.Core.Path.{_≡_}
 use mathlib.Core.List.{List, _∷_, map}
 use lib.ListN.{length, getD, take}
-use Rattle.picoella.specs.Types.{bounds, leaves}
+use Rattle.picoella.specs.Language.{bounds, leaves}
 use Rattle.records.specs.Sized.{Sized}
-use Rattle.records.specs.TypeRecords.{typeAt}
-use Rattle.records.specs.Trees.{treeAt}
-use Rattle.typing.specs.Judgements.{typeRecordOf}
+use Rattle.records.specs.Trees.{typeAt, treeAt, typeRecordOf}
 use Rattle.verdict.specs.Verdict.{verdict}
 use Rattle.verdict.specs.Scopes.{Scope}
 use Rattle.verdict.specs.Widths.{Widths}

@@ -19,7 +19,7 @@ use records::WORD_B;
 use records::WORD_C;
 use records::WORD_D;
 use records::WORD_KIND;
-use records::Widths;
+use records::WidthTable;
 use records::word;
 use values::Fired;
 use values::NextValues;
@@ -36,7 +36,7 @@ use values::stands_at;
 fn of_name(
     sheet: &[u8],
     n: usize,
-    widths: &Widths,
+    widths: &WidthTable,
     env: &[u8],
     names: usize,
     rec: usize,
@@ -54,7 +54,7 @@ fn of_name(
 pub fn eval(
     sheet: &[u8],
     n: usize,
-    widths: &Widths,
+    widths: &WidthTable,
     env: &mut [u8],
     names: usize,
     held: &mut NextValues,
@@ -105,7 +105,7 @@ pub fn eval(
 fn eval_part(
     sheet: &[u8],
     n: usize,
-    widths: &Widths,
+    widths: &WidthTable,
     env: &mut [u8],
     names: usize,
     held: &mut NextValues,
@@ -131,7 +131,7 @@ fn eval_part(
 fn of_pair(
     sheet: &[u8],
     n: usize,
-    widths: &Widths,
+    widths: &WidthTable,
     env: &mut [u8],
     names: usize,
     held: &mut NextValues,
@@ -152,7 +152,7 @@ fn of_pair(
 fn of_first(
     sheet: &[u8],
     n: usize,
-    widths: &Widths,
+    widths: &WidthTable,
     env: &mut [u8],
     names: usize,
     held: &mut NextValues,
@@ -183,7 +183,7 @@ fn of_first(
 fn of_second(
     sheet: &[u8],
     n: usize,
-    widths: &Widths,
+    widths: &WidthTable,
     env: &mut [u8],
     names: usize,
     held: &mut NextValues,
@@ -214,7 +214,7 @@ fn of_second(
 fn of_let(
     sheet: &[u8],
     n: usize,
-    widths: &Widths,
+    widths: &WidthTable,
     env: &mut [u8],
     names: usize,
     held: &mut NextValues,
@@ -247,7 +247,7 @@ fn of_let(
 fn of_feedback(
     sheet: &[u8],
     n: usize,
-    widths: &Widths,
+    widths: &WidthTable,
     env: &mut [u8],
     names: usize,
     held: &mut NextValues,
@@ -281,7 +281,7 @@ fn of_feedback(
 fn settle(
     sheet: &[u8],
     n: usize,
-    widths: &Widths,
+    widths: &WidthTable,
     env: &mut [u8],
     names: usize,
     held: &mut NextValues,
@@ -303,7 +303,7 @@ fn settle(
 fn of_if(
     sheet: &[u8],
     n: usize,
-    widths: &Widths,
+    widths: &WidthTable,
     env: &mut [u8],
     names: usize,
     held: &mut NextValues,
@@ -352,7 +352,7 @@ fn of_if(
 fn of_delay(
     sheet: &[u8],
     n: usize,
-    widths: &Widths,
+    widths: &WidthTable,
     env: &mut [u8],
     names: usize,
     held: &mut NextValues,

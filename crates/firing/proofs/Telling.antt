@@ -9,9 +9,9 @@ use mathlib.Core.Path.{_≡_, refl, ap, _∙_}
 use native.Mathlib.Omega.{arith}
 use lib.ListN.{length, getD, take, replicate}
 use lib.Seq.{length-take-le}
-use Rattle.picoella.specs.Types.{leaves}
+use Rattle.picoella.specs.Language.{leaves}
 use Rattle.records.specs.Words.{count, wordB}
-use Rattle.records.specs.TypeRecords.{typeAt}
+use Rattle.records.specs.Trees.{typeAt}
 use Rattle.records.proofs.Asked.{past-header}
 use Rattle.answers.specs.Answers.{inOne, packed}
 use Rattle.answers.specs.declared.Answer.{Answer}
@@ -54,7 +54,7 @@ use Rattle.firing.specs.Promises.{
 
 -- an accepted sheet has at most 4,096 records
 records-few : (s : List ℕ) (t : ℕ) → verdict s ≡ Accepted t → count s ≤ 4096
-records-few s t v = let l = accepted-length s t v in let w = accepted-records s t v in omega arith
+records-few s t v = let l = accepted-length s v in let w = accepted-records s v in omega arith
 
 pub lowest-first : FiredLowestFirst
 unfolding firedAnswer
@@ -70,11 +70,11 @@ unfolding finalFired
 unaltered s stim words f = kept-bytes (firedAnswer s stim words) (fired s stim) words f
 
 pub reached-once : ReachedOnce
-reached-once s t v input r h e = evaluated-once input (accepted-passes s t v) r h e
+reached-once s t v input r h e = evaluated-once input (accepted-passes s v) r h e
 
 pub reached-expressions : ReachedExpressions
 reached-expressions s t v input r Γ ρ c =
-    let o = scope-checked t (accepted-passes s t v) v (evaluates-scope c) in (o .there, o .sort)
+    let o = scope-checked t (accepted-passes s v) v (evaluates-scope c) in (o .there, o .sort)
 
 pub fired-in : FiredIn
 unfolding finalFired
@@ -84,7 +84,7 @@ fired-in s stim words e =
 
 pub first-yes-tells : FirstYesTells
 first-yes-tells s t v d h e x =
-    let w = written (accepted-passes s t v) in tells-first w d (past-header w d (rw e)) h e x
+    let w = written (accepted-passes s v) in tells-first w d (past-header w d (rw e)) h e x
 
 -- a call that is refused
 told-refusal : (s stim words : List ℕ) (c p : ℕ) → firedAnswer s stim words ≡ Refused c p → ToldFired s stim words (inOne c p) words
@@ -140,14 +140,14 @@ module _ {s : List ℕ} {n : ℕ} {W : List ℕ} {t : ℕ} {input words : List �
   output-there =
       let c = g .accepting .sized .counted in
       let f = g .accepting .sized .few in
-      let h = output-typed s t (g .accepted) .there in
+      let h = output-typed s (g .accepted) .there in
       omega arith
 
   output-width : getD W t 0 ≡ leaves (typeAt s t)
-  output-width = g .accepting .table .types t (output-typed s t (g .accepted))
+  output-width = g .accepting .table .types t (output-typed s (g .accepted))
 
   pub output-few : getD W t 0 ≤ 64
-  output-few = let f = accepted-few s t (g .accepted) in let e = output-width in omega arith
+  output-few = let f = accepted-few s (g .accepted) in let e = output-width in omega arith
 
   pub words-few : length words ≤ 4096
   words-few = let f = records-few s t (g .accepted) in let r = g .room in omega arith

@@ -7,13 +7,21 @@ use mathlib.Core.Path.{_≡_, refl}
 use lib.ListN.{length, replicate}
 use Rattle.records.specs.Words.{word, count}
 use Rattle.records.specs.Kinds.{rowOf, kindOf, askOf}
-use Rattle.records.specs.Says.{wellSaid}
-use Rattle.records.specs.Namings.{namings}
-use Rattle.records.specs.TypeRecords.{typeWithin, typeAt, pairOf}
-use Rattle.records.specs.Trees.{chainWithin, chain, alternativesWithin, alternatives, treeWithin, treeAt, circuit}
-use Rattle.structure.specs.Depth.{ancestryWithin, ancestry, depth, nesting}
-use Rattle.structure.specs.Rules.{wrongLength, wrongHeader, wrongRecord, wrongNaming, wrongType, tooDeep}
-use Rattle.structure.specs.Passes.{Passes}
+use Rattle.records.specs.Says.{wellSaid, namings}
+use Rattle.records.specs.Trees.{typeWithin, typeAt, pairOf, chainWithin, chain, alternativesWithin, alternatives, treeWithin, treeAt, circuit}
+use Rattle.structure.specs.Rules.{
+  ancestryWithin,
+  ancestry,
+  depth,
+  nesting,
+  wrongLength,
+  wrongHeader,
+  wrongRecord,
+  wrongNaming,
+  wrongType,
+  tooDeep,
+  Passes,
+}
 use Rattle.verdict.specs.Verdict.{byTypes, byRecords, verdict}
 use Rattle.verdict.specs.declared.Verdict.the-variants.{Accepted}
 use Rattle.accepted.specs.Accepting.{Accepting}
@@ -38,21 +46,21 @@ unfolding verdict byRecords byTypes wrongLength wrongHeader wrongRecord wrongNam
 toggle-accepted = refl
 
 passes : Passes toggle
-passes = accepted-passes toggle 1 toggle-accepted
+passes = accepted-passes toggle toggle-accepted
 
 full : length toggle ≡ 12 * count toggle
-full = accepted-records toggle 1 toggle-accepted
+full = accepted-records toggle toggle-accepted
 
 abbrev table : List ℕ
-table = Requirements.widths toggle passes full .0
+table = Requirements.widths passes full .0
 
 toggle-accepting : Accepting toggle (count toggle) table
 toggle-accepting =
     record {
-      sized = Requirements.sized toggle passes full;
+      sized = Requirements.sized passes full;
       type = 1;
       accepted = toggle-accepted;
-      table = Requirements.widths toggle passes full .1;
+      table = Requirements.widths passes full .1;
     }
 
 toggle-telling : TellingFired toggle (count toggle) table 1 (1 ∷ []) (replicate 17 9)

@@ -1,3 +1,4 @@
 -- What the call gives that tells which alternative fired, and what is promised of it.
+-- To believe:
 pub mod Telling
 pub mod Promises

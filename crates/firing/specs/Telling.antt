@@ -9,10 +9,9 @@ use mathlib.Core.Bool.{not}
 use mathlib.Core.List.{List, [], _∷_, _++_}
 use lib.ListN.{length}
 use lib.Dec.{eqb}
-use Rattle.picoella.specs.Types.{OfType}
+use Rattle.picoella.specs.Language.{OfType}
 use Rattle.records.specs.Words.{count}
-use Rattle.answers.specs.Answers.{packed, whenDone}
-use Rattle.answers.specs.Checks.{Check, check, when, firstApplying}
+use Rattle.answers.specs.Answers.{packed, whenDone, Check, check, when, firstApplying}
 use Rattle.answers.specs.declared.Answer.{Answer}
 use Rattle.answers.specs.declared.Answer.the-variants.{Done}
 use Rattle.verdict.specs.Verdict.{sheetChecks, verdict}

@@ -12,7 +12,7 @@ use answers::WRONG_WORDS;
 use answers::in_one;
 use answers::packed;
 use records::RECORDS;
-use records::Widths;
+use records::WidthTable;
 use records::records_in;
 use stepper::look;
 use stepper::no_names;
@@ -45,7 +45,7 @@ fn no_output() -> [u8; 64]
 }
 
 // The words of one cycle, with room of its own.
-fn tell(sheet: &[u8], n: usize, widths: &Widths, t: usize, input: &[u8], words: &mut [u16])
+fn tell(sheet: &[u8], n: usize, widths: &WidthTable, t: usize, input: &[u8], words: &mut [u16])
     requires { ⌜ TellingFired (now sheet) n (now widths) t (now input) (now words) ⌝ }
     ensures { λ _. ⌜ now (words .exit) ≡ fired (now (sheet .entry)) (now (input .entry)) ⌝ }
 {
@@ -72,7 +72,7 @@ fn tell(sheet: &[u8], n: usize, widths: &Widths, t: usize, input: &[u8], words: 
 fn fired_accepted(
     sheet: &[u8],
     n: usize,
-    widths: &Widths,
+    widths: &WidthTable,
     t: usize,
     stim: &[u8],
     words: &mut [u16],

@@ -28,7 +28,7 @@ use Rattle.naming.specs.Names.{afterAll, bind, isOne, declarationsChecks, patte
 use Rattle.naming.specs.Records.{leafCounts, patternRecords, constantLeaves}
 use Rattle.translation.specs.Resolved.{typeNumber, typeEntries, distance}
 use Rattle.translation.specs.Layout.{numberOr, roomOf}
-use Rattle.translation.proofs.Tables.{pass-both, passes, pass-rest, after-new}
+use Rattle.translation.proofs.ConstructorTables.{pass-both, passes, pass-rest, after-new}
 use Rattle.instructions.specs.Instruction.{
   Instruction,
   useName,

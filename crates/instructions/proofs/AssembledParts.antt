@@ -29,7 +29,7 @@ use Rattle.naming.specs.Names.{afterAll, declarationsChecks, constantNames}
 use Rattle.naming.specs.Records.{leafCounts, patternRecords, constantLeaves}
 use Rattle.translation.specs.Resolved.{TypeEntry, afterEntry, typeNumber, typeEntries}
 use Rattle.translation.specs.Layout.{numberOr}
-use Rattle.translation.proofs.Tables.{pass-both}
+use Rattle.translation.proofs.ConstructorTables.{pass-both}
 use Rattle.instructions.specs.Instruction.{
   Instruction,
   openParts,
@@ -37,7 +37,7 @@ use Rattle.instructions.specs.Instruction.{
   closeParts,
   nextAlternative,
   matchType,
-  matchConstructor,
+  matchOne,
   closeConstant,
 }
 use Rattle.instructions.specs.TextOrder.{
@@ -51,7 +51,7 @@ use Rattle.instructions.specs.TextOrder.{
 use Rattle.instructions.specs.Assembly.{
   DeclaredType,
   flatType,
-  pairType,
+  pairedType,
   Assembly,
   assembly,
   patternOnto,
@@ -94,7 +94,7 @@ declarations-run k E (Constructors t c cs ∷ ds) T i C W Y p r u =
     ∙ ap (λ n. assembleAll (assembly (flatType n ∷ T) i C W Y p r u) (declarationInstructions (suc k) (afterEntry k E d) ds)) e
     ∙ declarations-run (suc k) (afterEntry k E d) ds (flatType (length (c ∷ cs)) ∷ T) i C W Y p r u
 declarations-run k E (PairOf t a b ∷ ds) T i C W Y p r u =
-    declarations-run (suc k) (afterEntry k E (PairOf t a b)) ds (pairType (typeNumber E (letters a)) (typeNumber E (letters b)) ∷ T) i C W Y p r u
+    declarations-run (suc k) (afterEntry k E (PairOf t a b)) ds (pairedType (typeNumber E (letters a)) (typeNumber E (letters b)) ∷ T) i C W Y p r u
 
 -- the first of two places
 abbrev pub orPlace : Option ℕ → Option ℕ → Option ℕ
@@ -160,9 +160,9 @@ module _ (ds : List Declaration) (good : AllPass (declarationsChecks atFirst ds)
     where
       go : (b : Bool)
           → assemble (assembly (declaredTypes ds) i C W Y p r u)
-          (cond b (matchType (numberOfType ds (letters n))) (matchConstructor (constructorIn ds (letters n) .type) (constructorIn ds (letters n) .number)))
+          (cond b (matchType (numberOfType ds (letters n))) (matchOne (constructorIn ds (letters n) .type) (constructorIn ds (letters n) .number)))
           ≡ assembly (declaredTypes ds) i C
-          (cond b (matchType (numberOfType ds (letters n))) (matchConstructor (constructorIn ds (letters n) .type) (constructorIn ds (letters n) .number)) ∷ W)
+          (cond b (matchType (numberOfType ds (letters n))) (matchOne (constructorIn ds (letters n) .type) (constructorIn ds (letters n) .number)) ∷ W)
           Y p (1 + r) u
       go true = refl
       go false = refl
@@ -185,8 +185,8 @@ module _ (ds : List Declaration) (good : AllPass (declarationsChecks atFirst ds)
   pattern-onto (Alone n) W C = go (isDeclared typeRole (letters n) (afterAll atFirst ds))
     where
       go : (b : Bool)
-          → patternOnto (cond b (matchType (numberOfType ds (letters n))) (matchConstructor (constructorIn ds (letters n) .type) (constructorIn ds (letters n) .number)) ∷ W) C
-          ≡ cond b (matchType (numberOfType ds (letters n))) (matchConstructor (constructorIn ds (letters n) .type) (constructorIn ds (letters n) .number)) ∷ patternOnto W C
+          → patternOnto (cond b (matchType (numberOfType ds (letters n))) (matchOne (constructorIn ds (letters n) .type) (constructorIn ds (letters n) .number)) ∷ W) C
+          ≡ cond b (matchType (numberOfType ds (letters n))) (matchOne (constructorIn ds (letters n) .type) (constructorIn ds (letters n) .number)) ∷ patternOnto W C
       go true = refl
       go false = refl
   pattern-onto (PatternPair m n) W C =
@@ -199,7 +199,7 @@ module _ (ds : List Declaration) (good : AllPass (declarationsChecks atFirst ds)
   patterns-below (Alone n) W = go (isDeclared typeRole (letters n) (afterAll atFirst ds))
     where
       go : (b : Bool)
-          → patternsBelow (cond b (matchType (numberOfType ds (letters n))) (matchConstructor (constructorIn ds (letters n) .type) (constructorIn ds (letters n) .number)) ∷ W)
+          → patternsBelow (cond b (matchType (numberOfType ds (letters n))) (matchOne (constructorIn ds (letters n) .type) (constructorIn ds (letters n) .number)) ∷ W)
           ≡ patternsBelow W
       go true = refl
       go false = refl

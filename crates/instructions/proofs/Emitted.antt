@@ -8,7 +8,7 @@ use mathlib.Core.Bool.{Bool, true, false, cond}
 use mathlib.Core.List.{List, [], _∷_, _++_, append-assoc}
 use lib.ListN.{length, replicate, length-append, length-replicate}
 use Rattle.records.specs.SheetOf.{Record, words}
-use Rattle.picoella.specs.Types.{leaves}
+use Rattle.picoella.specs.Language.{leaves}
 use Rattle.grammar.specs.Source.{Identifier, identifier, Declaration, SourceConstant, OfConstructor, Undefined, ConstantPair}
 use Rattle.grammar.specs.Source.{SourcePattern, Alone, PatternPair, Either}
 use Rattle.grammar.specs.Source.{
@@ -31,7 +31,8 @@ use Rattle.naming.specs.Records.{leafCountOf, leafCounts, patternRecords, const
 use Rattle.translation.specs.Resolved.{typeMeant, typeEntries, distance}
 use Rattle.translation.specs.Distances.{constantValues}
 use Rattle.translation.specs.Layout.{leavesLaid, numberOr, roomOf, patternLaid, laid}
-use Rattle.translation.proofs.Tables.{Tables, pass-both, passes, pass-rest, after-new}
+use Rattle.translation.proofs.ConstructorTables.{pass-both, passes, pass-rest, after-new}
+use Rattle.translation.proofs.Tables.{Tables}
 use Rattle.translation.proofs.Sizes.{constant-length}
 use Rattle.instructions.specs.Instruction.{
   Instruction,
@@ -47,7 +48,7 @@ use Rattle.instructions.specs.Instruction.{
   nextAlternative,
   beginPattern,
   matchType,
-  matchConstructor,
+  matchOne,
   constantHas,
 }
 use Rattle.instructions.specs.TextOrder.{numberOfType, constructorIn, alternativeOf, valueInstruction}
@@ -133,7 +134,7 @@ module _ (ds : List Declaration) where
   all = emitAll (declaredTypes ds)
 
   alone-emitted : (b : Bool) (t u k next r c : ℕ) (R : List Record) (S : List Slot) (C : List Instruction) → c - 1 ≡ r
-      → all (emission R c S next) (cond b (matchType t) (matchConstructor u k) ∷ C)
+      → all (emission R c S next) (cond b (matchType t) (matchOne u k) ∷ C)
       ≡ all (emission (cond b (words 48 next t 0 0 0 ∷ []) (words 49 next u k 0 0 ∷ []) ++ R) r S 0) C
   alone-emitted true t u k next r c R S C f = ap (λ x. all (emission (words 48 next t 0 0 0 ∷ R) x S 0) C) f
   alone-emitted false t u k next r c R S C f = ap (λ x. all (emission (words 49 next u k 0 0 ∷ R) x S 0) C) f

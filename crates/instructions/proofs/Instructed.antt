@@ -22,7 +22,7 @@ use Rattle.naming.specs.Names.{afterDeclaration, afterAll, addAll, declarationC
 use Rattle.naming.specs.TokenWalk.{NameScope, scope}
 use Rattle.naming.proofs.ByTokens.{firstScope}
 use Rattle.translation.specs.Resolved.{TypeEntry, typeNumber, afterEntry, typeEntries, typeEntriesFrom, distance}
-use Rattle.translation.proofs.Tables.{pass-both, passes, pass-rest, type-or-constructor}
+use Rattle.translation.proofs.ConstructorTables.{pass-both, passes, pass-rest, type-or-constructor}
 use Rattle.instructions.specs.Instruction.{
   Instruction,
   instructionOf,
@@ -49,7 +49,7 @@ use Rattle.instructions.specs.Instruction.{
   closeParts,
   nextAlternative,
   matchType,
-  matchConstructor,
+  matchOne,
   useLeaf,
   useZeros,
   openConstant,
@@ -158,11 +158,11 @@ module _ {ds : List Declaration} (N : NamesNumbered ds) where
     where
       go : (x : Bool) → isDeclared typeRole w D ≡ x
           → instructionOf (cond x 18 19) (typesAmong (namedFrom w D)) (constructorsAmong (namedFrom w D))
-          ≡ cond x (matchType (numberOfType ds w)) (matchConstructor (constructorIn ds w .type) (constructorIn ds w .number))
+          ≡ cond x (matchType (numberOfType ds w)) (matchOne (constructorIn ds w .type) (constructorIn ds w .number))
       go true e = ap matchType (N .types w e)
       go false e =
           let n = N .constructors w (type-or-constructor w D h e) in
-          ap₂ matchConstructor (n .same-type) (n .same-number)
+          ap₂ matchOne (n .same-type) (n .same-number)
 
   leaf-said : (w : List ℕ) → isDeclared constructorRole w D ≡ true
       → declaredSaid 24 w D ≡ useLeaf (constructorIn ds w .type) (constructorIn ds w .number)

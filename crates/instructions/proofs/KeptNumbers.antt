@@ -26,7 +26,7 @@ use Rattle.translation.specs.Resolved.{
   constructorMeant,
 }
 use Rattle.translation.specs.Layout.{numberOr}
-use Rattle.translation.proofs.Tables.{pass-both, passes}
+use Rattle.translation.proofs.ConstructorTables.{pass-both, passes}
 
 -- names that are taken stay taken
 taken-added : (w : List ℕ) (s : Role) (n : Identifier) (D : List DeclaredName) → isTaken w D ≡ true → isTaken w (add s n D) ≡ true

@@ -31,7 +31,7 @@ last-leaves T d k e = ap (λ x. cond x k (leavesNumbered T d)) (eq-eqb d (suc (l
 pub lower-leaves : (T : List DeclaredType) (d k : ℕ) → d ≤ length T → cond (eqb d (suc (length T))) k (leavesNumbered T d) ≡ leavesNumbered T d
 lower-leaves T d k l = ap (λ x. cond x k (leavesNumbered T d)) (ne-eqb d (suc (length T)) (λ e. omega arith))
 
-module _ {T : List DeclaredType} {E : List TypeEntry} {L : List LeafCount} (N : NumberedTypes T E L) (i : ℕ) (at : i ≡ suc (length T)) where
+module _ {T : List DeclaredType} {E : List TypeEntry} {L : List LeafCount} (N : NumberedTypes T E L) {i : ℕ} (at : i ≡ suc (length T)) where
   more-below : (v w : List ℕ) → cond (sameName w v) i (typeNumber E w) ≤ suc (length T)
   more-below v w = go (sameName w v) (N .below w)
     where
@@ -67,17 +67,17 @@ numbered-from i [] at N = N
 numbered-from i {T} {E} {L} (Constructors t c cs ∷ ds) at N =
     numbered-from (suc i) ds (ap suc at)
     (record {
-      below = more-below N i at (letters t);
-      one-name = more-one-name N i at (letters t);
-      leaves-agree = more-agree N i at (letters t) 1;
+      below = more-below N at (letters t);
+      one-name = more-one-name N at (letters t);
+      leaves-agree = more-agree N at (letters t) 1;
     })
 numbered-from i {T} {E} {L} (PairOf t a b ∷ ds) at N =
     numbered-from (suc i) ds (ap suc at)
     (record {
-      below = more-below N i at (letters t);
-      one-name = more-one-name N i at (letters t);
+      below = more-below N at (letters t);
+      one-name = more-one-name N at (letters t);
       leaves-agree = λ w.
-          more-agree N i at (letters t) (min 64 (leavesNumbered T (typeNumber E (letters a)) + leavesNumbered T (typeNumber E (letters b)))) w
+          more-agree N at (letters t) (min 64 (leavesNumbered T (typeNumber E (letters a)) + leavesNumbered T (typeNumber E (letters b)))) w
           ∙ ap (λ k. cond (sameName w (letters t)) k (leafCountOf L w))
           (ap₂ (λ x y. min 64 (x + y)) (N .leaves-agree (letters a)) (N .leaves-agree (letters b)));
     })

@@ -8,7 +8,7 @@ use mathlib.Core.Logic.{_⊎_, inl, inr}
 use mathlib.Core.Bool.{Bool, true, false, cond, not}
 use mathlib.Core.List.{List, [], _∷_, _++_}
 use lib.ListN.{length}
-use Rattle.picoella.specs.Types.{Ty, Flat, TyTuple}
+use Rattle.picoella.specs.Language.{Ty, Flat, TyTuple}
 use Rattle.grammar.specs.Source.{Identifier, identifier, Declaration, Constructors, PairOf}
 use Rattle.naming.specs.Declared.{Role, aType, aConstructor, theInput, DeclaredName, declaredAs, sameName, isTaken, isDeclared, typeRole, constructorRole, atFirst, input}
 use Rattle.naming.specs.Checks.{PlacedCheck, checkAt, AllPass}
@@ -31,7 +31,7 @@ use Rattle.translation.specs.Resolved.{
   Meant,
   constructorMeant,
 }
-use Rattle.translation.proofs.Tables.{pass-both, passes, pass-rest}
+use Rattle.translation.proofs.ConstructorTables.{pass-both, passes, pass-rest}
 use Rattle.instructions.specs.TokenOrder.{namedFrom, typesAmong, constructorsAmong}
 
 pub never : {P : Type 0} → false ≡ true → P
@@ -156,7 +156,7 @@ record NotAmong (w : List ℕ) (D : List DeclaredName) (C C′ : List Constructo
   not-there : isTaken w D ≡ false
   passed : constructorMeant C w ≡ constructorMeant C′ w
 
-module _ (w : List ℕ) (t n : ℕ) (C : List ConstructorEntry) where
+module _ {w : List ℕ} (t n : ℕ) {C : List ConstructorEntry} where
   among : (D : List DeclaredName) (k : ℕ) (cs : List Identifier) → typesAmong D ≡ t → suc (constructorsAmong D) ≡ k → AllPass (constructorChecks D cs)
       → isTaken w D ≡ false
       → FoundAmong w (addAll cs D) (constructorEntriesOf t n k cs ++ C) ⊎ NotAmong w (addAll cs D) (constructorEntriesOf t n k cs ++ C) C
@@ -244,7 +244,7 @@ numbered w i D (Constructors (identifier v p) c cs ∷ ds) e g u h =
         absurd (type-stays w v D (afterAll D (d ∷ ds)) (all-kept w (afterDeclaration D d) ds (b .1) (k .1) ∙ k .0) o h)
     go false o again =
         further again
-        (among w i (length (c ∷ cs)) (constructorEntriesFrom (suc i) ds) D′ 1 (c ∷ cs) e refl (pass-rest (b .0)) (past-taken D v w aType o ∙ u))
+        (among i (length (c ∷ cs)) D′ 1 (c ∷ cs) e refl (pass-rest (b .0)) (past-taken D v w aType o ∙ u))
 numbered w i D (PairOf (identifier v p) m n ∷ ds) e g u h =
     go (sameName w v) refl (λ z y. numbered w (suc i) (declaredAs v aType ∷ D) ds (ap suc e) z y h)
   where

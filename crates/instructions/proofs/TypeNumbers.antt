@@ -29,8 +29,9 @@ use Rattle.translation.specs.Resolved.{
   constructorMeant,
 }
 use Rattle.translation.specs.Layout.{numberOr}
-use Rattle.translation.proofs.Tables.{pass-both, passes, pass-rest, isNamed, types-known, no-type, none-matched, isEntry, a-constructor}
-use Rattle.instructions.specs.Assembly.{DeclaredType, flatType, pairType, numberOrElse, pairNumbered, constantPairNumbered}
+use Rattle.translation.proofs.ConstructorTables.{pass-both, passes, pass-rest, isEntry, a-constructor}
+use Rattle.translation.proofs.Tables.{isNamed, types-known, no-type, none-matched}
+use Rattle.instructions.specs.Assembly.{DeclaredType, flatType, pairedType, numberOrElse, pairNumbered, constantPairNumbered}
 use Rattle.instructions.specs.RecordOrder.{typesOnto, declaredTypes}
 use Rattle.instructions.proofs.LeavesNumbered.{NumberedTypes, types-numbered}
 use Rattle.instructions.proofs.KeptNumbers.{type-taken, number-kept, declared-number, either-number, constructor-number}
@@ -92,7 +93,7 @@ pair-number i T E D (PairOf t (identifier a x) (identifier b y) ∷ ds) at N h v
     let pair = cond (sameName v a) (sameName w b) false in
     let before = pairNumbered T (typeNumber Z v) (typeNumber Z w) in
     let later = numberOr Z (firstPairType ds v w) in
-    pair-number (suc i) (pairType (typeNumber E a) (typeNumber E b) ∷ T) (afterEntry i E d) (afterDeclaration D d) ds (ap suc at) N (both .1) v w p q
+    pair-number (suc i) (pairedType (typeNumber E a) (typeNumber E b) ∷ T) (afterEntry i E d) (afterDeclaration D d) ds (ap suc at) N (both .1) v w p q
     ∙ ap (λ k. numberOrElse (numberOrElse before (cond k (suc (length T)) 0)) later) same
     ∙ or-chain before (cond pair (suc (length T)) 0) later
     ∙ ap (numberOrElse before)

@@ -15,7 +15,7 @@ use Rattle.translation.specs.Resolved.{TypeEntry, afterEntry, typeNumber, typeE
 use Rattle.translation.specs.Layout.{nextType, typesLaid, roomOf, laid, textRecords}
 use Rattle.translation.proofs.Sizes.{expression-length}
 use Rattle.translation.proofs.Kept.{names-good, in-its-sheet}
-use Rattle.instructions.specs.Assembly.{DeclaredType, flatType, pairType}
+use Rattle.instructions.specs.Assembly.{DeclaredType, flatType, pairedType}
 use Rattle.instructions.specs.RecordOrder.{typesOnto, declaredTypes, textCode}
 use Rattle.instructions.specs.Emission.{emission, number, emitAll, typeRecord, typesWritten, recordsWritten}
 use Rattle.instructions.proofs.Emitted.{expression-emitted}
@@ -25,7 +25,7 @@ types-many i E [] T = omega arith
 types-many i E (Constructors t c cs ∷ ds) T =
     let e = types-many (suc i) (afterEntry i E (Constructors t c cs)) ds (flatType (length (c ∷ cs)) ∷ T) in omega (arith, e)
 types-many i E (PairOf t a b ∷ ds) T =
-    let e = types-many (suc i) (afterEntry i E (PairOf t a b)) ds (pairType (typeNumber E (letters a)) (typeNumber E (letters b)) ∷ T) in omega (arith, e)
+    let e = types-many (suc i) (afterEntry i E (PairOf t a b)) ds (pairedType (typeNumber E (letters a)) (typeNumber E (letters b)) ∷ T) in omega (arith, e)
 
 pub declared-many : (ds : List Declaration) → length (declaredTypes ds) ≡ length ds
 declared-many ds = let e = types-many 1 [] ds [] in omega (arith, e)
@@ -42,7 +42,7 @@ types-written i E (PairOf t a b ∷ ds) T R e =
     let F = afterEntry i E (PairOf t a b) in
     let m = typeNumber E (letters a) in
     let n = typeNumber E (letters b) in
-    types-written (suc i) F ds (pairType m n ∷ T) R (ap suc e)
+    types-written (suc i) F ds (pairedType m n ∷ T) R (ap suc e)
     ∙ ap (λ k. typesWritten T (suc (length T)) (words 17 (nextType k ds) m n 0 0 ∷ (typesLaid (suc i) F ds ++ R))) (sym e)
 
 module _ (d : Declaration) (ds : List Declaration) (w : List ℕ) (p : ℕ) (e : Expression) (h : AllPass (textChecks (text d ds (identifier w p) e))) where

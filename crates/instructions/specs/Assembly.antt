@@ -33,7 +33,7 @@ use Rattle.instructions.specs.Instruction.{
   closeParts,
   nextAlternative,
   matchType,
-  matchConstructor,
+  matchOne,
   useLeaf,
   useZeros,
   openConstant,
@@ -45,17 +45,17 @@ use Rattle.instructions.specs.Instruction.{
 -- a declaration, by numbers
 pub data DeclaredType : Type 0 where
   flatType : (constructors : ℕ) → DeclaredType
-  pairType : (first second : ℕ) → DeclaredType
+  pairedType : (first second : ℕ) → DeclaredType
 
 -- the leaves of type number d, 64 at most; none of a number that is not declared
 abbrev pub leavesNumbered : List DeclaredType → ℕ → ℕ
 leavesNumbered [] d = 0
 leavesNumbered (flatType n ∷ T) d = cond (eqb d (suc (length T))) 1 (leavesNumbered T d)
-leavesNumbered (pairType a b ∷ T) d = cond (eqb d (suc (length T))) (min 64 (leavesNumbered T a + leavesNumbered T b)) (leavesNumbered T d)
+leavesNumbered (pairedType a b ∷ T) d = cond (eqb d (suc (length T))) (min 64 (leavesNumbered T a + leavesNumbered T b)) (leavesNumbered T d)
 
 abbrev pub isPairTypeOf : DeclaredType → (first second : ℕ) → Bool
 isPairTypeOf (flatType n) a b = false
-isPairTypeOf (pairType c d) a b = cond (eqb a c) (eqb b d) false
+isPairTypeOf (pairedType c d) a b = cond (eqb a c) (eqb b d) false
 
 abbrev pub numberOrElse : ℕ → ℕ → ℕ
 numberOrElse zero n = n
@@ -83,16 +83,16 @@ nothingAssembled = assembly [] 0 [] [] [] 0 0 none
 abbrev pub oneMore : List DeclaredType → List DeclaredType
 oneMore [] = []
 oneMore (flatType n ∷ T) = flatType (suc n) ∷ T
-oneMore (pairType a b ∷ T) = pairType a b ∷ T
+oneMore (pairedType a b ∷ T) = pairedType a b ∷ T
 
 abbrev pub withFirst : ℕ → List DeclaredType → List DeclaredType
 withFirst a [] = []
-withFirst a (x ∷ T) = pairType a 0 ∷ T
+withFirst a (x ∷ T) = pairedType a 0 ∷ T
 
 abbrev pub withSecond : ℕ → List DeclaredType → List DeclaredType
 withSecond b [] = []
 withSecond b (flatType n ∷ T) = flatType n ∷ T
-withSecond b (pairType a c ∷ T) = pairType a b ∷ T
+withSecond b (pairedType a c ∷ T) = pairedType a b ∷ T
 
 -- the pattern that waits last, down to where it begins, onto the code
 abbrev pub beginsPattern : Instruction → Bool
@@ -146,7 +146,7 @@ assemble (assembly T i C W Y p r u) close = assembly T i (close ∷ C) W Y p r u
 assemble (assembly T i C W Y p r u) closeIf = assembly T i (close ∷ patternOnto W C) (patternsBelow W) Y p r u
 assemble (assembly T i C W Y p r u) beginPattern = assembly T i C (beginPattern ∷ W) Y p r u
 assemble (assembly T i C W Y p r u) (matchType t) = assembly T i C (matchType t ∷ W) Y p (1 + r) u
-assemble (assembly T i C W Y p r u) (matchConstructor t n) = assembly T i C (matchConstructor t n ∷ W) Y p (1 + r) u
+assemble (assembly T i C W Y p r u) (matchOne t n) = assembly T i C (matchOne t n ∷ W) Y p (1 + r) u
 assemble (assembly T i C W Y p r u) openParts = assembly T i C (openParts ∷ W) Y p (1 + r) u
 assemble (assembly T i C W Y p r u) nextPart = assembly T i C (nextPart ∷ W) Y p r u
 assemble (assembly T i C W Y p r u) closeParts = assembly T i C (closeParts ∷ W) Y p r u
@@ -165,7 +165,7 @@ assembleAll A (i ∷ is) = assembleAll (assemble A i) is
 -- a declared type that three tables hold: a flat type's first number is that of its constructors
 abbrev pub typeHeld : (pair first second : ℕ) → DeclaredType
 typeHeld zero a b = flatType a
-typeHeld (suc n) a b = pairType a b
+typeHeld (suc n) a b = pairedType a b
 
 -- the first n of them, the last first
 abbrev pub heldTypes : (pairs firsts seconds : List ℕ) → ℕ → List DeclaredType

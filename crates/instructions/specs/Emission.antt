@@ -29,7 +29,7 @@ use Rattle.instructions.specs.Instruction.{
   closeParts,
   nextAlternative,
   matchType,
-  matchConstructor,
+  matchOne,
   useLeaf,
   useZeros,
   openConstant,
@@ -38,7 +38,7 @@ use Rattle.instructions.specs.Instruction.{
   constantHas,
 }
 use lib.ListN.{length}
-use Rattle.instructions.specs.Assembly.{DeclaredType, flatType, pairType, leavesNumbered}
+use Rattle.instructions.specs.Assembly.{DeclaredType, flatType, pairedType, leavesNumbered}
 
 -- what stands on the stack: the number of a record or a type, where the parts of an expression end, an index that waits
 pub data Slot : Type 0 where
@@ -104,7 +104,7 @@ module _ (T : List DeclaredType) where
   emit (emission R c S x) closeIf = emission R c S x
   emit (emission R c S x) beginPattern = emission R c (number c ∷ S) x
   emit (emission R c S x) (matchType t) = emission (words 48 x t 0 0 0 ∷ R) (c - 1) S 0
-  emit (emission R c S x) (matchConstructor t n) = emission (words 49 x t n 0 0 ∷ R) (c - 1) S 0
+  emit (emission R c S x) (matchOne t n) = emission (words 49 x t n 0 0 ∷ R) (c - 1) S 0
   emit (emission R c S x) openParts = emission (words 50 (top (pop S)) c (top S) 0 0 ∷ R) (c - 1) (pop (pop S)) 0
   emit (emission R c S x) nextPart = emission R c (number c ∷ S) 0
   emit (emission R c S x) closeParts = emission R c (number x ∷ S) 0
@@ -123,7 +123,7 @@ module _ (T : List DeclaredType) where
 -- a type record, with its next
 abbrev pub typeRecord : DeclaredType → ℕ → Record
 typeRecord (flatType n) next = words 16 next n 0 0 0
-typeRecord (pairType a b) next = words 17 next a b 0 0
+typeRecord (pairedType a b) next = words 17 next a b 0 0
 
 -- the records of the declared types onto those after them; `next` is that of the last type
 abbrev pub typesWritten : List DeclaredType → ℕ → List Record → List Record

@@ -17,7 +17,7 @@ pub data Instruction : Type 0 where
   -- patterns
   beginPattern openParts nextPart closeParts nextAlternative : Instruction
   matchType : (type : ℕ) → Instruction
-  matchConstructor : (type number : ℕ) → Instruction
+  matchOne : (type number : ℕ) → Instruction
   -- the constant of a DELAY; its type, once it is known
   useLeaf : (type number : ℕ) → Instruction
   useZeros : (type : ℕ) → Instruction
@@ -46,7 +46,7 @@ opOf close = 15
 opOf closeIf = 16
 opOf beginPattern = 17
 opOf (matchType t) = 18
-opOf (matchConstructor t n) = 19
+opOf (matchOne t n) = 19
 opOf openParts = 20
 opOf nextPart = 21
 opOf closeParts = 22
@@ -78,7 +78,7 @@ firstOperand close = 0
 firstOperand closeIf = 0
 firstOperand beginPattern = 0
 firstOperand (matchType t) = t
-firstOperand (matchConstructor t n) = t
+firstOperand (matchOne t n) = t
 firstOperand openParts = 0
 firstOperand nextPart = 0
 firstOperand closeParts = 0
@@ -110,7 +110,7 @@ secondOperand close = 0
 secondOperand closeIf = 0
 secondOperand beginPattern = 0
 secondOperand (matchType t) = 0
-secondOperand (matchConstructor t n) = n
+secondOperand (matchOne t n) = n
 secondOperand openParts = 0
 secondOperand nextPart = 0
 secondOperand closeParts = 0
@@ -128,7 +128,7 @@ instructionOf op a b =
     getD
     (declareType ∷ countConstructor ∷ firstType a ∷ secondType a ∷ inputHas a ∷ useName a ∷ useConstant a b ∷ useUndefined a ∷ openPair
     ∷ openLet ∷ openRec a ∷ openIf ∷ openDelay ∷ takeFirst ∷ takeSecond ∷ close ∷ closeIf ∷ beginPattern ∷ matchType a
-    ∷ matchConstructor a b ∷ openParts ∷ nextPart ∷ closeParts ∷ nextAlternative ∷ useLeaf a b ∷ useZeros a ∷ openConstant a
+    ∷ matchOne a b ∷ openParts ∷ nextPart ∷ closeParts ∷ nextAlternative ∷ useLeaf a b ∷ useZeros a ∷ openConstant a
     ∷ closeConstant ∷ endConstant ∷ constantHas a ∷ []) op closeConstant
 
 -- the first n instructions that three tables hold, the last first

@@ -30,14 +30,14 @@ use Rattle.instructions.specs.Instruction.{
   constantHas,
 }
 use Rattle.instructions.specs.TextOrder.{numberOfType, constructorIn, alternativeOf, valueInstruction}
-use Rattle.instructions.specs.Assembly.{DeclaredType, flatType, pairType}
+use Rattle.instructions.specs.Assembly.{DeclaredType, flatType, pairedType}
 
 -- the declared types after declarations of which the first is number i, onto those before them
 abbrev pub typesOnto : ℕ → List TypeEntry → List Declaration → List DeclaredType → List DeclaredType
 typesOnto i E [] T = T
 typesOnto i E (Constructors t c cs ∷ ds) T = typesOnto (suc i) (afterEntry i E (Constructors t c cs)) ds (flatType (length (c ∷ cs)) ∷ T)
 typesOnto i E (PairOf t a b ∷ ds) T =
-    typesOnto (suc i) (afterEntry i E (PairOf t a b)) ds (pairType (typeNumber E (letters a)) (typeNumber E (letters b)) ∷ T)
+    typesOnto (suc i) (afterEntry i E (PairOf t a b)) ds (pairedType (typeNumber E (letters a)) (typeNumber E (letters b)) ∷ T)
 
 abbrev pub declaredTypes : List Declaration → List DeclaredType
 declaredTypes ds = typesOnto 1 [] ds []

@@ -34,7 +34,7 @@ use Rattle.instructions.specs.Instruction.{
   closeParts,
   nextAlternative,
   matchType,
-  matchConstructor,
+  matchOne,
   useLeaf,
   useZeros,
   openConstant,
@@ -70,7 +70,7 @@ module _ (ds : List Declaration) where
   -- a name in a pattern: a whole type, or a constructor
   abbrev pub alternativeOf : List ℕ → Instruction
   alternativeOf w =
-      cond (isDeclared typeRole w (afterAll atFirst ds)) (matchType (numberOfType w)) (matchConstructor (constructorIn w .type) (constructorIn w .number))
+      cond (isDeclared typeRole w (afterAll atFirst ds)) (matchType (numberOfType w)) (matchOne (constructorIn w .type) (constructorIn w .number))
 
   abbrev pub patternInstructions : SourcePattern → List Instruction
   patternInstructions (Alone n) = alternativeOf (letters n) ∷ []

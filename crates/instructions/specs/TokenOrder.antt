@@ -41,7 +41,7 @@ use Rattle.instructions.specs.Instruction.{
   closeParts,
   nextAlternative,
   matchType,
-  matchConstructor,
+  matchOne,
   useLeaf,
   useZeros,
   openConstant,
@@ -138,7 +138,7 @@ inConstant (q ∷ K) = between 39 41 (stateNumber q)
 -- the number of an instruction over a declared name: in a pattern by whether it is a type, after `?` by where it stands
 abbrev pub declaredOp : (op : ℕ) (delayed type : Bool) → ℕ
 declaredOp op delayed type =
-    cond (eqb op (opOf (matchType 0))) (cond type (opOf (matchType 0)) (opOf (matchConstructor 0 0)))
+    cond (eqb op (opOf (matchType 0))) (cond type (opOf (matchType 0)) (opOf (matchOne 0 0)))
     (cond (eqb op (opOf (useUndefined 0))) (cond delayed (opOf (useZeros 0)) (opOf (useUndefined 0))) op)
 
 -- what a name says by the number of its state, and any other token with its place

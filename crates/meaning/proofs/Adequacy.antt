@@ -5,8 +5,7 @@ use Prim.Native.Nat.{ℕ}
 use mathlib.Core.Path.{_≡_, refl, sym, ap, ap₂, subst, subst₂, _∙_}
 use mathlib.Core.Logic.{_↔_}
 use mathlib.Core.List.{List, [], _∷_, map, nil≢cons, head-eq-of-cons-eq, tail-eq-of-cons-eq}
-use Rattle.picoella.specs.Types.{Ty}
-use Rattle.picoella.specs.Expressions.{Expr}
+use Rattle.picoella.specs.Language.{Ty, Expr}
 use Rattle.meaning.specs.Values.{more-values}
 use Rattle.meaning.specs.Elaboration.{Term, erase, Elaborated}
 use Rattle.meaning.specs.Constants.{

@@ -11,7 +11,7 @@ use mathlib.Core.List.{List, [], _∷_, _++_}
 use lib.Dec.{eqb}
 use lib.ListN.{length}
 use borrow.Author.Tests.{eqb-true, eqb-false, eq-eqb}
-use Rattle.picoella.specs.Types.{Ty, Flat, Within, within-none, within-leaf}
+use Rattle.picoella.specs.Language.{Ty, Flat, Within, within-none, within-leaf}
 use Rattle.meaning.specs.Values.{LeafBelow, Both, both-none, both-leaf}
 use Rattle.meaning.specs.Constants.{
   ConstantTree,

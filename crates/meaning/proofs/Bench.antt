@@ -6,9 +6,22 @@ use Prim.Native.Nat.{ℕ}
 use native.Mathlib.Omega.{arith}
 use mathlib.Core.Path.{_≡_, refl}
 use mathlib.Core.List.{List, [], _∷_}
-use Rattle.picoella.specs.Types.{Ty, Flat, TyTuple, within-none, within-leaf, OfType}
-use Rattle.picoella.specs.Patterns.{Pattern, Whole, Constructor, Parts, Bar, p-constructor}
-use Rattle.picoella.specs.Typing.{here, there}
+use Rattle.picoella.specs.Language.{
+  Ty,
+  Flat,
+  TyTuple,
+  within-none,
+  within-leaf,
+  OfType,
+  Pattern,
+  Whole,
+  Constructor,
+  Parts,
+  Bar,
+  p-constructor,
+  here,
+  there,
+}
 use Rattle.meaning.specs.Matching.{Yes, Undecided, matches}
 use Rattle.meaning.specs.Elaboration.{
   Term,

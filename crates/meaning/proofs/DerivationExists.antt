@@ -8,9 +8,7 @@ use mathlib.Core.Path.{_≡_, refl, sym, ap, ap₂, subst, _∙_}
 use mathlib.Core.Logic.{_⊎_, inl, inr, _≢_}
 use mathlib.Core.List.{List, [], _∷_, _++_, map}
 use lib.ListN.{getD, take, drop, replicate-append-replicate}
-use Rattle.picoella.specs.Types.{Ty, Flat, TyTuple, bounds, leaves, OfType}
-use Rattle.picoella.specs.Expressions.{Expr, Index1, Index2}
-use Rattle.picoella.specs.Typing.{Named, here, there}
+use Rattle.picoella.specs.Language.{Ty, Flat, TyTuple, bounds, leaves, OfType, Expr, Index1, Index2, Named, here, there}
 use Rattle.meaning.specs.Values.{zeros, undefined, Both, ValuesOf, no-values, more-values}
 use Rattle.meaning.specs.Matching.{Decision, Yes, No, Undecided, matches}
 use Rattle.meaning.specs.Elaboration.{

@@ -4,9 +4,16 @@
 use Prim.Native.Nat.{ℕ}
 use mathlib.Core.Path.{_≡_, refl, sym, ap, ap₂, subst, subst-refl, pathJ, _∙_}
 use mathlib.Core.List.{List, _∷_, head-eq-of-cons-eq, tail-eq-of-cons-eq}
-use Rattle.picoella.specs.Types.{Ty, TyTuple}
-use Rattle.picoella.specs.Expressions.{Expr, Tuple, Index1, Index2, Let, LetRec, Delay}
-use Rattle.picoella.specs.Typing.{
+use Rattle.picoella.specs.Language.{
+  Ty,
+  TyTuple,
+  Expr,
+  Tuple,
+  Index1,
+  Index2,
+  Let,
+  LetRec,
+  Delay,
   Named,
   here,
   there,

@@ -3,7 +3,7 @@
 -- Assumes nothing.
 use Prim.Native.Nat.{ℕ}
 use mathlib.Core.List.{List}
-use Rattle.picoella.specs.Types.{Ty, bounds, OfType}
+use Rattle.picoella.specs.Language.{Ty, bounds, OfType}
 use Rattle.meaning.specs.Values.{
   Both,
   ValuesOf,

@@ -7,8 +7,7 @@ use Prim.Native.Nat.{ℕ, zero, suc}
 use mathlib.Core.Logic.{inl, inr}
 use mathlib.Core.List.{List, [], _∷_}
 use lib.ListN.{getD}
-use Rattle.picoella.specs.Types.{Ty, bounds, leaves}
-use Rattle.picoella.specs.Typing.{Named, here, there}
+use Rattle.picoella.specs.Language.{Ty, bounds, leaves, Named, here, there}
 use Rattle.meaning.specs.Values.{Both, BothValues, both-more-values}
 use Rattle.meaning.specs.Matching.{Decision, Yes, No, Undecided, DecisionBelow}
 use Rattle.meaning.specs.Elaboration.{

@@ -7,7 +7,7 @@ use native.Mathlib.Omega.{arith}
 use mathlib.Core.Path.{_≡_, sym, ap, _∙_}
 use mathlib.Core.Logic.{_⊎_, inl, inr, _≢_}
 use mathlib.Core.List.{List, _∷_}
-use Rattle.picoella.specs.Types.{Ty, bounds, leaves, OfType}
+use Rattle.picoella.specs.Language.{Ty, bounds, leaves, OfType}
 use Rattle.meaning.specs.Values.{undefined, zeros, Both, ValuesOf, both-more-values}
 use Rattle.meaning.specs.Elaboration.{Term, Elaborated}
 use Rattle.meaning.specs.Undecided.{Lawful}
@@ -66,12 +66,12 @@ module _
         : (k : ℕ)
         → Both (bounds σ) (iter (application undecided ρ t) k (undefined σ))
         (iter (application undecided ρ t) (suc k) (undefined σ))
-    feedback-rises k = chain-rises (bounds σ) _ application-monotone k undefined-rises
+    feedback-rises k = chain-rises _ application-monotone k undefined-rises
 
     pub iterate-fixed
         : {v : List ℕ} → Both (bounds σ) v (application undecided ρ t v)
         → application undecided ρ t (iterate undecided ρ σ t v) ≡ iterate undecided ρ σ t v
-    iterate-fixed r = chain-stable (bounds σ) _ application-monotone (leaves σ) r (zeros-most (both-lower r))
+    iterate-fixed r = chain-stable _ application-monotone (leaves σ) r (zeros-most (both-lower r))
 
     pub feedback-typed : OfType σ (settled undecided ρ σ t)
     feedback-typed = both-lower (feedback-rises (leaves σ))
@@ -84,7 +84,7 @@ module _
 
     pub feedback-least
         : {w : List ℕ} → OfType σ w → application undecided ρ t w ≡ w → Both (bounds σ) (settled undecided ρ σ t) w
-    feedback-least h p = chain-least (bounds σ) _ application-monotone (leaves σ) (undefined-below σ h) p
+    feedback-least h p = chain-least _ application-monotone (leaves σ) (undefined-below σ h) p
 
     -- the count of docs/SHEETS.md, "After a run"
     pub applications-most : applications undecided ρ σ t ≤ leaves σ

@@ -61,7 +61,7 @@ iter-stays F n v p k h = rw (parted) (past (k - n))
     past zero = rw zero-add
     past (suc d) = rw suc-add (ap F (past d) ∙ p)
 
-module _ (b : List ℕ) (F : List ℕ → List ℕ) (mono : (v w : List ℕ) → Both b v w → Both b (F v) (F w)) where
+module _ {b : List ℕ} (F : List ℕ → List ℕ) (mono : (v w : List ℕ) → Both b v w → Both b (F v) (F w)) where
   -- from a value below its application each application lies at or above the one before
   pub chain-rises : (k : ℕ) {v : List ℕ} → Both b v (F v) → Both b (iter F k v) (iter F (suc k) v)
   chain-rises zero r = r

@@ -4,7 +4,7 @@
 use Prim.Native.Nat.{ℕ}
 use mathlib.Core.Path.{refl, sym, _∙_}
 use mathlib.Core.List.{List, _∷_}
-use Rattle.picoella.specs.Types.{Ty}
+use Rattle.picoella.specs.Language.{Ty}
 use Rattle.meaning.specs.Values.{ValuesOf}
 use Rattle.meaning.specs.Elaboration.{Term, Elaborated}
 use Rattle.meaning.specs.Constants.{ConstantTree}

@@ -5,8 +5,7 @@ use Prim.Native.Nat.{ℕ, zero, suc}
 use mathlib.Core.Path.{_≡_, refl, ap₂, _∙_}
 use mathlib.Core.Bool.{Bool, true, false}
 use lib.Dec.{eqb}
-use Rattle.picoella.specs.Types.{Ty}
-use Rattle.picoella.specs.Patterns.{Pattern, HasType, p-whole, p-constructor, p-parts, p-bar}
+use Rattle.picoella.specs.Language.{Ty, Pattern, HasType, p-whole, p-constructor, p-parts, p-bar}
 use Rattle.meaning.specs.Matching.{
   Decision,
   Yes,

@@ -7,8 +7,7 @@ use mathlib.Core.Logic.{inl, inr}
 use mathlib.Core.Bool.{Bool, true, false, _&&_}
 use mathlib.Core.List.{List}
 use lib.Dec.{T}
-use Rattle.picoella.specs.Types.{Ty, bounds, leaves}
-use Rattle.picoella.specs.Patterns.{Pattern, HasType, p-whole, p-constructor, p-parts, p-bar}
+use Rattle.picoella.specs.Language.{Ty, bounds, leaves, Pattern, HasType, p-whole, p-constructor, p-parts, p-bar}
 use Rattle.meaning.specs.Values.{LeafBelow, Both, both-none, both-leaf}
 use Rattle.meaning.specs.Matching.{
   Decision,

@@ -4,7 +4,7 @@
 use Prim.Native.Nat.{ℕ}
 use mathlib.Core.Path.{_≡_, refl, ap, ap₂, _∙_}
 use mathlib.Core.List.{List, [], _∷_}
-use Rattle.picoella.specs.Types.{Ty}
+use Rattle.picoella.specs.Language.{Ty}
 use Rattle.meaning.specs.Values.{ValuesOf, more-values, AllOf, all-none, all-more}
 use Rattle.meaning.specs.Elaboration.{
   Term,

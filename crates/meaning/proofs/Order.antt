@@ -7,7 +7,7 @@ use mathlib.Core.Path.{_≡_, refl, ap, _∙_}
 use mathlib.Core.Logic.{inl, inr}
 use mathlib.Core.List.{List, [], _∷_, _++_}
 use lib.ListN.{length, take, drop, replicate, length-append}
-use Rattle.picoella.specs.Types.{Ty, Flat, TyTuple, bounds, leaves, Within, within-none, within-leaf, OfType}
+use Rattle.picoella.specs.Language.{Ty, Flat, TyTuple, bounds, leaves, Within, within-none, within-leaf, OfType}
 use Rattle.meaning.specs.Values.{
   undefined,
   zeros,

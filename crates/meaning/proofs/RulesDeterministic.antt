@@ -4,7 +4,7 @@
 use Prim.Native.Nat.{ℕ}
 use mathlib.Core.Path.{_≡_, refl, sym, ap, ap₂, subst, _∙_}
 use mathlib.Core.List.{List, _∷_}
-use Rattle.picoella.specs.Expressions.{Expr, Tuple, Index1, Index2, Let, LetRec, If, Delay}
+use Rattle.picoella.specs.Language.{Expr, Tuple, Index1, Index2, Let, LetRec, If, Delay}
 use Rattle.meaning.specs.Constants.{ConstantTree, CoTuple, flatten, match}
 use Rattle.meaning.specs.Rules.{
   Elem,

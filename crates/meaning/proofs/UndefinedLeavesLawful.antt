@@ -5,7 +5,7 @@ use Prim.Native.Nat.{ℕ, zero-le}
 use mathlib.Core.Path.{_≡_, refl}
 use mathlib.Core.List.{List}
 use lib.ListN.{length, replicate, length-append, replicate-append-replicate}
-use Rattle.picoella.specs.Types.{Ty, Within}
+use Rattle.picoella.specs.Language.{Ty, Within}
 use Rattle.meaning.specs.Values.{Both}
 use Rattle.meaning.specs.Constants.{
   ConstantTree,

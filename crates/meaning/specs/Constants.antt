@@ -8,8 +8,7 @@ use Prim.Native.Nat.{ℕ, zero, suc, _≤_}
 use mathlib.Core.Bool.{Bool, true, false, _&&_, _||_}
 use mathlib.Core.List.{List, [], _∷_, _++_}
 use lib.Dec.{eqb}
-use Rattle.picoella.specs.Types.{Ty, Flat, TyTuple}
-use Rattle.picoella.specs.Patterns.{Pattern, Whole, Constructor, Parts, Bar}
+use Rattle.picoella.specs.Language.{Ty, Flat, TyTuple, Pattern, Whole, Constructor, Parts, Bar}
 use Rattle.meaning.specs.Matching.{Decision, Yes, No, Undecided}
 
 pub data ConstantTree : Type 0 where

@@ -8,7 +8,7 @@ use mathlib.Core.List.{List, [], _∷_, _++_}
 use mathlib.Core.Bool.{Bool, true, false, _&&_}
 use lib.Dec.{eqb}
 use lib.ListN.{getD, take, drop}
-use Rattle.picoella.specs.Types.{Ty, leaves}
+use Rattle.picoella.specs.Language.{Ty, leaves}
 use Rattle.meaning.specs.Values.{undefined}
 use Rattle.meaning.specs.Matching.{Decision, Yes, No, Undecided, matches}
 use Rattle.meaning.specs.Elaboration.{

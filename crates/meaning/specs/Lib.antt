@@ -1,11 +1,13 @@
 -- What a circuit means, without bytes: values, matching, one cycle, a run, and the rules of the paper that they agree with.
-pub mod Values
-pub mod Matching
-pub mod Elaboration
+-- To believe:
 pub mod Constants
-pub mod Undecided
+pub mod Rules
+pub mod Values
 pub mod Ordered
+pub mod Promises
+-- What the promises pin down, so that it need not be believed:
+pub mod Elaboration
+pub mod Matching
+pub mod Undecided
 pub mod Evaluation
 pub mod Run
-pub mod Rules
-pub mod Promises

@@ -9,8 +9,7 @@ use mathlib.Core.Bool.{Bool, true, false}
 use mathlib.Core.List.{List}
 use lib.Dec.{eqb}
 use lib.ListN.{getD, take, drop}
-use Rattle.picoella.specs.Types.{leaves}
-use Rattle.picoella.specs.Patterns.{Pattern, Whole, Constructor, Parts, Bar}
+use Rattle.picoella.specs.Language.{leaves, Pattern, Whole, Constructor, Parts, Bar}
 
 pub data Decision : Type 0 where
   Yes No Undecided : Decision

@@ -3,9 +3,7 @@
 -- below that of the second; and so two lists of values of one type, as the inputs and the outputs of two runs.
 use Prim.Native.Nat.{ℕ}
 use mathlib.Core.List.{List, [], _∷_}
-use Rattle.picoella.specs.Types.{Ty, TyTuple, bounds, Within, OfType}
-use Rattle.picoella.specs.Patterns.{Pattern, HasType}
-use Rattle.picoella.specs.Typing.{Named}
+use Rattle.picoella.specs.Language.{Ty, TyTuple, bounds, Within, OfType, Pattern, HasType, Named}
 use Rattle.meaning.specs.Values.{Both}
 use Rattle.meaning.specs.Elaboration.{
   Term,

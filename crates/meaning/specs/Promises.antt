@@ -7,10 +7,7 @@ use Prim.Native.Nat.{ℕ, suc, _≤_, _<_}
 use mathlib.Core.Path.{_≡_}
 use mathlib.Core.Logic.{_↔_, _≢_}
 use mathlib.Core.List.{List, _∷_, map}
-use Rattle.picoella.specs.Types.{Ty, leaves, OfType}
-use Rattle.picoella.specs.Patterns.{Pattern, HasType}
-use Rattle.picoella.specs.Expressions.{Expr}
-use Rattle.picoella.specs.Typing.{Typed}
+use Rattle.picoella.specs.Language.{Ty, leaves, OfType, Pattern, HasType, Expr, Typed}
 use Rattle.meaning.specs.Values.{undefined, _⊑_, ValuesOf, BothValues, AllOf}
 use Rattle.meaning.specs.Matching.{matches, DecisionBelow}
 use Rattle.meaning.specs.Elaboration.{Term, Feedback, Elaborated, erase, moved, frame}

@@ -7,9 +7,7 @@ use Prim.Native.Nat.{ℕ, zero, suc}
 use mathlib.Core.Path.{_≡_}
 use mathlib.Core.Logic.{_≢_}
 use mathlib.Core.List.{List, [], _∷_}
-use Rattle.picoella.specs.Types.{Ty}
-use Rattle.picoella.specs.Patterns.{Pattern}
-use Rattle.picoella.specs.Expressions.{Expr, Const, Var, Tuple, Index1, Index2, Let, LetRec, If, Delay}
+use Rattle.picoella.specs.Language.{Ty, Pattern, Expr, Const, Var, Tuple, Index1, Index2, Let, LetRec, If, Delay}
 use Rattle.meaning.specs.Constants.{
   ConstantTree,
   CoTuple,

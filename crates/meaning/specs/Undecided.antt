@@ -10,7 +10,7 @@ use mathlib.Core.Bool.{Bool, true, false}
 use mathlib.Core.List.{List, [], _∷_}
 use lib.Dec.{eqb}
 use lib.ListN.{length, replicate}
-use Rattle.picoella.specs.Types.{Ty, Within}
+use Rattle.picoella.specs.Language.{Ty, Within}
 use Rattle.meaning.specs.Values.{Both}
 use Rattle.meaning.specs.Constants.{ConstantTree, ConstantOf, bottomOfConst, glb, flatten}
 

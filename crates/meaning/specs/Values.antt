@@ -8,7 +8,7 @@ use mathlib.Core.Path.{_≡_}
 use mathlib.Core.Logic.{_⊎_}
 use mathlib.Core.List.{List, [], _∷_}
 use lib.ListN.{replicate}
-use Rattle.picoella.specs.Types.{Ty, bounds, leaves, OfType}
+use Rattle.picoella.specs.Language.{Ty, bounds, leaves, OfType}
 
 -- undefined in every leaf
 abbrev pub undefined : Ty → List ℕ

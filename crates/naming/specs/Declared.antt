@@ -33,7 +33,7 @@ abbrev pub isTaken : List ℕ → List DeclaredName → Bool
 isTaken w [] = false
 isTaken w (declaredAs v s ∷ more) = cond (sameName w v) true (isTaken w more)
 
--- declared as one of some sorts
+-- declared in one of some roles
 abbrev pub isDeclared : (Role → Bool) → List ℕ → List DeclaredName → Bool
 isDeclared roles w [] = false
 isDeclared roles w (declaredAs v s ∷ more) = cond (sameName w v) (roles s) (isDeclared roles w more)

@@ -14,7 +14,7 @@ use Rattle.naming.specs.Constants.{constantsOfText}
 abbrev pub isNew : List DeclaredName → Identifier → PlacedCheck
 isNew D (identifier w p) = checkAt p (not (isTaken w D))
 
--- a name that is used here is declared as one of some sorts
+-- a name that is used here is declared in one of some roles
 abbrev pub isOne : (Role → Bool) → List DeclaredName → Identifier → PlacedCheck
 isOne roles D (identifier w p) = checkAt p (isDeclared roles w D)
 

@@ -3,8 +3,11 @@
 -- Assumes nothing.
 use mathlib.Core.List.{List, _∷_}
 use mathlib.Core.Path.{_≡_, refl}
-use Rattle.picoella.specs.Types.{Ty, Flat, TyTuple, OfType}
-use Rattle.picoella.specs.Patterns.{
+use Rattle.picoella.specs.Language.{
+  Ty,
+  Flat,
+  TyTuple,
+  OfType,
   Pattern,
   Whole,
   Constructor,
@@ -15,9 +18,16 @@ use Rattle.picoella.specs.Patterns.{
   p-constructor,
   p-parts,
   p-bar,
-}
-use Rattle.picoella.specs.Expressions.{Expr, Const, Var, Tuple, Index1, Index2, Let, LetRec, If, Delay}
-use Rattle.picoella.specs.Typing.{
+  Expr,
+  Const,
+  Var,
+  Tuple,
+  Index1,
+  Index2,
+  Let,
+  LetRec,
+  If,
+  Delay,
   Named,
   Typed,
   t-const,

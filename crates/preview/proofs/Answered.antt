@@ -10,11 +10,9 @@ use native.Mathlib.Omega.{arith}
 use lib.ListN.{length}
 use lib.Dec.{eqb}
 use borrow.Author.Tests.{eq-eqb}
-use Rattle.picoella.specs.Types.{leaves, OfType}
-use Rattle.records.specs.TypeRecords.{typeAt}
-use Rattle.answers.specs.Answers.{place, onDone}
-use Rattle.answers.specs.Lowest.{lowest}
-use Rattle.answers.specs.Checks.{Check, check, when, orRefused, firstApplying, NoneApplies, SaysOf}
+use Rattle.picoella.specs.Language.{leaves, OfType}
+use Rattle.records.specs.Trees.{typeAt}
+use Rattle.answers.specs.Answers.{place, onDone, lowest, Check, check, when, orRefused, firstApplying, NoneApplies, SaysOf}
 use Rattle.answers.specs.declared.Answer.{Answer}
 use Rattle.answers.specs.declared.Answer.the-variants.{Done, Refused}
 use Rattle.answers.proofs.Lowest.{lowest-some-passes}
@@ -111,7 +109,7 @@ module _ (s stim out : List ℕ) where
       omega arith
 
   leaves-few : (t : ℕ) → verdict s ≡ Accepted t → outputLeaves s ≤ 64
-  leaves-few t v = rw (accepted-output s t v) at (accepted-few s t v)
+  leaves-few t v = rw (accepted-output s t v) at (accepted-few s v)
 
   shown-small : (t : ℕ) → verdict s ≡ Accepted t → place (firstApplying (shownChecks s stim out) (Done 0)) < 2 ^ 32
   shown-small t v =
@@ -201,4 +199,4 @@ unfolding finalPreview
 typed s stim out e =
     let h = says-where s stim out (Done 0) e .0 in
     let passes : NoneApplies (oneCycleChecks s stim) = (rw (h .one-cycle) refl, (h .fitting, tt)) in
-    rw e (output-typed undecidedRule rule-lawful s (outputType s) (h .accepted) stim (one-cycle-typed s stim passes))
+    rw e (output-typed undecidedRule rule-lawful s (h .accepted) stim (one-cycle-typed s stim passes))

@@ -7,10 +7,9 @@ use mathlib.Core.Path.{_≡_, refl, sym, ap, _∙_}
 use native.Mathlib.Omega.{arith}
 use borrow.Author.Tests.{ne-eqb}
 use lib.ListN.{length, getD}
-use Rattle.picoella.specs.Types.{leaves}
-use Rattle.records.specs.TypeRecords.{typeAt}
-use Rattle.answers.specs.Answers.{inOne, packed, onDone}
-use Rattle.answers.specs.Checks.{firstApplying, NoneApplies}
+use Rattle.picoella.specs.Language.{leaves}
+use Rattle.records.specs.Trees.{typeAt}
+use Rattle.answers.specs.Answers.{inOne, packed, onDone, firstApplying, NoneApplies}
 use Rattle.answers.specs.declared.Answer.{Answer}
 use Rattle.answers.specs.declared.Answer.the-variants.{Done, Refused}
 use Rattle.answers.proofs.First.{first-both, first-then, none-done, when-none}
@@ -46,13 +45,13 @@ preview-refused-sheet s stim out w e o result q =
 module _ {s : List ℕ} {n : ℕ} {W : List ℕ} {t : ℕ} (g : Accepting s n W) (v : verdict s ≡ Accepted t) where
   pub preview-type-there : t < 4096
   preview-type-there =
-      let c = g .sized .counted in let f = g .sized .few in let h = output-typed s t v .there in omega arith
+      let c = g .sized .counted in let f = g .sized .few in let h = output-typed s v .there in omega arith
 
   output-width : getD W t 0 ≡ leaves (typeAt s t)
-  output-width = g .table .types t (output-typed s t v)
+  output-width = g .table .types t (output-typed s v)
 
   pub preview-room-few : getD W t 0 ≤ 64
-  preview-room-few = let f = accepted-few s t v in let e = output-width in omega arith
+  preview-room-few = let f = accepted-few s v in let e = output-width in omega arith
 
   needed : getD W t 0 ≡ outputLeaves s
   needed = output-width ∙ ap (λ (u : ℕ). leaves (typeAt s u)) (accepted-output s t v)

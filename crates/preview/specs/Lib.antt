@@ -1,3 +1,4 @@
 -- What a preview gives, and what is promised of it.
+-- To believe:
 pub mod Preview
 pub mod Promises

@@ -1,4 +1,4 @@
--- Look before Grind (docs/SHEETS.md, "The preview"): "The preview takes a sheet and one cycle of input and writes the outputs."
+-- The preview (docs/SHEETS.md, "The preview"): "The preview takes a sheet and one cycle of input and writes the outputs."
 -- "Checks: 1 to 10, with 10 for one cycle's outputs." Where nothing refuses, it gives 0 at place 0.
 use Prim.Native.Nat.{ℕ}
 use mathlib.Core.Path.{_≡_}
@@ -6,10 +6,9 @@ use mathlib.Core.Bool.{not}
 use mathlib.Core.List.{List, [], _∷_, _++_}
 use lib.ListN.{length}
 use lib.Dec.{eqb}
-use Rattle.picoella.specs.Types.{leaves, OfType}
-use Rattle.records.specs.TypeRecords.{typeAt}
-use Rattle.answers.specs.Answers.{packed, whenDone}
-use Rattle.answers.specs.Checks.{Check, check, when, firstApplying}
+use Rattle.picoella.specs.Language.{leaves, OfType}
+use Rattle.records.specs.Trees.{typeAt}
+use Rattle.answers.specs.Answers.{packed, whenDone, Check, check, when, firstApplying}
 use Rattle.answers.specs.declared.Answer.{Answer}
 use Rattle.answers.specs.declared.Answer.the-variants.{Done}
 use Rattle.verdict.specs.Verdict.{sheetChecks, outputType, verdict}

@@ -7,11 +7,9 @@ use mathlib.Core.Bool.{false}
 use mathlib.Core.List.{List, [], _∷_}
 use mathlib.Core.Option.{none}
 use lib.ListN.{length}
-use Rattle.picoella.specs.Types.{OfType}
-use Rattle.records.specs.TypeRecords.{typeAt}
-use Rattle.answers.specs.Answers.{code, place, onDone}
-use Rattle.answers.specs.Lowest.{lowest}
-use Rattle.answers.specs.Checks.{Refuses}
+use Rattle.picoella.specs.Language.{OfType}
+use Rattle.records.specs.Trees.{typeAt}
+use Rattle.answers.specs.Answers.{code, place, onDone, lowest, Refuses}
 use Rattle.answers.specs.declared.Answer.{Answer}
 use Rattle.answers.specs.declared.Answer.the-variants.{Done, Refused}
 use Rattle.verdict.specs.Verdict.{outputType, verdict}

@@ -1,4 +1,4 @@
-// Look before Grind: the outputs of one cycle, without taking it.
+// The preview: the outputs of one cycle, without taking it.
 ghost use mathlib.Core.Path.{_≡_};
 ghost use Rattle.verdict.specs.Verdict.{verdict};
 ghost use Rattle.verdict.specs.declared.Verdict.the-variants.{Accepted};
@@ -10,7 +10,7 @@ use answers::WRONG_OUTPUT;
 use answers::in_one;
 use answers::packed;
 use records::RECORDS;
-use records::Widths;
+use records::WidthTable;
 use records::records_in;
 use stepper::look;
 use stepper::no_names;
@@ -22,7 +22,7 @@ use verdict::no_widths;
 use verdict::packed_verdict;
 
 // The outputs of one cycle, with room of its own.
-fn show(sheet: &[u8], n: usize, widths: &Widths, input: &[u8], out: &mut [u8])
+fn show(sheet: &[u8], n: usize, widths: &WidthTable, input: &[u8], out: &mut [u8])
     requires { ⌜ Showing (now sheet) n (now widths) (now input) (now out) ⌝ }
     ensures { λ _. ⌜ now (out .exit) ≡ output (now (sheet .entry)) (now (input .entry)) ⌝ }
 {
@@ -46,7 +46,7 @@ fn show(sheet: &[u8], n: usize, widths: &Widths, input: &[u8], out: &mut [u8])
 fn preview_accepted(
     sheet: &[u8],
     n: usize,
-    widths: &Widths,
+    widths: &WidthTable,
     t: usize,
     stim: &[u8],
     out: &mut [u8],

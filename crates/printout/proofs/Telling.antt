@@ -10,11 +10,10 @@ use native.Mathlib.Decide.{decLt}
 use lib.ListN.{length, take, drop, replicate, length-append, length-replicate}
 use lib.Seq.{take-at, length-take-le}
 use borrow.Author.Tests.{lt-ltb}
-use Rattle.picoella.specs.Types.{leaves}
-use Rattle.records.specs.TypeRecords.{typeAt}
+use Rattle.picoella.specs.Language.{leaves}
+use Rattle.records.specs.Trees.{typeAt}
 use Rattle.records.proofs.Types.{some-leaves}
-use Rattle.answers.specs.Answers.{code, place, packed}
-use Rattle.answers.specs.Checks.{Check, firstApplying, Refuses, SaysOf}
+use Rattle.answers.specs.Answers.{code, place, packed, Check, firstApplying, Refuses, SaysOf}
 use Rattle.answers.specs.declared.Answer.{Answer}
 use Rattle.answers.specs.declared.Answer.the-variants.{Done, Refused}
 use Rattle.answers.proofs.First.{first-says}
@@ -27,7 +26,8 @@ use Rattle.stimulus.specs.Stimulus.{inputType, wrongStimulus, stimulusChecks, c
 use Rattle.behaviour.specs.Run.{outputNeeded, callChecks, bySlices, answer, finalOut, finalNext, Gives}
 use Rattle.behaviour.specs.Promises.{SaysOfCall}
 use Rattle.behaviour.proofs.Answers.{lowest-first, places-small, refused-by-verdict, stimulus-refused}
-use Rattle.simulator.specs.Running.{Measured, Ran}
+use Rattle.simulator.specs.Running.{Measured}
+use Rattle.simulator.specs.Calls.{Ran}
 use Rattle.listing.specs.Lines.{refusedLine}
 use Rattle.printout.specs.Printout.{outputRecord, runAnswer, runOutputs, runSheet, printed, toldText, Tells, OutputsLong}
 
@@ -138,7 +138,7 @@ module _ (s stim : List ℕ) (i o many : ℕ) (m : Measured s i o) (q : OutputsL
           let a : verdict s ≡ Accepted t = formed .1 .accepted in
           let l : o ≡ leaves (typeAt s t) = m .leaves-of t a .1 in
           let some = some-leaves (typeAt s t) in
-          let few = accepted-few s t a in
+          let few = accepted-few s a in
           ew .2 (omega arith) (omega arith) ∙ l ∙ rw a refl
 
       done-text : printed s stim ≡ toldText (r / 2 ^ 32) (r % 2 ^ 32) (v % 2 ^ 32) w ro

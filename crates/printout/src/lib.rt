@@ -15,7 +15,7 @@ use listing::put_type;
 use simulator::leaves_of;
 use simulator::run;
 use stimulus::STIMULUS_BYTES;
-use verdict::check;
+use verdict::check_sheet;
 
 // The place of the sheet's file and of the stimulus's.
 const SHEET_FILE: u64 = 1;
@@ -24,7 +24,7 @@ const STIMULUS_FILE: u64 = 2;
 
 // What is to be printed: a code and its place, or where the code is 0 the listing of so many bytes of outputs, of w leaves each, whose
 // type is at record t.
-pub struct Told {
+pub struct ToPrint {
     pub code: u64,
     pub place: u64,
     pub t: u64,
@@ -60,7 +60,7 @@ fn outputs_length(input: usize, output: usize, all: usize) -> usize
 }
 
 // Runs a sheet on a stimulus, in room for the longest outputs and for the sheet after it, and tells what is to be printed.
-pub fn tell(sheet: &[u8], stim: &[u8], out: &mut [u8], next: &mut [u8]) -> Told
+pub fn tell(sheet: &[u8], stim: &[u8], out: &mut [u8], next: &mut [u8]) -> ToPrint
     requires { ⌜ (4194240 ≤ length (now out)) × (length (now sheet) ≤ length (now next)) ⌝ }
     ensures { λ r. ⌜ Tells (now (sheet .entry)) (now (stim .entry)) (r .code) (r .place) (r .t) (r .w) (r .many) (now (out .exit)) (now (next .exit)) ⌝ }
 {
@@ -68,9 +68,9 @@ pub fn tell(sheet: &[u8], stim: &[u8], out: &mut [u8], next: &mut [u8]) -> Told
     let many = outputs_length(leaves.input, leaves.output, stim.len());
     let long = sheet.len();
     let result = run(sheet, stim, &mut out[0..many], &mut next[0..long]);
-    let verdict = check(sheet);
+    let verdict = check_sheet(sheet);
     let w = width(leaves.output);
-    Told {
+    ToPrint {
         code: result / PLACES,
         place: result % PLACES,
         t: verdict % PLACES,

@@ -23,9 +23,9 @@ use Rattle.records.specs.Kinds.{
   total,
   never,
   sortNumber,
-  askNumber,
 }
-use Rattle.records.specs.Says.{meets, higher, boundedBy}
+use Rattle.records.specs.AskNumbers.{askNumber, boundedBy}
+use Rattle.records.specs.Says.{meets, higher}
 
 -- the ask of a number below 5
 abbrev pub askBelow : ℕ → Ask

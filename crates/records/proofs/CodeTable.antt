@@ -21,18 +21,17 @@ use Rattle.records.specs.Kinds.{
   isDelay,
   zeroed,
   never,
-  askNumber,
   Row,
   row,
   kindRows,
   numberIn,
   asksIn,
-  askNumbers,
   lookUp,
   rowOf,
   kindOf,
   askOf,
 }
+use Rattle.records.specs.AskNumbers.{askNumber, askNumbers}
 
 both-left : (a b : Bool) → T (a && b) → T a
 both-left true b t = tt

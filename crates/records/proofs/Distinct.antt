@@ -37,9 +37,8 @@ use Rattle.records.specs.Kinds.{
   part,
 }
 use Rattle.records.specs.Says.{kindAt, sortAt}
-use Rattle.records.specs.Trees.{follow, chain, treeStep, treeAt, circuit}
-use Rattle.records.specs.Held.{listed, held, Distinct}
-use Rattle.records.specs.Written.{Written, WellNamed}
+use Rattle.records.specs.Trees.{follow, chain, treeStep, treeAt, circuit, listed, held}
+use Rattle.records.specs.Written.{Distinct, Written, WellNamed}
 use Rattle.records.proofs.Table.{askOfKind, kind-of-sort}
 use Rattle.records.proofs.Asked.{part-of-kind, root-is}
 use Rattle.records.proofs.Trees.{from-above, next-leaf, chain-of, tree-of}

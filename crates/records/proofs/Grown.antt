@@ -36,8 +36,8 @@ use Rattle.records.specs.Kinds.{
   lowerFlat,
 }
 use Rattle.records.specs.Says.{kindAt, sortAt}
-use Rattle.records.specs.TypeRecords.{TypeRecord}
 use Rattle.records.specs.Trees.{
+  TypeRecord,
   Alternatives,
   end,
   noPattern,

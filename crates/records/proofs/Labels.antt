@@ -45,7 +45,7 @@ same-label r k q h e = go (decLt r q) (decLt q r)
     go (no a) (yes b) = absurd (omega arith)
     go (no a) (no b) = (omega arith, omega arith)
 
-module _ (s s′ : List ℕ) (o : OnlyLabels s s′) where
+module _ {s s′ : List ℕ} (o : OnlyLabels s s′) where
   -- a word that is not the word d of a delay
   no-label : (r k : ℕ) → k < 6 → (kindAt s r ≡ expression delay → k ≡ 5 → ⊥) → word s′ r k ≡ word s r k
   unfolding word
@@ -69,20 +69,20 @@ module _ (s s′ : List ℕ) (o : OnlyLabels s s′) where
   }
 
   same-higher : (r : ℕ) (σ : Sort) (v : ℕ) → higher s′ r σ v ≡ higher s r σ v
-  same-higher r σ v = rw (same-count s s′ labels-rewritten, same-kind s s′ labels-rewritten v)
+  same-higher r σ v = rw (same-count labels-rewritten, same-kind labels-rewritten v)
 
   meets-same : (r : ℕ) (a : Ask) (v : ℕ) → meets s′ r a v ≡ meets s r a v
   meets-same r zeroed v = refl
   meets-same r (nextOf σ) v = rw (same-higher r σ v)
   meets-same r (part σ) v = same-higher r σ v
   meets-same r anyType v = same-higher 0 types v
-  meets-same r lowerType v = rw (same-kind s s′ labels-rewritten v)
-  meets-same r lowerFlat v = rw (same-kind s s′ labels-rewritten v)
+  meets-same r lowerType v = rw (same-kind labels-rewritten v)
+  meets-same r lowerFlat v = rw (same-kind labels-rewritten v)
   meets-same r constructorOf v = rw (labels-words r 2 (omega arith), labels-words (wordA s r) 2 (omega arith))
   meets-same r counted v = refl
   meets-same r byte v = refl
   meets-same r free v = refl
-  meets-same r total v = rw (same-count s s′ labels-rewritten)
+  meets-same r total v = rw (same-count labels-rewritten)
   meets-same r never v = refl
 
   word-same : (r j : ℕ) → j < 6 → meetsAt s′ r j ≡ meetsAt s r j

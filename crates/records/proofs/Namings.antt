@@ -61,10 +61,9 @@ use Rattle.records.specs.Kinds.{
   free,
   total,
   never,
-  askNumber,
 }
-use Rattle.records.specs.Says.{kindAt, sortAt, askAt}
-use Rattle.records.specs.Namings.{Naming, names, namesAt, ifNamed, namingsIn, namingsBelow, namings, byWordD, wellNamed}
+use Rattle.records.specs.AskNumbers.{askNumber}
+use Rattle.records.specs.Says.{kindAt, sortAt, askAt, Naming, names, namesAt, ifNamed, namingsIn, namingsBelow, namings, byWordD, wellNamed}
 use Rattle.records.specs.Written.{Written, WellNamed}
 use Rattle.records.proofs.Tests.{never-both, both-left, both-right}
 use Rattle.records.proofs.Table.{askOfKind, ask-by-kind}

@@ -13,7 +13,7 @@ use borrow.Author.Tests.{eqb-true, eq-eqb}
 use Rattle.records.specs.Words.{count, wordA, wordB}
 use Rattle.records.specs.Kinds.{typeOf, pair, isPair}
 use Rattle.records.specs.Says.{kindAt}
-use Rattle.records.specs.TypeRecords.{isPairOf, pairBelow, pairOf}
+use Rattle.records.specs.Trees.{isPairOf, pairBelow, pairOf}
 use Rattle.records.specs.Written.{Written, TypesFit}
 use Rattle.records.proofs.Tests.{never-both, both, both-left, both-right}
 use Rattle.records.proofs.Table.{is-pair}

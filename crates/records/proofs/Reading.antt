@@ -22,7 +22,7 @@ use Rattle.records.specs.Kinds.{
 use Rattle.records.specs.Says.{higher, meets}
 use Rattle.records.proofs.CodeTable.{flat-number}
 
-module _ (s : List ℕ) (n : ℕ) (sized : Sized s n) where
+module _ {s : List ℕ} {n : ℕ} (sized : Sized s n) where
   pub higher-past : (r w : ℕ) (σ : Sort) → n ≤ w → false ≡ higher s r σ w
   higher-past r w σ h = let e = sized .counted in simp (le-ltb w (count s) (omega arith), and-false)
 

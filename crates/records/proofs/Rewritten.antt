@@ -31,10 +31,13 @@ use Rattle.records.specs.Kinds.{
   kindOf,
   isDelay,
 }
-use Rattle.records.specs.Says.{kindAt}
-use Rattle.records.specs.TypeRecords.{typeWithin, typeAt, isPairOf, pairBelow, pairOf}
-use Rattle.records.specs.Namings.{names, namesAt, ifNamed, namingsIn, namingsBelow, namings}
+use Rattle.records.specs.Says.{kindAt, names, namesAt, ifNamed, namingsIn, namingsBelow, namings}
 use Rattle.records.specs.Trees.{
+  typeWithin,
+  typeAt,
+  isPairOf,
+  pairBelow,
+  pairOf,
   Tree,
   constantOf,
   ifOf,
@@ -70,7 +73,7 @@ delay-or-not k = go (isDelay k) refl
 abbrev pub SameWords : List ℕ → List ℕ → ℕ → Type 0
 SameWords s s′ r = (k : ℕ) → k < 5 → word s′ r k ≡ word s r k
 
-module _ (s s′ : List ℕ) (o : Rewritten s s′) where
+module _ {s s′ : List ℕ} (o : Rewritten s s′) where
   pub same-count : count s′ ≡ count s
   unfolding count
   same-count = rw (o .length)

@@ -54,7 +54,6 @@ use Rattle.records.specs.Kinds.{
   never,
   constructorOf,
   lowerFlat,
-  askNumber,
   Row,
   row,
   kindRows,
@@ -66,6 +65,7 @@ use Rattle.records.specs.Kinds.{
   kindOf,
   askOf,
 }
+use Rattle.records.specs.AskNumbers.{askNumber}
 use Rattle.records.specs.Says.{kindAt, askAt}
 
 -- a kind's number in the table; 0 is no kind's

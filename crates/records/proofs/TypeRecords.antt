@@ -8,11 +8,11 @@ use mathlib.Core.List.{List}
 use mathlib.Core.Path.{_≡_, refl, sym, ap₂, _∙_}
 use native.Mathlib.Omega.{arith}
 use lib.Dec.{ltb}
-use Rattle.picoella.specs.Types.{Ty, Flat, TyTuple}
+use Rattle.picoella.specs.Language.{Ty, Flat, TyTuple}
 use Rattle.records.specs.Words.{word, count, wordA, wordB}
 use Rattle.records.specs.Kinds.{Kind, TypeKind, flat, pair, typeOf, types, lowerType}
 use Rattle.records.specs.Says.{kindAt, sortAt}
-use Rattle.records.specs.TypeRecords.{typeAt, pairOf, TypeRecord}
+use Rattle.records.specs.Trees.{typeAt, pairOf, TypeRecord}
 use Rattle.records.specs.Written.{Written, TypesFit}
 use Rattle.records.proofs.Table.{askOfKind, kind-of-sort}
 use Rattle.records.proofs.Asked.{as-kind-asks, past-header}

@@ -7,7 +7,7 @@ use mathlib.Core.List.{List}
 use mathlib.Core.Path.{_≡_, refl, ap₂}
 use native.Mathlib.Omega.{arith}
 use lib.ListN.{length, length-append}
-use Rattle.picoella.specs.Types.{Ty, Flat, TyTuple, bounds, leaves}
+use Rattle.picoella.specs.Language.{Ty, Flat, TyTuple, bounds, leaves}
 use Rattle.records.specs.Words.{count, wordA, wordB}
 use Rattle.records.specs.Kinds.{
   Kind,
@@ -23,7 +23,7 @@ use Rattle.records.specs.Kinds.{
   types,
 }
 use Rattle.records.specs.Says.{kindAt, sortAt}
-use Rattle.records.specs.TypeRecords.{typeStep, typeWithin, typeAt}
+use Rattle.records.specs.Trees.{typeStep, typeWithin, typeAt}
 use Rattle.records.specs.Written.{Written, TypesFit}
 use Rattle.records.proofs.Table.{askOfKind, kind-of-sort}
 use Rattle.records.proofs.Asked.{as-kind-asks}

@@ -7,7 +7,7 @@ use mathlib.Core.List.{List}
 use mathlib.Core.Path.{_≡_, sym, ap}
 use mathlib.Core.Logic.{_⊎_, inl, inr}
 use native.Mathlib.Omega.{arith}
-use Rattle.records.specs.Namings.{Naming}
+use Rattle.records.specs.Says.{Naming}
 use Rattle.records.specs.Written.{Written, WellNamed}
 use Rattle.records.proofs.Namings.{Names, only-naming, namer-lower}
 

@@ -42,13 +42,13 @@ use Rattle.records.proofs.Table.{askOfKind, ask-by-kind, constructor-of
 use Rattle.records.proofs.Asked.{meets-at, as-asked}
 use Rattle.records.proofs.Rewritten.{same-count, same-kind, same-namings, leaf-or-not, delay-or-not}
 
-module _ (s s′ : List ℕ) (w : Written s) (o : Rewritten s s′)
+module _ {s s′ : List ℕ} (w : Written s) (o : Rewritten s s′)
     (small : (r : ℕ) → r < count s → kindAt s r ≡ leaf → wordA s′ r ≤ 255) where
   same-ask : (r j : ℕ) → askAt s′ r j ≡ askAt s r j
   same-ask r j = ap (λ n. askOf n j) (o .leaves r 0 (omega arith) (λ e. omega arith))
 
   same-higher : (r : ℕ) (σ : Sort) (v : ℕ) → higher s′ r σ v ≡ higher s r σ v
-  same-higher r σ v = rw (same-count s s′ o, same-kind s s′ o v)
+  same-higher r σ v = rw (same-count o, same-kind o v)
 
   -- the count of the flat type of a record that asks for a constructor
   same-bound : (r j : ℕ) → r < count s → askAt s r j ≡ constructorOf → wordA s′ (wordA s′ r) ≡ wordA s (wordA s r)
@@ -67,13 +67,13 @@ module _ (s s′ : List ℕ) (w : Written s) (o : Rewritten s s′)
   meets-again r (nextOf σ) v bound e = rw (same-higher r σ v) e
   meets-again r (part σ) v bound e = rw (same-higher r σ v) e
   meets-again r anyType v bound e = rw (same-higher 0 types v) e
-  meets-again r lowerType v bound e = rw (same-kind s s′ o v) e
-  meets-again r lowerFlat v bound e = rw (same-kind s s′ o v) e
+  meets-again r lowerType v bound e = rw (same-kind o v) e
+  meets-again r lowerFlat v bound e = rw (same-kind o v) e
   meets-again r constructorOf v bound e = rw (bound refl) e
   meets-again r counted v bound e = e
   meets-again r byte v bound e = e
   meets-again r free v bound e = e
-  meets-again r total v bound e = rw (same-count s s′ o) e
+  meets-again r total v bound e = rw (same-count o) e
   meets-again r never v bound e = e
 
   word-again : (r j : ℕ) → r < count s → 0 < j → j < 6 → meetsAt s′ r j ≡ true
@@ -88,9 +88,9 @@ module _ (s s′ : List ℕ) (w : Written s) (o : Rewritten s s′)
       go (no f) (no g) d x = unchanged (o .leaves r j (omega arith) f)
       go (yes z) y (inr f) x = unchanged (o .others r f j (omega arith))
       go (yes z) y (inl e) x =
-          rw (z, ask-by-kind s′ r 2 leaf (same-kind s s′ o r ∙ e)) (unfold askOfKind in le-leb (wordA s′ r) 255 (small r h e))
+          rw (z, ask-by-kind s′ r 2 leaf (same-kind o r ∙ e)) (unfold askOfKind in le-leb (wordA s′ r) 255 (small r h e))
       go (no f) (yes z) d (inl e) =
-          rw (z, ask-by-kind s′ r 5 (expression delay) (same-kind s s′ o r ∙ e)) (unfold askOfKind in refl)
+          rw (z, ask-by-kind s′ r 5 (expression delay) (same-kind o r ∙ e)) (unfold askOfKind in refl)
       go (no f) (yes z) d (inr g) = unchanged (rw z (o .unlabelled r g))
 
   said-again : (r : ℕ) → r < count s → wellSaid s′ r ≡ true
@@ -106,12 +106,12 @@ module _ (s s′ : List ℕ) (w : Written s) (o : Rewritten s s′)
 
   pub written-again : Written s′
   written-again = record {
-    some = rw (same-count s s′ o) (w .some);
-    few = rw (same-count s s′ o) (w .few);
-    headed = same-kind s s′ o 0 ∙ w .headed;
-    said = λ r h. said-again r (rw (same-count s s′ o) at h);
-    others = λ r low high. rw (same-kind s s′ o r) (w .others r low (rw (same-count s s′ o) at high));
+    some = rw (same-count o) (w .some);
+    few = rw (same-count o) (w .few);
+    headed = same-kind o 0 ∙ w .headed;
+    said = λ r h. said-again r (rw (same-count o) at h);
+    others = λ r low high. rw (same-kind o r) (w .others r low (rw (same-count o) at high));
   }
 
 pub named-again : (s s′ : List ℕ) → Rewritten s s′ → WellNamed s → WellNamed s′
-named-again s s′ o well = λ r low high. rw (same-namings s s′ o r) (well r low (rw (same-count s s′ o) at high))
+named-again s s′ o well = λ r low high. rw (same-namings o r) (well r low (rw (same-count o) at high))

@@ -5,15 +5,13 @@ use mathlib.Core.Path.{_≡_, refl}
 use mathlib.Core.Bool.{Bool, true, false, _&&_}
 use mathlib.Core.List.{List, map}
 use mathlib.Core.Option.{Option, none, some}
-use Rattle.picoella.specs.Types.{Ty, Flat}
-use Rattle.picoella.specs.Patterns.{Pattern, Whole, Constructor, Parts, Bar}
-use Rattle.picoella.specs.Expressions.{Expr, Const, Var, Tuple, Index1, Index2, Let, LetRec, If, Delay}
+use Rattle.picoella.specs.Language.{Flat, Pattern, Whole, Constructor, Parts, Bar, Expr, Const, Var, Tuple, Index1, Index2, Let, LetRec, If, Delay}
 use Rattle.records.specs.Words.{word, count, wordA}
 use Rattle.records.specs.SheetOf.{sheetOf}
 use Rattle.records.specs.Kinds.{rowOf, kindOf}
-use Rattle.records.specs.TypeRecords.{typeWithin, typeAt}
-use Rattle.records.specs.DecodingRows.{DecodingRow, saysExpression, decodingRows}
 use Rattle.records.specs.Trees.{
+  typeWithin,
+  typeAt,
   Alternatives,
   end,
   noPattern,
@@ -39,6 +37,7 @@ use Rattle.records.specs.Trees.{
   treeAt,
   circuit,
 }
+use Rattle.records.specs.DecodingRows.{DecodingRow, saysExpression, decodingRows}
 
 -- the number in each leaf record
 abbrev pub leafValues : List ℕ → List ℕ → List ℕ

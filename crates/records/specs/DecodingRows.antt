@@ -1,9 +1,25 @@
 -- Two sheets with the expression that each says, found by hand from docs/SHEETS.md: its sheet T, and one that has each form that T
 -- has not. That they decode so is shown where decoding is defined, `Decoding`.
 use mathlib.Core.List.{List, [], _∷_}
-use Rattle.picoella.specs.Types.{Ty, Flat, TyTuple}
-use Rattle.picoella.specs.Patterns.{Whole, Constructor, Parts, Bar}
-use Rattle.picoella.specs.Expressions.{Expr, Const, Var, Tuple, Index1, Index2, Let, LetRec, If, Delay}
+use Rattle.picoella.specs.Language.{
+  Ty,
+  Flat,
+  TyTuple,
+  Whole,
+  Constructor,
+  Parts,
+  Bar,
+  Expr,
+  Const,
+  Var,
+  Tuple,
+  Index1,
+  Index2,
+  Let,
+  LetRec,
+  If,
+  Delay,
+}
 use Rattle.records.specs.SheetOf.{Record, words}
 
 pub data DecodingRow : Type 0 where

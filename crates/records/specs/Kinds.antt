@@ -1,6 +1,6 @@
 -- The table of kinds (docs/SHEETS.md, "Records"), once: each kind's number, what it is, and what its words next, a, b, c and d
 -- ask. The kinds are grouped by sort. A number that no row has is an unknown kind, whose words nothing meets.
-use Prim.Native.Nat.{ℕ, _+_}
+use Prim.Native.Nat.{ℕ}
 use mathlib.Core.Bool.{Bool, true, false, cond}
 use mathlib.Core.List.{List, [], _∷_}
 use lib.ListN.{getD}
@@ -99,7 +99,7 @@ unfoldable pub askOf : ℕ → ℕ → Ask
 unfolding rowOf
 askOf n k = getD (asksIn (rowOf n)) k zeroed
 
--- Numbers for sorts and asks, by which they are compared and by which the code's table holds them.
+-- numbers for sorts, by which they are compared
 abbrev pub sortNumber : Sort → ℕ
 sortNumber noSort = 0
 sortNumber headers = 1
@@ -107,25 +107,6 @@ sortNumber types = 2
 sortNumber expressions = 3
 sortNumber patterns = 4
 sortNumber leafs = 5
-
-abbrev pub askNumber : Ask → ℕ
-askNumber zeroed = 0
-askNumber anyType = 1
-askNumber lowerType = 2
-askNumber lowerFlat = 3
-askNumber constructorOf = 4
-askNumber counted = 5
-askNumber byte = 6
-askNumber free = 7
-askNumber total = 8
-askNumber never = 9
-askNumber (nextOf σ) = 16 + sortNumber σ
-askNumber (part σ) = 32 + sortNumber σ
-
--- a row's asks in numbers
-abbrev pub askNumbers : Row → List ℕ
-askNumbers (row number kind next a b c d) =
-    askNumber free ∷ askNumber next ∷ askNumber a ∷ askNumber b ∷ askNumber c ∷ askNumber d ∷ []
 
 abbrev pub sameSort : Sort → Sort → Bool
 sameSort σ τ = eqb (sortNumber σ) (sortNumber τ)

@@ -1,15 +1,16 @@
 -- What the bytes of a sheet say: words, the table of kinds, what each word asks, namings, types, chains, and the circuit as a
 -- tree of records, decoded to an expression of picoELLA.
+-- To believe:
 pub mod Words
-pub mod SheetOf
-pub mod Sized
 pub mod Kinds
 pub mod Says
-pub mod Namings
-pub mod TypeRecords
 pub mod Trees
-pub mod DecodingRows
 pub mod Decoding
-pub mod Written
-pub mod Held
+pub mod SheetOf
 pub mod Rewritten
+-- Examples, by computation:
+pub mod DecodingRows
+-- What functions ask and give, and their proofs need:
+pub mod Sized
+pub mod AskNumbers
+pub mod Written

@@ -33,3 +33,10 @@ wordC s r = word s r 4
 
 abbrev pub wordD : List ℕ → ℕ → ℕ
 wordD s r = word s r 5
+
+-- the two bytes of word a of record l
+abbrev pub lowByte : ℕ → ℕ
+lowByte l = 12 * l + 4
+
+abbrev pub highByte : ℕ → ℕ
+highByte l = 12 * l + 5

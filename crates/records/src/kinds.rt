@@ -1,7 +1,8 @@
 // The table of kinds: the sort of each kind, and what its words ask.
 ghost use mathlib.Core.Path.{_≡_};
 ghost use Prim.Native.Nat.{_<_};
-ghost use Rattle.records.specs.Kinds.{sortNumber, askNumber, askNumbers, sortOf, rowOf, kindOf, askOf};
+ghost use Rattle.records.specs.Kinds.{sortNumber, sortOf, rowOf, kindOf, askOf};
+ghost use Rattle.records.specs.AskNumbers.{askNumber, askNumbers};
 use crate::KIND_CONSTANT;
 use crate::KIND_CONSTRUCTOR_PATTERN;
 use crate::KIND_DELAY;

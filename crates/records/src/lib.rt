@@ -94,10 +94,10 @@ pub const MOST_NESTING: u8 = 3;
 pub const NAMED_SEVERAL: u16 = 65535;
 
 // Tables with an entry for each record, and the types of the names in scope, the innermost last.
-pub type Widths = [u8; RECORDS];
+pub type WidthTable = [u8; RECORDS];
 
 pub type Depths = [u8; RECORDS];
 
 pub type Namers = [u16; RECORDS];
 
-pub type Scope = [u16; MOST_NAMES];
+pub type ScopeTable = [u16; MOST_NAMES];

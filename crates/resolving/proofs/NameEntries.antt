@@ -12,7 +12,7 @@ use lib.Seq.{getD-set-same, getD-set-other}
 use lib.Dec.{eqb}
 use borrow.Author.Tests.{ne-eqb}
 use Rattle.naming.specs.Declared.{Role, aType, aConstructor, theInput, DeclaredName, declaredAs, sameName, isAmong, isDeclared, typeRole, constructorRole, input, atFirst}
-use Rattle.symbols.specs.Names.{nameOf, nearest, roleNamed, declaredNames, boundNames, Roles}
+use Rattle.symbols.specs.Names.{lettersAt, nearest, roleNamed, declaredNames, boundNames, Roles}
 use Rattle.symbols.proofs.Search.{nearest-below}
 use Rattle.symbols.proofs.Roles.{found-low}
 use Rattle.translation.specs.Resolved.{distance}
@@ -26,7 +26,7 @@ module _ (text spans roles : List ℕ) where
   types-counted (suc k) = go (getD roles k 0) (types-counted k)
     where
       go : (r : ℕ) → typesAmong (declaredNames text spans roles k) ≡ typesBelow roles k
-          → typesAmong (declaredAs (nameOf text (getD spans k 0)) (roleNamed r) ∷ declaredNames text spans roles k)
+          → typesAmong (declaredAs (lettersAt text (getD spans k 0)) (roleNamed r) ∷ declaredNames text spans roles k)
           ≡ cond (eqb r 0) (suc (typesBelow roles k)) (typesBelow roles k)
       go zero again = ap suc again
       go (suc r) again =
@@ -37,7 +37,7 @@ module _ (text spans roles : List ℕ) where
   ranks-counted (suc k) = go (getD roles k 0) (ranks-counted k)
     where
       go : (r : ℕ) → constructorsAmong (declaredNames text spans roles k) ≡ ranksBelow roles k
-          → constructorsAmong (declaredAs (nameOf text (getD spans k 0)) (roleNamed r) ∷ declaredNames text spans roles k)
+          → constructorsAmong (declaredAs (lettersAt text (getD spans k 0)) (roleNamed r) ∷ declaredNames text spans roles k)
           ≡ cond (eqb r 0) 0 (suc (ranksBelow roles k))
       go zero again = refl
       go (suc r) again = ap suc again ∙ sym (ap (λ x. cond x 0 (suc (ranksBelow roles k))) (ne-eqb (suc r) 0 (λ z. omega arith)))
@@ -52,7 +52,7 @@ module _ (text spans roles : List ℕ) where
         go true = first
         go false = empty
     entry-counted (suc k) f =
-        go (sameName w (nameOf text (getD spans k 0))) (entry-counted k (λ j h. f j (omega arith))) (f k (omega arith))
+        go (sameName w (lettersAt text (getD spans k 0))) (entry-counted k (λ j h. f j (omega arith))) (f k (omega arith))
       where
         go : (x : Bool) → count (namedFrom w (declaredNames text spans roles k)) ≡ entryIn numbers (nearest text spans w k)
             → getD numbers k 0 ≡ count (declaredNames text spans roles (suc k))
@@ -71,7 +71,7 @@ module _ (text spans roles : List ℕ) where
         go true = none
         go false = refl
     entry-role (suc k) f =
-        go (sameName w (nameOf text (getD spans k 0))) (entry-role k (λ j h. f j (omega arith))) (same (getD roles k 0) (f k (omega arith)))
+        go (sameName w (lettersAt text (getD spans k 0))) (entry-role k (λ j h. f j (omega arith))) (same (getD roles k 0) (f k (omega arith)))
       where
         go : (x : Bool) → isDeclared role w (declaredNames text spans roles k) ≡ roleAt kind roles (nearest text spans w k)
             → role (roleNamed (getD roles k 0)) ≡ eqb (getD roles k 0) kind
@@ -91,7 +91,7 @@ module _ (text spans roles : List ℕ) where
         absurd (omega arith)
     bound-distance (suc k) h =
         let e : base + suc k ≡ suc (base + k) = omega arith in
-        let b = go (sameName w (nameOf text (getD spans (base + k) 0))) (subst (λ m. base < nearest text spans w m) e h) (bound-distance k) in
+        let b = go (sameName w (lettersAt text (getD spans (base + k) 0))) (subst (λ m. base < nearest text spans w m) e h) (bound-distance k) in
         (b .0, subst (λ m. distance w (boundNames text spans base (suc k)) + nearest text spans w m ≡ m) (sym e) (b .1))
       where
         go : (x : Bool) → base < cond x (suc (base + k)) (nearest text spans w (base + k))
@@ -108,7 +108,7 @@ module _ (text spans roles : List ℕ) where
     unbound-distance zero h = (refl, refl)
     unbound-distance (suc k) h =
         let e : base + suc k ≡ suc (base + k) = omega arith in
-        go (sameName w (nameOf text (getD spans (base + k) 0))) (subst (λ m. nearest text spans w m ≤ base) e h) (unbound-distance k)
+        go (sameName w (lettersAt text (getD spans (base + k) 0))) (subst (λ m. nearest text spans w m ≤ base) e h) (unbound-distance k)
       where
         go : (x : Bool) → cond x (suc (base + k)) (nearest text spans w (base + k)) ≤ base
             → (nearest text spans w (base + k) ≤ base
@@ -204,7 +204,7 @@ ranks-few roles (suc k) = go (eqb (getD roles k 0) 0) (ranks-few roles k)
     go true h = omega arith
     go false h = omega arith
 
-module _ {roles types ranks : List ℕ} (k : ℕ) (s : Numbered roles types ranks k) where
+module _ {roles types ranks : List ℕ} {k : ℕ} (s : Numbered roles types ranks k) where
   pub types-before : entryIn types k ≡ typesBelow roles k
   types-before = go k (s .types-right)
     where

@@ -16,7 +16,7 @@ use Rattle.grammar.specs.Machine.{leadByte, leadOf, symbolByte, firstLetter}
 use Rattle.reading.specs.Coded.{leadBytes}
 use Rattle.naming.specs.TokenWalk.{NameScope, scope, ScopeEffect, mayTake, holdsIn, metIn, leftBy, endedBy, effectOn}
 use Rattle.scanning.specs.Scanned.{FirstToken, NamedBy}
-use Rattle.symbols.specs.Names.{nameOf, lettersFrom, placeOf, countOf, Inside}
+use Rattle.symbols.specs.Names.{lettersAt, lettersFrom, placeOf, countOf, Inside}
 use Rattle.scoping.specs.Scoped.{heldScope, NameNoted, Rescoped, effectOf}
 use Rattle.naming.specs.Declared.{DeclaredName}
 use Rattle.instructions.specs.TokenOrder.{opBy, inConstant, nameSaid, otherSaid, pairBefore, instructionsOn}
@@ -82,7 +82,7 @@ module _ {text : List ℕ} {start end class : ℕ} {others : List Token} where
   a-name w p f = name-class class (f .few-classes) (f .leads)
 
 -- a name's span
-short-span : (text : List ℕ) (start end : ℕ) → end - start ≤ 16 → take (end - start) (drop start text) ≡ nameOf text (spanBetween start end)
+short-span : (text : List ℕ) (start end : ℕ) → end - start ≤ 16 → take (end - start) (drop start text) ≡ lettersAt text (spanBetween start end)
 short-span text start end h =
     let e : spanBetween start end ≡ start * 32 + (end - start)
     = ap (λ x. cond x (start * 32 + (end - start)) (start * 32)) (le-leb (end - start) 16 h) in
@@ -106,7 +106,7 @@ span-inside text start end span l k e = go (decLt 16 (end - start))
         omega arith
 
 pub span-spelled : {text : List ℕ} {start end class : ℕ} {others : List Token} (t : Token) (span : ℕ) → span ≡ spanBetween start end
-    → FirstToken text start end class t others → NamedBy t (nameOf text span)
+    → FirstToken text start end class t others → NamedBy t (lettersAt text span)
 span-spelled (keyword k p) span e f = tt
 span-spelled (symbol s p) span e f = tt
 span-spelled {text} {start} {end} (nameToken w p) span e f =
@@ -117,15 +117,15 @@ span-spelled {text} {start} {end} (nameToken w p) span e f =
     let j = f .ends in
     let m = f .letters .1 in
     let h : end - start ≤ 16 = omega arith in
-    (f .letters .0 ∙ short-span text start end h ∙ ap (nameOf text) (sym e), m)
+    (f .letters .0 ∙ short-span text start end h ∙ ap (lettersAt text) (sym e), m)
 
 module _ {text : List ℕ} {start end class span effect : ℕ} {q : State} {t : Token} {others : List Token} (f : FoundWith text start end class span effect q t others) where
   pub name-noted : {S : NameScope} {room : ℕ} {ok : Bool} {base n m : ℕ} {spans links heads roles pendings : List ℕ} → class ≡ 10
-      → NameNoted q (effectOf effect) (nameOf text span) S text room ok base n m spans links heads roles pendings
+      → NameNoted q (effectOf effect) (lettersAt text span) S text room ok base n m spans links heads roles pendings
       → TokenNoted q t S ok (heldScope text base n m spans roles pendings)
   name-noted {S} {ok} {base} {n} {m} {spans} {roles} {pendings} c r = go t (f .found) (f .spelled) (f .same-effect)
     where
-      go : (v : Token) → FirstToken text start end class v others → NamedBy v (nameOf text span) → effectOf effect ≡ effectOn q (leadOf v)
+      go : (v : Token) → FirstToken text start end class v others → NamedBy v (lettersAt text span) → effectOf effect ≡ effectOn q (leadOf v)
           → TokenNoted q v S ok (heldScope text base n m spans roles pendings)
       go (keyword k x) u y g = absurd (no-keyword k x u c)
       go (symbol s x) u y g = absurd (no-symbol s x u c)
@@ -149,15 +149,15 @@ module _ {text : List ℕ} {start end class span effect : ℕ} {q : State} {t : 
 pub class-instructions : {text : List ℕ} {start end class span effect : ℕ} {q : State} {others : List Token} (P B : List (List ℕ)) (D : List DeclaredName) (K : List State)
     (op : ℕ) (delayed : Bool) (t : Token) → FoundWith text start end class span effect q t others
     → op ≡ opBy q (getD leadBytes class 0) → delayed ≡ inConstant K
-    → classSaid class start q op delayed (nameOf text span) B D ≡ instructionsOn q K t (scope P B D)
+    → classSaid class start q op delayed (lettersAt text span) B D ≡ instructionsOn q K t (scope P B D)
 class-instructions {text} {start} {class} {span} {q} P B D K op delayed (keyword k p) f e g =
-    class-other op delayed (nameOf text span) B D class start q (no-keyword k p (f .found))
+    class-other op delayed (lettersAt text span) B D class start q (no-keyword k p (f .found))
     ∙ ap₂ otherSaid (e ∙ ap (opBy q) (f .found .leads)) (sym (f .found .placed))
 class-instructions {text} {start} {class} {span} {q} P B D K op delayed (symbol s p) f e g =
-    class-other op delayed (nameOf text span) B D class start q (no-symbol s p (f .found))
+    class-other op delayed (lettersAt text span) B D class start q (no-symbol s p (f .found))
     ∙ ap₂ otherSaid (e ∙ ap (opBy q) (f .found .leads)) (sym (f .found .placed))
 class-instructions {text} {start} {class} {span} {q} P B D K op delayed (nameToken w p) f e g =
-    class-name op delayed (nameOf text span) B D class start q (a-name w p (f .found))
-    ∙ sym (pair-before q (nameSaid op delayed (nameOf text span) B D))
-    ∙ ap₂ (λ x y. pairBefore q (nameSaid x y (nameOf text span) B D)) (e ∙ ap (opBy q) (f .found .leads)) g
+    class-name op delayed (lettersAt text span) B D class start q (a-name w p (f .found))
+    ∙ sym (pair-before q (nameSaid op delayed (lettersAt text span) B D))
+    ∙ ap₂ (λ x y. pairBefore q (nameSaid x y (lettersAt text span) B D)) (e ∙ ap (opBy q) (f .found .leads)) g
     ∙ ap (λ x. pairBefore q (nameSaid (opBy q 97) (inConstant K) x B D)) (sym (f .spelled .0))

@@ -21,9 +21,10 @@ use Rattle.naming.proofs.ByTokens.{firstScope}
 use Rattle.scanning.specs.Scanned.{blanksIn, FirstToken, FoundFrom, tokenEnd}
 use Rattle.scanning.proofs.Found.{found-from}
 use Rattle.scoping.specs.Scoped.{heldScope, Scoping, effectOf, effectNumber, effectBy}
-use Rattle.scoping.proofs.ScopeLaws.{roomier, first-scoping}
+use Rattle.scoping.proofs.EffectLaws.{first-scoping}
+use Rattle.scoping.proofs.ScopeLaws.{roomier}
 use Rattle.reading.proofs.Loop.{ready-first}
-use Rattle.symbols.specs.Names.{nameOf, Hashed, Roles}
+use Rattle.symbols.specs.Names.{lettersAt, Hashed, Roles}
 use Rattle.resolving.specs.Walked.{Walks, WalksHeld, Walking, WalkedOn, TokenTaken, TokenNoted, FoundWith, tokenHolds}
 use Rattle.resolving.specs.Said.{Numbered, CodeSized, CodeSaid, spanBetween, classSaid}
 use Rattle.resolving.proofs.SayingLaws.{emptied}
@@ -119,7 +120,7 @@ module _ {text : List ℕ} {start class : ℕ} (h : start < length text) (c : cl
       pub good-token : {depth : ℕ} {ok : Bool} {state word depth′ : ℕ} {stack : List ℕ} {T : NameScope} {okay : Bool} {op : ℕ} {delayed : Bool}
           {ops′ firsts′ seconds′ : List ℕ} {count′ : ℕ} (P B : List (List ℕ)) (D : List DeclaredName) → S ≡ scope P B D
           → op ≡ opBy q (getD leadBytes class 0) → delayed ≡ inConstant K
-          → CodeSaid ops firsts seconds count (classSaid class start q op delayed (nameOf text span) B D) ops′ firsts′ seconds′ count′
+          → CodeSaid ops firsts seconds count (classSaid class start q op delayed (lettersAt text span) B D) ops′ firsts′ seconds′ count′
           → Stepped (afterLead class q K) depth ok state word depth′ stack → NotedWith text class span effect q S okay T → okay ≡ true
           → (ts : List Token) (t : Text) (i : ℕ) → i ≤ length text → start ≡ i + blanksIn (drop i text) → WalksHeld text ts t i q K S ops firsts seconds count
           → WalksHeld text ts t end (stateOf state) (stackOf depth′ stack) T ops′ firsts′ seconds′ count′
@@ -129,7 +130,7 @@ module _ {text : List ℕ} {start class : ℕ} (h : start < length text) (c : cl
           let g = n start end (m .token) (m .others) f in
           let p = stepped-on m r .1 in
           let now = sym (g .same-scope o) in
-          let more = classSaid class start q op delayed (nameOf text span) B D in
+          let more = classSaid class start q op delayed (lettersAt text span) B D in
           record {
             said = w .said ++ more;
             held = code .held (w .said) (w .held);

@@ -17,7 +17,7 @@ use Rattle.naming.specs.TokenWalk.{NameScope, scope, walkChecks, nameHolds, sco
 use Rattle.scanning.specs.Scanned.{FirstToken, NamedBy, blanksIn}
 use Rattle.scoping.specs.Scoped.{heldScope, Scoping, effectOf}
 use Rattle.naming.specs.Declared.{atFirst}
-use Rattle.symbols.specs.Names.{nameOf}
+use Rattle.symbols.specs.Names.{lettersAt}
 use Rattle.instructions.specs.Instruction.{Instruction, heldFrom}
 use Rattle.instructions.specs.TextOrder.{textInstructions}
 use Rattle.instructions.specs.TokenOrder.{walkInstructions}
@@ -53,7 +53,7 @@ pub record TokenNoted (q : State) (t : Token) (S : NameScope) (ok : Bool) (T : N
 -- the token that is found has a name's span and the effect of a number in a state
 pub record FoundWith (text : List ℕ) (start end class span effect : ℕ) (q : State) (t : Token) (others : List Token) : Type 0 where
   pub found : FirstToken text start end class t others
-  pub spelled : NamedBy t (nameOf text span)
+  pub spelled : NamedBy t (lettersAt text span)
   pub same-effect : effectOf effect ≡ effectOn q (leadOf t)
 
 -- what the walk asks of the tables at a place, and keeps

@@ -4,25 +4,9 @@ ghost use mathlib.Core.List.{[], _∷_};
 ghost use lib.ListN.{length};
 ghost use Rattle.instructions.specs.Instruction.{instructionOf};
 ghost use Rattle.resolving.specs.Said.{CodeSized, CodeSaid};
-
-// One more than the bytes of a text, and so than its instructions.
-pub const INSTRUCTIONS: usize = 65536;
-
-pub type Ops = [u8; INSTRUCTIONS];
-
-pub type Operands = [u16; INSTRUCTIONS];
-
-pub fn no_ops() -> Ops
-    ensures { λ r. ⌜ length r ≡ 65536 ⌝ }
-{
-    [0; INSTRUCTIONS]
-}
-
-pub fn no_operands() -> Operands
-    ensures { λ r. ⌜ length r ≡ 65536 ⌝ }
-{
-    [0; INSTRUCTIONS]
-}
+use instructions::INSTRUCTIONS;
+use instructions::Operands;
+use instructions::Ops;
 
 // One instruction more; none where the tables are full, which no text fills.
 pub fn say(

@@ -5,7 +5,7 @@ ghost use Prim.Native.Nat.{suc, _≤_, _<_};
 ghost use lib.ListN.{length};
 ghost use lib.Dec.{eqb};
 ghost use Rattle.resolving.specs.Said.{Numbered, entryIn, roleAt};
-use crate::code::Operands;
+use instructions::Operands;
 use symbols::NameRoles;
 use symbols::ROLE_TYPE;
 

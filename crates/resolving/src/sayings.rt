@@ -3,14 +3,14 @@ ghost use mathlib.Core.Path.{_≡_};
 ghost use mathlib.Core.List.{[], _∷_};
 ghost use Prim.Native.Nat.{_-_, _≤_, _<_};
 ghost use Rattle.reading.specs.Coded.{stateOf};
-ghost use Rattle.symbols.specs.Names.{nameOf, Inside, declaredNames, boundNames};
+ghost use Rattle.symbols.specs.Names.{lettersAt, Inside, declaredNames, boundNames};
 ghost use Rattle.instructions.specs.TokenOrder.{declaredOp, nameSaid, otherSaid, valueSaid, pairBefore};
 ghost use Rattle.resolving.specs.Said.{CodeSized, CodeSaid, Speaking, namedSaid, classSaid};
-use crate::code::Operands;
-use crate::code::Ops;
 use crate::code::say;
 use crate::numbering::entry;
 use crate::numbering::has_role;
+use instructions::Operands;
+use instructions::Ops;
 use reading::numbers::SMALL_LETTER;
 use symbols::Heads;
 use symbols::Links;
@@ -18,8 +18,8 @@ use symbols::NameRoles;
 use symbols::ROLE_CONSTRUCTOR;
 use symbols::ROLE_TYPE;
 use symbols::Spans;
-use symbols::find;
 use symbols::find_declared;
+use symbols::find_name;
 
 const USE_NAME: u8 = 5;
 
@@ -76,9 +76,9 @@ fn say_value(
     seconds: &mut Operands,
 ) -> usize
     requires { ⌜ Speaking (now text) base n (now spans) (now links) (now heads) (now roles) (now types) (now ranks) count (now ops) (now firsts) (now seconds) × Inside (now text) span ⌝ }
-    ensures { λ r. ⌜ CodeSaid (now (ops .entry)) (now (firsts .entry)) (now (seconds .entry)) count (valueSaid (nameOf (now (text .entry)) span) (boundNames (now (text .entry)) (now (spans .entry)) base (n - base)) (declaredNames (now (text .entry)) (now (spans .entry)) (now (roles .entry)) base) ∷ []) (now (ops .exit)) (now (firsts .exit)) (now (seconds .exit)) r ⌝ }
+    ensures { λ r. ⌜ CodeSaid (now (ops .entry)) (now (firsts .entry)) (now (seconds .entry)) count (valueSaid (lettersAt (now (text .entry)) span) (boundNames (now (text .entry)) (now (spans .entry)) base (n - base)) (declaredNames (now (text .entry)) (now (spans .entry)) (now (roles .entry)) base) ∷ []) (now (ops .exit)) (now (firsts .exit)) (now (seconds .exit)) r ⌝ }
 {
-    let k = find(text, span, n, n, spans, links, heads);
+    let k = find_name(text, span, n, n, spans, links, heads);
     if base < k {
         return say(USE_NAME, (n - k) as u16, 0, count, ops, firsts, seconds);
     }
@@ -116,7 +116,7 @@ fn say_declared(
     seconds: &mut Operands,
 ) -> usize
     requires { ⌜ Speaking (now text) base n (now spans) (now links) (now heads) (now roles) (now types) (now ranks) count (now ops) (now firsts) (now seconds) × Inside (now text) span ⌝ }
-    ensures { λ r. ⌜ CodeSaid (now (ops .entry)) (now (firsts .entry)) (now (seconds .entry)) count (namedSaid op delayed (nameOf (now (text .entry)) span) (declaredNames (now (text .entry)) (now (spans .entry)) (now (roles .entry)) base) ∷ []) (now (ops .exit)) (now (firsts .exit)) (now (seconds .exit)) r ⌝ }
+    ensures { λ r. ⌜ CodeSaid (now (ops .entry)) (now (firsts .entry)) (now (seconds .entry)) count (namedSaid op delayed (lettersAt (now (text .entry)) span) (declaredNames (now (text .entry)) (now (spans .entry)) (now (roles .entry)) base) ∷ []) (now (ops .exit)) (now (firsts .exit)) (now (seconds .exit)) r ⌝ }
 {
     let k = find_declared(text, span, base, n, spans, links, heads, roles);
     say(
@@ -150,7 +150,7 @@ fn say_name(
     seconds: &mut Operands,
 ) -> usize
     requires { ⌜ Speaking (now text) base n (now spans) (now links) (now heads) (now roles) (now types) (now ranks) count (now ops) (now firsts) (now seconds) × Inside (now text) span ⌝ }
-    ensures { λ r. ⌜ CodeSaid (now (ops .entry)) (now (firsts .entry)) (now (seconds .entry)) count (nameSaid op delayed (nameOf (now (text .entry)) span) (boundNames (now (text .entry)) (now (spans .entry)) base (n - base)) (declaredNames (now (text .entry)) (now (spans .entry)) (now (roles .entry)) base)) (now (ops .exit)) (now (firsts .exit)) (now (seconds .exit)) r ⌝ }
+    ensures { λ r. ⌜ CodeSaid (now (ops .entry)) (now (firsts .entry)) (now (seconds .entry)) count (nameSaid op delayed (lettersAt (now (text .entry)) span) (boundNames (now (text .entry)) (now (spans .entry)) base (n - base)) (declaredNames (now (text .entry)) (now (spans .entry)) (now (roles .entry)) base)) (now (ops .exit)) (now (firsts .exit)) (now (seconds .exit)) r ⌝ }
 {
     if op == SILENT {
         return count;
@@ -251,7 +251,7 @@ pub fn say_token(
     seconds: &mut Operands,
 ) -> usize
     requires { ⌜ Speaking (now text) base n (now spans) (now links) (now heads) (now roles) (now types) (now ranks) count (now ops) (now firsts) (now seconds) × Inside (now text) span × (state < 47) × (start ≤ 65535) ⌝ }
-    ensures { λ r. ⌜ CodeSaid (now (ops .entry)) (now (firsts .entry)) (now (seconds .entry)) count (classSaid class start (stateOf state) op delayed (nameOf (now (text .entry)) span) (boundNames (now (text .entry)) (now (spans .entry)) base (n - base)) (declaredNames (now (text .entry)) (now (spans .entry)) (now (roles .entry)) base)) (now (ops .exit)) (now (firsts .exit)) (now (seconds .exit)) r ⌝ }
+    ensures { λ r. ⌜ CodeSaid (now (ops .entry)) (now (firsts .entry)) (now (seconds .entry)) count (classSaid class start (stateOf state) op delayed (lettersAt (now (text .entry)) span) (boundNames (now (text .entry)) (now (spans .entry)) base (n - base)) (declaredNames (now (text .entry)) (now (spans .entry)) (now (roles .entry)) base)) (now (ops .exit)) (now (firsts .exit)) (now (seconds .exit)) r ⌝ }
 {
     if class != SMALL_LETTER {
         return say_other(op, start, count, ops, firsts, seconds);

@@ -11,11 +11,11 @@ ghost use Rattle.symbols.specs.Names.{Inside};
 ghost use Rattle.instructions.specs.TokenOrder.{inConstant};
 ghost use Rattle.resolving.specs.Said.{spanBetween, Declares, sayingTable};
 ghost use Rattle.resolving.specs.Walked.{TokenNoted, FoundWith, Walking, TokenTaken};
-use crate::code::Operands;
-use crate::code::Ops;
 use crate::numbering::number_names;
 use crate::sayings::say_token;
 use crate::tables::Sayings;
+use instructions::Operands;
+use instructions::Ops;
 use reading::begin;
 use reading::classes::class_of;
 use reading::numbers::ContextStack;
@@ -23,9 +23,9 @@ use reading::numbers::LEADS;
 use reading::numbers::SMALL_LETTER;
 use reading::numbers::wide;
 use scanning::token_end;
-use scoping::scopes::Counts;
-use scoping::scopes::note_name;
-use scoping::scopes::note_other;
+use scoping::notes::note_name;
+use scoping::notes::note_other;
+use scoping::scopes::ScopeCounts;
 use scoping::tables::Admissions;
 use scoping::tables::Effects;
 use symbols::Heads;
@@ -97,7 +97,7 @@ fn note(
     roles: &mut NameRoles,
     pendings: &mut Spans,
     admissions: &Admissions,
-) -> Counts
+) -> ScopeCounts
     requires { ⌜ Scoping (now text) 65534 base n m (now spans) (now links) (now heads) (now roles) (now pendings) × Inside (now text) span × (state < 47) × (now admissions ≡ admissionTable) ⌝ }
     ensures { λ r. ⌜ (r .ok ≡ true → Scoping (now (text .entry)) (n + m + 1) (r .base) (r .all) (r .waiting) (now (spans .exit)) (now (links .exit)) (now (heads .exit)) (now (roles .exit)) (now (pendings .exit)) × Declares (now (text .entry)) (now (spans .entry)) (now (roles .entry)) base (now (spans .exit)) (now (roles .exit)) (r .base)) × ((start end : ℕ) (t : Token) (others : List Token) → FoundWith (now (text .entry)) start end class span effect (stateOf state) t others → TokenNoted (stateOf state) t (heldScope (now (text .entry)) base n m (now (spans .entry)) (now (roles .entry)) (now (pendings .entry))) (r .ok) (heldScope (now (text .entry)) (r .base) (r .all) (r .waiting) (now (spans .exit)) (now (roles .exit)) (now (pendings .exit)))) ⌝ }
 {
@@ -130,7 +130,7 @@ fn note(
         roles,
         pendings,
     );
-    Counts {
+    ScopeCounts {
         ok: true,
         base: ended.base,
         all: ended.all,

@@ -112,7 +112,7 @@ spelled-by : {w : List ℕ} {p : ℕ} {t : Token} → Spells w p t → NamedBy t
 spelled-by (spells-keyword e) = tt
 spelled-by (spells-name a l) = (refl, l)
 
-module _ (text : List ℕ) (start : ℕ) (h : start < length text) where
+module _ {text : List ℕ} {start : ℕ} (h : start < length text) where
   symbol-first : {others : List Token} (s : Symbol) → byteClass (getD text start 0) ≡ isSymbol s → Tokens (suc start) (drop (suc start) text) others
       → FirstToken text start (tokenEnd text start (classOf (getD text start 0))) (classOf (getD text start 0)) (symbol s start) others
   symbol-first s e t =
@@ -202,7 +202,7 @@ module _ (text : List ℕ) (i start : ℕ) (skipped : start ≡ i + blanksIn (dr
   -- what the code finds is the first token
   pub found-from : start < length text → FoundFrom text i start (tokenEnd text start (classOf (getD text start 0))) (classOf (getD text start 0))
   found-from h t others u =
-      first-here text start h rest-here (no-blank (drop i text))
+      first-here h rest-here (no-blank (drop i text))
       (moved {j = start} (sym skipped) refl (past-blanks u))
 
   -- and where it finds none, none is left

@@ -10,7 +10,7 @@ use lib.ListN.{length, getD, set, length-set}
 use lib.Seq.{getD-set-same, getD-set-other}
 use Rattle.naming.specs.Declared.{declaredAs}
 use Rattle.naming.specs.TokenWalk.{roleIn}
-use Rattle.symbols.specs.Names.{nameOf, declaredNames, boundNames, roleNamed, Hashed, Roles, declaredRole, BoundRoles}
+use Rattle.symbols.specs.Names.{lettersAt, declaredNames, boundNames, roleNamed, Hashed, Roles, declaredRole, BoundRoles}
 use Rattle.scoping.specs.Scoped.{NameBound}
 
 module _ (text spans : List ℕ) (n v : ℕ) where
@@ -18,23 +18,23 @@ module _ (text spans : List ℕ) (n v : ℕ) where
       → declaredNames text (set spans n v) roles′ m ≡ declaredNames text spans roles m
   declared-kept roles roles′ zero h s = refl
   declared-kept roles roles′ (suc k) h s =
-      ap₂ (λ x r. declaredAs (nameOf text x) (roleNamed r) ∷ declaredNames text (set spans n v) roles′ k)
+      ap₂ (λ x r. declaredAs (lettersAt text x) (roleNamed r) ∷ declaredNames text (set spans n v) roles′ k)
       (getD-set-other spans n k v 0 (λ e. omega arith)) (s k (omega arith))
-      ∙ ap (λ D. declaredAs (nameOf text (getD spans k 0)) (roleNamed (getD roles k 0)) ∷ D)
+      ∙ ap (λ D. declaredAs (lettersAt text (getD spans k 0)) (roleNamed (getD roles k 0)) ∷ D)
       (declared-kept roles roles′ k (omega arith) (λ j l. s j (omega arith)))
 
   bound-kept : (base k : ℕ) → base + k ≤ n → boundNames text (set spans n v) base k ≡ boundNames text spans base k
   bound-kept base zero h = refl
   bound-kept base (suc k) h =
-      ap₂ (λ x B. nameOf text x ∷ B) (getD-set-other spans n (base + k) v 0 (λ e. omega arith)) (bound-kept base k (omega arith))
+      ap₂ (λ x B. lettersAt text x ∷ B) (getD-set-other spans n (base + k) v 0 (λ e. omega arith)) (bound-kept base k (omega arith))
 
   bound-more : (base : ℕ) → base ≤ n → n < length spans
-      → boundNames text (set spans n v) base (n + 1 - base) ≡ nameOf text v ∷ boundNames text spans base (n - base)
+      → boundNames text (set spans n v) base (n + 1 - base) ≡ lettersAt text v ∷ boundNames text spans base (n - base)
   bound-more base h l =
       let e : n + 1 - base ≡ suc (n - base) = omega arith in
       let f : base + (n - base) ≡ n = omega arith in
       ap (boundNames text (set spans n v) base) e
-      ∙ ap₂ (λ x B. nameOf text x ∷ B) (ap (λ k. getD (set spans n v) k 0) f ∙ getD-set-same spans n v 0 l)
+      ∙ ap₂ (λ x B. lettersAt text x ∷ B) (ap (λ k. getD (set spans n v) k 0) f ∙ getD-set-same spans n v 0 l)
       (bound-kept base (n - base) (omega arith))
 
 -- one declared name more
@@ -50,13 +50,13 @@ roles-more {roles} {n} kind r low few =
 
 pub declared-more : {roles spans′ : List ℕ} {n : ℕ} (text spans : List ℕ) (span kind : ℕ) → spans′ ≡ set spans n span → Roles roles n → n < 65536
     → length spans ≡ 65536
-    → declaredNames text spans′ (set roles n kind) (n + 1) ≡ declaredAs (nameOf text span) (roleNamed kind) ∷ declaredNames text spans roles n
+    → declaredNames text spans′ (set roles n kind) (n + 1) ≡ declaredAs (lettersAt text span) (roleNamed kind) ∷ declaredNames text spans roles n
 declared-more {roles} {n} text spans span kind e r low long =
     ap (λ s. declaredNames text s (set roles n kind) (n + 1)) e
     ∙ ap (declaredNames text (set spans n span) (set roles n kind)) (add-one n)
-    ∙ ap₂ (λ x k. declaredAs (nameOf text x) (roleNamed k) ∷ declaredNames text (set spans n span) (set roles n kind) n)
+    ∙ ap₂ (λ x k. declaredAs (lettersAt text x) (roleNamed k) ∷ declaredNames text (set spans n span) (set roles n kind) n)
     (getD-set-same spans n span 0 (omega (arith, long))) (getD-set-same roles n kind 0 (omega (arith, r .roles-long)))
-    ∙ ap (λ D. declaredAs (nameOf text span) (roleNamed kind) ∷ D)
+    ∙ ap (λ D. declaredAs (lettersAt text span) (roleNamed kind) ∷ D)
     (declared-kept text spans n span roles (set roles n kind) n (omega arith) (λ k h. getD-set-other roles n k kind 0 (λ z. omega arith)))
 
 -- one bound name more
@@ -81,7 +81,7 @@ name-bound {text} {spans} {roles} {spans′} {span} {base} {n} {role} t e long r
 
     as-before : (k x : ℕ) → getD spans′ k 0 ≡ x
         → declaredRole text spans roles base x ≡ declaredRole text spans′ (set roles n role) base (getD spans′ k 0)
-    as-before k x f = ap₂ (λ v D. roleIn (nameOf text v) [] D) (sym f) (sym same)
+    as-before k x f = ap₂ (λ v D. roleIn (lettersAt text v) [] D) (sym f) (sym same)
 
     go : (k : ℕ) → base ≤ k → k < n + 1 → Dec (k ≡ n)
         → getD (set roles n role) k 0 ≡ declaredRole text spans′ (set roles n role) base (getD spans′ k 0)

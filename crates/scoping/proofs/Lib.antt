@@ -2,3 +2,4 @@
 pub mod TableLaws
 pub mod EntryLaws
 pub mod ScopeLaws
+pub mod EffectLaws

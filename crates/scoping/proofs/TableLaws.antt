@@ -10,7 +10,7 @@ use lib.Dec.{eqb}
 use Rattle.grammar.specs.Rows.{State, states, start}
 use Rattle.reading.specs.Coded.{stateOf, leadBytes}
 use Rattle.naming.specs.TokenWalk.{NameRule, newName, typeUse, patternUse, constantUse, valueUse, ruleless, admits, ruleIn, roleIn, searchedAmong, holdsIn, NameScope, scope, boundIn}
-use Rattle.symbols.specs.Names.{nameOf, declaredNames, boundNames, roleAmong, declaredRole}
+use Rattle.symbols.specs.Names.{lettersAt, declaredNames, boundNames, roleAmong, declaredRole}
 use Rattle.scoping.specs.Scoped.{bitOf, searchesBound, admissionRow, admissionTable, effectTable, effectNumber, effectBy, pendingNames, heldScope}
 
 pub mapped-at : {A B : Type 0} (f : A → B) (l : List A) (c : ℕ) (d : A) (e : B) → c < length l → getD (map f l) c e ≡ f (getD l c d)
@@ -69,25 +69,25 @@ module _ {table : List (List ℕ)} {state s : ℕ} (t : table ≡ admissionTable
     q = stateOf state
 
     admitted : (c k : ℕ) (x : List (List ℕ)) (m : ℕ) (pendings : List ℕ) → c ≡ k
-        → k ≡ roleIn (nameOf text span) x (declaredNames text spans roles base) → k < 5
+        → k ≡ roleIn (lettersAt text span) x (declaredNames text spans roles base) → k < 5
         → searchedAmong (ruleIn q) (heldScope text base n m spans roles pendings) ≡ x
-        → eqb (getD (getD table s []) c 0) 1 ≡ holdsIn q (nameOf text span) (heldScope text base n m spans roles pendings)
+        → eqb (getD (getD table s []) c 0) 1 ≡ holdsIn q (lettersAt text span) (heldScope text base n m spans roles pendings)
     admitted c k x m pendings d f l g =
         ap (λ y. eqb y 1) (admission-read table state s c t h e)
         ∙ ap (λ y. eqb (getD (admissionRow (ruleIn q)) y 0) 1) d
         ∙ by-column (ruleIn q) k l
-        ∙ ap (admits (ruleIn q)) (f ∙ ap (λ y. roleIn (nameOf text span) y (declaredNames text spans roles base)) (sym g))
+        ∙ ap (admits (ruleIn q)) (f ∙ ap (λ y. roleIn (lettersAt text span) y (declaredNames text spans roles base)) (sym g))
 
     pub nearest-admitted : (c k : ℕ) → getD (getD table s []) 5 0 ≡ 1 → c ≡ k → k ≡ roleAmong text spans roles base (n - base) span → k < 5
         → (m : ℕ) (pendings : List ℕ)
-        → eqb (getD (getD table s []) c 0) 1 ≡ holdsIn q (nameOf text span) (heldScope text base n m spans roles pendings)
+        → eqb (getD (getD table s []) c 0) 1 ≡ holdsIn q (lettersAt text span) (heldScope text base n m spans roles pendings)
     nearest-admitted c k b d f l m pendings =
         admitted c k (boundNames text spans base (n - base)) m pendings d f l
         (bound-searched (ruleIn q) (heldScope text base n m spans roles pendings) (sym (admission-read table state s 5 t h e) ∙ b))
 
     pub declared-admitted : (c k : ℕ) → (getD (getD table s []) 5 0 ≡ 1 → ⊥) → c ≡ k → k ≡ declaredRole text spans roles base span → k < 5
         → (m : ℕ) (pendings : List ℕ)
-        → eqb (getD (getD table s []) c 0) 1 ≡ holdsIn q (nameOf text span) (heldScope text base n m spans roles pendings)
+        → eqb (getD (getD table s []) c 0) 1 ≡ holdsIn q (lettersAt text span) (heldScope text base n m spans roles pendings)
     declared-admitted c k b d f l m pendings =
         admitted c k [] m pendings d f l
         (none-searched (ruleIn q) (heldScope text base n m spans roles pendings) (λ o. b (admission-read table state s 5 t h e ∙ o)))

@@ -11,7 +11,7 @@ use Rattle.reading.specs.Coded.{leadBytes, stateOf}
 use Rattle.naming.specs.TokenWalk.{NameRule, newName, typeUse, patternUse, constantUse, valueUse, ruleless, admits, ruleIn, stateRules, leadFrom, effectFrom}
 use Rattle.naming.specs.TokenWalk.{ScopeEffect, keepsScope, pends, declaresFirst, declaresNext, binds, bindsPending, declaresPending, unbinds}
 use Rattle.naming.specs.TokenWalk.{NameScope, scope, mayTake, holdsIn, metIn, leftBy}
-use Rattle.symbols.specs.Names.{nameOf, Inside, declaredNames, boundNames, Hashed, Roles, BoundRoles}
+use Rattle.symbols.specs.Names.{lettersAt, Inside, declaredNames, boundNames, Hashed, Roles, BoundRoles}
 
 -- the numbers of the tables
 abbrev pub bitOf : Bool → ℕ
@@ -56,7 +56,7 @@ effectTable = map (λ q. map (λ b. effectNumber (effectBy q b)) leadBytes) stat
 -- the names kept for later, the last on top
 abbrev pub pendingNames : (text pendings : List ℕ) → ℕ → List (List ℕ)
 pendingNames text pendings zero = []
-pendingNames text pendings (suc k) = nameOf text (getD pendings k 0) ∷ pendingNames text pendings k
+pendingNames text pendings (suc k) = lettersAt text (getD pendings k 0) ∷ pendingNames text pendings k
 
 abbrev pub heldScope : (text : List ℕ) (base n m : ℕ) (spans roles pendings : List ℕ) → NameScope
 heldScope text base n m spans roles pendings =
@@ -78,7 +78,7 @@ pub record NameBound (text : List ℕ) (span base n : ℕ) (spans roles spans′
   pub hashed : Hashed text (n + 1) spans′ links′ heads′
   pub named : Roles roles′ base
   pub bound-roles : BoundRoles text spans′ roles′ base (n + 1)
-  pub one-more : boundNames text spans′ base (n + 1 - base) ≡ nameOf text span ∷ boundNames text spans base (n - base)
+  pub one-more : boundNames text spans′ base (n + 1 - base) ≡ lettersAt text span ∷ boundNames text spans base (n - base)
   pub same-declared : declaredNames text spans′ roles′ base ≡ declaredNames text spans roles base
 
 -- the tables after a change hold a scope

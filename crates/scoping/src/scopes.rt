@@ -1,13 +1,13 @@
-// The names in scope: those that are declared, those that LETs bind, and those that wait for their IN or for the rest of their type.
+// One name more in scope, declared or bound; whether a name is admitted where it stands; and the names of a type and its constructors.
 ghost use mathlib.Core.Path.{_≡_};
 ghost use mathlib.Core.Bool.{true};
 ghost use mathlib.Core.List.{List, _∷_};
 ghost use Prim.Native.Nat.{ℕ, _+_, _≤_, _<_};
 ghost use Rattle.naming.specs.Declared.{declaredAs};
-ghost use Rattle.naming.specs.TokenWalk.{holdsIn, declarePending, declaresFirst, declaresNext, declaresPending, endedBy};
+ghost use Rattle.naming.specs.TokenWalk.{holdsIn, declarePending, declaresFirst, declaresNext};
 ghost use Rattle.reading.specs.Coded.{stateOf};
-ghost use Rattle.symbols.specs.Names.{nameOf, Inside, Hashed, Roles, BoundRoles, roleNamed, declaredNames};
-ghost use Rattle.scoping.specs.Scoped.{admissionTable, heldScope, Scoping, Rescoped, NameBound, NameNoted, effectOf};
+ghost use Rattle.symbols.specs.Names.{lettersAt, Inside, Hashed, Roles, BoundRoles, roleNamed, declaredNames};
+ghost use Rattle.scoping.specs.Scoped.{admissionTable, heldScope, Scoping, Rescoped, NameBound, NameNoted};
 use crate::tables::Admissions;
 use reading::numbers::wide;
 use symbols::Heads;
@@ -17,29 +17,14 @@ use symbols::ROLE_CONSTRUCTOR;
 use symbols::ROLE_TYPE;
 use symbols::Spans;
 use symbols::declared_role;
-use symbols::pop;
-use symbols::push;
+use symbols::push_name;
 use symbols::role;
 
 // The column of the table of admissions that tells whether a name is looked for among the bound names.
 const SEARCHES_BOUND: usize = 5;
 
-const PENDS: u8 = 1;
-
-const DECLARES_FIRST: u8 = 2;
-
-const DECLARES_NEXT: u8 = 3;
-
-const BINDS: u8 = 4;
-
-const BINDS_PENDING: u8 = 5;
-
-const DECLARES_PENDING: u8 = 6;
-
-const UNBINDS: u8 = 7;
-
 // How many names are declared, in scope, and waiting; not ok where a name breaks a rule.
-pub struct Counts {
+pub struct ScopeCounts {
     pub ok: bool,
     pub base: usize,
     pub all: usize,
@@ -47,7 +32,7 @@ pub struct Counts {
 }
 
 // One declared name more, a type or a constructor.
-fn declare(
+pub fn declare_name(
     text: &[u8],
     span: u32,
     kind: u8,
@@ -58,14 +43,14 @@ fn declare(
     roles: &mut NameRoles,
 )
     requires { ⌜ Hashed (now text) n (now spans) (now links) (now heads) × Inside (now text) span × (n < 65536) × Roles (now roles) n × (kind < 2) ⌝ }
-    ensures { λ _. ⌜ Hashed (now (text .entry)) (n + 1) (now (spans .exit)) (now (links .exit)) (now (heads .exit)) × Roles (now (roles .exit)) (n + 1) × (declaredNames (now (text .entry)) (now (spans .exit)) (now (roles .exit)) (n + 1) ≡ declaredAs (nameOf (now (text .entry)) span) (roleNamed kind) ∷ declaredNames (now (text .entry)) (now (spans .entry)) (now (roles .entry)) n) ⌝ }
+    ensures { λ _. ⌜ Hashed (now (text .entry)) (n + 1) (now (spans .exit)) (now (links .exit)) (now (heads .exit)) × Roles (now (roles .exit)) (n + 1) × (declaredNames (now (text .entry)) (now (spans .exit)) (now (roles .exit)) (n + 1) ≡ declaredAs (lettersAt (now (text .entry)) span) (roleNamed kind) ∷ declaredNames (now (text .entry)) (now (spans .entry)) (now (roles .entry)) n) ⌝ }
 {
-    push(text, span, n, spans, links, heads);
+    push_name(text, span, n, spans, links, heads);
     roles[n] = kind;
 }
 
 // One bound name more, with what its letters stand for among the declared names.
-fn bind(
+pub fn bind_name(
     text: &[u8],
     span: u32,
     base: usize,
@@ -79,12 +64,12 @@ fn bind(
     ensures { λ _. ⌜ NameBound (now (text .entry)) span base n (now (spans .entry)) (now (roles .entry)) (now (spans .exit)) (now (links .exit)) (now (heads .exit)) (now (roles .exit)) ⌝ }
 {
     let declared = declared_role(text, span, base, n, spans, links, heads, roles);
-    push(text, span, n, spans, links, heads);
+    push_name(text, span, n, spans, links, heads);
     roles[n] = declared;
 }
 
 // The name that waits is declared as a type.
-fn declare_pending(
+pub fn declare_pending(
     text: &[u8],
     base: usize,
     m: usize,
@@ -93,19 +78,19 @@ fn declare_pending(
     heads: &mut Heads,
     roles: &mut NameRoles,
     pendings: &Spans,
-) -> Counts
+) -> ScopeCounts
     requires { ⌜ Scoping (now text) 65535 base base m (now spans) (now links) (now heads) (now roles) (now pendings) ⌝ }
     ensures { λ r. ⌜ Rescoped (declarePending (heldScope (now (text .entry)) base base m (now (spans .entry)) (now (roles .entry)) (now (pendings .entry)))) (now (text .entry)) (base + m) (r .base) (r .all) (r .waiting) (now (spans .exit)) (now (links .exit)) (now (heads .exit)) (now (roles .exit)) (now (pendings .entry)) × (r .base ≡ r .all) × (r .ok ≡ true) ⌝ }
 {
     if m == 0 {
-        return Counts {
+        return ScopeCounts {
             ok: true,
             base,
             all: base,
             waiting: m,
         };
     }
-    declare(
+    declare_name(
         text,
         pendings[m - 1],
         ROLE_TYPE,
@@ -115,7 +100,7 @@ fn declare_pending(
         heads,
         roles,
     );
-    Counts {
+    ScopeCounts {
         ok: true,
         base: base + 1,
         all: base + 1,
@@ -124,7 +109,7 @@ fn declare_pending(
 }
 
 // Whether a name keeps to the rule of a state.
-fn holds(
+pub fn name_holds(
     text: &[u8],
     span: u32,
     state: u8,
@@ -137,7 +122,7 @@ fn holds(
     admissions: &Admissions,
 ) -> bool
     requires { ⌜ Hashed (now text) n (now spans) (now links) (now heads) × Inside (now text) span × (base ≤ n) × Roles (now roles) base × BoundRoles (now text) (now spans) (now roles) base n × (state < 47) × (now admissions ≡ admissionTable) ⌝ }
-    ensures { λ r. ⌜ ((m : ℕ) (pendings : List ℕ) → r ≡ holdsIn (stateOf state) (nameOf (now (text .entry)) span) (heldScope (now (text .entry)) base n m (now (spans .entry)) (now (roles .entry)) pendings)) ⌝ }
+    ensures { λ r. ⌜ ((m : ℕ) (pendings : List ℕ) → r ≡ holdsIn (stateOf state) (lettersAt (now (text .entry)) span) (heldScope (now (text .entry)) base n m (now (spans .entry)) (now (roles .entry)) pendings)) ⌝ }
 {
     let row = wide(state);
     if admissions[row][SEARCHES_BOUND] == 1 {
@@ -149,7 +134,7 @@ fn holds(
 }
 
 // The first constructor of a type, after the type's own name.
-fn note_first(
+pub fn note_first(
     text: &[u8],
     span: u32,
     state: u8,
@@ -162,12 +147,12 @@ fn note_first(
     roles: &mut NameRoles,
     pendings: &Spans,
     admissions: &Admissions,
-) -> Counts
+) -> ScopeCounts
     requires { ⌜ Scoping (now text) 65534 base n m (now spans) (now links) (now heads) (now roles) (now pendings) × Inside (now text) span × (state < 47) × (now admissions ≡ admissionTable) ⌝ }
-    ensures { λ r. ⌜ NameNoted (stateOf state) declaresFirst (nameOf (now (text .entry)) span) (heldScope (now (text .entry)) base n m (now (spans .entry)) (now (roles .entry)) (now (pendings .entry))) (now (text .entry)) (n + m + 1) (r .ok) (r .base) (r .all) (r .waiting) (now (spans .exit)) (now (links .exit)) (now (heads .exit)) (now (roles .exit)) (now (pendings .entry)) ⌝ }
+    ensures { λ r. ⌜ NameNoted (stateOf state) declaresFirst (lettersAt (now (text .entry)) span) (heldScope (now (text .entry)) base n m (now (spans .entry)) (now (roles .entry)) (now (pendings .entry))) (now (text .entry)) (n + m + 1) (r .ok) (r .base) (r .all) (r .waiting) (now (spans .exit)) (now (links .exit)) (now (heads .exit)) (now (roles .exit)) (now (pendings .entry)) ⌝ }
 {
     if base != n {
-        return Counts {
+        return ScopeCounts {
             ok: false,
             base,
             all: n,
@@ -177,7 +162,7 @@ fn note_first(
     let met = declare_pending(text, base, m, spans, links, heads, roles, pendings);
     let all = met.all;
     let waiting = met.waiting;
-    if !holds(
+    if !name_holds(
         text,
         span,
         state,
@@ -189,14 +174,14 @@ fn note_first(
         roles,
         admissions,
     ) {
-        return Counts {
+        return ScopeCounts {
             ok: false,
             base,
             all: n,
             waiting: m,
         };
     }
-    declare(
+    declare_name(
         text,
         span,
         ROLE_CONSTRUCTOR,
@@ -206,7 +191,7 @@ fn note_first(
         heads,
         roles,
     );
-    Counts {
+    ScopeCounts {
         ok: true,
         base: all + 1,
         all: all + 1,
@@ -215,7 +200,7 @@ fn note_first(
 }
 
 // Another constructor.
-fn note_next(
+pub fn note_next(
     text: &[u8],
     span: u32,
     state: u8,
@@ -228,19 +213,19 @@ fn note_next(
     roles: &mut NameRoles,
     pendings: &Spans,
     admissions: &Admissions,
-) -> Counts
+) -> ScopeCounts
     requires { ⌜ Scoping (now text) 65534 base n m (now spans) (now links) (now heads) (now roles) (now pendings) × Inside (now text) span × (state < 47) × (now admissions ≡ admissionTable) ⌝ }
-    ensures { λ r. ⌜ NameNoted (stateOf state) declaresNext (nameOf (now (text .entry)) span) (heldScope (now (text .entry)) base n m (now (spans .entry)) (now (roles .entry)) (now (pendings .entry))) (now (text .entry)) (n + m + 1) (r .ok) (r .base) (r .all) (r .waiting) (now (spans .exit)) (now (links .exit)) (now (heads .exit)) (now (roles .exit)) (now (pendings .entry)) ⌝ }
+    ensures { λ r. ⌜ NameNoted (stateOf state) declaresNext (lettersAt (now (text .entry)) span) (heldScope (now (text .entry)) base n m (now (spans .entry)) (now (roles .entry)) (now (pendings .entry))) (now (text .entry)) (n + m + 1) (r .ok) (r .base) (r .all) (r .waiting) (now (spans .exit)) (now (links .exit)) (now (heads .exit)) (now (roles .exit)) (now (pendings .entry)) ⌝ }
 {
     if base != n {
-        return Counts {
+        return ScopeCounts {
             ok: false,
             base,
             all: n,
             waiting: m,
         };
     }
-    if !holds(
+    if !name_holds(
         text,
         span,
         state,
@@ -252,14 +237,14 @@ fn note_next(
         roles,
         admissions,
     ) {
-        return Counts {
+        return ScopeCounts {
             ok: false,
             base,
             all: n,
             waiting: m,
         };
     }
-    declare(
+    declare_name(
         text,
         span,
         ROLE_CONSTRUCTOR,
@@ -269,216 +254,10 @@ fn note_next(
         heads,
         roles,
     );
-    Counts {
+    ScopeCounts {
         ok: true,
         base: base + 1,
         all: base + 1,
-        waiting: m,
-    }
-}
-
-// The second type of a pair type, which is declared after it.
-fn note_pair(
-    text: &[u8],
-    span: u32,
-    state: u8,
-    base: usize,
-    n: usize,
-    m: usize,
-    spans: &mut Spans,
-    links: &mut Links,
-    heads: &mut Heads,
-    roles: &mut NameRoles,
-    pendings: &Spans,
-    admissions: &Admissions,
-) -> Counts
-    requires { ⌜ Scoping (now text) 65534 base n m (now spans) (now links) (now heads) (now roles) (now pendings) × Inside (now text) span × (state < 47) × (now admissions ≡ admissionTable) ⌝ }
-    ensures { λ r. ⌜ NameNoted (stateOf state) declaresPending (nameOf (now (text .entry)) span) (heldScope (now (text .entry)) base n m (now (spans .entry)) (now (roles .entry)) (now (pendings .entry))) (now (text .entry)) (n + m + 1) (r .ok) (r .base) (r .all) (r .waiting) (now (spans .exit)) (now (links .exit)) (now (heads .exit)) (now (roles .exit)) (now (pendings .entry)) ⌝ }
-{
-    if base != n {
-        return Counts {
-            ok: false,
-            base,
-            all: n,
-            waiting: m,
-        };
-    }
-    if !holds(
-        text,
-        span,
-        state,
-        base,
-        base,
-        spans,
-        links,
-        heads,
-        roles,
-        admissions,
-    ) {
-        return Counts {
-            ok: false,
-            base,
-            all: n,
-            waiting: m,
-        };
-    }
-    declare_pending(text, base, m, spans, links, heads, roles, pendings)
-}
-
-// A name: whether it keeps to its rule, and what it does to the names in scope.
-pub fn note_name(
-    text: &[u8],
-    span: u32,
-    state: u8,
-    effect: u8,
-    base: usize,
-    n: usize,
-    m: usize,
-    spans: &mut Spans,
-    links: &mut Links,
-    heads: &mut Heads,
-    roles: &mut NameRoles,
-    pendings: &mut Spans,
-    admissions: &Admissions,
-) -> Counts
-    requires { ⌜ Scoping (now text) 65534 base n m (now spans) (now links) (now heads) (now roles) (now pendings) × Inside (now text) span × (state < 47) × (now admissions ≡ admissionTable) ⌝ }
-    ensures { λ r. ⌜ NameNoted (stateOf state) (effectOf effect) (nameOf (now (text .entry)) span) (heldScope (now (text .entry)) base n m (now (spans .entry)) (now (roles .entry)) (now (pendings .entry))) (now (text .entry)) (n + m + 1) (r .ok) (r .base) (r .all) (r .waiting) (now (spans .exit)) (now (links .exit)) (now (heads .exit)) (now (roles .exit)) (now (pendings .exit)) ⌝ }
-{
-    if effect == DECLARES_FIRST {
-        return note_first(
-            text,
-            span,
-            state,
-            base,
-            n,
-            m,
-            spans,
-            links,
-            heads,
-            roles,
-            pendings,
-            admissions,
-        );
-    }
-    if effect == DECLARES_NEXT {
-        return note_next(
-            text,
-            span,
-            state,
-            base,
-            n,
-            m,
-            spans,
-            links,
-            heads,
-            roles,
-            pendings,
-            admissions,
-        );
-    }
-    if effect == DECLARES_PENDING {
-        return note_pair(
-            text,
-            span,
-            state,
-            base,
-            n,
-            m,
-            spans,
-            links,
-            heads,
-            roles,
-            pendings,
-            admissions,
-        );
-    }
-    if !holds(
-        text,
-        span,
-        state,
-        base,
-        n,
-        spans,
-        links,
-        heads,
-        roles,
-        admissions,
-    ) {
-        return Counts {
-            ok: false,
-            base,
-            all: n,
-            waiting: m,
-        };
-    }
-    if effect == PENDS {
-        pendings[m] = span;
-        return Counts {
-            ok: true,
-            base,
-            all: n,
-            waiting: m + 1,
-        };
-    }
-    if effect == BINDS {
-        bind(text, span, base, n, spans, links, heads, roles);
-        return Counts {
-            ok: true,
-            base,
-            all: n + 1,
-            waiting: m,
-        };
-    }
-    Counts {
-        ok: true,
-        base,
-        all: n,
-        waiting: m,
-    }
-}
-
-// A token that is no name: the name that waits is bound, or the nearest bound one goes.
-pub fn note_other(
-    text: &[u8],
-    effect: u8,
-    base: usize,
-    n: usize,
-    m: usize,
-    spans: &mut Spans,
-    links: &mut Links,
-    heads: &mut Heads,
-    roles: &mut NameRoles,
-    pendings: &Spans,
-) -> Counts
-    requires { ⌜ Scoping (now text) 65534 base n m (now spans) (now links) (now heads) (now roles) (now pendings) ⌝ }
-    ensures { λ r. ⌜ Rescoped (endedBy (effectOf effect) (heldScope (now (text .entry)) base n m (now (spans .entry)) (now (roles .entry)) (now (pendings .entry)))) (now (text .entry)) (n + m + 1) (r .base) (r .all) (r .waiting) (now (spans .exit)) (now (links .exit)) (now (heads .exit)) (now (roles .exit)) (now (pendings .entry)) ⌝ }
-{
-    if effect == BINDS_PENDING {
-        if m != 0 {
-            bind(text, pendings[m - 1], base, n, spans, links, heads, roles);
-            return Counts {
-                ok: true,
-                base,
-                all: n + 1,
-                waiting: m - 1,
-            };
-        }
-    }
-    if effect == UNBINDS {
-        if base < n {
-            pop(text, n, spans, links, heads);
-            return Counts {
-                ok: true,
-                base,
-                all: n - 1,
-                waiting: m,
-            };
-        }
-    }
-    Counts {
-        ok: true,
-        base,
-        all: n,
         waiting: m,
     }
 }

@@ -2,7 +2,7 @@
 ghost use mathlib.Core.Path.{_≡_};
 ghost use Rattle.answers.specs.Answers.{packed};
 ghost use Rattle.verdict.specs.Verdict.{verdict, verdictAnswer};
-ghost use Rattle.simulator.specs.Running.{Ran};
+ghost use Rattle.simulator.specs.Calls.{Ran};
 ghost use Rattle.carry.specs.Carry.{CarryGives};
 ghost use Rattle.firing.specs.Telling.{ToldFired};
 ghost use Rattle.preview.specs.Preview.{Previewed};
@@ -12,14 +12,14 @@ use firing::fired_of;
 use preview::preview;
 use simulator::run;
 use translator::translate;
-use verdict::check;
+use verdict::check_sheet;
 
 // The check: the verdict's code times 2^32, plus its place.
 #[no_mangle]
 pub extern "C" fn sheet_check(sheet: &[u8]) -> u64
     ensures { λ r. ⌜ r ≡ packed (verdictAnswer (verdict (now (sheet .entry)))) ⌝ }
 {
-    check(sheet)
+    check_sheet(sheet)
 }
 
 // The run: the answer's code times 2^32, plus its place.

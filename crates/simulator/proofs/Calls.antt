@@ -11,9 +11,7 @@ use mir.Syntax.{w8}
 use mir.Val.{Fits}
 use lib.ListN.{length, getD, drop}
 use Rattle.records.specs.Words.{word}
-use Rattle.answers.specs.Answers.{code, place, inOne, packed}
-use Rattle.answers.specs.Checks.{firstApplying, SaysOf}
-use Rattle.answers.specs.Lowest.{lowest}
+use Rattle.answers.specs.Answers.{code, place, inOne, packed, firstApplying, SaysOf, lowest}
 use Rattle.answers.specs.declared.Answer.{Answer}
 use Rattle.answers.specs.declared.Answer.the-variants.{Done, Refused}
 use Rattle.answers.proofs.First.{when-none, first-says}
@@ -40,7 +38,8 @@ use Rattle.behaviour.proofs.Answers.{
 }
 use Rattle.behaviour.proofs.ByRules.{call-by-rules}
 use Rattle.evaluator.proofs.Frames.{put-whole}
-use Rattle.simulator.specs.Running.{RunningCycles, RanCycles, RunningAccepted, Measured, Ran}
+use Rattle.simulator.specs.Running.{RunningCycles, RanCycles, RunningAccepted, Measured}
+use Rattle.simulator.specs.Calls.{Ran}
 
 module _ {s : List ℕ} {n : ℕ} {W : List ℕ} {t : ℕ} (g : RunningAccepted s n W t) where
   pub call-accepting : Accepting s n W
@@ -50,11 +49,11 @@ module _ {s : List ℕ} {n : ℕ} {W : List ℕ} {t : ℕ} (g : RunningAccepted 
   output-there =
       let c = g .sized .counted in
       let f = g .sized .few in
-      let h = output-typed s t (g .accepted) .there in
+      let h = output-typed s (g .accepted) .there in
       omega arith
 
   pub output-few : getD W t 0 ≤ 64
-  output-few = let f = accepted-few s t (g .accepted) in let e = g .table .types t (output-typed s t (g .accepted)) in omega arith
+  output-few = let f = accepted-few s (g .accepted) in let e = g .table .types t (output-typed s (g .accepted)) in omega arith
 
   module _ {stim : List ℕ} {a : Answer} (h : Held s stim a) where
     -- 8 and 9
@@ -88,7 +87,7 @@ module _ {s : List ℕ} {n : ℕ} {W : List ℕ} {t : ℕ} (g : RunningAccepted 
           let m : count * getD W t 0 ≤ count * 64 = mul-le-mul-left count output-few in let l = count-few in omega arith
 
       needed : count * getD W t 0 ≡ outputNeeded s t stim
-      needed = rw (counted, g .table .types t (output-typed s t (g .accepted))) refl
+      needed = rw (counted, g .table .types t (output-typed s (g .accepted))) refl
 
       -- 10 and 11
       pub refused-output : {out next : List ℕ} → (length out ≡ count * getD W t 0 → ⊥) → {result : ℕ} → result ≡ inOne 10 (count * getD W t 0)
@@ -119,7 +118,7 @@ module _ {s : List ℕ} {n : ℕ} {W : List ℕ} {t : ℕ} (g : RunningAccepted 
                 whole = whole;
                 fitting = fitting;
                 takes = Holding.takes call-accepting eb;
-                gives = g .table .types t (output-typed s t (g .accepted));
+                gives = g .table .types t (output-typed s (g .accepted));
                 counted = counted;
                 room = y;
                 start = put-whole s next next₁ (sym x) c;
@@ -153,7 +152,7 @@ pub accepted-call : (s : List ℕ) (n : ℕ) → n ≡ length s / 12 → (w : Ve
     → Checked s w before table → w ≡ Verdicts.Accepted t → RunningAccepted s n table t
 accepted-call s n c w before table t l e =
     let v : verdict s ≡ Verdicts.Accepted t = sym (l .answered) ∙ e in
-    record { sized = rw c (accepted-sized s t v); accepted = v; table = l .accepted (rw e refl) }
+    record { sized = rw c (accepted-sized s v); accepted = v; table = l .accepted (rw e refl) }
 
 -- the leaves that a host asks for
 pub measured-refused : (s : List ℕ) (w : Verdict) → w ≡ verdict s → Refusing w → Measured s 0 0
@@ -172,7 +171,7 @@ measured-accepted {s} {n} {W} {t} g {a} ea =
       leaves-of = λ u v.
           let same : Verdicts.Accepted t ≡ Verdicts.Accepted u = sym (g .accepted) ∙ v in
           let eu : t ≡ u = cc in
-          (Holding.takes (call-accepting g) ea, g .table .types t (output-typed s t (g .accepted)) ∙ rw eu refl);
+          (Holding.takes (call-accepting g) ea, g .table .types t (output-typed s (g .accepted)) ∙ rw eu refl);
       few-input = Holding.input-few (call-accepting g) ea;
       few-output = output-few g;
     }

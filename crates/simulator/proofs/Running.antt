@@ -9,9 +9,9 @@ use native.Mathlib.Numerals.{add-one}
 use native.Mathlib.Nat.{zero-mul, mul-le-mul-left, mul-le-mul-right}
 use lib.ListN.{length, getD, take, drop, length-append, length-drop}
 use lib.Seq.{take-all, take-length, take-suc, take-at, length-take-le, drop-drop}
-use Rattle.picoella.specs.Types.{leaves, OfType}
+use Rattle.picoella.specs.Language.{leaves, OfType}
 use Rattle.records.specs.Words.{wordA}
-use Rattle.records.specs.TypeRecords.{typeAt}
+use Rattle.records.specs.Trees.{typeAt}
 use Rattle.records.specs.Rewritten.{Rewritten}
 use Rattle.records.proofs.Rewritten.{same-type}
 use Rattle.records.proofs.Types.{few-leaves, some-leaves}
@@ -23,7 +23,7 @@ use Rattle.meaning.specs.Values.{AllOf}
 use Rattle.meaning.specs.Undecided.{undecidedRule}
 use Rattle.meaning.proofs.UndecidedRule.{rule-lawful}
 use Rattle.meaning.proofs.Order.{value-length}
-use Rattle.behaviour.specs.Sheets.{OnlyDelays}
+use Rattle.behaviour.specs.Afterwards.{OnlyDelays}
 use Rattle.behaviour.specs.Cycle.{output, sheetAfterCycle}
 use Rattle.behaviour.proofs.Cycle.{output-typed}
 use Rattle.behaviour.proofs.Sheets.{only-leaves, header-same, accepted-written}
@@ -209,9 +209,9 @@ module _ {s : List ℕ} {n : ℕ} {W stim : List ℕ} {wi wo count : ℕ} {curre
         output-long : length (output begins input) ≡ wo
         output-long =
             value-length (typeAt begins (r .type))
-            (output-typed undecidedRule rule-lawful begins (r .type) begins-accepted input
-            (rw (header-same (accepted-written s (r .accepted)) delays 2 (omega arith), same-type s begins begins-leaves (wordA s 0)) input-typed))
-            ∙ rw (same-type s begins begins-leaves (r .type)) (sym (r .gives))
+            (output-typed undecidedRule rule-lawful begins begins-accepted input
+            (rw (header-same (accepted-written s (r .accepted)) delays 2 (omega arith), same-type begins-leaves (wordA s 0)) input-typed))
+            ∙ rw (same-type begins-leaves (r .type)) (sym (r .gives))
 
         next-output : getD outs k [] ≡ output begins input
         next-output = output-at undecidedRule s (cycles s stim) k (in-list k h) ∙ ap (output begins) input-is

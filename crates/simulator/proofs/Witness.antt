@@ -10,7 +10,7 @@ use mathlib.Core.Path.{_≡_, refl}
 use mathlib.Core.Bool.{true}
 use native.Mathlib.Omega.{arith}
 use lib.ListN.{length, getD, take, replicate}
-use Rattle.picoella.specs.Types.{leaves}
+use Rattle.picoella.specs.Language.{leaves}
 use Rattle.records.specs.Words.{word, wordA, wordB, wordC, count}
 use Rattle.records.specs.Kinds.{
   rowOf,
@@ -29,9 +29,8 @@ use Rattle.records.specs.Kinds.{
   patterns,
 }
 use Rattle.records.specs.Says.{kindAt, sortAt}
-use Rattle.records.specs.TypeRecords.{typeWithin, typeAt, TypeRecord}
-use Rattle.records.specs.Trees.{chainWithin, chain, alternativesWithin, alternatives}
-use Rattle.structure.specs.Passes.{Passes}
+use Rattle.records.specs.Trees.{typeWithin, typeAt, TypeRecord, chainWithin, chain, alternativesWithin, alternatives}
+use Rattle.structure.specs.Rules.{Passes}
 use Rattle.accepted.proofs.Laws.{written}
 use Rattle.typing.specs.Judgements.{patternFits}
 use Rattle.verdict.specs.Verdict.{inputs}
@@ -63,21 +62,21 @@ names = replicate 4096 0
 -- a well-formed call with a first cycle
 module _ {s stim out next : List ℕ} {t : ℕ} (h : WellFormed s stim out next t) (some : 0 < length stim) where
   passes : Passes s
-  passes = accepted-passes s t (h .accepted)
+  passes = accepted-passes s (h .accepted)
 
   full : length s ≡ 12 * count s
-  full = accepted-records s t (h .accepted)
+  full = accepted-records s (h .accepted)
 
   abbrev table : List ℕ
-  table = widths s passes full .0
+  table = widths passes full .0
 
   running : RunningCycles s (count s) table stim (inputLeaves s) (leaves (typeAt s t)) (cycleCount s stim) s out
   running =
       record {
-        sized = Requirements.sized s passes full;
+        sized = Requirements.sized passes full;
         type = t;
         accepted = h .accepted;
-        table = widths s passes full .1;
+        table = widths passes full .1;
         whole = h .whole;
         fitting = h .fitting;
         takes = refl;
@@ -89,7 +88,7 @@ module _ {s stim out next : List ℕ} {t : ℕ} (h : WellFormed s stim out next 
 
   running-accepted : RunningAccepted s (count s) table t
   running-accepted =
-      record { sized = Requirements.sized s passes full; accepted = h .accepted; table = widths s passes full .1 }
+      record { sized = Requirements.sized passes full; accepted = h .accepted; table = widths passes full .1 }
 
   -- there is a first cycle
   some-cycle : 0 < cycleCount s stim
@@ -130,15 +129,15 @@ module _ {s stim out next : List ℕ} {t : ℕ} (h : WellFormed s stim out next 
   -- a chain of leaves, and a pattern
   chained : (l : ℕ) → l < count s → sortAt s l ≡ leafs → Chained s (count s) l (length (chain s l))
   chained l k e =
-      record { sized = Requirements.sized s passes full; written = written passes; there = k; sort = e; many = refl }
+      record { sized = Requirements.sized passes full; written = written passes; there = k; sort = e; many = refl }
 
   matched : (p u : ℕ) (v : List ℕ) → p < count s → sortAt s p ≡ patterns → TypeRecord s u → patternFits s (alternatives s p) u ≡ true
       → length v ≡ leaves (typeAt s u) → Matching s (count s) table p v
   matched p u v k e typed f l =
       record {
         type = u;
-        against = record { sized = Requirements.sized s passes full; passes = passes; there = k; sort = e; typed = typed };
-        table = widths s passes full .1 .patterns;
+        against = record { sized = Requirements.sized passes full; passes = passes; there = k; sort = e; typed = typed };
+        table = widths passes full .1 .patterns;
         fits = f;
         long = l;
       }

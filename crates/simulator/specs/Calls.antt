@@ -1,22 +1,8 @@
--- What the calls give: the run, and the leaves that a host asks for.
-use Prim.Native.Nat.{ℕ, _≤_}
-use mathlib.Core.Path.{_≡_}
+-- What the call of the run gives.
+use Prim.Native.Nat.{ℕ}
 use mathlib.Core.List.{List}
-use Rattle.picoella.specs.Types.{leaves}
-use Rattle.records.specs.TypeRecords.{typeAt}
-use Rattle.verdict.specs.Verdict.{verdict}
-use Rattle.verdict.specs.declared.Verdict.the-variants.{Accepted}
-use Rattle.stimulus.specs.Stimulus.{inputLeaves}
-use Rattle.behaviour.specs.Sheets.{Bytes}
-use Rattle.behaviour.specs.Run.{Gives}
-use Rattle.behaviour.specs.Afterwards.{WellFormed, Afterwards}
-use Rattle.behaviour.specs.ByRules.{RunsByRules}
-
--- the leaves of a cycle's input and output, for an accepted sheet
-pub record Measured (s : List ℕ) (input output : ℕ) : Type 0 where
-  pub leaves-of : (t : ℕ) → verdict s ≡ Accepted t → (input ≡ inputLeaves s) × (output ≡ leaves (typeAt s t))
-  pub few-input : input ≤ 64
-  pub few-output : output ≤ 64
+use Rattle.behaviour.specs.Afterwards.{Bytes, WellFormed, Afterwards}
+use Rattle.behaviour.specs.Run.{Gives, RunsByRules}
 
 -- the call: what it gives, and of a well-formed one demand 3, and that it is a run of 000's rules; the sheet handed in is one of bytes, and
 -- so, by demand 3, is each after it

@@ -1,15 +1,15 @@
 -- The run of an accepted sheet, inside the call: one cycle lent its parts of the slices, all cycles, and the run with the check's table.
--- What the calls themselves give stands in `Calls`.
+-- What the call itself gives stands in `Calls`. And the leaves that the program asks for.
 use Prim.Native.Nat.{ℕ, _+_, _*_, _≤_}
 use mathlib.Core.Path.{_≡_}
 use mathlib.Core.Bool.{false}
 use mathlib.Core.List.{List, _++_}
 use mathlib.Core.Option.{none}
 use lib.ListN.{length, take, drop}
-use Rattle.picoella.specs.Types.{leaves}
+use Rattle.picoella.specs.Language.{leaves}
 use Rattle.records.specs.Sized.{Sized}
-use Rattle.records.specs.TypeRecords.{typeAt}
-use Rattle.answers.specs.Lowest.{lowest}
+use Rattle.records.specs.Trees.{typeAt}
+use Rattle.answers.specs.Answers.{lowest}
 use Rattle.verdict.specs.Verdict.{verdict}
 use Rattle.verdict.specs.Widths.{Widths}
 use Rattle.verdict.specs.declared.Verdict.the-variants.{Accepted}
@@ -18,7 +18,6 @@ use Rattle.behaviour.specs.Cycle.{output, sheetAfterCycle}
 use Rattle.stimulus.specs.Stimulus.{inputLeaves, cycleCount, endToEnd, cycles, wrongStimulus, wrongByte}
 use Rattle.behaviour.specs.Run.{outputsBy, sheetAfter}
 use Rattle.stepper.specs.Cycling.{Cycling}
-pub use Rattle.simulator.specs.Calls.{Measured, Ran}
 
 -- one cycle is lent its parts of the stimulus, from `from`, and of the output, from `at`
 pub record Lending
@@ -66,3 +65,9 @@ pub record RunningAccepted (s : List ℕ) (n : ℕ) (widths : List ℕ) (t : ℕ
   pub sized : Sized s n
   pub accepted : verdict s ≡ Accepted t
   pub table : Widths s widths
+
+-- the leaves of a cycle's input and output, for an accepted sheet
+pub record Measured (s : List ℕ) (input output : ℕ) : Type 0 where
+  pub leaves-of : (t : ℕ) → verdict s ≡ Accepted t → (input ≡ inputLeaves s) × (output ≡ leaves (typeAt s t))
+  pub few-input : input ≤ 64
+  pub few-output : output ≤ 64

@@ -37,7 +37,7 @@ use Rattle.records.proofs.CodeTable.{delay-number}
 use Rattle.records.proofs.Trees.{chain-of, next-leaf}
 use Rattle.records.proofs.Table.{askOfKind}
 use Rattle.records.proofs.Asked.{past-header, part-of-kind}
-use Rattle.values.proofs.Matches.{left, left-falls}
+use Rattle.values.proofs.Gathering.{left, left-falls}
 use Rattle.behaviour.specs.Sheets.{putWord}
 use Rattle.behaviour.specs.Copies.{copied, leavesOf, delayChains}
 use Rattle.stepper.specs.Cycling.{Copying}

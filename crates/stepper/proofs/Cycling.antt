@@ -6,14 +6,12 @@ use mathlib.Core.List.{List, [], _∷_, _++_, List·Memᴰ}
 use mathlib.Core.Path.{_≡_, refl, sym, ap, ap₂, _∙_}
 use native.Mathlib.Omega.{arith}
 use lib.ListN.{length, getD}
-use Rattle.picoella.specs.Types.{leaves, OfType}
+use Rattle.picoella.specs.Language.{leaves, OfType}
 use Rattle.records.specs.Words.{word, wordA, wordB, count}
 use Rattle.records.specs.Kinds.{Kind, header, leaf}
 use Rattle.records.specs.Says.{kindAt}
 use Rattle.records.specs.Sized.{Sized}
-use Rattle.records.specs.TypeRecords.{typeAt}
-use Rattle.records.specs.Trees.{chain, circuit}
-use Rattle.records.specs.Held.{delayLeaves}
+use Rattle.records.specs.Trees.{typeAt, chain, circuit, delayLeaves}
 use Rattle.records.specs.Written.{Written}
 use Rattle.records.specs.Rewritten.{Rewritten}
 use Rattle.records.proofs.Rewritten.{same-kind, same-chain, same-type}
@@ -64,7 +62,7 @@ module _ {s : List ℕ} {n : ℕ} {W env held input current out : List ℕ} (g :
   copying = record { sized = g .sized; written = first-written; long = o .length }
 
   input-typed : OfType (typeAt current (wordA current 0)) input
-  input-typed = rw (header-word 2 (omega arith), same-type s current o (wordA s 0)) (g .typed)
+  input-typed = rw (header-word 2 (omega arith), same-type o (wordA s 0)) (g .typed)
 
   input-few : length input ≤ 64
   input-few =
@@ -95,7 +93,7 @@ module _ {s : List ℕ} {n : ℕ} {W env held input current out : List ℕ} (g :
     unfolding circuit
     root-entry =
         let j = accepted-judged (g .type) (exact current (g .type) .0 (g .again) .0) (g .again) in
-        g .room ∙ sym (table .expressions root ∙ rw (j .1, same-type s current o (g .type)) refl)
+        g .room ∙ sym (table .expressions root ∙ rw (j .1, same-type o (g .type)) refl)
 
     pub root-ready : EvaluatingIn current n W env₁ 1 x out (inputs current)
     root-ready =
@@ -132,13 +130,13 @@ module _ {s : List ℕ} {n : ℕ} {W env held input current out : List ℕ} (g :
   -- the chains are where they were
   same-leaves : (r : ℕ) (k : Kind) → kindAt s r ≡ k → leavesOf k (chain s (wordB s r)) ≡ leavesOf k (chain current (wordB current r))
   same-leaves r k ek =
-      ap (leavesOf k) (sym (same-chain s current o (wordB s r)) ∙ ap (chain current) (sym (o .leaves r 3 (omega arith) (λ z. omega arith))))
+      ap (leavesOf k) (sym (same-chain o (wordB s r)) ∙ ap (chain current) (sym (o .leaves r 3 (omega arith) (λ z. omega arith))))
 
   same-chains : (m : ℕ) → delayChains s m ≡ delayChains current m
   same-chains zero = refl
   same-chains (suc r) =
       ap₂ _++_ (same-chains r)
-      (same-leaves r (kindAt s r) refl ∙ ap (λ k. leavesOf k (chain current (wordB current r))) (sym (same-kind s current o r)))
+      (same-leaves r (kindAt s r) refl ∙ ap (λ k. leavesOf k (chain current (wordB current r))) (sym (same-kind o r)))
 
   room : (l : ℕ) → List·Memᴰ l (delayLeaves (circuit current)) → l < length held
   room l m = let h = leaves-in-table current (g .type) (g .again) l m in let w = g .long in omega arith
@@ -147,8 +145,8 @@ module _ {s : List ℕ} {n : ℕ} {W env held input current out : List ℕ} (g :
       ≡ copied (store (next undecidedRule (input ∷ []) (circuitTerm current)) held) (delayChains current (count current)) current
   unfolding afterBy
   written-after =
-      write-copied-chains current (g .type) (g .again) (next undecidedRule (input ∷ []) (circuitTerm current))
-      (cycle-writable undecidedRule rule-lawful current (g .type) (g .again) input input-typed) held room
+      write-copied-chains (g .again) (next undecidedRule (input ∷ []) (circuitTerm current))
+      (cycle-writable undecidedRule rule-lawful current (g .again) input input-typed) held room
 
   pub cycle-done : {fired env₂ held₁ fired₁ o₁ : List ℕ} → Looked input current held fired env₂ held₁ fired₁ o₁
       → {current′ : List ℕ} → current′ ≡ copied held₁ (delayChains s n) current → Cycled input current env₂ held₁ current′ o₁

@@ -4,10 +4,10 @@ use Prim.Native.Nat.{ℕ}
 use mathlib.Core.Path.{_≡_}
 use mathlib.Core.List.{List, [], _∷_}
 use lib.ListN.{length}
-use Rattle.picoella.specs.Types.{leaves, OfType}
+use Rattle.picoella.specs.Language.{leaves, OfType}
 use Rattle.records.specs.Words.{wordA, wordB}
 use Rattle.records.specs.Sized.{Sized}
-use Rattle.records.specs.TypeRecords.{typeAt}
+use Rattle.records.specs.Trees.{typeAt}
 use Rattle.records.specs.Written.{Written}
 use Rattle.records.specs.Rewritten.{Rewritten}
 use Rattle.verdict.specs.Verdict.{verdict, inputs}

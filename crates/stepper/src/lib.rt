@@ -15,7 +15,7 @@ use records::WORD_A;
 use records::WORD_B;
 use records::WORD_KIND;
 use records::WORD_NEXT;
-use records::Widths;
+use records::WidthTable;
 use records::offset;
 use records::word;
 use values::Fired;
@@ -71,7 +71,7 @@ fn copy_all(sheet: &[u8], n: usize, held: &NextValues, current: &mut [u8])
 pub fn look(
     sheet: &[u8],
     n: usize,
-    widths: &Widths,
+    widths: &WidthTable,
     env: &mut [u8],
     held: &mut NextValues,
     fired: &mut Fired,
@@ -91,7 +91,7 @@ pub fn look(
 pub fn cycle(
     sheet: &[u8],
     n: usize,
-    widths: &Widths,
+    widths: &WidthTable,
     env: &mut [u8],
     held: &mut NextValues,
     fired: &mut Fired,

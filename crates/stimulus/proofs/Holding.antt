@@ -11,13 +11,12 @@ use native.Mathlib.Nat.{mul-le-mul-left}
 use lib.Dec.{ltb}
 use lib.ListN.{length, getD, take, drop, length-append, length-drop}
 use lib.Seq.{take-at, length-take-le}
-use Rattle.picoella.specs.Types.{bounds, leaves}
+use Rattle.picoella.specs.Language.{bounds, leaves}
 use Rattle.records.specs.Words.{word, wordA}
-use Rattle.records.specs.TypeRecords.{typeAt, TypeRecord}
+use Rattle.records.specs.Trees.{typeAt, TypeRecord}
 use Rattle.records.proofs.Types.{few-leaves, some-leaves, leaves-of-bounds}
 use Rattle.records.proofs.TypeRecords.{input-type}
-use Rattle.answers.specs.Checks.{firstApplying}
-use Rattle.answers.specs.Lowest.{lowest}
+use Rattle.answers.specs.Answers.{firstApplying, lowest}
 use Rattle.answers.specs.Searches.{found}
 use Rattle.answers.specs.declared.Found.{Found}
 use Rattle.answers.specs.declared.Found.the-variants.{At, Nothing}

@@ -12,12 +12,11 @@ use lib.Dec.{eqb}
 use lib.ListN.{length, getD, take}
 use lib.Seq.{take-all}
 use borrow.Author.Tests.{eqb-true, not-false, eq-eqb, ne-eqb}
-use Rattle.picoella.specs.Types.{Ty, OfType}
+use Rattle.picoella.specs.Language.{Ty, OfType}
 use Rattle.records.specs.Words.{word}
 use Rattle.records.proofs.Tests.{neither-left, neither-right}
 use Rattle.records.proofs.Types.{some-leaves}
-use Rattle.answers.specs.Checks.{firstApplying, NoneApplies, SaysOf}
-use Rattle.answers.specs.Lowest.{lowest}
+use Rattle.answers.specs.Answers.{firstApplying, NoneApplies, SaysOf, lowest}
 use Rattle.answers.specs.declared.Answer.{Answer}
 use Rattle.answers.specs.declared.Answer.the-variants.{Done, Refused}
 use Rattle.answers.proofs.First.{when-none, first-says}

@@ -11,9 +11,7 @@ use native.Mathlib.Omega.{arith}
 use lib.ListN.{length}
 use lib.Dec.{eqb}
 use borrow.Author.Tests.{eq-eqb, ne-eqb}
-use Rattle.answers.specs.Answers.{place, onDone}
-use Rattle.answers.specs.Lowest.{lowest}
-use Rattle.answers.specs.Checks.{Check, check, when, orRefused, firstApplying, NoneApplies, SaysOf}
+use Rattle.answers.specs.Answers.{place, onDone, lowest, Check, check, when, orRefused, firstApplying, NoneApplies, SaysOf}
 use Rattle.answers.specs.declared.Answer.{Answer}
 use Rattle.answers.specs.declared.Answer.the-variants.{Done, Refused}
 use Rattle.answers.proofs.Lowest.{lowest-some-passes}

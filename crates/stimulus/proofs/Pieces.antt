@@ -7,7 +7,7 @@ use mathlib.Core.Path.{_≡_, refl, ap, _∙_}
 use native.Mathlib.Omega.{arith}
 use lib.ListN.{length, getD, take, drop, length-append, length-drop, take-append-drop}
 use lib.Seq.{take-at, drop-append-add, drop-drop}
-use Rattle.picoella.specs.Types.{Ty, leaves}
+use Rattle.picoella.specs.Language.{Ty, leaves}
 use Rattle.meaning.specs.Values.{AllOf, all-none, all-more}
 use Rattle.meaning.proofs.Order.{value-length}
 use Rattle.stimulus.specs.Stimulus.{pieces, endToEnd}

@@ -12,11 +12,11 @@ use lib.ListN.{length, getD, take, drop, length-drop}
 use lib.Seq.{getD-take, getD-drop, length-take-le}
 use lib.Dec.{eqb, ltb}
 use borrow.Author.Tests.{ltb-false, not-false, eqb-true}
-use Rattle.picoella.specs.Types.{Ty, bounds, leaves, Within, within-leaf}
-use Rattle.picoella.specs.Types as Types
+use Rattle.picoella.specs.Language.{Ty, bounds, leaves, Within, within-leaf}
+use Rattle.picoella.specs.Language as Language
 use Rattle.records.proofs.Tests.{neither-left, neither-right}
 use Rattle.records.proofs.Types.{leaves-of-bounds}
-use Rattle.answers.specs.Lowest.{lowest}
+use Rattle.answers.specs.Answers.{lowest}
 use Rattle.answers.proofs.Lowest.{lowest-none-fails}
 use Rattle.meaning.specs.Values.{AllOf, all-none, all-more}
 use Rattle.stimulus.specs.Stimulus.{inputType, inputLeaves, cycleCount, pieces, endToEnd, cycles, wrongStimulus, wrongByte}
@@ -36,7 +36,7 @@ stimulus-whole s stim e =
 
 -- a value is within bounds where each leaf is
 within-by-leaf : (ns vs : List ℕ) → length vs ≡ length ns → ((j : ℕ) → j < length ns → getD vs j 0 ≤ getD ns j 0) → Within ns vs
-within-by-leaf [] [] e f = Types.within-none
+within-by-leaf [] [] e f = Language.within-none
 within-by-leaf [] (v ∷ vs) e f = absurd (omega arith)
 within-by-leaf (n ∷ ns) [] e f = absurd (omega arith)
 within-by-leaf (n ∷ ns) (v ∷ vs) e f =

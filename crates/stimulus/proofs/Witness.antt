@@ -7,19 +7,39 @@ use mathlib.Core.List.{List, [], _∷_}
 use mathlib.Core.Path.{_≡_, refl}
 use native.Mathlib.Omega.{arith}
 use lib.ListN.{length}
-use Rattle.picoella.specs.Types.{leaves, OfType}
+use Rattle.picoella.specs.Language.{leaves, OfType}
 use Rattle.records.specs.Words.{word, count}
 use Rattle.records.specs.Kinds.{rowOf, kindOf, askOf}
-use Rattle.records.specs.Says.{wellSaid}
-use Rattle.records.specs.Namings.{namings}
-use Rattle.records.specs.TypeRecords.{typeWithin, typeAt, pairOf, TypeRecord}
-use Rattle.records.specs.Trees.{chainWithin, chain, alternativesWithin, alternatives, treeWithin, treeAt, circuit}
-use Rattle.structure.specs.Depth.{ancestryWithin, ancestry, depth, nesting}
-use Rattle.structure.specs.Rules.{wrongLength, wrongHeader, wrongRecord, wrongNaming, wrongType, tooDeep}
-use Rattle.structure.specs.Passes.{Passes}
+use Rattle.records.specs.Says.{wellSaid, namings}
+use Rattle.records.specs.Trees.{
+  typeWithin,
+  typeAt,
+  pairOf,
+  TypeRecord,
+  chainWithin,
+  chain,
+  alternativesWithin,
+  alternatives,
+  treeWithin,
+  treeAt,
+  circuit,
+}
+use Rattle.structure.specs.Rules.{
+  ancestryWithin,
+  ancestry,
+  depth,
+  nesting,
+  wrongLength,
+  wrongHeader,
+  wrongRecord,
+  wrongNaming,
+  wrongType,
+  tooDeep,
+  Passes,
+}
 use Rattle.verdict.specs.Verdict.{byTypes, byRecords, verdict}
 use Rattle.verdict.specs.declared.Verdict.the-variants.{Accepted}
-use Rattle.answers.specs.Checks.{firstApplying}
+use Rattle.answers.specs.Answers.{firstApplying}
 use Rattle.answers.specs.declared.Answer.{Answer}
 use Rattle.answers.specs.declared.Answer.the-variants.{Done, Refused}
 use Rattle.accepted.specs.Accepting.{Accepting}
@@ -48,11 +68,11 @@ paired-full = refl
 
 paired-accepting : (widths : List ℕ) × Accepting paired (count paired) widths
 paired-accepting =
-    let p : Passes paired = accepted-passes paired 2 paired-accepted in
-    let t = Requirements.widths paired p paired-full in (
+    let p : Passes paired = accepted-passes paired paired-accepted in
+    let t = Requirements.widths p paired-full in (
       t .0,
       record {
-        sized = Requirements.sized paired p paired-full;
+        sized = Requirements.sized p paired-full;
         type = 2;
         accepted = paired-accepted;
         table = t .1;

@@ -2,8 +2,7 @@
 use Prim.Native.Nat.{ℕ, _≤_, _<_}
 use mathlib.Core.Path.{_≡_}
 use mathlib.Core.List.{List}
-use Rattle.answers.specs.Answers.{code, place}
-use Rattle.answers.specs.Checks.{firstApplying}
+use Rattle.answers.specs.Answers.{code, place, firstApplying}
 use Rattle.answers.specs.declared.Answer.{Answer}
 use Rattle.answers.specs.declared.Answer.the-variants.{Done}
 use Rattle.stimulus.specs.Stimulus.{cycleCount, stimulusChecks}

@@ -6,9 +6,7 @@ use mathlib.Core.Bool.{Bool, not, _||_}
 use mathlib.Core.List.{List, [], _∷_}
 use lib.Dec.{eqb}
 use lib.ListN.{length}
-use Rattle.answers.specs.Answers.{code, place}
-use Rattle.answers.specs.Lowest.{lowest}
-use Rattle.answers.specs.Checks.{Check, check, when, firstApplying}
+use Rattle.answers.specs.Answers.{code, place, lowest, Check, check, when, firstApplying}
 use Rattle.answers.specs.declared.Answer.{Answer}
 use Rattle.answers.specs.declared.Answer.the-variants.{Done}
 use Rattle.stimulus.specs.Stimulus.{inputLeaves, wrongStimulus, wrongByte}

@@ -6,8 +6,7 @@ use mathlib.Core.Bool.{false}
 use mathlib.Core.List.{List}
 use mathlib.Core.Option.{none}
 use lib.ListN.{length}
-use Rattle.answers.specs.Lowest.{lowest}
-use Rattle.answers.specs.Checks.{Check, Refuses}
+use Rattle.answers.specs.Answers.{lowest, Check, Refuses}
 use Rattle.answers.specs.declared.Answer.{Answer}
 use Rattle.answers.specs.declared.Answer.the-variants.{Done, Refused}
 use Rattle.verdict.specs.Verdict.{outputType, verdict}

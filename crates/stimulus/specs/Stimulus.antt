@@ -6,11 +6,10 @@ use mathlib.Core.Bool.{Bool, not, _||_}
 use mathlib.Core.List.{List, [], _∷_, _++_}
 use lib.ListN.{length, getD, take, drop}
 use lib.Dec.{eqb, ltb}
-use Rattle.answers.specs.Lowest.{lowest}
-use Rattle.answers.specs.Checks.{Check, check, when}
-use Rattle.picoella.specs.Types.{Ty, bounds, leaves}
+use Rattle.answers.specs.Answers.{lowest, Check, check, when}
+use Rattle.picoella.specs.Language.{Ty, bounds, leaves}
 use Rattle.records.specs.Words.{wordA}
-use Rattle.records.specs.TypeRecords.{typeAt}
+use Rattle.records.specs.Trees.{typeAt}
 
 -- the input type is in the header's word a
 abbrev pub inputType : List ℕ → Ty

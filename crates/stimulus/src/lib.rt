@@ -2,9 +2,9 @@
 ghost use mathlib.Core.Path.{_≡_};
 ghost use Prim.Native.Nat.{_<_};
 ghost use lib.ListN.{length};
-ghost use Rattle.picoella.specs.Types.{bounds, leaves};
-ghost use Rattle.records.specs.TypeRecords.{typeAt, TypeRecord};
-ghost use Rattle.answers.specs.Lowest.{lowest};
+ghost use Rattle.picoella.specs.Language.{bounds, leaves};
+ghost use Rattle.records.specs.Trees.{typeAt, TypeRecord};
+ghost use Rattle.answers.specs.Answers.{lowest};
 ghost use Rattle.answers.specs.Searches.{found};
 ghost use Rattle.accepted.specs.Accepting.{Accepting};
 ghost use Rattle.stimulus.specs.Tests.{notWhole, above};
@@ -16,7 +16,7 @@ use answers::Found;
 use answers::WRONG_BYTE;
 use answers::WRONG_STIMULUS;
 use records::WORD_A;
-use records::Widths;
+use records::WidthTable;
 use records::word;
 
 // The most bytes of a stimulus.
@@ -58,7 +58,14 @@ fn find_above(bounds: &[u8], stim: &[u8]) -> Found
 }
 
 // The first byte of a stimulus above its leaf's count, where a cycle takes w bytes of type t.
-fn first_above(sheet: &[u8], n: usize, widths: &Widths, t: usize, w: usize, stim: &[u8]) -> Found
+fn first_above(
+    sheet: &[u8],
+    n: usize,
+    widths: &WidthTable,
+    t: usize,
+    w: usize,
+    stim: &[u8],
+) -> Found
     requires { ⌜ Accepting (now sheet) n (now widths) × TypeRecord (now sheet) t × (w ≡ leaves (typeAt (now sheet) t)) ⌝ }
     ensures { λ r. ⌜ found r ≡ lowest (above (bounds (typeAt (now (sheet .entry)) t)) (now (stim .entry))) (length (now (stim .entry))) ⌝ }
 {
@@ -68,7 +75,7 @@ fn first_above(sheet: &[u8], n: usize, widths: &Widths, t: usize, w: usize, stim
 }
 
 // Codes 8 and 9 for an accepted sheet, and else the number of cycles.
-pub fn check_stimulus(sheet: &[u8], n: usize, widths: &Widths, stim: &[u8]) -> Answer
+pub fn check_stimulus(sheet: &[u8], n: usize, widths: &WidthTable, stim: &[u8]) -> Answer
     requires { ⌜ Accepting (now sheet) n (now widths) ⌝ }
     ensures { λ r. ⌜ Held (now (sheet .entry)) (now (stim .entry)) r ⌝ }
 {
@@ -86,7 +93,7 @@ pub fn check_stimulus(sheet: &[u8], n: usize, widths: &Widths, stim: &[u8]) -> A
 }
 
 // Codes 8 and 9 for one cycle of an accepted sheet's input, and else that one cycle.
-pub fn check_one_cycle(sheet: &[u8], n: usize, widths: &Widths, stim: &[u8]) -> Answer
+pub fn check_one_cycle(sheet: &[u8], n: usize, widths: &WidthTable, stim: &[u8]) -> Answer
     requires { ⌜ Accepting (now sheet) n (now widths) ⌝ }
     ensures { λ r. ⌜ HeldToOne (now (sheet .entry)) (now (stim .entry)) r ⌝ }
 {

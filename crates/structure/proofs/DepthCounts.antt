@@ -12,13 +12,11 @@ use lib.ListN.{getD, set, replicate, length-set, length-replicate}
 use lib.Seq.{getD-set-same, getD-set-other}
 use Rattle.records.specs.Words.{count, word}
 use Rattle.records.specs.Kinds.{kindOf, sortNumber}
-use Rattle.records.specs.Says.{sortAt}
-use Rattle.records.specs.Namings.{Naming, namings, wellNamed}
+use Rattle.records.specs.Says.{sortAt, Naming, namings, wellNamed}
 use Rattle.records.specs.Trees.{follow}
 use Rattle.records.proofs.CodeTable.{only-kind}
 use Rattle.records.proofs.Namings.{Names, in-namings-names, namer-lower}
-use Rattle.structure.specs.Depth.{ancestry, ancestryWithin, depth, nesting, isFeedback, ofDefiningPart}
-use Rattle.structure.specs.Rules.{tooDeep}
+use Rattle.structure.specs.Rules.{ancestry, ancestryWithin, depth, nesting, isFeedback, ofDefiningPart, tooDeep}
 use Rattle.structure.specs.NamerTable.{summary}
 use Rattle.structure.specs.DepthTable.{Capped, Placed, Placing}
 use Rattle.structure.proofs.Depths.{depth-of, nesting-of}

@@ -11,15 +11,14 @@ use lib.ListN.{length}
 use Rattle.records.specs.Words.{word, count, wordB}
 use lib.Dec.{ltb}
 use Rattle.records.specs.Kinds.{Kind, Sort, header, expressions, patterns, part, sameSort}
-use Rattle.records.specs.Says.{kindAt}
-use Rattle.records.specs.Namings.{Naming, namings}
+use Rattle.records.specs.Says.{kindAt, Naming, namings}
 use Rattle.records.specs.Trees.{follow}
 use Rattle.records.specs.Written.{Written, WellNamed}
 use Rattle.records.proofs.Trees.{follow-agrees}
 use Rattle.records.proofs.Table.{askOfKind}
 use Rattle.records.proofs.Asked.{part-of-kind, root-is}
 use Rattle.records.proofs.Namings.{Names, only-naming, in-namings-names, namer-lower, part-names, part-word-other}
-use Rattle.structure.specs.Depth.{climb, ancestryWithin, ancestry, depth, ofDefiningPart, howMany, nesting}
+use Rattle.structure.specs.Rules.{climb, ancestryWithin, ancestry, depth, ofDefiningPart, howMany, nesting}
 
 climb-agrees : (go other : ℕ → List Naming) (ns : List Naming)
     → ((x : Naming) → List·Memᴰ x ns → 0 < x .by → go (x .by) ≡ other (x .by)) → climb go ns ≡ climb other ns

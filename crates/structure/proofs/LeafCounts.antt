@@ -10,7 +10,7 @@ use borrow.Author.Tests.{eq-eqb, ne-eqb, lt-ltb, le-ltb}
 use lib.Dec.{eqb, ltb}
 use lib.ListN.{getD, set, replicate, length-set, length-replicate, getD-replicate}
 use lib.Seq.{getD-set-same, getD-set-other}
-use Rattle.picoella.specs.Types.{leaves}
+use Rattle.picoella.specs.Language.{leaves}
 use Rattle.records.specs.Words.{count, word, wordA, wordB}
 use Rattle.records.specs.Kinds.{
   Kind,
@@ -29,7 +29,7 @@ use Rattle.records.specs.Kinds.{
   isPair,
 }
 use Rattle.records.specs.Says.{kindAt, sortAt}
-use Rattle.records.specs.TypeRecords.{typeAt, pairBelow}
+use Rattle.records.specs.Trees.{typeAt, pairBelow}
 use Rattle.records.specs.Written.{Written}
 use Rattle.records.proofs.Table.{is-flat, is-pair}
 use Rattle.records.proofs.CodeTable.{flat-number, pair-number}

@@ -27,10 +27,9 @@ use Rattle.records.specs.Kinds.{
   total,
   never,
   sortNumber,
-  askNumber,
 }
-use Rattle.records.specs.Says.{askAt}
-use Rattle.records.specs.Namings.{Naming, names, namesAt, ifNamed, namings, namingsIn, namingsBelow, byWordD, wellNamed}
+use Rattle.records.specs.AskNumbers.{askNumber}
+use Rattle.records.specs.Says.{askAt, Naming, names, namesAt, ifNamed, namings, namingsIn, namingsBelow, byWordD, wellNamed}
 use Rattle.records.proofs.Tests.{both-left, both-right}
 use Rattle.structure.specs.Rules.{wrongNaming}
 use Rattle.structure.specs.NamerTable.{summary, ByWords, Adds, Holds}
@@ -75,7 +74,7 @@ summary-none (n ∷ ns) e = absurd (go (wellNamed (n ∷ ns)) e)
     go false f = omega arith
 
 -- what the entry of a record is with the naming m beside those that it has
-module _ (entry : ℕ) (m : Naming) (ns : List Naming) (words : ByWords ns) (e : entry ≡ summary ns) where
+module _ {entry : ℕ} (m : Naming) (ns : List Naming) (words : ByWords ns) (e : entry ≡ summary ns) where
   pub entry-first : entry ≡ 0 → 8 * m .by + m .at + 1 ≡ summary (ns ++ m ∷ [])
   entry-first z = rw (summary-none ns (sym e ∙ z))
 

@@ -7,7 +7,7 @@ use native.Mathlib.Omega.{arith}
 use borrow.Author.Tests.{eq-eqb, ne-eqb, lt-ltb}
 use lib.Dec.{eqb, ltb}
 use Rattle.records.specs.Words.{word}
-use Rattle.records.specs.TypeRecords.{isPairOf}
+use Rattle.records.specs.Trees.{isPairOf}
 use Rattle.records.proofs.CodeTable.{pair-number}
 
 pub another-kind : (s : List ℕ) (a b q : ℕ) {k : ℕ} → k ≡ word s q 0 → (k ≡ 17 → ⊥) → false ≡ isPairOf s a b q

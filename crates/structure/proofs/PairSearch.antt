@@ -12,7 +12,7 @@ use borrow.Author.Tests.{ne-eqb}
 use lib.ListN.{getD, set, replicate, length-set, length-replicate}
 use lib.Seq.{getD-set-same, getD-set-other, set-getD}
 use Rattle.records.specs.Words.{word, wordA, wordB}
-use Rattle.records.specs.TypeRecords.{isPairOf, pairBelow}
+use Rattle.records.specs.Trees.{isPairOf, pairBelow}
 use Rattle.records.proofs.CodeTable.{pair-number}
 use Rattle.records.proofs.Pairs.{pair-with-parts}
 use Rattle.structure.proofs.PairRecords.{another-kind}

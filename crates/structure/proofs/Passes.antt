@@ -10,19 +10,16 @@ use native.Mathlib.Omega.{arith}
 use lib.ListN.{length}
 use lib.Dec.{eqb, ltb}
 use borrow.Author.Tests.{ltb-false, lt-ltb, not-false}
-use Rattle.picoella.specs.Types.{leaves}
+use Rattle.picoella.specs.Language.{leaves}
 use Rattle.records.specs.Words.{count, wordA, wordB}
 use Rattle.records.specs.Kinds.{sameSort, expressions, typeOf, pair, header, isPair, isHeader}
-use Rattle.records.specs.Says.{kindAt, sortAt, wellSaid}
-use Rattle.records.specs.Namings.{namings, wellNamed}
-use Rattle.records.specs.TypeRecords.{typeAt, pairBelow}
+use Rattle.records.specs.Says.{kindAt, sortAt, wellSaid, namings, wellNamed}
+use Rattle.records.specs.Trees.{typeAt, pairBelow}
 use Rattle.records.specs.Written.{Written, WellNamed, TypesFit}
 use Rattle.records.proofs.Tests.{both-left, both-right, both-fails, neither-left, neither-right}
 use Rattle.records.proofs.Table.{is-header}
-use Rattle.structure.specs.Depth.{depth, nesting}
-use Rattle.structure.specs.Rules.{wrongLength, wrongHeader, wrongRecord, wrongNaming, wrongType, tooDeep}
-use Rattle.structure.specs.Passes.{Passes}
-use Rattle.answers.specs.Lowest.{lowest}
+use Rattle.structure.specs.Rules.{depth, nesting, wrongLength, wrongHeader, wrongRecord, wrongNaming, wrongType, tooDeep, Passes}
+use Rattle.answers.specs.Answers.{lowest}
 use Rattle.answers.proofs.Lowest.{lowest-none-fails}
 
 -- code 1

@@ -10,7 +10,7 @@ use Rattle.records.specs.Says.{wellSaid}
 use Rattle.records.proofs.CodeTable.{header-number}
 use Rattle.structure.specs.Rules.{wrongHeader, wrongRecord}
 
-module _ (s : List ℕ) (k : ℕ) (said : Bool) where
+module _ (s : List ℕ) {k : ℕ} (said : Bool) where
   pub header-said : k ≡ word s 0 0 → k ≡ 1 → said ≡ wellSaid s 0 → not said ≡ wrongHeader s
   unfolding wrongHeader
   header-said ek e1 es = rw (header-number, ← ek, e1, es)

@@ -5,9 +5,9 @@ use mathlib.Core.Path.{_≡_}
 use mathlib.Core.List.{List}
 use lib.ListN.{length, getD}
 use Rattle.records.specs.Sized.{Sized}
-use Rattle.records.specs.Namings.{namings}
+use Rattle.records.specs.Says.{namings}
 use Rattle.records.specs.Written.{Written, WellNamed}
-use Rattle.structure.specs.Depth.{depth, nesting}
+use Rattle.structure.specs.Rules.{depth, nesting}
 use Rattle.structure.specs.NamerTable.{Holds}
 
 -- the table holds f of each record below m, no more than the cap

@@ -5,10 +5,10 @@ use mathlib.Core.Path.{_≡_}
 use mathlib.Core.Bool.{cond}
 use mathlib.Core.List.{List}
 use lib.ListN.{length, getD}
-use Rattle.picoella.specs.Types.{leaves}
+use Rattle.picoella.specs.Language.{leaves}
 use Rattle.records.specs.Kinds.{types, sameSort}
 use Rattle.records.specs.Says.{sortAt}
-use Rattle.records.specs.TypeRecords.{typeAt}
+use Rattle.records.specs.Trees.{typeAt}
 
 abbrev pub typeLeaves : List ℕ → ℕ → ℕ
 typeLeaves s r = cond (sameSort (sortAt s r) types) (min 65 (leaves (typeAt s r))) 0

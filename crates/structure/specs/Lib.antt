@@ -1,7 +1,7 @@
 -- The rules on records: what codes 1 to 6 say (docs/SHEETS.md, "Codes"), and when none of them applies.
-pub mod Depth
+-- To believe:
 pub mod Rules
-pub mod Passes
+-- What functions ask and give, and their proofs need:
 pub mod NamerTable
 pub mod LeafTable
 pub mod DepthTable

@@ -5,7 +5,7 @@ use mathlib.Core.Bool.{cond}
 use mathlib.Core.Path.{_≡_}
 use mathlib.Core.List.{List, [], _∷_, _++_}
 use lib.ListN.{length, getD}
-use Rattle.records.specs.Namings.{Naming, wellNamed}
+use Rattle.records.specs.Says.{Naming, wellNamed}
 
 abbrev pub summary : List Naming → ℕ
 summary [] = 0

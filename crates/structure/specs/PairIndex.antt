@@ -11,7 +11,7 @@ use lib.Dec.{eqb}
 use Rattle.records.specs.Words.{wordA, wordB}
 use Rattle.records.specs.Kinds.{isPair}
 use Rattle.records.specs.Says.{kindAt}
-use Rattle.records.specs.TypeRecords.{isPairOf, pairBelow}
+use Rattle.records.specs.Trees.{isPairOf, pairBelow}
 
 -- a slot holds a pair type of other parts
 abbrev pub another : (s index : List ℕ) (a b slot : ℕ) → Bool

@@ -5,7 +5,7 @@ ghost use mathlib.Core.Path.{_≡_};
 ghost use Prim.Native.Nat.{ℕ, _+_, _<_};
 ghost use mathlib.Core.List.{List};
 ghost use Rattle.records.specs.Sized.{Sized};
-ghost use Rattle.records.specs.TypeRecords.{isPairOf, pairBelow};
+ghost use Rattle.records.specs.Trees.{isPairOf, pairBelow};
 ghost use Rattle.structure.specs.PairIndex.{Linked, Indexed, EndsAt, another, lowerPair};
 use records::KIND_PAIR_TYPE;
 use records::RECORDS;

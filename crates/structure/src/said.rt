@@ -2,7 +2,7 @@
 ghost use mathlib.Core.Path.{_≡_};
 ghost use Prim.Native.Nat.{_<_};
 ghost use Rattle.records.specs.Sized.{Sized};
-ghost use Rattle.answers.specs.Lowest.{lowest};
+ghost use Rattle.answers.specs.Answers.{lowest};
 ghost use Rattle.answers.specs.Searches.{found};
 ghost use Rattle.structure.specs.Rules.{wrongHeader, wrongRecord};
 use answers::Found;

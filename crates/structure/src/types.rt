@@ -6,7 +6,7 @@ ghost use Rattle.records.specs.Sized.{Sized};
 ghost use Rattle.records.specs.Written.{Written};
 ghost use Rattle.structure.specs.LeafTable.{Counts};
 ghost use Rattle.structure.specs.PairIndex.{Indexed};
-ghost use Rattle.answers.specs.Lowest.{lowest};
+ghost use Rattle.answers.specs.Answers.{lowest};
 ghost use Rattle.answers.specs.Searches.{found};
 ghost use Rattle.structure.specs.Rules.{wrongType};
 use crate::pairs::PairIndex;
@@ -20,14 +20,14 @@ use records::RECORDS;
 use records::WORD_A;
 use records::WORD_B;
 use records::WORD_KIND;
-use records::Widths;
+use records::WidthTable;
 use records::word;
 
 // The entry of a table of leaf counts for a type that has more leaves than it may.
 const TOO_WIDE: u8 = MOST_LEAVES + 1;
 
 // A table of leaf counts with no count in it.
-pub fn no_leaves() -> Widths
+pub fn no_leaves() -> WidthTable
     ensures { λ r. ⌜ ((s : List ℕ) → Counts s 0 r) ⌝ }
 {
     [0; RECORDS]
@@ -42,7 +42,7 @@ pub fn capped_sum(x: u8, y: u8) -> u8
 }
 
 // Adds record rec to a table that has the leaf counts of the types below it.
-fn count_type(sheet: &[u8], n: usize, rec: usize, table: &mut Widths)
+fn count_type(sheet: &[u8], n: usize, rec: usize, table: &mut WidthTable)
     requires { ⌜ Sized (now sheet) n × (rec < n) × Written (now sheet) × Counts (now sheet) rec (now table) ⌝ }
     ensures { λ _. ⌜ Counts (now (sheet .entry)) (rec + 1) (now (table .exit)) ⌝ }
 {
@@ -59,7 +59,7 @@ fn count_type(sheet: &[u8], n: usize, rec: usize, table: &mut Widths)
 }
 
 // Fills an empty table with the leaf counts of all types.
-pub fn count_types(sheet: &[u8], n: usize, table: &mut Widths)
+pub fn count_types(sheet: &[u8], n: usize, table: &mut WidthTable)
     requires { ⌜ Sized (now sheet) n × Written (now sheet) × Counts (now sheet) 0 (now table) ⌝ }
     ensures { λ _. ⌜ Counts (now (sheet .entry)) n (now (table .exit)) ⌝ }
 {
@@ -71,7 +71,7 @@ pub fn count_types(sheet: &[u8], n: usize, table: &mut Widths)
 }
 
 // Whether a pair type has the parts of a lower one, or over 64 leaves: code 5. The index of the pair types below rec gets rec.
-fn wrong_type(sheet: &[u8], n: usize, rec: usize, table: &Widths, index: &mut PairIndex) -> bool
+fn wrong_type(sheet: &[u8], n: usize, rec: usize, table: &WidthTable, index: &mut PairIndex) -> bool
     requires { ⌜ Sized (now sheet) n × (rec < n) × Counts (now sheet) n (now table) × Indexed (now sheet) rec (now index) ⌝ }
     ensures { λ r. ⌜ (r ≡ wrongType (now (sheet .entry)) rec) × Indexed (now (sheet .entry)) (rec + 1) (now (index .exit)) ⌝ }
 {
@@ -85,7 +85,7 @@ fn wrong_type(sheet: &[u8], n: usize, rec: usize, table: &Widths, index: &mut Pa
     lower != 0
 }
 
-pub fn first_wrong_type(sheet: &[u8], n: usize, table: &Widths) -> Found
+pub fn first_wrong_type(sheet: &[u8], n: usize, table: &WidthTable) -> Found
     requires { ⌜ Sized (now sheet) n × Counts (now sheet) n (now table) ⌝ }
     ensures { λ r. ⌜ found r ≡ lowest (wrongType (now (sheet .entry))) n ⌝ }
 {

@@ -12,7 +12,7 @@ use lib.Dec.{eqb}
 use borrow.Author.Tests.{eq-eqb, ne-eqb}
 use Rattle.naming.specs.Declared.{sameName, input}
 use Rattle.naming.proofs.SameName.{same-equal}
-use Rattle.symbols.specs.Names.{placeOf, countOf, lettersFrom, nameOf, Inside, hashedFrom, hashOf}
+use Rattle.symbols.specs.Names.{placeOf, countOf, lettersFrom, lettersAt, Inside, hashedFrom, hashOf}
 
 -- the first of the letters that are left
 pub next-letter : (text : List ℕ) (p n i : ℕ) → i < n → p + n ≤ length text
@@ -25,7 +25,7 @@ next-letter text p n i h l =
     ∙ ap (λ k. getD text (p + i) 0 ∷ take (n - (i + 1)) (drop k text)) f
 
 -- all of them, and none
-all-letters : (text : List ℕ) (span p n : ℕ) → p ≡ placeOf span → n ≡ countOf span → nameOf text span ≡ lettersFrom text (p + 0) (n - 0)
+all-letters : (text : List ℕ) (span p n : ℕ) → p ≡ placeOf span → n ≡ countOf span → lettersAt text span ≡ lettersFrom text (p + 0) (n - 0)
 all-letters text span p n e f =
     let g : placeOf span ≡ p + 0 = sym e ∙ omega arith in
     let h : countOf span ≡ n - 0 = sym f ∙ omega arith in
@@ -35,7 +35,7 @@ no-letters : (text : List ℕ) (p n i : ℕ) → n ≤ i → lettersFrom text (p
 no-letters text p n i h = let e : n - i ≡ 0 = omega arith in ap (λ k. take k (drop (p + i) text)) e
 
 pub hash-first : (text : List ℕ) (span p n : ℕ) → p ≡ placeOf span → n ≡ countOf span
-    → hashOf (nameOf text span) ≡ hashedFrom 0 (lettersFrom text (p + 0) (n - 0))
+    → hashOf (lettersAt text span) ≡ hashedFrom 0 (lettersFrom text (p + 0) (n - 0))
 hash-first text span p n e f = ap (hashedFrom 0) (all-letters text span p n e f)
 
 pub hash-next : (text : List ℕ) (p n i h b : ℕ) → i < n → p + n ≤ length text → b ≡ getD text (p + i) 0
@@ -50,18 +50,18 @@ hash-last text p n i h l = ap (hashedFrom h) (no-letters text p n i l)
 -- two names
 
 pub differ-length : (text : List ℕ) (a b : ℕ) → Inside text a → Inside text b → (countOf a ≡ countOf b → ⊥)
-    → false ≡ sameName (nameOf text a) (nameOf text b)
-differ-length text a b h k n = go (sameName (nameOf text a) (nameOf text b)) refl
+    → false ≡ sameName (lettersAt text a) (lettersAt text b)
+differ-length text a b h k n = go (sameName (lettersAt text a) (lettersAt text b)) refl
   where
-    long : (span : ℕ) → Inside text span → length (nameOf text span) ≡ countOf span
+    long : (span : ℕ) → Inside text span → length (lettersAt text span) ≡ countOf span
     long span i = length-take-le (countOf span) (drop (placeOf span) text) (omega (arith, length-drop (placeOf span) text))
 
-    go : (x : Bool) → sameName (nameOf text a) (nameOf text b) ≡ x → false ≡ x
-    go true e = absurd (n (sym (long a h) ∙ ap length (same-equal (nameOf text a) (nameOf text b) e) ∙ long b k))
+    go : (x : Bool) → sameName (lettersAt text a) (lettersAt text b) ≡ x → false ≡ x
+    go true e = absurd (n (sym (long a h) ∙ ap length (same-equal (lettersAt text a) (lettersAt text b) e) ∙ long b k))
     go false e = refl
 
 pub same-first : (text : List ℕ) (a b p q n m : ℕ) → p ≡ placeOf a → q ≡ placeOf b → n ≡ countOf a → m ≡ countOf b → n ≡ m
-    → sameName (nameOf text a) (nameOf text b) ≡ sameName (lettersFrom text (p + 0) (n - 0)) (lettersFrom text (q + 0) (n - 0))
+    → sameName (lettersAt text a) (lettersAt text b) ≡ sameName (lettersFrom text (p + 0) (n - 0)) (lettersFrom text (q + 0) (n - 0))
 same-first text a b p q n m e f g h k = ap₂ sameName (all-letters text a p n e g) (all-letters text b q n f (k ∙ h))
 
 module _ (text : List ℕ) (p q n i : ℕ) (h : i < n) (l : p + n ≤ length text) (m : q + n ≤ length text) where
@@ -101,7 +101,7 @@ one-more : (text : List ℕ) (k m : ℕ) → k < length text → m ≡ suc k →
 one-more text k m h e = drop-cons text k 0 h ∙ ap (λ n. getD text k 0 ∷ drop n text) (sym e)
 
 pub five-letters : (text : List ℕ) (span p n : ℕ) → Inside text span → p ≡ placeOf span → n ≡ countOf span → n ≡ 5
-    → nameOf text span ≡ fiveLetters text p
+    → lettersAt text span ≡ fiveLetters text p
 five-letters text span p n h e f g =
     let l : p + 5 ≤ length text = omega arith in
     ap₂ (lettersFrom text) (sym e) (sym f ∙ g)
@@ -115,16 +115,16 @@ five-letters text span p n h e f g =
     (one-more text (p + 3) (p + 4) (omega arith) (omega arith)
     ∙ ap (λ t. getD text (p + 3) 0 ∷ t) (one-more text (p + 4) (p + 5) (omega arith) (omega arith))))))
 
-pub not-five : (text : List ℕ) (span n : ℕ) → Inside text span → n ≡ countOf span → (n ≡ 5 → ⊥) → false ≡ sameName (nameOf text span) input
-not-five text span n h e d = go (sameName (nameOf text span) input) refl
+pub not-five : (text : List ℕ) (span n : ℕ) → Inside text span → n ≡ countOf span → (n ≡ 5 → ⊥) → false ≡ sameName (lettersAt text span) input
+not-five text span n h e d = go (sameName (lettersAt text span) input) refl
   where
-    go : (x : Bool) → sameName (nameOf text span) input ≡ x → false ≡ x
+    go : (x : Bool) → sameName (lettersAt text span) input ≡ x → false ≡ x
     go true f =
         absurd
         (d
         (e
         ∙ sym (length-take-le (countOf span) (drop (placeOf span) text) (omega (arith, length-drop (placeOf span) text)))
-        ∙ ap length (same-equal (nameOf text span) input f)))
+        ∙ ap length (same-equal (lettersAt text span) input f)))
     go false f = refl
 
 -- letter by letter, of five

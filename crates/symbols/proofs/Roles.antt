@@ -12,7 +12,7 @@ use borrow.Author.Tests.{lt-ltb, le-ltb, eq-eqb, ne-eqb}
 use Rattle.naming.specs.Declared.{Role, aType, aConstructor, theInput, sameName, input, DeclaredName, declaredAs}
 use Rattle.naming.proofs.SameName.{same-equal}
 use Rattle.naming.specs.TokenWalk.{roleIn, roleNumber}
-use Rattle.symbols.specs.Names.{nameOf, nearest, roleNamed, declaredNames, boundNames, Roles, roleAmong, declaredRole, BoundRoles}
+use Rattle.symbols.specs.Names.{lettersAt, nearest, roleNamed, declaredNames, boundNames, Roles, roleAmong, declaredRole, BoundRoles}
 use Rattle.symbols.proofs.Search.{entryName, nearest-below}
 
 module _ (text spans roles : List ℕ) (base : ℕ) (w : List ℕ) where
@@ -100,50 +100,50 @@ nearest-letters text spans w (suc k) j e = go (sameName w (entryName text spans 
 
 -- the ways out of the search for a name's role
 module _ (text spans roles : List ℕ) (base limit span k : ℕ) (low : base ≤ limit) (r : Roles roles base)
-    (found : k ≡ nearest text spans (nameOf text span) limit)
+    (found : k ≡ nearest text spans (lettersAt text span) limit)
   where
     whole : limit ≡ base + (limit - base)
     whole = omega arith
 
-    found-whole : k ≡ nearest text spans (nameOf text span) (base + (limit - base))
-    found-whole = found ∙ ap (nearest text spans (nameOf text span)) whole
+    found-whole : k ≡ nearest text spans (lettersAt text span) (base + (limit - base))
+    found-whole = found ∙ ap (nearest text spans (lettersAt text span)) whole
 
     by-bound : (x : Bool) → ltb base k ≡ x
         → roleAmong text spans roles base (limit - base) span
-        ≡ cond x 3 (roleIn (nameOf text span) [] (declaredNames text spans roles base))
+        ≡ cond x 3 (roleIn (lettersAt text span) [] (declaredNames text spans roles base))
     by-bound x e =
-        bound-role text spans roles base (nameOf text span) (declaredNames text spans roles base) (limit - base)
-        ∙ ap (λ y. cond y 3 (roleIn (nameOf text span) [] (declaredNames text spans roles base)))
+        bound-role text spans roles base (lettersAt text span) (declaredNames text spans roles base) (limit - base)
+        ∙ ap (λ y. cond y 3 (roleIn (lettersAt text span) [] (declaredNames text spans roles base)))
         (ap (ltb base) (sym found-whole) ∙ e)
 
     pub bound-found : base < k → 3 ≡ roleAmong text spans roles base (limit - base) span
     bound-found h = sym (by-bound true (lt-ltb base k h))
 
-    by-declared : k ≤ base → roleAmong text spans roles base (limit - base) span ≡ byEntry text spans roles base (nameOf text span) k
+    by-declared : k ≤ base → roleAmong text spans roles base (limit - base) span ≡ byEntry text spans roles base (lettersAt text span) k
     by-declared h =
         by-bound false (le-ltb base k h)
-        ∙ declared-entry text spans roles base (nameOf text span) base (r .few-roles)
-        ∙ ap (byEntry text spans roles base (nameOf text span))
+        ∙ declared-entry text spans roles base (lettersAt text span) base (r .few-roles)
+        ∙ ap (byEntry text spans roles base (lettersAt text span))
         (sym
         (found-whole
-        ∙ found-low text spans roles base (nameOf text span) (limit - base) (subst (λ x. x ≤ base) found-whole h)))
+        ∙ found-low text spans roles base (lettersAt text span) (limit - base) (subst (λ x. x ≤ base) found-whole h)))
 
     pub declared-found : k ≤ base → (k ≡ 0 → ⊥) → getD roles (k - 1) 0 ≡ roleAmong text spans roles base (limit - base) span
     declared-found h n =
-        sym (by-declared h ∙ ap (λ x. cond x (cond (sameName (nameOf text span) input) 2 4) (getD roles (k - 1) 0)) (ne-eqb k 0 n))
+        sym (by-declared h ∙ ap (λ x. cond x (cond (sameName (lettersAt text span) input) 2 4) (getD roles (k - 1) 0)) (ne-eqb k 0 n))
 
-    not-found : k ≤ base → k ≡ 0 → (x : Bool) → x ≡ sameName (nameOf text span) input
+    not-found : k ≤ base → k ≡ 0 → (x : Bool) → x ≡ sameName (lettersAt text span) input
         → cond x 2 4 ≡ roleAmong text spans roles base (limit - base) span
     not-found h z x e =
         sym
         (by-declared h
-        ∙ ap (λ y. cond y (cond (sameName (nameOf text span) input) 2 4) (getD roles (k - 1) 0)) (eq-eqb k 0 z)
+        ∙ ap (λ y. cond y (cond (sameName (lettersAt text span) input) 2 4) (getD roles (k - 1) 0)) (eq-eqb k 0 z)
         ∙ ap (λ y. cond y 2 4) (sym e))
 
-    pub input-found : k ≤ base → k ≡ 0 → true ≡ sameName (nameOf text span) input → 2 ≡ roleAmong text spans roles base (limit - base) span
+    pub input-found : k ≤ base → k ≡ 0 → true ≡ sameName (lettersAt text span) input → 2 ≡ roleAmong text spans roles base (limit - base) span
     input-found h z e = not-found h z true e
 
-    pub nothing-found : k ≤ base → k ≡ 0 → false ≡ sameName (nameOf text span) input → 4 ≡ roleAmong text spans roles base (limit - base) span
+    pub nothing-found : k ≤ base → k ≡ 0 → false ≡ sameName (lettersAt text span) input → 4 ≡ roleAmong text spans roles base (limit - base) span
     nothing-found h z e = not-found h z false e
 
     pub few-entries : (k ≡ 0 → ⊥) → k ≤ base → getD roles (k - 1) 0 < 2
@@ -155,37 +155,37 @@ module _ (text spans roles : List ℕ) (base limit span k : ℕ) (low : base ≤
 
     pub entry-alone : BoundRoles text spans roles base limit → (k ≡ 0 → ⊥)
         → (getD roles (k - 1) 0 ≡ declaredRole text spans roles base span) × (getD roles (k - 1) 0 < 5)
-    entry-alone b n = let e = go (decLt base k) in (e, subst (λ x. x < 5) (sym e) (declared-few (nameOf text span) (declaredNames text spans roles base)))
+    entry-alone b n = let e = go (decLt base k) in (e, subst (λ x. x < 5) (sym e) (declared-few (lettersAt text span) (declaredNames text spans roles base)))
       where
         go : Dec (base < k) → getD roles (k - 1) 0 ≡ declaredRole text spans roles base span
         go (yes h) =
-            let l = nearest-below text spans (nameOf text span) limit in
-            let s : nearest text spans (nameOf text span) limit ≡ suc (k - 1) = omega (arith, n, found) in
+            let l = nearest-below text spans (lettersAt text span) limit in
+            let s : nearest text spans (lettersAt text span) limit ≡ suc (k - 1) = omega (arith, n, found) in
             b (k - 1) (omega arith) (omega (arith, n, found))
-            ∙ ap (λ w. roleIn w [] (declaredNames text spans roles base)) (sym (nearest-letters text spans (nameOf text span) limit (k - 1) s))
+            ∙ ap (λ w. roleIn w [] (declaredNames text spans roles base)) (sym (nearest-letters text spans (lettersAt text span) limit (k - 1) s))
         go (no h) = declared-found (omega (arith, h)) n ∙ alone (omega (arith, h))
 
-    pub input-alone : k ≡ 0 → true ≡ sameName (nameOf text span) input → 2 ≡ declaredRole text spans roles base span
+    pub input-alone : k ≡ 0 → true ≡ sameName (lettersAt text span) input → 2 ≡ declaredRole text spans roles base span
     input-alone z e = input-found (omega arith) z e ∙ alone (omega arith)
 
-    pub nothing-alone : k ≡ 0 → false ≡ sameName (nameOf text span) input → 4 ≡ declaredRole text spans roles base span
+    pub nothing-alone : k ≡ 0 → false ≡ sameName (lettersAt text span) input → 4 ≡ declaredRole text spans roles base span
     nothing-alone z e = nothing-found (omega arith) z e ∙ alone (omega arith)
 
     -- and for its entry among them
-    pub declared-there : k ≤ base → k ≡ nearest text spans (nameOf text span) base
-    declared-there h = found-whole ∙ found-low text spans roles base (nameOf text span) (limit - base) (subst (λ x. x ≤ base) found-whole h)
+    pub declared-there : k ≤ base → k ≡ nearest text spans (lettersAt text span) base
+    declared-there h = found-whole ∙ found-low text spans roles base (lettersAt text span) (limit - base) (subst (λ x. x ≤ base) found-whole h)
 
-    pub declared-nowhere : BoundRoles text spans roles base limit → base < k → 1 < getD roles (k - 1) 0 → 0 ≡ nearest text spans (nameOf text span) base
-    declared-nowhere b h l = go (nearest text spans (nameOf text span) base) refl (ℕ-discrete (nearest text spans (nameOf text span) base) 0)
+    pub declared-nowhere : BoundRoles text spans roles base limit → base < k → 1 < getD roles (k - 1) 0 → 0 ≡ nearest text spans (lettersAt text span) base
+    declared-nowhere b h l = go (nearest text spans (lettersAt text span) base) refl (ℕ-discrete (nearest text spans (lettersAt text span) base) 0)
       where
-        go : (j : ℕ) → nearest text spans (nameOf text span) base ≡ j → Dec (j ≡ 0) → 0 ≡ j
+        go : (j : ℕ) → nearest text spans (lettersAt text span) base ≡ j → Dec (j ≡ 0) → 0 ≡ j
         go j e (yes z) = sym z
         go j e (no z) =
             let f : getD roles (k - 1) 0 ≡ getD roles (j - 1) 0
             = entry-alone b (λ o. omega arith) .0
-            ∙ declared-entry text spans roles base (nameOf text span) base (r .few-roles)
-            ∙ ap (byEntry text spans roles base (nameOf text span)) e
-            ∙ ap (λ x. cond x (cond (sameName (nameOf text span) input) 2 4) (getD roles (j - 1) 0)) (ne-eqb j 0 z) in
-            let u = subst (λ x. x ≤ base) e (nearest-below text spans (nameOf text span) base) in
+            ∙ declared-entry text spans roles base (lettersAt text span) base (r .few-roles)
+            ∙ ap (byEntry text spans roles base (lettersAt text span)) e
+            ∙ ap (λ x. cond x (cond (sameName (lettersAt text span) input) 2 4) (getD roles (j - 1) 0)) (ne-eqb j 0 z) in
+            let u = subst (λ x. x ≤ base) e (nearest-below text spans (lettersAt text span) base) in
             let v = r .few-roles (j - 1) (omega (arith, z)) in
             absurd (omega arith)

@@ -13,10 +13,10 @@ use lib.Dec.{T, eqb, eqb→eq}
 use borrow.Author.Tests.{eq-eqb, ne-eqb}
 use Rattle.naming.specs.Declared.{sameName}
 use Rattle.naming.proofs.SameName.{same-equal}
-use Rattle.symbols.specs.Names.{nameOf, Inside, hashOf, nearest, lastHashed, Hashed}
+use Rattle.symbols.specs.Names.{lettersAt, Inside, hashOf, nearest, lastHashed, Hashed}
 
 abbrev pub entryName : (text spans : List ℕ) → ℕ → List ℕ
-entryName text spans k = nameOf text (getD spans k 0)
+entryName text spans k = lettersAt text (getD spans k 0)
 
 -- one of two by a test, with what the test says
 choose : (a b : ℕ) (P : ℕ → Type 0) (x y : ℕ) → (a ≡ b → P x) → ((a ≡ b → ⊥) → P y) → P (cond (eqb a b) x y)
@@ -141,14 +141,14 @@ none-hashed text spans links l m = record {
 
 module _ {text : List ℕ} {n : ℕ} {spans links heads : List ℕ} (t : Hashed text n spans links heads) where
   -- one name more
-  module _ (span h : ℕ) (fits : Inside text span) (room : n < 65536) (right : h ≡ hashOf (nameOf text span)) (low : h < 4096) where
+  module _ (span h : ℕ) (fits : Inside text span) (room : n < 65536) (right : h ≡ hashOf (lettersAt text span)) (low : h < 4096) where
     abbrev more : List ℕ
     more = set spans n span
 
     last-kept : (b m : ℕ) → m ≤ n → lastHashed text more b m ≡ lastHashed text spans b m
     last-kept b zero l = refl
     last-kept b (suc k) l =
-        ap₂ (λ v r. cond (eqb (hashOf (nameOf text v)) b) (suc k) r)
+        ap₂ (λ v r. cond (eqb (hashOf (lettersAt text v)) b) (suc k) r)
         (getD-set-other spans n k span 0 (λ e. omega arith)) (last-kept b k (omega arith))
 
     new-span : getD more n 0 ≡ span
@@ -157,7 +157,7 @@ module _ {text : List ℕ} {n : ℕ} {spans links heads : List ℕ} (t : Hashed 
     last-new : (b : ℕ) → lastHashed text more b (n + 1) ≡ cond (eqb h b) (suc n) (lastHashed text spans b n)
     last-new b =
         ap (lastHashed text more b) (add-one n)
-        ∙ ap₂ (λ v r. cond (eqb v b) (suc n) r) (ap (λ v. hashOf (nameOf text v)) new-span ∙ sym right) (last-kept b n (omega arith))
+        ∙ ap₂ (λ v r. cond (eqb v b) (suc n) r) (ap (λ v. hashOf (lettersAt text v)) new-span ∙ sym right) (last-kept b n (omega arith))
 
     heads-more : (b : ℕ) → b < 4096 → getD (set heads h (n + 1)) b 0 ≡ lastHashed text more b (n + 1)
     heads-more b l = go (ℕ-discrete b h)
@@ -173,21 +173,21 @@ module _ {text : List ℕ} {n : ℕ} {spans links heads : List ℕ} (t : Hashed 
             ∙ sym (last-new b ∙ ap (λ x. cond x (suc n) (lastHashed text spans b n)) (ne-eqb h b (λ f. e (sym f))))
 
     links-more : (k : ℕ) → k < n + 1
-        → getD (set links n (getD heads h 0)) k 0 ≡ lastHashed text more (hashOf (nameOf text (getD more k 0))) k
+        → getD (set links n (getD heads h 0)) k 0 ≡ lastHashed text more (hashOf (lettersAt text (getD more k 0))) k
     links-more k l = go (ℕ-discrete k n)
       where
-        go : Dec (k ≡ n) → getD (set links n (getD heads h 0)) k 0 ≡ lastHashed text more (hashOf (nameOf text (getD more k 0))) k
+        go : Dec (k ≡ n) → getD (set links n (getD heads h 0)) k 0 ≡ lastHashed text more (hashOf (lettersAt text (getD more k 0))) k
         go (yes e) =
-            subst (λ x. getD (set links n (getD heads h 0)) x 0 ≡ lastHashed text more (hashOf (nameOf text (getD more x 0))) x) (sym e)
+            subst (λ x. getD (set links n (getD heads h 0)) x 0 ≡ lastHashed text more (hashOf (lettersAt text (getD more x 0))) x) (sym e)
             (getD-set-same links n (getD heads h 0) 0 (omega (arith, t .links-long))
             ∙ t .heads-right h low
             ∙ sym (last-kept h n (omega arith))
-            ∙ ap (λ b. lastHashed text more b n) (right ∙ sym (ap (λ v. hashOf (nameOf text v)) new-span)))
+            ∙ ap (λ b. lastHashed text more b n) (right ∙ sym (ap (λ v. hashOf (lettersAt text v)) new-span)))
         go (no e) =
             getD-set-other links n k (getD heads h 0) 0 e
             ∙ t .links-right k (omega (arith, e))
-            ∙ sym (last-kept (hashOf (nameOf text (getD spans k 0))) k (omega (arith, e)))
-            ∙ ap (λ v. lastHashed text more (hashOf (nameOf text v)) k) (sym (getD-set-other spans n k span 0 e))
+            ∙ sym (last-kept (hashOf (lettersAt text (getD spans k 0))) k (omega (arith, e)))
+            ∙ ap (λ v. lastHashed text more (hashOf (lettersAt text v)) k) (sym (getD-set-other spans n k span 0 e))
 
     inside-more : (k : ℕ) → k < n + 1 → Inside text (getD more k 0)
     inside-more k l = go (ℕ-discrete k n)
@@ -208,7 +208,7 @@ module _ {text : List ℕ} {n : ℕ} {spans links heads : List ℕ} (t : Hashed 
     }
 
   -- one name less
-  module _ (h : ℕ) (some : 0 < n) (right : h ≡ hashOf (nameOf text (getD spans (n - 1) 0))) where
+  module _ (h : ℕ) (some : 0 < n) (right : h ≡ hashOf (lettersAt text (getD spans (n - 1) 0))) where
     last-less : (b : ℕ) → lastHashed text spans b n ≡ cond (eqb h b) n (lastHashed text spans b (n - 1))
     last-less b =
         let e : n ≡ suc (n - 1) = omega arith in

@@ -19,8 +19,8 @@ countOf span = span % 32
 abbrev pub lettersFrom : List ℕ → (place count : ℕ) → List ℕ
 lettersFrom text place count = take count (drop place text)
 
-abbrev pub nameOf : List ℕ → ℕ → List ℕ
-nameOf text span = lettersFrom text (placeOf span) (countOf span)
+abbrev pub lettersAt : List ℕ → ℕ → List ℕ
+lettersAt text span = lettersFrom text (placeOf span) (countOf span)
 
 abbrev pub Inside : List ℕ → ℕ → Type 0
 Inside text span = placeOf span + countOf span ≤ length text
@@ -36,13 +36,13 @@ hashOf w = hashedFrom 0 w
 -- the last of the first n names that is the same as w, counted from 1, or 0
 abbrev pub nearest : (text spans : List ℕ) → List ℕ → ℕ → ℕ
 nearest text spans w zero = 0
-nearest text spans w (suc k) = cond (sameName w (nameOf text (getD spans k 0))) (suc k) (nearest text spans w k)
+nearest text spans w (suc k) = cond (sameName w (lettersAt text (getD spans k 0))) (suc k) (nearest text spans w k)
 
 -- the last of the first n names with a hash, counted from 1, or 0
 abbrev pub lastHashed : (text spans : List ℕ) (hash : ℕ) → ℕ → ℕ
 lastHashed text spans hash zero = 0
 lastHashed text spans hash (suc k) =
-    cond (eqb (hashOf (nameOf text (getD spans k 0))) hash) (suc k) (lastHashed text spans hash k)
+    cond (eqb (hashOf (lettersAt text (getD spans k 0))) hash) (suc k) (lastHashed text spans hash k)
 
 -- the table of the first n names
 pub record Hashed (text : List ℕ) (n : ℕ) (spans links heads : List ℕ) : Type 0 where
@@ -52,7 +52,7 @@ pub record Hashed (text : List ℕ) (n : ℕ) (spans links heads : List ℕ) : T
   pub room : n ≤ 65536
   pub inside : (k : ℕ) → k < n → Inside text (getD spans k 0)
   pub heads-right : (b : ℕ) → b < 4096 → getD heads b 0 ≡ lastHashed text spans b n
-  pub links-right : (k : ℕ) → k < n → getD links k 0 ≡ lastHashed text spans (hashOf (nameOf text (getD spans k 0))) k
+  pub links-right : (k : ℕ) → k < n → getD links k 0 ≡ lastHashed text spans (hashOf (lettersAt text (getD spans k 0))) k
 
 -- the first names are declared, as types or constructors, above `input`; those after them are bound
 abbrev pub roleNamed : ℕ → Role
@@ -62,11 +62,11 @@ roleNamed (suc n) = aConstructor
 abbrev pub declaredNames : (text spans roles : List ℕ) → ℕ → List DeclaredName
 declaredNames text spans roles zero = atFirst
 declaredNames text spans roles (suc k) =
-    declaredAs (nameOf text (getD spans k 0)) (roleNamed (getD roles k 0)) ∷ declaredNames text spans roles k
+    declaredAs (lettersAt text (getD spans k 0)) (roleNamed (getD roles k 0)) ∷ declaredNames text spans roles k
 
 abbrev pub boundNames : (text spans : List ℕ) (base : ℕ) → ℕ → List (List ℕ)
 boundNames text spans base zero = []
-boundNames text spans base (suc k) = nameOf text (getD spans (base + k) 0) ∷ boundNames text spans base k
+boundNames text spans base (suc k) = lettersAt text (getD spans (base + k) 0) ∷ boundNames text spans base k
 
 -- the roles of the declared names
 pub record Roles (roles : List ℕ) (base : ℕ) : Type 0 where
@@ -76,11 +76,11 @@ pub record Roles (roles : List ℕ) (base : ℕ) : Type 0 where
 -- what a name stands for among the declared names and so many bound ones
 abbrev pub roleAmong : (text spans roles : List ℕ) (base extra span : ℕ) → ℕ
 roleAmong text spans roles base extra span =
-    roleIn (nameOf text span) (boundNames text spans base extra) (declaredNames text spans roles base)
+    roleIn (lettersAt text span) (boundNames text spans base extra) (declaredNames text spans roles base)
 
 -- among the declared names alone
 abbrev pub declaredRole : (text spans roles : List ℕ) (base span : ℕ) → ℕ
-declaredRole text spans roles base span = roleIn (nameOf text span) [] (declaredNames text spans roles base)
+declaredRole text spans roles base span = roleIn (lettersAt text span) [] (declaredNames text spans roles base)
 
 -- each bound name has with it what its letters stand for among the declared names
 abbrev pub BoundRoles : (text spans roles : List ℕ) (base n : ℕ) → Type 0

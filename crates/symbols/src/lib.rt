@@ -6,10 +6,10 @@ ghost use Prim.Native.Nat.{ℕ, _+_, _-_, _/_, _%_, _≤_, _<_};
 ghost use mathlib.Core.List.{List};
 ghost use lib.ListN.{length, set};
 ghost use Rattle.naming.specs.Declared.{sameName, input};
-ghost use Rattle.symbols.specs.Names.{nameOf, Inside, hashOf, nearest, Hashed, Roles, roleAmong, declaredRole, BoundRoles};
+ghost use Rattle.symbols.specs.Names.{lettersAt, Inside, hashOf, nearest, Hashed, Roles, roleAmong, declaredRole, BoundRoles};
 
 // One more than the bytes of a text, and so than its names.
-pub const NAMES: usize = 65536;
+pub const SYMBOLS: usize = 65536;
 
 // The numbers of hashes, and the factor from letter to letter.
 const HASHES: usize = 4096;
@@ -19,13 +19,13 @@ const FACTOR: usize = 31;
 // A span is the place of a name times this, and the number of its letters.
 pub const SPAN: usize = 32;
 
-pub type Spans = [u32; NAMES];
+pub type Spans = [u32; SYMBOLS];
 
-pub type Links = [u32; NAMES];
+pub type Links = [u32; SYMBOLS];
 
 pub type Heads = [u32; HASHES];
 
-pub type NameRoles = [u8; NAMES];
+pub type NameRoles = [u8; SYMBOLS];
 
 pub const ROLE_TYPE: u8 = 0;
 
@@ -40,7 +40,7 @@ pub const ROLE_NONE: u8 = 4;
 pub fn no_spans() -> Spans
     ensures { λ r. ⌜ length r ≡ 65536 ⌝ }
 {
-    [0; NAMES]
+    [0; SYMBOLS]
 }
 
 pub fn no_heads() -> Heads
@@ -52,7 +52,7 @@ pub fn no_heads() -> Heads
 pub fn no_roles() -> NameRoles
     ensures { λ r. ⌜ Roles r 0 ⌝ }
 {
-    [0; NAMES]
+    [0; SYMBOLS]
 }
 
 fn letter(b: u8) -> usize
@@ -82,7 +82,7 @@ fn count(span: u32) -> usize
 // The hash of a name.
 fn hash(text: &[u8], span: u32) -> usize
     requires { ⌜ Inside (now text) span ⌝ }
-    ensures { λ r. ⌜ (r ≡ hashOf (nameOf (now (text .entry)) span)) × (r < 4096) ⌝ }
+    ensures { λ r. ⌜ (r ≡ hashOf (lettersAt (now (text .entry)) span)) × (r < 4096) ⌝ }
 {
     let p = place(span);
     let letters = count(span);
@@ -98,7 +98,7 @@ fn hash(text: &[u8], span: u32) -> usize
 // Whether two names have the same letters.
 fn same(text: &[u8], a: u32, b: u32) -> bool
     requires { ⌜ Inside (now text) a × Inside (now text) b ⌝ }
-    ensures { λ r. ⌜ r ≡ sameName (nameOf (now (text .entry)) a) (nameOf (now (text .entry)) b) ⌝ }
+    ensures { λ r. ⌜ r ≡ sameName (lettersAt (now (text .entry)) a) (lettersAt (now (text .entry)) b) ⌝ }
 {
     let letters = count(a);
     if letters != count(b) {
@@ -119,7 +119,7 @@ fn same(text: &[u8], a: u32, b: u32) -> bool
 // Whether a name is `input`.
 fn is_input(text: &[u8], span: u32) -> bool
     requires { ⌜ Inside (now text) span ⌝ }
-    ensures { λ r. ⌜ r ≡ sameName (nameOf (now (text .entry)) span) input ⌝ }
+    ensures { λ r. ⌜ r ≡ sameName (lettersAt (now (text .entry)) span) input ⌝ }
 {
     let p = place(span);
     if count(span) != 5 {
@@ -141,7 +141,7 @@ fn is_input(text: &[u8], span: u32) -> bool
 }
 
 // The last of the first `limit` names that is the same, counted from 1, or 0.
-pub fn find(
+pub fn find_name(
     text: &[u8],
     span: u32,
     limit: usize,
@@ -151,7 +151,7 @@ pub fn find(
     heads: &Heads,
 ) -> usize
     requires { ⌜ Hashed (now text) n (now spans) (now links) (now heads) × Inside (now text) span × (limit ≤ n) ⌝ }
-    ensures { λ r. ⌜ r ≡ nearest (now (text .entry)) (now (spans .entry)) (nameOf (now (text .entry)) span) limit ⌝ }
+    ensures { λ r. ⌜ r ≡ nearest (now (text .entry)) (now (spans .entry)) (lettersAt (now (text .entry)) span) limit ⌝ }
 {
     let mut k = number(heads[hash(text, span)]);
     while k != 0 {
@@ -166,7 +166,7 @@ pub fn find(
 }
 
 // One name more, the last.
-pub fn push(
+pub fn push_name(
     text: &[u8],
     span: u32,
     n: usize,
@@ -184,7 +184,7 @@ pub fn push(
 }
 
 // The last name goes.
-pub fn pop(text: &[u8], n: usize, spans: &Spans, links: &Links, heads: &mut Heads)
+pub fn pop_name(text: &[u8], n: usize, spans: &Spans, links: &Links, heads: &mut Heads)
     requires { ⌜ Hashed (now text) n (now spans) (now links) (now heads) × (0 < n) ⌝ }
     ensures { λ _. ⌜ Hashed (now (text .entry)) (n - 1) (now (spans .entry)) (now (links .entry)) (now (heads .exit)) ⌝ }
 {
@@ -207,7 +207,7 @@ pub fn role(
     requires { ⌜ Hashed (now text) n (now spans) (now links) (now heads) × Inside (now text) span × (limit ≤ n) × (base ≤ limit) × Roles (now roles) base ⌝ }
     ensures { λ r. ⌜ (r ≡ roleAmong (now (text .entry)) (now (spans .entry)) (now (roles .entry)) base (limit - base) span) × (r < 5) ⌝ }
 {
-    let k = find(text, span, limit, n, spans, links, heads);
+    let k = find_name(text, span, limit, n, spans, links, heads);
     if base < k {
         return ROLE_BOUND;
     }
@@ -234,7 +234,7 @@ pub fn declared_role(
     requires { ⌜ Hashed (now text) n (now spans) (now links) (now heads) × Inside (now text) span × (base ≤ n) × Roles (now roles) base × BoundRoles (now text) (now spans) (now roles) base n ⌝ }
     ensures { λ r. ⌜ (r ≡ declaredRole (now (text .entry)) (now (spans .entry)) (now (roles .entry)) base span) × (r < 5) ⌝ }
 {
-    let k = find(text, span, n, n, spans, links, heads);
+    let k = find_name(text, span, n, n, spans, links, heads);
     if k != 0 {
         return roles[k - 1];
     }
@@ -257,14 +257,14 @@ pub fn find_declared(
     roles: &NameRoles,
 ) -> usize
     requires { ⌜ Hashed (now text) n (now spans) (now links) (now heads) × Inside (now text) span × (base ≤ n) × Roles (now roles) base × BoundRoles (now text) (now spans) (now roles) base n ⌝ }
-    ensures { λ r. ⌜ r ≡ nearest (now (text .entry)) (now (spans .entry)) (nameOf (now (text .entry)) span) base ⌝ }
+    ensures { λ r. ⌜ r ≡ nearest (now (text .entry)) (now (spans .entry)) (lettersAt (now (text .entry)) span) base ⌝ }
 {
-    let k = find(text, span, n, n, spans, links, heads);
+    let k = find_name(text, span, n, n, spans, links, heads);
     if k <= base {
         return k;
     }
     if ROLE_CONSTRUCTOR < roles[k - 1] {
         return 0;
     }
-    find(text, span, base, n, spans, links, heads)
+    find_name(text, span, base, n, spans, links, heads)
 }

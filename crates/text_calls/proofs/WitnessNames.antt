@@ -123,16 +123,16 @@ same-asks = (inside 3233 tt, inside 1697 tt)
 is-input-asks : Inside toggleText 2373
 is-input-asks = inside 2373 tt
 
-find-asks : Hashed toggleText 4 spans₄ links₄ heads₄ × Inside toggleText 3233 × (4 ≤ 4)
-find-asks = (hashed₄, inside 3233 tt, omega arith)
+find-name-asks : Hashed toggleText 4 spans₄ links₄ heads₄ × Inside toggleText 3233 × (4 ≤ 4)
+find-name-asks = (hashed₄, inside 3233 tt, omega arith)
 
 -- x is bound
-push-asks : Hashed toggleText 3 spans₃ links₃ heads₃ × Inside toggleText 1697 × (3 < 65536)
-push-asks = (hashed₃, inside 1697 tt, omega arith)
+push-name-asks : Hashed toggleText 3 spans₃ links₃ heads₃ × Inside toggleText 1697 × (3 < 65536)
+push-name-asks = (hashed₃, inside 1697 tt, omega arith)
 
 -- the last bracket
-pop-asks : Hashed toggleText 4 spans₄ links₄ heads₄ × (0 < 4)
-pop-asks = (hashed₄, omega arith)
+pop-name-asks : Hashed toggleText 4 spans₄ links₄ heads₄ × (0 < 4)
+pop-name-asks = (hashed₄, omega arith)
 
 role-asks : Hashed toggleText 4 spans₄ links₄ heads₄ × Inside toggleText 3233 × (4 ≤ 4) × (3 ≤ 4) × Roles roles₄ 3
 role-asks = (hashed₄, inside 3233 tt, omega arith, omega arith, roles-of 1 4 3 (omega arith) (omega arith))
@@ -143,12 +143,12 @@ declared-role-asks : Hashed toggleText 4 spans₄ links₄ heads₄ × Inside to
 declared-role-asks = (hashed₄, inside 3555 tt, omega arith, roles-of 1 4 3 (omega arith) (omega arith), x-bound)
 
 -- Crate `scoping`. `two` is declared as a constructor.
-declare-asks : Hashed toggleText 2 spans₂ links₂ heads₂ × Inside toggleText 547 × (2 < 65536) × Roles roles₂ 2 × (1 < 2)
-declare-asks = (hashed₂, inside 547 tt, omega arith, roles-of 0 0 2 (omega arith) (omega arith), omega arith)
+declare-name-asks : Hashed toggleText 2 spans₂ links₂ heads₂ × Inside toggleText 547 × (2 < 65536) × Roles roles₂ 2 × (1 < 2)
+declare-name-asks = (hashed₂, inside 547 tt, omega arith, roles-of 0 0 2 (omega arith) (omega arith), omega arith)
 
-bind-asks : Hashed toggleText 3 spans₃ links₃ heads₃ × Inside toggleText 1697 × (3 < 65536) × (3 ≤ 3) × Roles roles₃ 3
+bind-name-asks : Hashed toggleText 3 spans₃ links₃ heads₃ × Inside toggleText 1697 × (3 < 65536) × (3 ≤ 3) × Roles roles₃ 3
     × BoundRoles toggleText spans₃ roles₃ 3 3
-bind-asks =
+bind-name-asks =
     (hashed₃, inside 1697 tt, omega arith, omega arith, roles-of 1 0 3 (omega arith) (omega arith), none-bound toggleText spans₃ roles₃ 3)
 
 -- the type's name is kept until `one`, its first constructor
@@ -209,9 +209,9 @@ scope-at-x = refl
 declare-pending-asks : Scoping toggleText 65535 0 0 1 spans₀ spans₀ heads₀ spans₀ pendings
 declare-pending-asks = scoping-at-one 65535 (omega arith) (omega arith)
 
-holds-asks : Hashed toggleText 4 spans₄ links₄ heads₄ × Inside toggleText 3233 × (3 ≤ 4) × Roles roles₄ 3
+name-holds-asks : Hashed toggleText 4 spans₄ links₄ heads₄ × Inside toggleText 3233 × (3 ≤ 4) × Roles roles₄ 3
     × BoundRoles toggleText spans₄ roles₄ 3 4 × (13 < 47) × (admissionTable ≡ admissionTable)
-holds-asks =
+name-holds-asks =
     (hashed₄, inside 3233 tt, omega arith, roles-of 1 4 3 (omega arith) (omega arith), x-bound, omega arith, refl)
 
 note-first-asks : Scoping toggleText 65534 0 0 1 spans₀ spans₀ heads₀ spans₀ pendings × Inside toggleText 355 × (4 < 47)

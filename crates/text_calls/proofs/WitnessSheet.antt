@@ -68,7 +68,7 @@ top-asks = stacking 11 (omega arith)
 stack-push-asks : Stacking (kinds 10) (values 10) 10 × (10 < 65536)
 stack-push-asks = (stacking 10 (omega arith), omega arith)
 
--- so ask `complete`, `put_expression`, `put_two`, `put_recursion`, `put_delay`, `put_constant`, `put_undefined` and `step` too
+-- so ask `complete`, `put_expression`, `put_two`, `put_recursion`, `put_delay`, `put_constant`, `put_undefined` and `emission_step` too
 put-choice-asks : Advancing slice (kinds 11) (values 11) 8 11
 put-choice-asks = advancing 8 11 (omega arith) (omega arith)
 

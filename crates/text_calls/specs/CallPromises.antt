@@ -2,8 +2,8 @@
 use Prim.Native.Nat.{ℕ}
 use mathlib.Core.List.{List, map}
 use lib.ListN.{take}
-use Rattle.picoella.specs.Types.{leaves}
-use Rattle.records.specs.TypeRecords.{typeAt}
+use Rattle.picoella.specs.Language.{leaves}
+use Rattle.records.specs.Trees.{typeAt}
 use Rattle.answers.specs.declared.Answer.the-variants.{Done}
 use Rattle.grammar.specs.Tokens.{Token}
 use Rattle.grammar.specs.Source.{Text}

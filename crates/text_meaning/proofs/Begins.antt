@@ -6,8 +6,7 @@ use mathlib.Core.Path.{_≡_, refl, ap, ap₂, sym, subst, _∙_}
 use mathlib.Core.Bool.{Bool, true, false, cond, not}
 use mathlib.Core.List.{List, [], _∷_, _++_}
 use native.Mathlib.Omega.{arith}
-use Rattle.picoella.specs.Types.{Ty, leaves}
-use Rattle.picoella.specs.Expressions.{Expr, Const, Var, Tuple, Index1, Index2, Let, LetRec, If, Delay}
+use Rattle.picoella.specs.Language.{Ty, leaves, Expr, Const, Var, Tuple, Index1, Index2, Let, LetRec, If, Delay}
 use Rattle.grammar.specs.Source.{Identifier, identifier, Declaration, Constructors, PairOf}
 use Rattle.grammar.specs.Source.{
   Expression,
@@ -55,31 +54,13 @@ use Rattle.naming.specs.Names.{
 use Rattle.naming.proofs.SameName.{equal-same, same-equal}
 use Rattle.translation.specs.Resolved.{typeMeant, typeEntries, constructorMeant, constructorEntries, distance}
 use Rattle.translation.specs.Distances.{asConstant, nameMeant, byDistances, unplaced}
-use Rattle.translation.proofs.Tables.{pass-both, passes, pass-rest, after-new}
+use Rattle.translation.proofs.ConstructorTables.{pass-both, passes, pass-rest, after-new}
 use Rattle.text_meaning.specs.Circuits.{Circuit, Uses, circuitOf}
 use Rattle.text_meaning.proofs.Naming.{KnownType}
-use Rattle.text_meaning.proofs.Simulates.{
-  At,
-  at-input,
-  at-here,
-  at-there,
-  NotIn,
-  not-input,
-  not-here,
-  Related,
-  related-name,
-  related-constructor,
-  related-always,
-  related-pair,
-  related-first,
-  related-second,
-  related-let,
-  related-feedback,
-  related-if,
-  related-delay,
-}
+use Rattle.text_meaning.proofs.Related.{At, at-input, at-here, at-there, NotIn, not-input, not-here, Related, related-name, related-constructor, related-always, related-pair, related-first, related-second, related-let, related-feedback, related-if, related-delay}
 use Rattle.text_meaning.proofs.NamesStand.{all-differ, numbered, type-known, unknown-is}
-use Rattle.text_meaning.proofs.ConstantsStand.{new-name, constructor-stands, constructor-known, unknown-stands, held-stands}
+use Rattle.text_meaning.proofs.TakenNames.{new-name}
+use Rattle.text_meaning.proofs.ConstantsStand.{constructor-stands, constructor-known, unknown-stands, held-stands}
 
 -- a declared value that is no constructor is `input`
 record OnlyInput (D : List DeclaredName) : Type 0 where
@@ -178,7 +159,7 @@ not-in w (v ∷ bound) h i = go (sameName w v) refl (λ n. not-in w bound n i) h
     go true e f h = absurd (let no : _≡_ {A = ℕ} 0 1 = cc in omega arith)
     go false e f h = not-here e (f h)
 
-module _ (ds : List Declaration) (good : AllPass (declarationsChecks atFirst ds)) where
+module _ {ds : List Declaration} (good : AllPass (declarationsChecks atFirst ds)) where
   name-related : (bound : List (List ℕ)) (w : List ℕ) → cond (isAmong w bound) true (isDeclared valueRoles w (afterAll atFirst ds)) ≡ true
       → Related ds bound (nameMeant ds bound w) (Uses w)
   name-related bound w h = go (isAmong w bound) (isDeclared constructorRole w (afterAll atFirst ds)) refl refl h

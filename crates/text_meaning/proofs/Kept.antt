@@ -6,10 +6,8 @@ use mathlib.Core.List.{List, [], _∷_, _++_, map}
 use mathlib.Core.Option.{Option, some}
 use lib.ListN.{length, take, drop}
 use lib.Seq.{take-at, drop-at}
-use Rattle.picoella.specs.Types.{Ty, leaves}
-use Rattle.picoella.specs.Expressions.{Expr}
-use Rattle.picoella.specs.Typing.{Typed}
-use Rattle.records.specs.TypeRecords.{typeAt, Declared}
+use Rattle.picoella.specs.Language.{Ty, leaves, Expr, Typed}
+use Rattle.records.specs.Trees.{typeAt, Declared}
 use Rattle.records.specs.Decoding.{decode}
 use Rattle.grammar.specs.Tokens.{Token}
 use Rattle.grammar.specs.Source.{Identifier, identifier, Declaration, Expression, Text, text}
@@ -26,13 +24,12 @@ use Rattle.meaning.proofs.Order.{value-length}
 use Rattle.meaning.proofs.FlattenOneToOne.{flatten-typed}
 use Rattle.stimulus.specs.Stimulus.{inputType, cycleCount, cycles, pieces, endToEnd}
 use Rattle.answers.specs.Answers.{packed}
-use Rattle.behaviour.specs.Run.{answer, finalOut, finalNext, Gives}
+use Rattle.behaviour.specs.Run.{answer, finalOut, finalNext, Gives, RunsByRules}
 use Rattle.behaviour.specs.Afterwards.{WellFormed}
-use Rattle.behaviour.specs.ByRules.{RunsByRules}
 use Rattle.behaviour.proofs.ByRules.{call-by-rules}
 use Rattle.translation.specs.Layout.{sheetOfText}
 use Rattle.translation.specs.Distances.{byDistances, expressionMeant, unplaced}
-use Rattle.translation.proofs.Tables.{pass-both}
+use Rattle.translation.proofs.ConstructorTables.{pass-both}
 use Rattle.translation.proofs.Kept as Translation
 use Rattle.translation.proofs.Kept.{names-good}
 use Rattle.text_meaning.specs.NamedValues.{NamedValue, valueOf}
@@ -41,12 +38,13 @@ use Rattle.text_meaning.specs.NamedRules.{GivesSeq, no-cycle, one-cycle}
 use Rattle.text_meaning.specs.TextPromises.{declarations, Means, OneMeaning, RunGivesMeaning, MeaningExists, TextPromises}
 use Rattle.text_meaning.proofs.OneMeaning.{run-one}
 use Rattle.text_meaning.proofs.Naming.{nameTree, KnownType, value-of}
-use Rattle.text_meaning.proofs.Simulates.{Related, scoped-input, none-known, one-known, follows}
+use Rattle.text_meaning.proofs.Related.{Related, scoped-input, none-known, one-known}
+use Rattle.text_meaning.proofs.Simulates.{follows}
 use Rattle.text_meaning.proofs.NamesStand.{all-differ, numbered, type-known}
 use Rattle.text_meaning.proofs.Begins.{begins, placed}
 
 one-meaning : OneMeaning
-one-meaning t inputs outputs others x y = run-one _ (x .1) (y .1) .0
+one-meaning t inputs outputs others x y = run-one (x .1) (y .1) .0
 
 -- values of a list of constants
 all-values : (ds : List Declaration) {τ : Ty} {cs : List ConstantTree} → AllConstantsOf τ cs
@@ -103,7 +101,7 @@ run-gives-meaning ts (text d ds (identifier w p) e) rd h stim out next τ result
     let related =
     placed (rules .expression)
     (subst (λ f. Related (d ∷ ds) [] f (circuitOf (d ∷ ds) e)) (sym (ap unplaced (sym also) ∙ meant .2))
-    (begins (d ∷ ds) (good .0) [] e (good .1) (constants-good d ds (identifier w p) e h))) in
+    (begins (good .0) [] e (good .1) (constants-good d ds (identifier w p) e h))) in
     let known =
     subst (KnownType (d ∷ ds)) (sym (Translation.kept .input-as-declared t h))
     (type-known (d ∷ ds) (all-differ atFirst (d ∷ ds) (good .0)) w) in

@@ -2,8 +2,11 @@
 pub mod OneMeaning
 pub mod Naming
 pub mod Matched
+pub mod Related
+pub mod InScope
 pub mod Simulates
 pub mod NamesStand
+pub mod TakenNames
 pub mod ConstantsStand
 pub mod Begins
 pub mod Kept

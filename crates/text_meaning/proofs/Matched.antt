@@ -7,9 +7,8 @@ use mathlib.Core.List.{List, [], _∷_}
 use native.Mathlib.Omega.{arith}
 use lib.Dec.{eqb}
 use lib.ListN.{length, getD}
-use Rattle.picoella.specs.Types.{Ty, Flat, TyTuple}
-use Rattle.picoella.specs.Patterns as Patterns
-use Rattle.picoella.specs.Patterns.{HasType, p-whole, p-constructor, p-parts, p-bar}
+use Rattle.picoella.specs.Language.{Ty, Flat, TyTuple, HasType, p-whole, p-constructor, p-parts, p-bar}
+use Rattle.picoella.specs.Language as Language
 use Rattle.grammar.specs.Source.{Identifier, identifier, Declaration, SourcePattern, Alone, PatternPair, Either}
 use Rattle.naming.specs.Declared.{sameName, DeclaredName, isDeclared, typeRole, constructorRole, patternRoles, atFirst}
 use Rattle.naming.specs.Names.{afterAll, patternChecks}
@@ -36,7 +35,7 @@ use Rattle.meaning.specs.Constants.{glb}
 use Rattle.meaning.specs.Rules.{branch}
 use Rattle.translation.specs.Resolved.{typeMeant, typeEntries, Meant, constructorMeant, constructorEntries}
 use Rattle.translation.specs.Distances.{asPattern, patternMeant}
-use Rattle.translation.proofs.Tables.{pass-both, passes, type-or-constructor}
+use Rattle.translation.proofs.ConstructorTables.{pass-both, passes, type-or-constructor}
 use Rattle.naming.specs.Checks.{AllPass}
 use Rattle.meaning.specs.Undecided.{undecidedConstant}
 use Rattle.text_meaning.specs.NamedValues.{NamedValue, constructorOn, matchesNamed, chosenValue, constructorsOf, leafValue}
@@ -87,9 +86,9 @@ module _ (ds : List Declaration) where
       → IsNumber ds w (constructorMeant (constructorEntries ds) w)) where
     alone-matched : (w : List ℕ) (σ : Ty) {τ : Ty} {c : ConstantTree} (b : Bool)
         → (b ≡ false → isDeclared constructorRole w (afterAll atFirst ds) ≡ true) → KnownType ds τ
-        → HasType (cond b (Patterns.Whole σ) (asPattern (constructorMeant (constructorEntries ds) w))) τ → ConstantOf τ c
+        → HasType (cond b (Language.Whole σ) (asPattern (constructorMeant (constructorEntries ds) w))) τ → ConstantOf τ c
         → answer3 (cond b Yes (constructorOn w (nameTree ds c)))
-        ≡ match (cond b (Patterns.Whole σ) (asPattern (constructorMeant (constructorEntries ds) w))) c
+        ≡ match (cond b (Language.Whole σ) (asPattern (constructorMeant (constructorEntries ds) w))) c
     alone-matched w σ true h known typed of = refl
     alone-matched w σ false h (known-flat l d) p-constructor (of-cons {r} {n} {i} g) =
         let m = numbered w (h refl) in

@@ -8,7 +8,7 @@ use mathlib.Core.Bool.{Bool, true, false, cond, not}
 use mathlib.Core.List.{List, [], _∷_, _++_}
 use native.Mathlib.Omega.{arith}
 use lib.ListN.{length, getD}
-use Rattle.picoella.specs.Types.{Ty, Flat, TyTuple}
+use Rattle.picoella.specs.Language.{Ty, Flat, TyTuple}
 use Rattle.grammar.specs.Source.{Identifier, identifier, Declaration, Constructors, PairOf}
 use Rattle.naming.specs.Declared.{sameName, DeclaredName, declaredAs, isTaken, isDeclared, constructorRole, aConstructor, aType, atFirst}
 use Rattle.naming.specs.Checks.{PlacedCheck, checkAt, AllPass, one-holds}
@@ -31,7 +31,7 @@ use Rattle.translation.specs.Resolved.{
   constructorEntries,
   constructorMeant,
 }
-use Rattle.translation.proofs.Tables.{pass-both, passes, pass-rest, isEntry, a-constructor}
+use Rattle.translation.proofs.ConstructorTables.{pass-both, passes, pass-rest, isEntry, a-constructor}
 use Rattle.text_meaning.specs.NamedValues.{NamedValue, Unknown, Couple, constructorsOf}
 use Rattle.text_meaning.specs.Circuits.{UnknownOf, unknownOf, unknownIn, unknownsFrom, unknownNamed}
 use Rattle.text_meaning.proofs.Naming.{nameTree, Differ, KnownType, known-flat, known-pair}
@@ -57,7 +57,7 @@ record NamesFrom (names : ℕ → List (List ℕ)) (i : ℕ) (ds : List Declarat
   at : (t : ℕ) → names (i + t) ≡ constructorsOf ds (suc t)
 
 -- none taken is among new names
-module _ (w : List ℕ) where
+module _ {w : List ℕ} where
   not-new : (D : List DeclaredName) (cs : List Identifier) (j : ℕ) → isTaken w D ≡ true → AllPass (constructorChecks D cs) → j < length cs
       → getD (allLetters cs) j [] ≡ w → ⊥
   not-new D [] j h good l e = omega arith
@@ -88,10 +88,10 @@ constructors-differ D (identifier v p ∷ cs) good = record { one = go (construc
     go d zero zero h k e = refl
     go d zero (suc j) h k e =
         let l = letters-length cs in
-        absurd (not-new v (add aConstructor (identifier v p) D) cs j taken (pass-rest good) (omega arith) (sym e))
+        absurd (not-new (add aConstructor (identifier v p) D) cs j taken (pass-rest good) (omega arith) (sym e))
     go d (suc i) zero h k e =
         let l = letters-length cs in
-        absurd (not-new v (add aConstructor (identifier v p) D) cs i taken (pass-rest good) (omega arith) e)
+        absurd (not-new (add aConstructor (identifier v p) D) cs i taken (pass-rest good) (omega arith) e)
     go d (suc i) (suc j) h k e = ap suc (d .one i j (omega arith) (omega arith) e)
 
 type-constructors-differ : (D : List DeclaredName) (t c : Identifier) (cs : List Identifier)

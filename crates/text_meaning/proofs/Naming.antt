@@ -10,7 +10,7 @@ use native.Mathlib.Omega.{arith}
 use lib.Dec.{T, eqb, eqb→eq}
 use borrow.Author.Tests.{eq-eqb}
 use lib.ListN.{length, getD, take, drop}
-use Rattle.picoella.specs.Types.{Ty, Flat, TyTuple, leaves}
+use Rattle.picoella.specs.Language.{Ty, Flat, TyTuple, leaves}
 use Rattle.grammar.specs.Source.{Declaration}
 use Rattle.naming.specs.Declared.{sameName}
 use Rattle.naming.proofs.SameName.{equal-same, same-equal}

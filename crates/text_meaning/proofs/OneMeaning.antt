@@ -12,7 +12,7 @@ use Rattle.text_meaning.specs.NamedRules.{
   Binding,
   binding,
   nearestBinding,
-  Gives,
+  CircuitGives,
   gives-bound,
   gives-constructor,
   gives-always,
@@ -43,10 +43,10 @@ first-of p = cc
 second-of : {a b c d : NamedValue} → Couple a b ≡ Couple c d → b ≡ d
 second-of p = cc
 
-module _ (D : List DeclaredName) where
+module _ {D : List DeclaredName} where
   mutual
     pub gives-one : {ρ : List Binding} {c c′ c″ : Circuit} {v w : NamedValue}
-        → Gives D ρ c v c′ → Gives D ρ c w c″ → (v ≡ w) × (c′ ≡ c″)
+        → CircuitGives D ρ c v c′ → CircuitGives D ρ c w c″ → (v ≡ w) × (c′ ≡ c″)
     gives-one (gives-bound p) (gives-bound q) = (some-one (sym p ∙ q), refl)
     gives-one (gives-bound p) (gives-constructor q h) = absurd (some-none p q)
     gives-one (gives-constructor q h) (gives-bound p) = absurd (some-none p q)
@@ -60,11 +60,11 @@ module _ (D : List DeclaredName) where
     gives-one (gives-second x) (gives-second y) = let (p, q) = gives-one x y in (second-of p, ap SecondPart q)
     gives-one (gives-let {ρ} {x} {d = d} a b) (gives-let {d′ = e} {w = w} f g) =
         let (p, q) = gives-one a f in
-        let (r, s) = gives-one b (subst (λ v. Gives D (binding x v ∷ ρ) d w e) (sym p) g) in
+        let (r, s) = gives-one b (subst (λ v. CircuitGives D (binding x v ∷ ρ) d w e) (sym p) g) in
         (r, ap₂ (Binds x) q s)
     gives-one (gives-feedback {ρ} {x} {d = d} {i = i} a b) (gives-feedback {d′ = e} {w = w} f g) =
         let (p, q) = comes-one a f in
-        let (r, s) = gives-one b (subst (λ v. Gives D (binding x v ∷ ρ) d w e) (sym p) g) in
+        let (r, s) = gives-one b (subst (λ v. CircuitGives D (binding x v ∷ ρ) d w e) (sym p) g) in
         (r, ap₂ (FeedsBack i x) q s)
     gives-one (gives-if {m = m} x y z e) (gives-if a b c f) =
         let (p, q) = gives-one x a in

@@ -1,4 +1,5 @@
--- The meaning of a text over its names. To believe: values, matching, the rules, and which byte stands for which constructor.
+-- The meaning of a text over its names: values, matching, the rules, and which byte stands for which constructor.
+-- To believe:
 pub mod NamedValues
 pub mod Circuits
 pub mod NamedRules

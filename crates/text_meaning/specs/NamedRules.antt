@@ -35,36 +35,36 @@ nearestBinding (binding u v ∷ ρ) w = cond (sameName w u) (some v) (nearestBin
 module _ (D : List DeclaredName) where
   mutual
     -- in the environment ρ the circuit c has the value v and is c′ at the next cycle
-    pub data Gives : List Binding → Circuit → NamedValue → Circuit → Type 0 where
-      gives-bound : {ρ : List Binding} {w : List ℕ} {v : NamedValue} → nearestBinding ρ w ≡ some v → Gives ρ (Uses w) v (Uses w)
+    pub data CircuitGives : List Binding → Circuit → NamedValue → Circuit → Type 0 where
+      gives-bound : {ρ : List Binding} {w : List ℕ} {v : NamedValue} → nearestBinding ρ w ≡ some v → CircuitGives ρ (Uses w) v (Uses w)
       gives-constructor : {ρ : List Binding} {w : List ℕ}
-          → nearestBinding ρ w ≡ none → isDeclared constructorRole w D ≡ true → Gives ρ (Uses w) (Made w) (Uses w)
-      gives-always : {ρ : List Binding} {v : NamedValue} → Gives ρ (Always v) v (Always v)
+          → nearestBinding ρ w ≡ none → isDeclared constructorRole w D ≡ true → CircuitGives ρ (Uses w) (Made w) (Uses w)
+      gives-always : {ρ : List Binding} {v : NamedValue} → CircuitGives ρ (Always v) v (Always v)
       gives-pair : {ρ : List Binding} {c d c′ d′ : Circuit} {v w : NamedValue}
-          → Gives ρ c v c′ → Gives ρ d w d′ → Gives ρ (Pairs c d) (Couple v w) (Pairs c′ d′)
+          → CircuitGives ρ c v c′ → CircuitGives ρ d w d′ → CircuitGives ρ (Pairs c d) (Couple v w) (Pairs c′ d′)
       gives-first : {ρ : List Binding} {c c′ : Circuit} {v w : NamedValue}
-          → Gives ρ c (Couple v w) c′ → Gives ρ (FirstPart c) v (FirstPart c′)
+          → CircuitGives ρ c (Couple v w) c′ → CircuitGives ρ (FirstPart c) v (FirstPart c′)
       gives-second : {ρ : List Binding} {c c′ : Circuit} {v w : NamedValue}
-          → Gives ρ c (Couple v w) c′ → Gives ρ (SecondPart c) w (SecondPart c′)
+          → CircuitGives ρ c (Couple v w) c′ → CircuitGives ρ (SecondPart c) w (SecondPart c′)
       gives-let : {ρ : List Binding} {x : List ℕ} {c d c′ d′ : Circuit} {v w : NamedValue}
-          → Gives ρ c v c′ → Gives (binding x v ∷ ρ) d w d′ → Gives ρ (Binds x c d) w (Binds x c′ d′)
+          → CircuitGives ρ c v c′ → CircuitGives (binding x v ∷ ρ) d w d′ → CircuitGives ρ (Binds x c d) w (Binds x c′ d′)
       gives-feedback : {ρ : List Binding} {x : List ℕ} {c d c′ d′ : Circuit} {i v w : NamedValue}
-          → ComesTo ρ x c i v c′ → Gives (binding x v ∷ ρ) d w d′ → Gives ρ (FeedsBack i x c d) w (FeedsBack i x c′ d′)
+          → ComesTo ρ x c i v c′ → CircuitGives (binding x v ∷ ρ) d w d′ → CircuitGives ρ (FeedsBack i x c d) w (FeedsBack i x c′ d′)
       gives-if : {ρ : List Binding} {m : SourcePattern} {c d e c′ d′ e′ : Circuit} {u v w a : NamedValue}
-          → Gives ρ c u c′ → Gives ρ d v d′ → Gives ρ e w e′ → chosenValue (matchesNamed D m u) v w ≡ a
-          → Gives ρ (Chooses c m d e) a (Chooses c′ m d′ e′)
+          → CircuitGives ρ c u c′ → CircuitGives ρ d v d′ → CircuitGives ρ e w e′ → chosenValue (matchesNamed D m u) v w ≡ a
+          → CircuitGives ρ (Chooses c m d e) a (Chooses c′ m d′ e′)
       gives-delay : {ρ : List Binding} {c c′ : Circuit} {h v : NamedValue}
-          → Gives ρ c v c′ → Gives ρ (Delays h c) h (Delays v c′)
+          → CircuitGives ρ c v c′ → CircuitGives ρ (Delays h c) h (Delays v c′)
 
     -- from the approximation u the defining part c of the name x comes to v, and is then c′
     pub data ComesTo : List Binding → List ℕ → Circuit → NamedValue → NamedValue → Circuit → Type 0 where
       comes-unchanged : {ρ : List Binding} {x : List ℕ} {c c′ : Circuit} {u : NamedValue}
-          → Gives (binding x u ∷ ρ) c u c′ → ComesTo ρ x c u u c′
+          → CircuitGives (binding x u ∷ ρ) c u c′ → ComesTo ρ x c u u c′
       comes-again : {ρ : List Binding} {x : List ℕ} {c c′ d : Circuit} {u v w : NamedValue}
-          → Gives (binding x u ∷ ρ) c v c′ → u ≢ v → ComesTo ρ x c v w d → ComesTo ρ x c u w d
+          → CircuitGives (binding x u ∷ ρ) c v c′ → u ≢ v → ComesTo ρ x c v w d → ComesTo ρ x c u w d
 
   -- a run over the inputs gives the outputs, cycle for cycle, and c is c′ after the last; `input` names the stimulus
   pub data GivesSeq : Circuit → (inputs outputs : List NamedValue) → Circuit → Type 0 where
     no-cycle : {c : Circuit} → GivesSeq c [] [] c
     one-cycle : {c c′ c″ : Circuit} {i o : NamedValue} {is os : List NamedValue}
-        → Gives (binding input i ∷ []) c o c′ → GivesSeq c′ is os c″ → GivesSeq c (i ∷ is) (o ∷ os) c″
+        → CircuitGives (binding input i ∷ []) c o c′ → GivesSeq c′ is os c″ → GivesSeq c (i ∷ is) (o ∷ os) c″

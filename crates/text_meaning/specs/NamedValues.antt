@@ -6,7 +6,7 @@ use Prim.Native.Nat.{ℕ, zero, suc}
 use mathlib.Core.Bool.{Bool, cond}
 use mathlib.Core.List.{List, [], _∷_}
 use lib.ListN.{getD, take, drop}
-use Rattle.picoella.specs.Types.{Ty, Flat, TyTuple, leaves}
+use Rattle.picoella.specs.Language.{Ty, Flat, TyTuple, leaves}
 use Rattle.grammar.specs.Source.{Identifier, Declaration, Constructors, PairOf, SourcePattern, Alone, PatternPair, Either}
 use Rattle.naming.specs.Declared.{sameName, DeclaredName, isDeclared, typeRole}
 use Rattle.naming.specs.Constants.{letters, allLetters}

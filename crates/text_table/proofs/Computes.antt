@@ -9,7 +9,7 @@ use mathlib.Core.Option.{Option, none, some}
 use lib.ListN.{length, replicate, length-replicate, take-append-drop}
 use lib.Dec.{ltb}
 use Rattle.records.specs.SheetOf.{Record, sheetOf}
-use Rattle.answers.specs.Checks.{when}
+use Rattle.answers.specs.Answers.{when}
 use Rattle.answers.specs.declared.Answer.{Answer}
 use Rattle.answers.specs.declared.Answer.the-variants.{Done, Refused}
 use Rattle.grammar.specs.Tokens.{Token}
@@ -27,7 +27,7 @@ use Rattle.naming.specs.TokenWalk.{walkChecks}
 use Rattle.naming.proofs.ByTokens.{firstScope, by-tokens}
 use Rattle.translation.specs.Resolved.{typeNumber, typeEntries}
 use Rattle.translation.specs.Layout.{roomOf, textRecords, sheetOfText}
-use Rattle.translation.proofs.Tables.{pass-both}
+use Rattle.translation.proofs.ConstructorTables.{pass-both}
 use Rattle.instructions.specs.Assembly.{assembly, nothingAssembled, assembleAll}
 use Rattle.instructions.specs.RecordOrder.{declaredTypes, textCode}
 use Rattle.instructions.specs.Emission.{emission, emitAll, recordsWritten}

@@ -1,6 +1,8 @@
--- Texts with what their translation gives: `Rows`, by the computation in `Computed`.
-pub mod Lexer
-pub mod Computed
+-- Texts with what their translation gives.
+-- To believe:
 pub mod Rows
 pub mod SheetRows
 pub mod Promises
+-- The computation that holds the rows to the translation:
+pub mod Lexer
+pub mod Computed

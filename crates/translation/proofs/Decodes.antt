@@ -8,15 +8,12 @@ use mathlib.Core.List.{List, [], _∷_, _++_, map}
 use mathlib.Core.Option.{Option, some}
 use native.Mathlib.Omega.{arith}
 use lib.ListN.{length, replicate, length-append, length-replicate}
-use Rattle.picoella.specs.Types.{Ty, Flat, TyTuple, leaves}
-use Rattle.picoella.specs.Patterns as Patterns
-use Rattle.picoella.specs.Expressions as Expressions
-use Rattle.picoella.specs.Expressions.{Expr}
+use Rattle.picoella.specs.Language.{Ty, Flat, TyTuple, leaves, Expr}
+use Rattle.picoella.specs.Language as Language
 use Rattle.records.specs.Words.{count, wordA}
 use Rattle.records.specs.Kinds.{rowOf, kindOf}
 use Rattle.records.specs.SheetOf.{Record, words, sheetOf}
-use Rattle.records.specs.TypeRecords.{typeAt}
-use Rattle.records.specs.Trees.{Tree, chainWithin, chain, alternativesWithin, alternatives, treeWithin, treeAt, circuit}
+use Rattle.records.specs.Trees.{typeAt, Tree, chainWithin, chain, alternativesWithin, alternatives, treeWithin, treeAt, circuit}
 use Rattle.records.specs.Decoding.{leafValues, patternOf, expressionOf, allPatterns, allThere, whenThere, decode}
 use Rattle.grammar.specs.Tokens.{Token}
 use Rattle.grammar.specs.Source.{Identifier, identifier, Declaration, SourceConstant, OfConstructor, Undefined, ConstantPair}
@@ -62,7 +59,8 @@ use Rattle.translation.specs.Resolved.{
 use Rattle.translation.specs.Distances.{constantValues, typeOr, asConstant, nameMeant, byDistances, unplaced, undefinedLeavesOf}
 use Rattle.translation.specs.Layout.{leavesLaid, constantLaid, nameLaid, patternLaid, numberOr, roomOf, laid}
 use Rattle.translation.proofs.Standing.{RecordIs, Stands, none-stand, one-stands, stands-append}
-use Rattle.translation.proofs.Tables.{Tables, pass-both, passes, pass-rest, after-new}
+use Rattle.translation.proofs.ConstructorTables.{pass-both, passes, pass-rest, after-new}
+use Rattle.translation.proofs.Tables.{Tables}
 use Rattle.translation.proofs.Sizes.{leaves-length, pattern-length, constant-length, expression-length}
 use Rattle.translation.proofs.PatternsRead.{chain-read, SaysPattern, pattern-read}
 
@@ -74,20 +72,20 @@ pub record SaysExpression (s : List ℕ) (x : Tree) (e : Expr) : Type 0 where
 module _ {s : List ℕ} where
   -- a constant of one or more leaves
   constant-read : {τ : Ty} (f r t : ℕ) (vs : List ℕ) → typeAt s t ≡ τ → 1 ≤ length vs → length vs ≤ count s → Stands s r (constantLaid t r vs)
-      → SaysExpression s (treeWithin s (suc f) r) (Expressions.Const τ vs)
+      → SaysExpression s (treeWithin s (suc f) r) (Language.Const τ vs)
   unfolding treeWithin kindOf rowOf chain
   constant-read {τ} f r t vs e enough h (one-stands x st) =
       record {
         all = rw (x .kind-is);
-        reads = rw (x .kind-is, x .a-is, x .b-is, e) (ap (Expressions.Const τ) (chain-read (count s) (suc r) vs enough h st));
+        reads = rw (x .kind-is, x .a-is, x .b-is, e) (ap (Language.Const τ) (chain-read (count s) (suc r) vs enough h st));
       }
 
-  name-read : (f r k : ℕ) → RecordIs s r 33 0 k 0 0 0 → SaysExpression s (treeWithin s (suc f) r) (Expressions.Var k)
+  name-read : (f r k : ℕ) → RecordIs s r 33 0 k 0 0 0 → SaysExpression s (treeWithin s (suc f) r) (Language.Var k)
   unfolding treeWithin kindOf rowOf
   name-read f r k x = record { all = rw (x .kind-is); reads = rw (x .kind-is, x .a-is) }
 
   tuple-read : {d e : Expr} (f r a b : ℕ) → RecordIs s r 34 0 a b 0 0 → SaysExpression s (treeWithin s f a) d
-      → SaysExpression s (treeWithin s f b) e → SaysExpression s (treeWithin s (suc f) r) (Expressions.Tuple d e)
+      → SaysExpression s (treeWithin s f b) e → SaysExpression s (treeWithin s (suc f) r) (Language.Tuple d e)
   unfolding treeWithin kindOf rowOf
   tuple-read f r a b x y z =
       record {
@@ -96,19 +94,19 @@ module _ {s : List ℕ} where
       }
 
   first-read : {d : Expr} (f r a : ℕ) → RecordIs s r 35 0 a 0 0 0 → SaysExpression s (treeWithin s f a) d
-      → SaysExpression s (treeWithin s (suc f) r) (Expressions.Index1 d)
+      → SaysExpression s (treeWithin s (suc f) r) (Language.Index1 d)
   unfolding treeWithin kindOf rowOf
   first-read f r a x y =
       record { all = rw (x .kind-is, x .a-is, y .all); reads = rw (x .kind-is, x .a-is, y .reads) }
 
   second-read : {d : Expr} (f r a : ℕ) → RecordIs s r 36 0 a 0 0 0 → SaysExpression s (treeWithin s f a) d
-      → SaysExpression s (treeWithin s (suc f) r) (Expressions.Index2 d)
+      → SaysExpression s (treeWithin s (suc f) r) (Language.Index2 d)
   unfolding treeWithin kindOf rowOf
   second-read f r a x y =
       record { all = rw (x .kind-is, x .a-is, y .all); reads = rw (x .kind-is, x .a-is, y .reads) }
 
   let-read : {d e : Expr} (f r a b : ℕ) → RecordIs s r 37 0 a b 0 0 → SaysExpression s (treeWithin s f a) d
-      → SaysExpression s (treeWithin s f b) e → SaysExpression s (treeWithin s (suc f) r) (Expressions.Let d e)
+      → SaysExpression s (treeWithin s f b) e → SaysExpression s (treeWithin s (suc f) r) (Language.Let d e)
   unfolding treeWithin kindOf rowOf
   let-read f r a b x y z =
       record {
@@ -118,7 +116,7 @@ module _ {s : List ℕ} where
 
   feedback-read : {τ : Ty} {d e : Expr} (f r t a b : ℕ) → typeAt s t ≡ τ → RecordIs s r 38 0 t a b 0
       → SaysExpression s (treeWithin s f a) d → SaysExpression s (treeWithin s f b) e
-      → SaysExpression s (treeWithin s (suc f) r) (Expressions.LetRec τ d e)
+      → SaysExpression s (treeWithin s (suc f) r) (Language.LetRec τ d e)
   unfolding treeWithin kindOf rowOf
   feedback-read f r t a b h x y z =
       record {
@@ -126,9 +124,9 @@ module _ {s : List ℕ} where
         reads = rw (x .kind-is, x .a-is, x .b-is, x .c-is, h, y .reads, z .reads);
       }
 
-  if-read : {c d e : Expr} {p : Patterns.Pattern} (f r a b o q : ℕ) → RecordIs s r 39 0 a b o q → SaysExpression s (treeWithin s f a) c
+  if-read : {c d e : Expr} {p : Language.Pattern} (f r a b o q : ℕ) → RecordIs s r 39 0 a b o q → SaysExpression s (treeWithin s f a) c
       → SaysPattern s (alternativesWithin s (count s) q) p → SaysExpression s (treeWithin s f b) d → SaysExpression s (treeWithin s f o) e
-      → SaysExpression s (treeWithin s (suc f) r) (Expressions.If c p d e)
+      → SaysExpression s (treeWithin s (suc f) r) (Language.If c p d e)
   unfolding treeWithin kindOf rowOf alternatives
   if-read f r a b o q x y m z u =
       record {
@@ -138,7 +136,7 @@ module _ {s : List ℕ} where
 
   delay-read : {τ : Ty} {d : Expr} (f r t c : ℕ) (vs : List ℕ) → typeAt s t ≡ τ → 1 ≤ length vs → length vs ≤ count s
       → RecordIs s r 40 0 t (suc r) c 0 → Stands s (suc r) (leavesLaid (suc r) vs) → SaysExpression s (treeWithin s f c) d
-      → SaysExpression s (treeWithin s (suc f) r) (Expressions.Delay [] τ vs d)
+      → SaysExpression s (treeWithin s (suc f) r) (Language.Delay [] τ vs d)
   unfolding treeWithin kindOf rowOf chain
   delay-read f r t c vs h enough l x st y =
       record {
@@ -191,7 +189,7 @@ module _ {s : List ℕ} {ds : List Declaration} (T : Tables s ds) where
           (cond a (words 33 0 (distance w bound) 0 0 0 ∷ [])
           (cond b (constantLaid (c .type) r (c .number ∷ [])) (words 33 0 (distance w bound) 0 0 0 ∷ [])))
           → SaysExpression s (treeWithin s (suc f) r)
-          (cond a (Expressions.Var (distance w bound)) (cond b (asConstant c) (Expressions.Var (distance w bound))))
+          (cond a (Language.Var (distance w bound)) (cond b (asConstant c) (Language.Var (distance w bound))))
       go true b (one-stands x st) = name-read f r (distance w bound) x
       go false true st = constant-read f r (c .type) (c .number ∷ []) (T .constructors w) (omega arith) few st
       go false false (one-stands x st) = name-read f r (distance w bound) x

@@ -4,12 +4,11 @@ use Prim.Native.Nat.{ℕ}
 use mathlib.Core.Path.{_≡_, refl}
 use mathlib.Core.List.{List, [], _∷_, map}
 use mathlib.Core.Option.{Option, none, some}
-use Rattle.picoella.specs.Expressions.{Expr}
+use Rattle.picoella.specs.Language.{Expr}
 use Rattle.records.specs.SheetOf.{Record, words, sheetOf}
 use Rattle.records.specs.Words.{word, count}
 use Rattle.records.specs.Kinds.{rowOf, kindOf}
-use Rattle.records.specs.TypeRecords.{typeWithin, typeAt}
-use Rattle.records.specs.Trees.{chainWithin, chain, alternativesWithin, alternatives, treeWithin, treeAt, circuit}
+use Rattle.records.specs.Trees.{typeWithin, typeAt, chainWithin, chain, alternativesWithin, alternatives, treeWithin, treeAt, circuit}
 use Rattle.records.specs.Decoding.{decode}
 use Rattle.grammar.specs.Source.{identifier, Constructors, PairOf, OfConstructor, Undefined, ConstantPair, Alone, PatternPair, Either, Text, text}
 use Rattle.grammar.specs.Source.{NameUse, UndefinedOf, PairExpression, FirstOf, SecondOf, LetExpression, LetRecExpression, IfExpression, DelayExpression}

@@ -7,7 +7,7 @@ use mathlib.Core.List.{List, [], _∷_, _++_}
 use mathlib.Core.Option.{some}
 use native.Mathlib.Omega.{arith}
 use lib.ListN.{length, length-append}
-use Rattle.picoella.specs.Expressions.{Expr}
+use Rattle.picoella.specs.Language.{Expr}
 use Rattle.records.specs.Words.{count, wordA, wordB}
 use Rattle.records.specs.SheetOf.{sheetOf}
 use Rattle.records.specs.Trees.{treeAt, circuit}
@@ -26,7 +26,8 @@ use Rattle.translation.specs.Layout.{typesLaid, roomOf, laid, textRecord
 use Rattle.translation.specs.Promises.{AsManyRecords, DecodesToText, TypesAsDeclared, InputAsDeclared, TranslationPromises}
 use Rattle.translation.proofs.Standing.{Stands, one-stands, stands, stands-append, sheet-count}
 use Rattle.translation.proofs.TypesMeant.{Headed}
-use Rattle.translation.proofs.Tables.{Tables, pass-both, pass-rest, tables}
+use Rattle.translation.proofs.ConstructorTables.{pass-both, pass-rest}
+use Rattle.translation.proofs.Tables.{Tables, tables}
 use Rattle.translation.proofs.Sizes.{types-length, expression-length}
 use Rattle.translation.proofs.Decodes.{SaysExpression, expression-read}
 

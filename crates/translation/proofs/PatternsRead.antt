@@ -8,15 +8,13 @@ use mathlib.Core.List.{List, [], _∷_, _++_, map}
 use mathlib.Core.Option.{Option, some}
 use native.Mathlib.Omega.{arith}
 use lib.ListN.{length, replicate, length-append, length-replicate}
-use Rattle.picoella.specs.Types.{leaves}
-use Rattle.picoella.specs.Patterns as Patterns
-use Rattle.picoella.specs.Expressions as Expressions
-use Rattle.picoella.specs.Expressions.{Expr}
+use Rattle.picoella.specs.Language.{leaves, Expr}
+use Rattle.picoella.specs.Language as Language
 use Rattle.records.specs.Words.{count, wordA}
 use Rattle.records.specs.Kinds.{rowOf, kindOf}
 use Rattle.records.specs.SheetOf.{Record, words, sheetOf}
-use Rattle.records.specs.TypeRecords.{typeAt}
 use Rattle.records.specs.Trees.{
+  typeAt,
   Alternatives,
   end,
   Tree,
@@ -63,7 +61,8 @@ use Rattle.translation.specs.Resolved.{typeMeant, typeEntries, typeNumbe
 use Rattle.translation.specs.Distances.{patternMeant}
 use Rattle.translation.specs.Layout.{leavesLaid, patternLaid}
 use Rattle.translation.proofs.Standing.{RecordIs, Stands, none-stand, one-stands, stands-append}
-use Rattle.translation.proofs.Tables.{Tables, pass-both, passes, pass-rest, type-or-constructor}
+use Rattle.translation.proofs.ConstructorTables.{pass-both, passes, pass-rest, type-or-constructor}
+use Rattle.translation.proofs.Tables.{Tables}
 use Rattle.translation.proofs.Sizes.{leaves-length, pattern-length}
 
 -- a chain of one or more leaves
@@ -77,10 +76,10 @@ chain-read (suc f) r (v ∷ w ∷ vs) enough h (one-stands x st) =
     rw (x .next-is, x .a-is) (ap (λ l. v ∷ l) (chain-read f (suc r) (w ∷ vs) (omega arith) (omega arith) st))
 
 -- alternatives that say a pattern
-pub record SaysPattern (s : List ℕ) (a : Alternatives) (p : Patterns.Pattern) : Type 0 where
+pub record SaysPattern (s : List ℕ) (a : Alternatives) (p : Language.Pattern) : Type 0 where
   pub all : allPatterns a ≡ true
   pub reads : patternOf s a ≡ p
-  pub proper : (q x : Patterns.Pattern) → orElse q a x ≡ Patterns.Bar q x
+  pub proper : (q x : Language.Pattern) → orElse q a x ≡ Language.Bar q x
 
 pub pattern-some : {a b : List Token} {m : SourcePattern} → ReadsPattern a m b → 1 ≤ patternRecords m
 pattern-some reads-alone = omega arith
@@ -89,21 +88,21 @@ pattern-some (reads-alone-or x) = omega arith
 pattern-some (reads-parts-or x y z) = omega arith
 
 -- what follows an alternative whose next is this makes `then` of its pattern
-pub record Followed (s : List ℕ) (f next : ℕ) (then : Patterns.Pattern → Patterns.Pattern) : Type 0 where
+pub record Followed (s : List ℕ) (f next : ℕ) (then : Language.Pattern → Language.Pattern) : Type 0 where
   pub all : allPatterns (follow end (alternativesWithin s f) next) ≡ true
-  pub reads : (p : Patterns.Pattern)
+  pub reads : (p : Language.Pattern)
       → orElse p (follow end (alternativesWithin s f) next) (patternOf s (follow end (alternativesWithin s f) next)) ≡ then p
 
 none-follow : {s : List ℕ} {f : ℕ} → Followed s f 0 (λ p. p)
 none-follow = record { all = refl; reads = λ p. refl }
 
-some-follow : {s : List ℕ} {f next r : ℕ} {q : Patterns.Pattern} → next ≡ suc r → SaysPattern s (alternativesWithin s f (suc r)) q
-    → Followed s f next (λ p. Patterns.Bar p q)
-some-follow e x = rw e (record { all = x .all; reads = λ p. x .proper p _ ∙ ap (Patterns.Bar p) (x .reads) })
+some-follow : {s : List ℕ} {f next r : ℕ} {q : Language.Pattern} → next ≡ suc r → SaysPattern s (alternativesWithin s f (suc r)) q
+    → Followed s f next (λ p. Language.Bar p q)
+some-follow e x = rw e (record { all = x .all; reads = λ p. x .proper p _ ∙ ap (Language.Bar p) (x .reads) })
 
 module _ {s : List ℕ} {ds : List Declaration} (T : Tables s ds) where
   -- an alternative that is a name
-  alone : {then : Patterns.Pattern → Patterns.Pattern} (f r next p : ℕ) (w : List ℕ)
+  alone : {then : Language.Pattern → Language.Pattern} (f r next p : ℕ) (w : List ℕ)
       → Stands s r (patternLaid ds next r (Alone (identifier w p)))
       → AllPass (patternChecks (afterAll atFirst ds) (Alone (identifier w p))) → Followed s f next then
       → SaysPattern s (alternativesWithin s (suc f) r) (then (patternMeant ds (Alone (identifier w p))))
@@ -128,7 +127,7 @@ module _ {s : List ℕ} {ds : List Declaration} (T : Tables s ds) where
           → typeAt s t ≡ typeMeant (typeEntries ds) w → (isDeclared typeRole w (afterAll atFirst ds) ≡ false → wordA s c ≡ n)
           → isDeclared typeRole w (afterAll atFirst ds) ≡ b
           → SaysPattern s (alternativesWithin s (suc f) r)
-          (then (cond b (Patterns.Whole (typeMeant (typeEntries ds) w)) (Patterns.Constructor c n k)))
+          (then (cond b (Language.Whole (typeMeant (typeEntries ds) w)) (Language.Constructor c n k)))
       go true (one-stands x st) e g d =
           record {
             all = rw (x .kind-is, x .next-is) (after .all);
@@ -143,9 +142,9 @@ module _ {s : List ℕ} {ds : List Declaration} (T : Tables s ds) where
           }
 
   -- one that is a pair, from its parts
-  parts : {then : Patterns.Pattern → Patterns.Pattern} {p q : Patterns.Pattern} (f r next a b : ℕ) → RecordIs s r 50 next a b 0 0
+  parts : {then : Language.Pattern → Language.Pattern} {p q : Language.Pattern} (f r next a b : ℕ) → RecordIs s r 50 next a b 0 0
       → SaysPattern s (alternativesWithin s f a) p → SaysPattern s (alternativesWithin s f b) q → Followed s f next then
-      → SaysPattern s (alternativesWithin s (suc f) r) (then (Patterns.Parts p q))
+      → SaysPattern s (alternativesWithin s (suc f) r) (then (Language.Parts p q))
   unfolding alternativesWithin kindOf rowOf
   parts f r next a b x y z after =
       record {
@@ -154,7 +153,7 @@ module _ {s : List ℕ} {ds : List Declaration} (T : Tables s ds) where
         proper = λ q y. rw (x .kind-is);
       }
 
-  paired : {then : Patterns.Pattern → Patterns.Pattern} (f r next : ℕ) (m n : SourcePattern)
+  paired : {then : Language.Pattern → Language.Pattern} (f r next : ℕ) (m n : SourcePattern)
       → Stands s r (patternLaid ds next r (PatternPair m n)) → AllPass (patternChecks (afterAll atFirst ds) (PatternPair m n))
       → Followed s f next then
       → (Stands s (suc r) (patternLaid ds 0 (suc r) m) → AllPass (patternChecks (afterAll atFirst ds) m)

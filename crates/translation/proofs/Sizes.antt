@@ -7,7 +7,7 @@ use mathlib.Core.List.{List, [], _∷_, _++_}
 use native.Mathlib.Omega.{arith}
 use lib.ListN.{length, replicate, length-append, length-replicate}
 use Rattle.records.specs.SheetOf.{Record, words}
-use Rattle.picoella.specs.Types.{leaves}
+use Rattle.picoella.specs.Language.{leaves}
 use Rattle.grammar.specs.Source.{Identifier, identifier, Declaration, Constructors, PairOf, SourceConstant, OfConstructor, Undefined, ConstantPair}
 use Rattle.grammar.specs.Source.{SourcePattern, Alone, PatternPair, Either, Text, text}
 use Rattle.grammar.specs.Source.{
@@ -30,7 +30,8 @@ use Rattle.naming.specs.Records.{leafCountOf, leafCounts, patternRecords, const
 use Rattle.translation.specs.Resolved.{TypeEntry, typeMeant, typeEntries, constructorMeant, constructorEntries, distance, afterEntry}
 use Rattle.translation.specs.Distances.{constantValues}
 use Rattle.translation.specs.Layout.{typesLaid, leavesLaid, roomOf, patternLaid, nameLaid, constantLaid, laid}
-use Rattle.translation.proofs.Tables.{Tables, pass-both, passes, pass-rest, after-new}
+use Rattle.translation.proofs.ConstructorTables.{pass-both, passes, pass-rest, after-new}
+use Rattle.translation.proofs.Tables.{Tables}
 
 pub types-length : (i : ℕ) (T : List TypeEntry) (ds : List Declaration) → length (typesLaid i T ds) ≡ length ds
 types-length i T [] = refl

@@ -8,11 +8,11 @@ use mathlib.Core.List.{List, [], _∷_, _++_}
 use mathlib.Core.Option.{Option, none, some}
 use native.Mathlib.Omega.{arith}
 use lib.ListN.{length}
-use Rattle.picoella.specs.Types.{Ty, Flat, TyTuple}
+use Rattle.picoella.specs.Language.{Ty, Flat, TyTuple}
 use Rattle.records.specs.Words.{kindWord, wordA, wordB}
 use Rattle.records.specs.Kinds.{rowOf, kindOf, typeOf, flat, pair, header}
 use Rattle.records.specs.Says.{kindAt}
-use Rattle.records.specs.TypeRecords.{typeStep, typeWithin, typeAt}
+use Rattle.records.specs.Trees.{typeStep, typeWithin, typeAt}
 use Rattle.records.specs.SheetOf.{words}
 use Rattle.grammar.specs.Source.{Identifier, Declaration, Constructors, PairOf}
 use Rattle.naming.specs.Declared.{sameName}

@@ -8,23 +8,14 @@ use mathlib.Core.List.{List, [], _∷_, _++_}
 use mathlib.Core.Option.{Option, none, some}
 use lib.ListN.{length, replicate}
 use Rattle.records.specs.SheetOf.{Record, words, sheetOf}
-use Rattle.grammar.specs.Source.{Identifier, Declaration, Constructors, PairOf, SourceConstant, OfConstructor, Undefined, ConstantPair}
+use Rattle.grammar.specs.Source.{Declaration, Constructors, PairOf}
 use Rattle.grammar.specs.Source.{SourcePattern, Alone, PatternPair, Either, Text, text}
 use Rattle.grammar.specs.Source.{Expression, NameUse, UndefinedOf, PairExpression, FirstOf, SecondOf, LetExpression, LetRecExpression, IfExpression, DelayExpression}
 use Rattle.naming.specs.Declared.{isAmong, isDeclared, typeRole, constructorRole, atFirst}
 use Rattle.naming.specs.Constants.{letters, constantType}
 use Rattle.naming.specs.Names.{afterAll, bind}
 use Rattle.naming.specs.Records.{leafCountOf, leafCounts, patternRecords, constantLeaves, recordsOfExpression, recordsNeeded}
-use Rattle.translation.specs.Resolved.{
-  TypeEntry,
-  afterEntry,
-  typeNumber,
-  typeEntries,
-  Meant,
-  constructorMeant,
-  constructorEntries,
-  distance,
-}
+use Rattle.translation.specs.Resolved.{TypeEntry, afterEntry, typeNumber, typeEntries, constructorMeant, constructorEntries, distance}
 use Rattle.translation.specs.Distances.{constantValues}
 
 -- "types as declared": record i is declaration i, and its next the one after it, 0 at the last

@@ -4,9 +4,9 @@ use mathlib.Core.Path.{_≡_}
 use mathlib.Core.List.{List, _∷_}
 use mathlib.Core.Option.{some}
 use lib.ListN.{length}
-use Rattle.picoella.specs.Expressions.{Expr}
+use Rattle.picoella.specs.Language.{Expr}
 use Rattle.records.specs.Words.{wordA}
-use Rattle.records.specs.TypeRecords.{typeAt}
+use Rattle.records.specs.Trees.{typeAt}
 use Rattle.records.specs.Decoding.{decode}
 use Rattle.grammar.specs.Tokens.{Token}
 use Rattle.grammar.specs.Source.{Text, text}

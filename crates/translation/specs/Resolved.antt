@@ -5,7 +5,7 @@ use Prim.Native.Nat.{ℕ, suc}
 use mathlib.Core.Bool.{cond}
 use mathlib.Core.List.{List, [], _∷_, _++_}
 use lib.ListN.{length}
-use Rattle.picoella.specs.Types.{Ty, Flat, TyTuple}
+use Rattle.picoella.specs.Language.{Ty, Flat, TyTuple}
 use Rattle.grammar.specs.Source.{Identifier, Declaration, Constructors, PairOf}
 use Rattle.naming.specs.Declared.{sameName, isAmong}
 use Rattle.naming.specs.Constants.{letters}

@@ -8,8 +8,7 @@ use mathlib.Core.List.{List, [], _∷_, _++_}
 use mathlib.Core.Option.{Option, none, some}
 use lib.ListN.{length, replicate}
 use lib.Dec.{T, ltb, lt→ltb}
-use Rattle.answers.specs.Answers.{whenDone}
-use Rattle.answers.specs.Checks.{check, when, orRefused, firstApplying}
+use Rattle.answers.specs.Answers.{whenDone, check, when, orRefused, firstApplying}
 use Rattle.answers.specs.declared.Answer.{Answer}
 use Rattle.answers.specs.declared.Answer.the-variants.{Done, Refused}
 use Rattle.grammar.specs.Tokens.{Token}
@@ -42,7 +41,7 @@ unfolding finalSheet
 translated {bytes} {t} entry a k r e =
     subst (λ x. Translated bytes entry x (whenDone x (sheetOfText t ++ replicate (length entry - lengthNeeded t) 0) entry)) e (in-grammar k r)
 
-module _ {bytes : List ℕ} {ts : List Token} {t : Text} (entry : List ℕ) (k : Keeps bytes) (r : Reading bytes ts t) where
+module _ {bytes : List ℕ} {ts : List Token} {t : Text} {entry : List ℕ} (k : Keeps bytes) (r : Reading bytes ts t) where
   pub bad-name : (p : ℕ) → firstBadPlace (nameChecks t) ≡ some p → Translated bytes entry (Refused 14 p) entry
   bad-name p e = translated entry (Refused 14 p) k r (answered t (length entry) e refl refl)
 

@@ -10,8 +10,7 @@ use mathlib.Core.Option.{Option, none, some}
 use lib.ListN.{length, take, drop, replicate, length-append, length-replicate}
 use lib.Dec.{T, ltb, nltb→le}
 use Rattle.records.specs.SheetOf.{Record, words, sheetOf}
-use Rattle.answers.specs.Answers.{code, place, whenDone}
-use Rattle.answers.specs.Checks.{check, when, firstApplying, SaysOf}
+use Rattle.answers.specs.Answers.{code, place, whenDone, check, when, firstApplying, SaysOf}
 use Rattle.answers.specs.declared.Answer.{Answer}
 use Rattle.answers.specs.declared.Answer.the-variants.{Done, Refused}
 use Rattle.answers.proofs.First.{first-says, says-first, place-or, when-none, when-some, kept-bytes}

@@ -104,7 +104,7 @@ module _ {bytes pairs parts others leaves ops firsts seconds : List ℕ} {types 
   untyped-found entry o =
       record {
         answer = Refused 14 place;
-        translated = untyped-constant entry (w .keeps) (w .reading) place (w .good) (sym (w .untyped-is) ∙ ap (λ b. untypedAt b place) o);
+        translated = untyped-constant (w .keeps) (w .reading) place (w .good) (sym (w .untyped-is) ∙ ap (λ b. untypedAt b place) o);
         result-is = refl;
       }
 
@@ -115,7 +115,7 @@ module _ {bytes pairs parts others leaves ops firsts seconds : List ℕ} {types 
   refused entry o f =
       record {
         answer = Refused 15 (lengthNeeded source);
-        translated = no-room entry (w .keeps) (w .reading) (w .good) (typed o) f;
+        translated = no-room (w .keeps) (w .reading) (w .good) (typed o) f;
         result-is = ap (λ k. inOne 15 (12 * k)) needs;
       }
 
@@ -186,7 +186,7 @@ module _ {bytes pairs parts others leaves ops firsts seconds : List ℕ} {types 
         answer = Done (lengthNeeded source);
         translated =
             subst (Translated bytes entry (Done (lengthNeeded source))) same
-            (sheet-written entry (w .keeps) (w .reading) (w .good) (typed o) room);
+            (sheet-written (w .keeps) (w .reading) (w .good) (typed o) room);
         result-is = omega (arith, a);
       }
 
@@ -206,7 +206,7 @@ module _ {bytes : List ℕ} (ops firsts seconds : List ℕ) {r : Resolved} (k : 
       let l = k .legal in
       record {
         answer = Refused 14 p;
-        translated = bad-name entry k (l .2) p (subst (TextResolved bytes (l .1) ops firsts seconds) e (h (l .0) (l .1) (l .2)));
+        translated = bad-name k (l .2) p (subst (TextResolved bytes (l .1) ops firsts seconds) e (h (l .0) (l .1) (l .2)));
         result-is = refl;
       }
 

@@ -1,4 +1,6 @@
--- A text translated into a sheet (request (a), codes 13 to 15): what the call gives. To believe: `Translation`.
+-- A text translated into a sheet (request (a), codes 13 to 15): what the call gives.
+-- To believe:
 pub mod Translation
-pub mod LayingOut
 pub mod Promises
+-- What functions ask and give, and their proofs need:
+pub mod LayingOut

@@ -5,8 +5,7 @@ use mathlib.Core.Path.{_≡_}
 use mathlib.Core.Logic.{_≢_, _↔_}
 use mathlib.Core.List.{List}
 use lib.ListN.{length, take, drop, replicate}
-use Rattle.answers.specs.Answers.{code, place}
-use Rattle.answers.specs.Checks.{SaysOf}
+use Rattle.answers.specs.Answers.{code, place, SaysOf}
 use Rattle.answers.specs.declared.Answer.{Answer}
 use Rattle.answers.specs.declared.Answer.the-variants.{Done}
 use Rattle.grammar.specs.Tokens.{Token}

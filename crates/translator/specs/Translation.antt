@@ -1,4 +1,4 @@
--- The translation of a text (docs/SHEETS.md, "Sheets as text"): "The call gives 0 with the sheet's length, or 13 (text outside the grammar ..),
+-- The translation of a text (docs/SHEETS.md, "Text"): "The call gives 0 with the sheet's length, or 13 (text outside the grammar ..),
 -- then 14 (first name that breaks the rules .., or with none the first constant pair without a type ..), then 15 (slice too short, or over
 -- 4,096 records, place: length needed)". "Writes the sheet into a lent slice, with zeros after it."
 use Prim.Native.Nat.{ℕ, _*_, _-_}
@@ -7,8 +7,7 @@ use mathlib.Core.Bool.{Bool, true, cond}
 use mathlib.Core.List.{List, [], _∷_, _++_}
 use lib.ListN.{length, replicate}
 use lib.Dec.{ltb}
-use Rattle.answers.specs.Answers.{packed, whenDone}
-use Rattle.answers.specs.Checks.{Check, check, when, firstApplying}
+use Rattle.answers.specs.Answers.{packed, whenDone, Check, check, when, firstApplying}
 use Rattle.answers.specs.declared.Answer.{Answer}
 use Rattle.answers.specs.declared.Answer.the-variants.{Done, Refused}
 use Rattle.grammar.specs.Tokens.{Token}

@@ -58,7 +58,7 @@ is-parts whole e = absurd (never-both false e refl)
 is-parts constructor e = absurd (never-both false e refl)
 is-parts parts e = refl
 
-module _ (s : List ℕ) (n p t : ℕ) (m : Fitting s n p t) where
+module _ {s : List ℕ} {n p t : ℕ} (m : Fitting s n p t) where
   w : Written s
   w = written (m .passes)
 

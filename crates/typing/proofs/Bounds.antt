@@ -8,11 +8,11 @@ use native.Mathlib.Omega.{arith}
 use borrow.Author.Tests.{ne-eqb}
 use lib.ListN.{length, getD, List·getD-append}
 use lib.Seq.{getD-append-add}
-use Rattle.picoella.specs.Types.{Ty, Flat, TyTuple, bounds, leaves}
+use Rattle.picoella.specs.Language.{Ty, Flat, TyTuple, bounds, leaves}
 use Rattle.records.specs.Words.{count, word, wordA, wordB}
 use Rattle.records.specs.Kinds.{typeOf, flat, pair, types, TypeKind}
 use Rattle.records.specs.Says.{kindAt}
-use Rattle.records.specs.TypeRecords.{typeAt, TypeRecord}
+use Rattle.records.specs.Trees.{typeAt, TypeRecord}
 use Rattle.records.specs.Written.{Written, TypesFit}
 use Rattle.records.proofs.Tests.{never-both}
 use Rattle.records.proofs.Table.{kind-of-sort}
@@ -20,7 +20,7 @@ use Rattle.records.proofs.CodeTable.{pair-number}
 use Rattle.records.proofs.Types.{leaves-of-bounds, flat-type, pair-type, few-leaves}
 use Rattle.records.proofs.TypeRecords.{first-part, second-part}
 use Rattle.records.proofs.Types.{pair-parts}
-use Rattle.structure.specs.Passes.{Passes}
+use Rattle.structure.specs.Rules.{Passes}
 use Rattle.structure.specs.LeafTable.{Counts}
 use Rattle.structure.proofs.Passes.{written, types-fit}
 use Rattle.structure.proofs.LeafCounts.{pair-kind}

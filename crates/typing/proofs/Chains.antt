@@ -7,13 +7,12 @@ use Prim.Native.Nat.{ℕ, zero, suc, _≤_, _<_}
 use native.Mathlib.Omega.{arith}
 use borrow.Author.Tests.{lt-leb, le-leb, ne-eqb}
 use lib.Dec.{eqb}
-use Rattle.picoella.specs.Types.{bounds}
+use Rattle.picoella.specs.Language.{bounds}
 use Rattle.records.specs.Words.{count, word, wordA, wordB, nextWord}
 use Rattle.records.specs.Kinds.{typeOf, flat, pair, types, TypeKind, leafs}
 use Rattle.records.specs.Says.{kindAt, sortAt}
 use Rattle.records.specs.Sized.{Sized}
-use Rattle.records.specs.TypeRecords.{typeAt, TypeRecord}
-use Rattle.records.specs.Trees.{chain, follow}
+use Rattle.records.specs.Trees.{typeAt, TypeRecord, chain, follow}
 use Rattle.records.specs.Decoding.{leafValues}
 use Rattle.records.specs.Written.{Written}
 use Rattle.records.proofs.Tests.{never-both}

@@ -9,9 +9,9 @@ use native.Mathlib.Numerals.{add-one}
 use borrow.Author.Tests.{lt-ltb, ne-eqb, eq-eqb}
 use lib.ListN.{length, set, length-set}
 use lib.Seq.{getD-set-same, getD-set-other}
-use Rattle.picoella.specs.Types.{leaves}
+use Rattle.picoella.specs.Language.{leaves}
 use Rattle.records.specs.Words.{word}
-use Rattle.records.specs.TypeRecords.{typeAt, TypeRecord, pairOf, pairBelow}
+use Rattle.records.specs.Trees.{typeAt, TypeRecord, pairOf, pairBelow}
 use Rattle.records.proofs.CodeTable.{pair-number}
 use Rattle.records.proofs.TypeRecords.{found-pair, first-part, second-part}
 use Rattle.structure.proofs.LeafCounts.{pair-kind}

@@ -7,19 +7,7 @@ use mathlib.Core.List.{List, _∷_, _++_}
 use mathlib.Core.Option.{none}
 use mathlib.Core.Path.{_≡_}
 use lib.ListN.{length}
-use Rattle.records.specs.Trees.{
-  Tree,
-  noExpression,
-  constantOf,
-  nameOf,
-  tupleOf,
-  firstOf,
-  secondOf,
-  letOf,
-  feedbackOf,
-  ifOf,
-  delayOf,
-}
+use Rattle.records.specs.Trees.{Tree, noExpression, constantOf, nameOf, tupleOf, firstOf, secondOf, letOf, feedbackOf, ifOf, delayOf, typeRecordOf}
 use Rattle.typing.specs.Judgements.{
   Rule,
   leavesFit,
@@ -32,7 +20,6 @@ use Rattle.typing.specs.Judgements.{
   holds,
   judge,
   judgements,
-  typeRecordOf,
   firstFailing,
 }
 use Rattle.typing.proofs.Failing.{none-in-both, none-of-both, judged, judgement-holds}

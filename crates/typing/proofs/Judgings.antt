@@ -7,7 +7,7 @@ use Prim.Native.Nat.{ℕ, zero, suc, _-_, _≤_, _<_}
 use native.Mathlib.Omega.{arith}
 use borrow.Author.Tests.{lt-ltb, le-ltb}
 use lib.ListN.{length, getD, set}
-use Rattle.picoella.specs.Types.{leaves}
+use Rattle.picoella.specs.Language.{leaves}
 use Rattle.records.specs.Words.{count, word, wordA, wordB, wordC}
 use Rattle.records.specs.Kinds.{
   expression,
@@ -22,8 +22,7 @@ use Rattle.records.specs.Kinds.{
   delay,
 }
 use Rattle.records.specs.Says.{kindAt}
-use Rattle.records.specs.TypeRecords.{typeAt, TypeRecord, pairOf}
-use Rattle.records.specs.Trees.{treeAt, chain, alternatives, constantOf, tupleOf, letOf, feedbackOf, ifOf, delayOf}
+use Rattle.records.specs.Trees.{typeAt, TypeRecord, pairOf, treeAt, chain, alternatives, constantOf, tupleOf, letOf, feedbackOf, ifOf, delayOf}
 use Rattle.records.specs.Written.{Written}
 use Rattle.records.proofs.Trees.{tree-of}
 use Rattle.typing.specs.Judgements.{holds, leavesFit, inScope, pairDeclared, pairType, sameType, patternHas, judge, firstFailing}

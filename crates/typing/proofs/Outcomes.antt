@@ -7,18 +7,8 @@ use mathlib.Core.Option.{Option, none, some}
 use Prim.Native.Nat.{ℕ}
 use native.Mathlib.Omega.{arith}
 use lib.ListN.{length, set}
-use Rattle.records.specs.Trees.{
-  Tree,
-}
-use Rattle.typing.specs.Judgements.{
-  Judgement,
-  Rule,
-  holds,
-  typeRecordOf,
-  judge,
-  judgements,
-  firstFailing,
-}
+use Rattle.records.specs.Trees.{Tree, typeRecordOf}
+use Rattle.typing.specs.Judgements.{Judgement, Rule, holds, judge, judgements, firstFailing}
 use Rattle.typing.specs.Judging.{conclude, judged, width, noted, Judged, lastly, Closed}
 use Rattle.typing.specs.declared.Outcome.{Outcome}
 use Rattle.typing.specs.declared.Outcome.the-variants.{Sound, Fault}
@@ -39,7 +29,7 @@ fault-of : (o : Option ℕ) (u p : ℕ) → conclude o u ≡ Fault p → o ≡ s
 fault-of none u p e = let z : _≡_ {A = ℕ} 0 1 = cc in absurd (omega arith)
 fault-of (some r) u p e = cc
 
-module _ (s Γ : List ℕ) (e : Tree) (answer : Outcome) (before after : List ℕ) where
+module _ {s Γ : List ℕ} {e : Tree} {answer : Outcome} {before after : List ℕ} where
   pub passed : (t : ℕ) → Judged s Γ e answer before after → answer ≡ Sound t → Passed s Γ e t before after
   unfolding judged
   passed t d a =

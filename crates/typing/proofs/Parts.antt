@@ -5,10 +5,11 @@ use mathlib.Core.List.{List, _∷_, _++_}
 use mathlib.Core.Option.{Option, none, some}
 use Prim.Native.Nat.{ℕ}
 use lib.ListN.{length, getD, set, length-set}
-use Rattle.picoella.specs.Types.{leaves}
+use Rattle.picoella.specs.Language.{leaves}
 use Rattle.records.specs.Words.{wordA, wordB}
-use Rattle.records.specs.TypeRecords.{typeAt, pairOf}
 use Rattle.records.specs.Trees.{
+  typeAt,
+  pairOf,
   Alternatives,
   Tree,
   constantOf,
@@ -20,6 +21,7 @@ use Rattle.records.specs.Trees.{
   feedbackOf,
   ifOf,
   delayOf,
+  typeRecordOf,
 }
 use Rattle.typing.specs.Judgements.{
   Judgement,
@@ -29,7 +31,6 @@ use Rattle.typing.specs.Judgements.{
   pairType,
   sameType,
   patternHas,
-  typeRecordOf,
   judge,
   judgements,
   firstFailing,
@@ -48,21 +49,21 @@ module _ (s Γ : List ℕ) (rec : ℕ) (ans : Outcome) where
   pub first-faults : (Δ : List ℕ) (e A : Tree) (rest : List Judgement) (p : ℕ) (w0 w1 : List ℕ) → judgements s Γ e ≡ judgements s Δ A ++ rest
       → Judged s Δ A ans w0 w1 → ans ≡ Fault p → Judged s Γ e ans w0 w1
   first-faults Δ e A rest p w0 w1 q d a =
-      fault-done s Γ e ans w0 w1 p (rw q (fault-first s (judgements s Δ A) rest p (faulted s Δ A ans w0 w1 p d a))) a (d .long)
+      fault-done p (rw q (fault-first s (judgements s Δ A) rest p (faulted p d a))) a (d .long)
 
   -- tuples
   module _ (A B : Tree) where
     pub tuple-second-faults : (t p : ℕ) (w0 w1 w2 : List ℕ) → Passed s Γ A t w0 w1 → Judged s Γ B ans w1 w2 → ans ≡ Fault p
         → Judged s Γ (tupleOf rec A B) ans w0 w2
     tuple-second-faults t p w0 w1 w2 pa d a =
-        fault-done s Γ (tupleOf rec A B) ans w0 w2 p
+        fault-done p
         (then-second s (judgements s Γ A) _ (some p) (pa .none-fails)
-        (fault-first s (judgements s Γ B) _ p (faulted s Γ B ans w1 w2 p d a))) a (d .long)
+        (fault-first s (judgements s Γ B) _ p (faulted p d a))) a (d .long)
 
     pub tuple-closes : (t u : ℕ) (w0 w1 w2 w3 : List ℕ) → Passed s Γ A t w0 w1 → Passed s Γ B u w1 w2
         → Closed s (pairDeclared t u) rec (pairOf s t u) ans w2 w3 → Judged s Γ (tupleOf rec A B) ans w0 w3
     tuple-closes t u w0 w1 w2 w3 pa pb c =
-        closing-done s Γ (tupleOf rec A B) ans w0 w3 rec (pairDeclared (typeRecordOf s Γ A) (typeRecordOf s Γ B)) w2
+        closing-done rec (pairDeclared (typeRecordOf s Γ A) (typeRecordOf s Γ B)) w2
         (then-second s (judgements s Γ A) _ _ (pa .none-fails) (then-second s (judgements s Γ B) _ _ (pb .none-fails) refl))
         (rw (pa .typed, pb .typed) c)
         (noted-last (tupleOf rec A B) s Γ rec w2 _ (pb .notes ∙ ap (noted s Γ B) (pa .notes)))
@@ -71,14 +72,14 @@ module _ (s Γ : List ℕ) (rec : ℕ) (ans : Outcome) where
     pub let-body-faults : (t p : ℕ) (w0 w1 w2 : List ℕ) → Passed s Γ A t w0 w1 → Judged s (t ∷ Γ) B ans w1 w2 → ans ≡ Fault p
         → Judged s Γ (letOf rec A B) ans w0 w2
     let-body-faults t p w0 w1 w2 pa d a =
-        let f = faulted s (t ∷ Γ) B ans w1 w2 p d a in
-        fault-done s Γ (letOf rec A B) ans w0 w2 p (then-second s (judgements s Γ A) _ (some p) (pa .none-fails) (rw (pa .typed) f)) a (d .long)
+        let f = faulted p d a in
+        fault-done p (then-second s (judgements s Γ A) _ (some p) (pa .none-fails) (rw (pa .typed) f)) a (d .long)
 
     pub let-passes : (t u : ℕ) (w0 w1 w2 w3 : List ℕ) → Passed s Γ A t w0 w1 → Passed s (t ∷ Γ) B u w1 w2 → ans ≡ Sound u
         → w3 ≡ set w2 rec (leaves (typeAt s u)) → Judged s Γ (letOf rec A B) ans w0 w3
     let-passes t u w0 w1 w2 w3 pa pb a q =
         let pc : Passed s (typeRecordOf s Γ A ∷ Γ) B u w1 w2 = subst (λ (x : ℕ). Passed s (x ∷ Γ) B u w1 w2) (sym (pa .typed)) pb in
-        typed-done s Γ (letOf rec A B) ans w0 w3
+        typed-done
         (then-second s (judgements s Γ A) _ none (pa .none-fails) (pc .none-fails))
         (a ∙ ap Sound (sym (pc .typed)))
         (ap length q ∙ length-set w2 rec _ ∙ pb .long)
@@ -91,14 +92,14 @@ module _ (s Γ : List ℕ) (rec : ℕ) (ans : Outcome) where
       pub feedback-body-faults : (d p : ℕ) (w0 w1 w2 : List ℕ) → Passed s (t ∷ Γ) A d w0 w1 → Judged s (t ∷ Γ) B ans w1 w2 → ans ≡ Fault p
           → Judged s Γ (feedbackOf rec t A B) ans w0 w2
       feedback-body-faults d p w0 w1 w2 pa db a =
-          fault-done s Γ (feedbackOf rec t A B) ans w0 w2 p
+          fault-done p
           (then-second s (judgements s (t ∷ Γ) A) _ (some p) (pa .none-fails)
-          (fault-first s (judgements s (t ∷ Γ) B) _ p (faulted s (t ∷ Γ) B ans w1 w2 p db a))) a (db .long)
+          (fault-first s (judgements s (t ∷ Γ) B) _ p (faulted p db a))) a (db .long)
 
       pub feedback-closes : (d u : ℕ) (w0 w1 w2 w3 : List ℕ) → Passed s (t ∷ Γ) A d w0 w1 → Passed s (t ∷ Γ) B u w1 w2
           → Closed s (sameType d t) rec u ans w2 w3 → Judged s Γ (feedbackOf rec t A B) ans w0 w3
       feedback-closes d u w0 w1 w2 w3 pa pb c =
-          closing-done s Γ (feedbackOf rec t A B) ans w0 w3 rec (sameType (typeRecordOf s (t ∷ Γ) A) t) w2
+          closing-done rec (sameType (typeRecordOf s (t ∷ Γ) A) t) w2
           (then-second s (judgements s (t ∷ Γ) A) _ _ (pa .none-fails) (then-second s (judgements s (t ∷ Γ) B) _ _ (pb .none-fails) refl))
           (rw (pa .typed, pb .typed) c)
           (noted-last (feedbackOf rec t A B) s Γ rec w2 _ (pb .notes ∙ ap (noted s (t ∷ Γ) B) (pa .notes)))
@@ -108,7 +109,7 @@ module _ (s Γ : List ℕ) (rec : ℕ) (ans : Outcome) where
     pub first-closes : (t : ℕ) (w0 w1 w2 : List ℕ) → Passed s Γ A t w0 w1 → Closed s (pairType t) rec (wordA s t) ans w1 w2
         → Judged s Γ (firstOf rec A) ans w0 w2
     first-closes t w0 w1 w2 pa c =
-        closing-done s Γ (firstOf rec A) ans w0 w2 rec (pairType (typeRecordOf s Γ A)) w1
+        closing-done rec (pairType (typeRecordOf s Γ A)) w1
         (then-second s (judgements s Γ A) _ _ (pa .none-fails) refl)
         (rw (pa .typed) c)
         (noted-last (firstOf rec A) s Γ rec w1 _ (pa .notes))
@@ -116,7 +117,7 @@ module _ (s Γ : List ℕ) (rec : ℕ) (ans : Outcome) where
     pub second-closes : (t : ℕ) (w0 w1 w2 : List ℕ) → Passed s Γ A t w0 w1 → Closed s (pairType t) rec (wordB s t) ans w1 w2
         → Judged s Γ (secondOf rec A) ans w0 w2
     second-closes t w0 w1 w2 pa c =
-        closing-done s Γ (secondOf rec A) ans w0 w2 rec (pairType (typeRecordOf s Γ A)) w1
+        closing-done rec (pairType (typeRecordOf s Γ A)) w1
         (then-second s (judgements s Γ A) _ _ (pa .none-fails) refl)
         (rw (pa .typed) c)
         (noted-last (secondOf rec A) s Γ rec w1 _ (pa .notes))
@@ -126,13 +127,13 @@ module _ (s Γ : List ℕ) (rec : ℕ) (ans : Outcome) where
       pub delay-leaves-fault : (u p : ℕ) (w0 w1 : List ℕ) → Passed s Γ A u w0 w1 → firstFailing s (judge rec (leavesFit t ls)) ≡ some p
           → ans ≡ Fault p → Judged s Γ (delayOf rec t ls A) ans w0 w1
       delay-leaves-fault u p w0 w1 pa f a =
-          fault-done s Γ (delayOf rec t ls A) ans w0 w1 p
+          fault-done p
           (then-second s (judgements s Γ A) _ (some p) (pa .none-fails) (fault-first s (judge rec (leavesFit t ls)) (judge rec (sameType (typeRecordOf s Γ A) t)) p f)) a (pa .long)
 
       pub delay-closes : (u : ℕ) (w0 w1 w2 : List ℕ) → Passed s Γ A u w0 w1 → firstFailing s (judge rec (leavesFit t ls)) ≡ none
           → Closed s (sameType u t) rec t ans w1 w2 → Judged s Γ (delayOf rec t ls A) ans w0 w2
       delay-closes u w0 w1 w2 pa f c =
-          closing-done s Γ (delayOf rec t ls A) ans w0 w2 rec (sameType (typeRecordOf s Γ A) t) w1
+          closing-done rec (sameType (typeRecordOf s Γ A) t) w1
           (then-second s (judgements s Γ A) _ _ (pa .none-fails) (then-second s (judge rec (leavesFit t ls)) (judge rec (sameType (typeRecordOf s Γ A) t)) _ f refl))
           (rw (pa .typed) c)
           (noted-last (delayOf rec t ls A) s Γ rec w1 _ (pa .notes))
@@ -150,31 +151,31 @@ module _ (s Γ : List ℕ) (rec : ℕ) (ans : Outcome) where
 
     pub if-pattern-faults : (p : ℕ) → firstFailing s (judge rec (patternHas t m)) ≡ some p → ans ≡ Fault p → Judged s Γ (ifOf rec A m B C) ans w0 w1
     if-pattern-faults p f a =
-        fault-done s Γ (ifOf rec A m B C) ans w0 w1 p
+        fault-done p
         (then-second s (judgements s Γ A) _ (some p) (pa .none-fails)
         (fault-first s (judge rec (patternHas (typeRecordOf s Γ A) m)) branches p (matches (some p) f))) a (pa .long)
 
     module _ (fm : firstFailing s (judge rec (patternHas t m)) ≡ none) where
       pub if-then-faults : (p : ℕ) (w2 : List ℕ) → Judged s Γ B ans w1 w2 → ans ≡ Fault p → Judged s Γ (ifOf rec A m B C) ans w0 w2
       if-then-faults p w2 d a =
-          fault-done s Γ (ifOf rec A m B C) ans w0 w2 p
+          fault-done p
           (then-second s (judgements s Γ A) _ (some p) (pa .none-fails)
           (then-second s (judge rec (patternHas (typeRecordOf s Γ A) m)) branches (some p) (matches none fm)
-          (fault-first s (judgements s Γ B) (judgements s Γ C ++ last) p (faulted s Γ B ans w1 w2 p d a)))) a (d .long)
+          (fault-first s (judgements s Γ B) (judgements s Γ C ++ last) p (faulted p d a)))) a (d .long)
 
       module _ (u : ℕ) (w2 : List ℕ) (pb : Passed s Γ B u w1 w2) where
         pub if-else-faults : (p : ℕ) (w3 : List ℕ) → Judged s Γ C ans w2 w3 → ans ≡ Fault p → Judged s Γ (ifOf rec A m B C) ans w0 w3
         if-else-faults p w3 d a =
-            fault-done s Γ (ifOf rec A m B C) ans w0 w3 p
+            fault-done p
             (then-second s (judgements s Γ A) _ (some p) (pa .none-fails)
             (then-second s (judge rec (patternHas (typeRecordOf s Γ A) m)) branches (some p) (matches none fm)
             (then-second s (judgements s Γ B) (judgements s Γ C ++ last) (some p) (pb .none-fails)
-            (fault-first s (judgements s Γ C) last p (faulted s Γ C ans w2 w3 p d a))))) a (d .long)
+            (fault-first s (judgements s Γ C) last p (faulted p d a))))) a (d .long)
 
         pub if-closes : (v : ℕ) (w3 w4 : List ℕ) → Passed s Γ C v w2 w3 → Closed s (sameType u v) rec u ans w3 w4
             → Judged s Γ (ifOf rec A m B C) ans w0 w4
         if-closes v w3 w4 pc c =
-            closing-done s Γ (ifOf rec A m B C) ans w0 w4 rec (sameType (typeRecordOf s Γ B) (typeRecordOf s Γ C)) w3
+            closing-done rec (sameType (typeRecordOf s Γ B) (typeRecordOf s Γ C)) w3
             (then-second s (judgements s Γ A) _ _ (pa .none-fails)
             (then-second s (judge rec (patternHas (typeRecordOf s Γ A) m)) branches _ (matches none fm)
             (then-second s (judgements s Γ B) (judgements s Γ C ++ last) _ (pb .none-fails)
@@ -186,12 +187,12 @@ module _ (s Γ : List ℕ) (rec : ℕ) (ans : Outcome) where
   -- constants and names
   pub constant-faults : (t p : ℕ) (ls w0 : List ℕ) → firstFailing s (judge rec (leavesFit t ls)) ≡ some p → ans ≡ Fault p → length w0 ≡ 4096
       → Judged s Γ (constantOf rec t ls) ans w0 w0
-  constant-faults t p ls w0 f a l = fault-done s Γ (constantOf rec t ls) ans w0 w0 p f a l
+  constant-faults t p ls w0 f a l = fault-done p f a l
 
   pub constant-passes : (t : ℕ) (ls w0 w1 : List ℕ) → firstFailing s (judge rec (leavesFit t ls)) ≡ none → ans ≡ Sound t → length w0 ≡ 4096
       → w1 ≡ set w0 rec (leaves (typeAt s t)) → Judged s Γ (constantOf rec t ls) ans w0 w1
   constant-passes t ls w0 w1 f a l q =
-      typed-done s Γ (constantOf rec t ls) ans w0 w1 f a (ap length q ∙ length-set w0 rec _ ∙ l) q
+      typed-done f a (ap length q ∙ length-set w0 rec _ ∙ l) q
 
   pub name-closes : (k : ℕ) (w0 w1 : List ℕ) → Closed s (inScope k (length Γ)) rec (getD Γ k 0) ans w0 w1 → Judged s Γ (nameOf rec k) ans w0 w1
-  name-closes k w0 w1 c = closing-done s Γ (nameOf rec k) ans w0 w1 rec (inScope k (length Γ)) w0 refl c refl
+  name-closes k w0 w1 c = closing-done rec (inScope k (length Γ)) w0 refl c refl

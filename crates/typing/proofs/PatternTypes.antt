@@ -8,24 +8,12 @@ use mathlib.Core.List.{List}
 use mathlib.Core.Path.{_≡_, refl, sym}
 use lib.Dec.{eqb}
 use borrow.Author.Tests.{eqb-true, eq-eqb}
-use Rattle.picoella.specs.Types.{Ty}
-use Rattle.picoella.specs.Patterns.{
-  Pattern,
-  Whole,
-  Constructor,
-  Parts,
-  HasType,
-  p-whole,
-  p-constructor,
-  p-parts,
-  p-bar,
-}
+use Rattle.picoella.specs.Language.{Ty, Pattern, Whole, Constructor, Parts, HasType, p-whole, p-constructor, p-parts, p-bar}
 use Rattle.picoella.proofs.Inversion.{pattern-premises}
 use Rattle.records.specs.Words.{wordA, wordB}
 use Rattle.records.specs.Kinds.{isPair}
 use Rattle.records.specs.Says.{kindAt}
-use Rattle.records.specs.TypeRecords.{typeAt, TypeRecord}
-use Rattle.records.specs.Trees.{Alternatives, end, noPattern, wholeType, oneConstructor, pairOfPatterns}
+use Rattle.records.specs.Trees.{typeAt, TypeRecord, Alternatives, end, noPattern, wholeType, oneConstructor, pairOfPatterns}
 use Rattle.records.specs.Decoding.{orElse, patternOf}
 use Rattle.records.specs.Written.{Written, TypesFit}
 use Rattle.records.proofs.Tests.{both, both-left, both-right}

@@ -12,14 +12,13 @@ use mir.Val.{Fits}
 use Rattle.records.specs.Words.{count, word}
 use Rattle.records.specs.Kinds.{Kind, expressions, patterns, leafs, part, lowerType, expression, first, second}
 use Rattle.records.specs.Says.{kindAt, sortAt}
-use Rattle.records.specs.TypeRecords.{TypeRecord}
-use Rattle.records.specs.Trees.{treeAt}
+use Rattle.records.specs.Trees.{TypeRecord, treeAt}
 use Rattle.records.specs.Written.{Written}
 use Rattle.records.proofs.Table.{askOfKind}
 use Rattle.records.proofs.Asked.{part-of-kind, past-header}
 use Rattle.records.proofs.Grown.{grown-tree}
 use Rattle.records.proofs.TypeRecords.{type-word}
-use Rattle.structure.specs.Depth.{depth}
+use Rattle.structure.specs.Rules.{depth}
 use Rattle.structure.proofs.Passes.{written, well-named, not-deep}
 use Rattle.structure.proofs.Depths.{depth-of-part}
 use Rattle.typing.specs.Judging.{Judging, Closing, Fitting, Context, scopeOf, PartAt, at-first, at-second}

@@ -8,8 +8,9 @@ use native.Mathlib.Omega.{arith}
 use lib.ListN.{length, getD}
 use borrow.Author.Tests.{ltb-true}
 use Rattle.records.specs.Says.{kindAt}
-use Rattle.records.specs.TypeRecords.{TypeRecord, pairOf}
 use Rattle.records.specs.Trees.{
+  TypeRecord,
+  pairOf,
   Tree,
   noExpression,
   constantOf,
@@ -21,12 +22,12 @@ use Rattle.records.specs.Trees.{
   feedbackOf,
   ifOf,
   delayOf,
+  typeRecordOf,
 }
 use Rattle.records.specs.Written.{Written}
 use Rattle.records.proofs.Table.{is-pair}
 use Rattle.records.proofs.TypeRecords.{first-part, second-part, found-pair}
 use Rattle.records.proofs.Grown.{Grown}
-use Rattle.typing.specs.Judgements.{typeRecordOf}
 use Rattle.typing.specs.Judging.{Context}
 use Rattle.typing.proofs.Judged.{RulesHold}
 

@@ -14,8 +14,7 @@ use borrow.Author.Tests.{eq-eqb, ne-eqb}
 use Rattle.records.specs.Words.{count, word, wordA, wordB, nextWord}
 use Rattle.records.specs.Kinds.{pattern, whole, constructor, parts, patterns, part, typeOf, pair, isPair}
 use Rattle.records.specs.Says.{kindAt, sortAt}
-use Rattle.records.specs.TypeRecords.{TypeRecord, pairOf, pairBelow}
-use Rattle.records.specs.Trees.{end, alternatives, follow}
+use Rattle.records.specs.Trees.{TypeRecord, pairOf, pairBelow, end, alternatives, follow}
 use Rattle.records.specs.Written.{Written}
 use Rattle.records.proofs.Tests.{never-both}
 use Rattle.records.proofs.Table.{is-pair, askOfKind}
@@ -70,7 +69,7 @@ module _ {s : List ℕ} {n : ℕ} {index types : List ℕ} {p : ℕ} (q : Typing
 
   -- no pair pattern: the type in word a
   pub word-type : {k x : ℕ} → k ≡ word s p 0 → (k ≡ 50 → ⊥) → x ≡ word s p 2 → TypeOfOne s p x
-  word-type {k} {x} ek f ex t u = fits-word s n p t (fitting t u) k ek x f ex
+  word-type {k} {x} ek f ex t u = fits-word (fitting t u) k ek x f ex
 
   -- a pair pattern
   module _ {k : ℕ} (ek : k ≡ word s p 0) (e : k ≡ 50) where
@@ -142,7 +141,7 @@ module _ {s : List ℕ} {n : ℕ} {index types : List ℕ} {p : ℕ} (q : Typing
           go (yes f) (no g) (no h) = rw (eq-eqb a (wordA s t) f, ne-eqb b (wordB s t) g, ne-eqb r t h)
 
       pub pair-type-of-parts : TypeOfOne s p r
-      pair-type-of-parts t u = both-parts s n p t (fitting t u) k ek e ∙ go (isPair (kindAt s t)) refl
+      pair-type-of-parts t u = both-parts (fitting t u) k ek e ∙ go (isPair (kindAt s t)) refl
         where
           rest : Bool
           rest = patternFits s (follow end (alternatives s) (nextWord s p)) t
@@ -162,7 +161,7 @@ module _ {s : List ℕ} {n : ℕ} {index types : List ℕ} {p : ℕ} (q : Typing
 
     module _ (f : y ≡ 0 → ⊥) where
       next-fitting : (t : ℕ) → TypeRecord s t → (p < y) × Fitting s n y t
-      next-fitting t u = next-matching s n p t (fitting t u) y ey f
+      next-fitting t u = next-matching (fitting t u) y ey f
 
       pub next-low : y < 4096
       next-low =

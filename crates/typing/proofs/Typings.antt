@@ -10,8 +10,13 @@ use native.Mathlib.Omega.{arith}
 use lib.ListN.{length, getD}
 use lib.Dec.{leb}
 use borrow.Author.Tests.{leb-true, le-leb, ltb-true, lt-ltb, eqb-true, eq-eqb}
-use Rattle.picoella.specs.Types.{Ty, TyTuple, bounds, Within, within-none, within-leaf}
-use Rattle.picoella.specs.Typing.{
+use Rattle.picoella.specs.Language.{
+  Ty,
+  TyTuple,
+  bounds,
+  Within,
+  within-none,
+  within-leaf,
   Named,
   here,
   there,
@@ -29,8 +34,11 @@ use Rattle.picoella.specs.Typing.{
 use Rattle.picoella.proofs.Inversion.{premises}
 use Rattle.records.specs.Words.{wordA, wordB}
 use Rattle.records.specs.Says.{kindAt}
-use Rattle.records.specs.TypeRecords.{typeAt, pairOf, TypeRecord, Declared}
 use Rattle.records.specs.Trees.{
+  typeAt,
+  pairOf,
+  TypeRecord,
+  Declared,
   Tree,
   noExpression,
   constantOf,
@@ -42,6 +50,7 @@ use Rattle.records.specs.Trees.{
   feedbackOf,
   ifOf,
   delayOf,
+  typeRecordOf,
 }
 use Rattle.records.specs.Decoding.{leafValues, expressionOf}
 use Rattle.records.specs.Written.{Written, TypesFit}
@@ -51,7 +60,7 @@ use Rattle.records.proofs.Types.{pair-type}
 use Rattle.records.proofs.Pairs.{pair-of-found, pair-of-parts}
 use Rattle.records.proofs.TypeRecords.{first-part, second-part, found-pair, pair-record, same-type-same-record}
 use Rattle.records.proofs.Grown.{Grown}
-use Rattle.typing.specs.Judgements.{within, typeRecordOf}
+use Rattle.typing.specs.Judgements.{within}
 use Rattle.typing.proofs.Judged.{RulesHold}
 use Rattle.typing.specs.Judging.{Context}
 use Rattle.typing.proofs.TypeRecordsOf.{type-of-record}

@@ -1,18 +1,19 @@
 -- The type rules (docs/SHEETS.md, "Type rules") as a list of judgements in the order of code 7 ("Codes"): parts a, b, c, then the
 -- whole; an IF's pattern after a, reported at the IF. A judgement is a rule and the record at which it is reported. Types are type
 -- records, and the same only as the same record; 0 stands for none, and comes only after a judgement that fails.
-use Prim.Native.Nat.{ℕ, zero, suc}
+use Prim.Native.Nat.{ℕ}
 use mathlib.Core.Bool.{Bool, true, false, cond, _&&_}
 use mathlib.Core.List.{List, [], _∷_, _++_}
 use mathlib.Core.Option.{Option, none, some}
-use lib.ListN.{length, getD}
+use lib.ListN.{length}
 use lib.Dec.{eqb, ltb, leb}
-use Rattle.picoella.specs.Types.{bounds}
+use Rattle.picoella.specs.Language.{bounds}
 use Rattle.records.specs.Words.{wordA, wordB}
 use Rattle.records.specs.Kinds.{isPair}
 use Rattle.records.specs.Says.{kindAt}
-use Rattle.records.specs.TypeRecords.{typeAt, pairOf}
 use Rattle.records.specs.Trees.{
+  typeAt,
+  pairOf,
   Alternatives,
   end,
   noPattern,
@@ -30,6 +31,7 @@ use Rattle.records.specs.Trees.{
   feedbackOf,
   ifOf,
   delayOf,
+  typeRecordOf,
 }
 use Rattle.records.specs.Decoding.{leafValues}
 
@@ -70,19 +72,6 @@ holds s (pairType t) = isPair (kindAt s t)
 holds s (sameType t u) = eqb t u
 holds s (patternHas t p) = patternFits s p t
 holds s noRule = false
-
--- the type record of an expression, where the names in scope have these types, the innermost first
-abbrev pub typeRecordOf : List ℕ → List ℕ → Tree → ℕ
-typeRecordOf s Γ noExpression = 0
-typeRecordOf s Γ (constantOf r t ls) = t
-typeRecordOf s Γ (nameOf r k) = getD Γ k 0
-typeRecordOf s Γ (tupleOf r a b) = pairOf s (typeRecordOf s Γ a) (typeRecordOf s Γ b)
-typeRecordOf s Γ (firstOf r a) = wordA s (typeRecordOf s Γ a)
-typeRecordOf s Γ (secondOf r a) = wordB s (typeRecordOf s Γ a)
-typeRecordOf s Γ (letOf r a b) = typeRecordOf s (typeRecordOf s Γ a ∷ Γ) b
-typeRecordOf s Γ (feedbackOf r t a b) = typeRecordOf s (t ∷ Γ) b
-typeRecordOf s Γ (ifOf r a p b c) = typeRecordOf s Γ b
-typeRecordOf s Γ (delayOf r t ls a) = t
 
 abbrev pub judge : ℕ → Rule → List Judgement
 judge r rule = record { at = r; rule = rule } ∷ []

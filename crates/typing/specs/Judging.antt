@@ -6,14 +6,17 @@ use mathlib.Core.Bool.{Bool, true, false, _&&_}
 use mathlib.Core.List.{List, [], _∷_, map}
 use mathlib.Core.Option.{Option, none, some}
 use lib.ListN.{length, getD, set}
-use Rattle.picoella.specs.Types.{leaves}
+use Rattle.picoella.specs.Language.{leaves}
 use Rattle.records.specs.Words.{word, count, nextWord, wordA}
 use Rattle.records.specs.SheetOf.{sheetOf}
 use Rattle.records.specs.Kinds.{rowOf, kindOf, expressions, patterns, expression, first, second}
 use Rattle.records.specs.Says.{sortAt, kindAt}
 use Rattle.records.specs.Sized.{Sized}
-use Rattle.records.specs.TypeRecords.{typeWithin, typeAt, pairOf, TypeRecord}
 use Rattle.records.specs.Trees.{
+  typeWithin,
+  typeAt,
+  pairOf,
+  TypeRecord,
   Tree,
   noExpression,
   constantOf,
@@ -34,10 +37,10 @@ use Rattle.records.specs.Trees.{
   circuit,
   follow,
   end,
+  typeRecordOf,
 }
-use Rattle.structure.specs.Depth.{depth}
-use Rattle.structure.specs.Passes.{Passes}
-use Rattle.typing.specs.Judgements.{Rule, holds, typeRecordOf, judgements, firstFailing, patternFits}
+use Rattle.structure.specs.Rules.{depth, Passes}
+use Rattle.typing.specs.Judgements.{Rule, holds, judgements, firstFailing, patternFits}
 use Rattle.typing.specs.Rows.{TypingRow, judgedTo}
 use Rattle.typing.specs.NameRows.{nameRows}
 use Rattle.typing.specs.TypeRows.{typeRows}

@@ -3,12 +3,11 @@ use Prim.Native.Nat.{ℕ, _<_}
 use mathlib.Core.Path.{_≡_}
 use mathlib.Core.Bool.{Bool, false}
 use mathlib.Core.List.{List, [], _++_}
-use Rattle.picoella.specs.Types.{bounds}
+use Rattle.picoella.specs.Language.{bounds}
 use Rattle.records.specs.Words.{count}
 use Rattle.records.specs.Kinds.{leafs}
 use Rattle.records.specs.Says.{sortAt}
-use Rattle.records.specs.TypeRecords.{typeAt}
-use Rattle.records.specs.Trees.{chain, follow}
+use Rattle.records.specs.Trees.{typeAt, chain, follow}
 use Rattle.records.specs.Decoding.{leafValues}
 use Rattle.typing.specs.Judgements.{within}
 use Rattle.typing.specs.declared.Remaining.{Remaining}

@@ -9,10 +9,9 @@ use Rattle.records.specs.Words.{count}
 use Rattle.records.specs.Kinds.{patterns}
 use Rattle.records.specs.Says.{sortAt}
 use Rattle.records.specs.Sized.{Sized}
-use Rattle.records.specs.TypeRecords.{TypeRecord}
-use Rattle.records.specs.Trees.{alternatives}
+use Rattle.records.specs.Trees.{TypeRecord, alternatives}
 use Rattle.structure.specs.PairIndex.{Indexed}
-use Rattle.structure.specs.Passes.{Passes}
+use Rattle.structure.specs.Rules.{Passes}
 use Rattle.typing.specs.Judgements.{patternFits}
 use Rattle.typing.specs.Judging.{FittedOne}
 

@@ -2,9 +2,9 @@
 ghost use mathlib.Core.Path.{_≡_};
 ghost use Prim.Native.Nat.{_<_};
 ghost use lib.ListN.{set};
-ghost use Rattle.picoella.specs.Types.{leaves};
+ghost use Rattle.picoella.specs.Language.{leaves};
 ghost use Rattle.records.specs.Words.{word};
-ghost use Rattle.records.specs.TypeRecords.{typeAt, TypeRecord, pairOf};
+ghost use Rattle.records.specs.Trees.{typeAt, TypeRecord, pairOf};
 ghost use Rattle.structure.specs.PairIndex.{Indexed};
 ghost use Rattle.typing.specs.Judgements.{pairDeclared, pairType, sameType};
 ghost use Rattle.typing.specs.Judging.{Closed, Closing};
@@ -12,7 +12,7 @@ ghost use Rattle.typing.specs.declared.Outcome.the-variants.{Sound};
 use crate::Outcome;
 use records::KIND_PAIR_TYPE;
 use records::WORD_KIND;
-use records::Widths;
+use records::WidthTable;
 use records::word;
 use structure::PairIndex;
 use structure::pair_of;
@@ -21,10 +21,10 @@ use structure::pair_of;
 pub fn note(
     sheet: &[u8],
     n: usize,
-    table: &Widths,
+    table: &WidthTable,
     rec: usize,
     t: usize,
-    widths: &mut Widths,
+    widths: &mut WidthTable,
 ) -> Outcome
     requires { ⌜ Closing (now sheet) n (now table) rec (now widths) × TypeRecord (now sheet) t ⌝ }
     ensures { λ r. ⌜ (r ≡ Sound t) × (now (widths .exit) ≡ set (now (widths .entry)) rec (leaves (typeAt (now (sheet .entry)) t))) ⌝ }
@@ -37,12 +37,12 @@ pub fn note(
 pub fn pair_type(
     sheet: &[u8],
     n: usize,
-    table: &Widths,
+    table: &WidthTable,
     index: &PairIndex,
     rec: usize,
     t: usize,
     u: usize,
-    widths: &mut Widths,
+    widths: &mut WidthTable,
 ) -> Outcome
     requires { ⌜ Closing (now sheet) n (now table) rec (now widths) × Indexed (now sheet) n (now index) ⌝ }
     ensures { λ r. ⌜ Closed (now (sheet .entry)) (pairDeclared t u) rec (pairOf (now (sheet .entry)) t u) r (now (widths .entry)) (now (widths .exit)) ⌝ }
@@ -58,11 +58,11 @@ pub fn pair_type(
 pub fn part_type(
     sheet: &[u8],
     n: usize,
-    table: &Widths,
+    table: &WidthTable,
     rec: usize,
     t: usize,
     k: usize,
-    widths: &mut Widths,
+    widths: &mut WidthTable,
 ) -> Outcome
     requires { ⌜ Closing (now sheet) n (now table) rec (now widths) × TypeRecord (now sheet) t × (1 < k) × (k < 4) ⌝ }
     ensures { λ r. ⌜ Closed (now (sheet .entry)) (pairType t) rec (word (now (sheet .entry)) t k) r (now (widths .entry)) (now (widths .exit)) ⌝ }
@@ -77,12 +77,12 @@ pub fn part_type(
 pub fn same_type(
     sheet: &[u8],
     n: usize,
-    table: &Widths,
+    table: &WidthTable,
     rec: usize,
     x: usize,
     y: usize,
     t: usize,
-    widths: &mut Widths,
+    widths: &mut WidthTable,
 ) -> Outcome
     requires { ⌜ Closing (now sheet) n (now table) rec (now widths) × TypeRecord (now sheet) t ⌝ }
     ensures { λ r. ⌜ Closed (now (sheet .entry)) (sameType x y) rec t r (now (widths .entry)) (now (widths .exit)) ⌝ }

@@ -26,13 +26,13 @@ use records::KIND_LET;
 use records::KIND_NAME;
 use records::KIND_PAIR;
 use records::KIND_SECOND;
-use records::Scope;
+use records::ScopeTable;
 use records::WORD_A;
 use records::WORD_B;
 use records::WORD_C;
 use records::WORD_D;
 use records::WORD_KIND;
-use records::Widths;
+use records::WidthTable;
 use records::word;
 use structure::PairIndex;
 use structure::no_pairs;
@@ -42,13 +42,13 @@ use structure::note_pairs;
 fn judge_expression(
     sheet: &[u8],
     n: usize,
-    table: &Widths,
+    table: &WidthTable,
     index: &PairIndex,
     types: &PatternTypes,
-    scope: &Scope,
+    scope: &ScopeTable,
     names: usize,
     rec: usize,
-    widths: &mut Widths,
+    widths: &mut WidthTable,
 ) -> Outcome
     requires { ⌜ Judging (now sheet) n (now table) (now scope) names rec (now widths) × TypeTables (now sheet) n (now index) (now types) ⌝ }
     ensures { λ r. ⌜ Judged (now (sheet .entry)) (scopeOf names (now (scope .entry))) (treeAt (now (sheet .entry)) rec) r (now (widths .entry)) (now (widths .exit)) ⌝ }
@@ -106,13 +106,13 @@ fn judge_expression(
 fn of_pair(
     sheet: &[u8],
     n: usize,
-    table: &Widths,
+    table: &WidthTable,
     index: &PairIndex,
     types: &PatternTypes,
-    scope: &Scope,
+    scope: &ScopeTable,
     names: usize,
     rec: usize,
-    widths: &mut Widths,
+    widths: &mut WidthTable,
 ) -> Outcome
     requires { ⌜ Judging (now sheet) n (now table) (now scope) names rec (now widths) × (kindAt (now sheet) rec ≡ expression tuple) × TypeTables (now sheet) n (now index) (now types) ⌝ }
     ensures { λ r. ⌜ Judged (now (sheet .entry)) (scopeOf names (now (scope .entry))) (treeAt (now (sheet .entry)) rec) r (now (widths .entry)) (now (widths .exit)) ⌝ }
@@ -134,14 +134,14 @@ fn of_pair(
 fn of_part(
     sheet: &[u8],
     n: usize,
-    table: &Widths,
+    table: &WidthTable,
     index: &PairIndex,
     types: &PatternTypes,
-    scope: &Scope,
+    scope: &ScopeTable,
     names: usize,
     rec: usize,
     k: usize,
-    widths: &mut Widths,
+    widths: &mut WidthTable,
 ) -> Outcome
     requires { ⌜ Judging (now sheet) n (now table) (now scope) names rec (now widths) × PartAt (now sheet) rec k × TypeTables (now sheet) n (now index) (now types) ⌝ }
     ensures { λ r. ⌜ Judged (now (sheet .entry)) (scopeOf names (now (scope .entry))) (treeAt (now (sheet .entry)) rec) r (now (widths .entry)) (now (widths .exit)) ⌝ }
@@ -157,13 +157,13 @@ fn of_part(
 fn of_let(
     sheet: &[u8],
     n: usize,
-    table: &Widths,
+    table: &WidthTable,
     index: &PairIndex,
     types: &PatternTypes,
-    scope: &Scope,
+    scope: &ScopeTable,
     names: usize,
     rec: usize,
-    widths: &mut Widths,
+    widths: &mut WidthTable,
 ) -> Outcome
     requires { ⌜ Judging (now sheet) n (now table) (now scope) names rec (now widths) × (kindAt (now sheet) rec ≡ expression letIn) × TypeTables (now sheet) n (now index) (now types) ⌝ }
     ensures { λ r. ⌜ Judged (now (sheet .entry)) (scopeOf names (now (scope .entry))) (treeAt (now (sheet .entry)) rec) r (now (widths .entry)) (now (widths .exit)) ⌝ }
@@ -185,13 +185,13 @@ fn of_let(
 fn of_feedback(
     sheet: &[u8],
     n: usize,
-    table: &Widths,
+    table: &WidthTable,
     index: &PairIndex,
     types: &PatternTypes,
-    scope: &Scope,
+    scope: &ScopeTable,
     names: usize,
     rec: usize,
-    widths: &mut Widths,
+    widths: &mut WidthTable,
 ) -> Outcome
     requires { ⌜ Judging (now sheet) n (now table) (now scope) names rec (now widths) × (kindAt (now sheet) rec ≡ expression feedback) × TypeTables (now sheet) n (now index) (now types) ⌝ }
     ensures { λ r. ⌜ Judged (now (sheet .entry)) (scopeOf names (now (scope .entry))) (treeAt (now (sheet .entry)) rec) r (now (widths .entry)) (now (widths .exit)) ⌝ }
@@ -214,13 +214,13 @@ fn of_feedback(
 fn of_if(
     sheet: &[u8],
     n: usize,
-    table: &Widths,
+    table: &WidthTable,
     index: &PairIndex,
     types: &PatternTypes,
-    scope: &Scope,
+    scope: &ScopeTable,
     names: usize,
     rec: usize,
-    widths: &mut Widths,
+    widths: &mut WidthTable,
 ) -> Outcome
     requires { ⌜ Judging (now sheet) n (now table) (now scope) names rec (now widths) × (kindAt (now sheet) rec ≡ expression ifMatches) × TypeTables (now sheet) n (now index) (now types) ⌝ }
     ensures { λ r. ⌜ Judged (now (sheet .entry)) (scopeOf names (now (scope .entry))) (treeAt (now (sheet .entry)) rec) r (now (widths .entry)) (now (widths .exit)) ⌝ }
@@ -250,13 +250,13 @@ fn of_if(
 fn of_delay(
     sheet: &[u8],
     n: usize,
-    table: &Widths,
+    table: &WidthTable,
     index: &PairIndex,
     types: &PatternTypes,
-    scope: &Scope,
+    scope: &ScopeTable,
     names: usize,
     rec: usize,
-    widths: &mut Widths,
+    widths: &mut WidthTable,
 ) -> Outcome
     requires { ⌜ Judging (now sheet) n (now table) (now scope) names rec (now widths) × (kindAt (now sheet) rec ≡ expression delay) × TypeTables (now sheet) n (now index) (now types) ⌝ }
     ensures { λ r. ⌜ Judged (now (sheet .entry)) (scopeOf names (now (scope .entry))) (treeAt (now (sheet .entry)) rec) r (now (widths .entry)) (now (widths .exit)) ⌝ }
@@ -275,14 +275,14 @@ fn of_delay(
 }
 
 // Judges an expression, with an index of the sheet's pair types and the types of its patterns.
-pub fn judge(
+pub fn judge_root(
     sheet: &[u8],
     n: usize,
-    table: &Widths,
-    scope: &Scope,
+    table: &WidthTable,
+    scope: &ScopeTable,
     names: usize,
     rec: usize,
-    widths: &mut Widths,
+    widths: &mut WidthTable,
 ) -> Outcome
     requires { ⌜ Judging (now sheet) n (now table) (now scope) names rec (now widths) ⌝ }
     ensures { λ r. ⌜ Judged (now (sheet .entry)) (scopeOf names (now (scope .entry))) (treeAt (now (sheet .entry)) rec) r (now (widths .entry)) (now (widths .exit)) ⌝ }

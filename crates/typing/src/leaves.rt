@@ -2,14 +2,13 @@
 ghost use mathlib.Core.Path.{_≡_};
 ghost use Prim.Native.Nat.{_<_};
 ghost use lib.ListN.{getD};
-ghost use Rattle.picoella.specs.Types.{bounds, leaves};
+ghost use Rattle.picoella.specs.Language.{bounds, leaves};
 ghost use Rattle.records.specs.Kinds.{leafs};
 ghost use Rattle.records.specs.Says.{sortAt};
 ghost use Rattle.records.specs.Sized.{Sized};
-ghost use Rattle.records.specs.TypeRecords.{typeAt, TypeRecord};
-ghost use Rattle.records.specs.Trees.{chain};
+ghost use Rattle.records.specs.Trees.{typeAt, TypeRecord, chain};
 ghost use Rattle.records.specs.Decoding.{leafValues};
-ghost use Rattle.structure.specs.Passes.{Passes};
+ghost use Rattle.structure.specs.Rules.{Passes};
 ghost use Rattle.typing.specs.Judgements.{within, holds, leavesFit};
 ghost use Rattle.typing.specs.Judging.{Ground, lastly};
 ghost use Rattle.typing.specs.LeafChains.{LeafOrEnd, TakenOff};
@@ -20,11 +19,11 @@ use records::WORD_A;
 use records::WORD_B;
 use records::WORD_KIND;
 use records::WORD_NEXT;
-use records::Widths;
+use records::WidthTable;
 use records::word;
 
 // The constructor count of leaf i of type t.
-pub fn bound_at(sheet: &[u8], n: usize, table: &Widths, t: usize, i: usize) -> usize
+pub fn bound_at(sheet: &[u8], n: usize, table: &WidthTable, t: usize, i: usize) -> usize
     requires { ⌜ Ground (now sheet) n (now table) × TypeRecord (now sheet) t × (i < leaves (typeAt (now sheet) t)) ⌝ }
     ensures { λ r. ⌜ r ≡ getD (bounds (typeAt (now (sheet .entry)) t)) i 0 ⌝ }
 {

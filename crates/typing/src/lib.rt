@@ -6,7 +6,7 @@ mod patterns;
 mod scopes;
 mod simple;
 
-pub use expressions::judge;
+pub use expressions::judge_root;
 pub use leaves::bound_at;
 pub use scopes::input_scope;
 

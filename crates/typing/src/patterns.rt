@@ -8,7 +8,7 @@ ghost use Rattle.records.specs.Sized.{Sized};
 ghost use Rattle.records.specs.Trees.{alternatives};
 ghost use Rattle.records.specs.Words.{count};
 ghost use Rattle.structure.specs.PairIndex.{Indexed};
-ghost use Rattle.structure.specs.Passes.{Passes};
+ghost use Rattle.structure.specs.Rules.{Passes};
 ghost use Rattle.typing.specs.Judgements.{holds, patternHas};
 ghost use Rattle.typing.specs.Judging.{Fitting, lastly};
 ghost use Rattle.typing.specs.PatternTable.{TypeOfOne, TypeOfAll, PatternsTyped, TypingPattern};

@@ -5,10 +5,10 @@ ghost use Prim.Native.Nat.{_+_, _<_};
 ghost use lib.ListN.{length};
 ghost use Rattle.typing.specs.Judging.{scopeOf};
 use records::MOST_NAMES;
-use records::Scope;
+use records::ScopeTable;
 
 // The names in scope with one more, of type t.
-pub fn with_name(scope: &Scope, names: usize, t: usize) -> Scope
+pub fn with_name(scope: &ScopeTable, names: usize, t: usize) -> ScopeTable
     requires { ⌜ (names < 64) × (t < 65536) × (length (now scope) ≡ 64) ⌝ }
     ensures { λ r. ⌜ (length r ≡ 64) × (scopeOf (names + 1) r ≡ t ∷ scopeOf names (now (scope .entry))) ⌝ }
 {
@@ -18,7 +18,7 @@ pub fn with_name(scope: &Scope, names: usize, t: usize) -> Scope
 }
 
 // The names in scope of the whole circuit: the input alone, of the type in the header's word a.
-pub fn input_scope(t: usize) -> Scope
+pub fn input_scope(t: usize) -> ScopeTable
     requires { ⌜ t < 65536 ⌝ }
     ensures { λ r. ⌜ (length r ≡ 64) × (scopeOf 1 r ≡ t ∷ []) ⌝ }
 {

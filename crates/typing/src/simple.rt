@@ -9,19 +9,19 @@ ghost use Rattle.typing.specs.Judging.{Judging, Judged, scopeOf, Closing
 use crate::Outcome;
 use crate::closing::note;
 use crate::leaves::leaves_type;
-use records::Scope;
+use records::ScopeTable;
 use records::WORD_A;
 use records::WORD_B;
-use records::Widths;
+use records::WidthTable;
 use records::word;
 
 // Judges a constant.
 pub fn of_constant(
     sheet: &[u8],
     n: usize,
-    table: &Widths,
+    table: &WidthTable,
     rec: usize,
-    widths: &mut Widths,
+    widths: &mut WidthTable,
 ) -> Outcome
     requires { ⌜ Closing (now sheet) n (now table) rec (now widths) × (kindAt (now sheet) rec ≡ expression constant) ⌝ }
     ensures { λ r. ⌜ ((Γ : List ℕ) → Judged (now (sheet .entry)) Γ (treeAt (now (sheet .entry)) rec) r (now (widths .entry)) (now (widths .exit))) ⌝ }
@@ -38,11 +38,11 @@ pub fn of_constant(
 pub fn of_name(
     sheet: &[u8],
     n: usize,
-    table: &Widths,
-    scope: &Scope,
+    table: &WidthTable,
+    scope: &ScopeTable,
     names: usize,
     rec: usize,
-    widths: &mut Widths,
+    widths: &mut WidthTable,
 ) -> Outcome
     requires { ⌜ Judging (now sheet) n (now table) (now scope) names rec (now widths) × (kindAt (now sheet) rec ≡ expression name) ⌝ }
     ensures { λ r. ⌜ Judged (now (sheet .entry)) (scopeOf names (now (scope .entry))) (treeAt (now (sheet .entry)) rec) r (now (widths .entry)) (now (widths .exit)) ⌝ }

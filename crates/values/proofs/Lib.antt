@@ -2,4 +2,6 @@
 pub mod Leaves
 pub mod Slots
 pub mod Agreement
+pub mod ChainLaws
 pub mod Matches
+pub mod Gathering

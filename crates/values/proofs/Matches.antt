@@ -10,23 +10,12 @@ use native.Mathlib.Decide.{ℕ-discrete}
 use borrow.Author.Tests.{eqb-true}
 use lib.ListN.{length, getD, take, drop, length-drop}
 use lib.Seq.{length-take-le, take-all}
-use Rattle.picoella.specs.Types.{Ty, Flat, TyTuple, leaves}
-use Rattle.picoella.specs.Patterns.{Pattern, Whole, Constructor, Parts}
+use Rattle.picoella.specs.Language.{Ty, Flat, TyTuple, leaves, Parts}
 use Rattle.records.specs.Words.{count, nextWord, word, wordA, wordB}
 use Rattle.records.specs.Kinds.{PatternKind, pattern, whole, constructor, parts, patterns, isPair}
 use Rattle.records.specs.Says.{kindAt}
-use Rattle.records.specs.TypeRecords.{typeAt}
-use Rattle.records.specs.Trees.{
-  Alternatives,
-  end,
-  noPattern,
-  wholeType,
-  oneConstructor,
-  pairOfPatterns,
-  alternatives,
-  follow,
-}
-use Rattle.records.specs.Decoding.{orElse, patternOf}
+use Rattle.records.specs.Trees.{typeAt, Alternatives, end, pairOfPatterns, alternatives, follow}
+use Rattle.records.specs.Decoding.{patternOf}
 use Rattle.records.specs.Written.{Written}
 use Rattle.records.proofs.Tests.{both-left, both-right}
 use Rattle.records.proofs.Table.{kind-of-sort, is-pair}
@@ -34,7 +23,7 @@ use Rattle.records.proofs.CodeTable.{pair-number}
 use Rattle.records.proofs.Types.{pair-type, few-leaves}
 use Rattle.records.proofs.Asked.{past-header}
 use Rattle.records.proofs.Trees.{alternatives-of}
-use Rattle.records.proofs.Grown.{GrownPattern, grown-pattern}
+use Rattle.records.proofs.Grown.{grown-pattern}
 use Rattle.verdict.specs.Widths.{patternLeaves}
 use Rattle.accepted.proofs.Laws.{written, types-fit}
 use Rattle.typing.specs.Judgements.{patternFits}
@@ -42,102 +31,20 @@ use Rattle.accepted.proofs.Laws.{pattern-kind, no-pattern}
 use Rattle.accepted.proofs.Laws.{in-sheet, next-matching, first-matching, second-matching}
 use Rattle.typing.specs.Judging.{Fitting}
 use Rattle.accepted.proofs.FittingWidths.{fitting-leaves}
-use Rattle.meaning.specs.Matching.{Decision, Yes, No, Undecided, pairDecision, chainDecision, constructorDecision, patternWidth, matches}
-use Rattle.values.specs.Matchings.{Matching, withRest, MatchedAll, MatchedOne, Chosen}
-use Rattle.meaning.specs.Evaluation.{choose}
-use Rattle.meaning.specs.Undecided.{undecidedRule}
-use Rattle.behaviour.specs.Firing.{orAfter, firstYes}
-use Rattle.values.specs.Answers.{decisionOf, told, Own}
+use Rattle.meaning.specs.Matching.{Decision, pairDecision, chainDecision, constructorDecision, patternWidth, matches}
+use Rattle.values.specs.Matchings.{Matching, withRest, MatchedAll, MatchedOne}
+use Rattle.behaviour.specs.Firing.{firstYes}
+use Rattle.values.specs.Answers.{decisionOf, Own}
 use Rattle.values.specs.declared.Match.{Match}
 use Rattle.values.specs.declared.Match.the-variants as Matched′
-
-chain-associates : (a b c : Decision) → chainDecision (chainDecision a b) c ≡ chainDecision a (chainDecision b c)
-chain-associates Yes b c = refl
-chain-associates No b c = refl
-chain-associates Undecided Yes c = refl
-chain-associates Undecided No c = refl
-chain-associates Undecided Undecided Yes = refl
-chain-associates Undecided Undecided No = refl
-chain-associates Undecided Undecided Undecided = refl
-
--- the first yes is told, also where what follows is taken in
-first-told : (a b : Decision) (r q m : ℕ) → orAfter a r (orAfter b q m) ≡ orAfter (chainDecision a b) (orAfter a r q) m
-first-told Yes b r q m = refl
-first-told No b r q m = refl
-first-told Undecided Yes r q m = refl
-first-told Undecided No r q m = refl
-first-told Undecided Undecided r q m = refl
-
--- an answer tells its own alternative, whatever follows
-own-told : (a : Match) (d : Decision) (p m : ℕ) → Own p a d → orAfter d p m ≡ orAfter (decisionOf a) (told a) m
-own-told a Yes p m o = rw (o .decides, o .tells) refl
-own-told a No p m o = rw (o .decides) refl
-own-told a Undecided p m o = rw (o .decides) refl
-
-few-told : (d : Decision) (r q : ℕ) → r < 4096 → q < 4096 → orAfter d r q < 4096
-few-told Yes r q h k = h
-few-told No r q h k = k
-few-told Undecided r q h k = k
-
--- and 0 where it says no yes
-told-alone : (a : Match) → orAfter (decisionOf a) (told a) 0 ≡ told a
-told-alone (Matched′.Yes r) = refl
-told-alone Matched′.No = refl
-told-alone Matched′.Undecided = refl
-
--- after a yes the rest changes nothing
-yes-stays : (s : List ℕ) (m : Alternatives) (v : List ℕ) → withRest Yes s m v ≡ Yes
-yes-stays s end v = refl
-yes-stays s noPattern v = refl
-yes-stays s (wholeType r t m) v = refl
-yes-stays s (oneConstructor r t k m) v = refl
-yes-stays s (pairOfPatterns r p q m) v = refl
-
--- what is matched next follows, unless it is nothing
-pub goes-on : (a : Match) {x y : ℕ} → x ≡ orAfter (decisionOf a) 0 y → (x ≡ 0 → ⊥) → x ≡ y
-goes-on (Matched′.Yes r) e f = absurd (f e)
-goes-on Matched′.No e f = e
-goes-on Matched′.Undecided e f = e
-
--- the first of some alternatives, with the rest of them
-one-with-rest : (s : List ℕ) (p : Pattern) (m : Alternatives) (v : List ℕ)
-    → matches (orElse p m (patternOf s m)) v ≡ withRest (matches p v) s m v
-one-with-rest s p end v = refl
-one-with-rest s p noPattern v = refl
-one-with-rest s p (wholeType r t m) v = refl
-one-with-rest s p (oneConstructor r t k m) v = refl
-one-with-rest s p (pairOfPatterns r a b m) v = refl
-
-chain-with-rest : (a b : Decision) (s : List ℕ) (m : Alternatives) (v : List ℕ)
-    → chainDecision a (withRest b s m v) ≡ withRest (chainDecision a b) s m v
-chain-with-rest a b s end v = refl
-chain-with-rest a b s noPattern v = refl
-chain-with-rest a b s (wholeType r t m) v = sym (chain-associates a b (matches (patternOf s (wholeType r t m)) v))
-chain-with-rest a b s (oneConstructor r t k m) v = sym (chain-associates a b (matches (patternOf s (oneConstructor r t k m)) v))
-chain-with-rest a b s (pairOfPatterns r p q m) v = sym (chain-associates a b (matches (patternOf s (pairOfPatterns r p q m)) v))
-
-width-of-first : (p : Pattern) (m : Alternatives) (q : Pattern) → patternWidth (orElse p m q) ≡ patternWidth p
-width-of-first p end q = refl
-width-of-first p noPattern q = refl
-width-of-first p (wholeType r t m) q = refl
-width-of-first p (oneConstructor r t k m) q = refl
-width-of-first p (pairOfPatterns r a b m) q = refl
-
--- a pattern that is there has the leaves of its first alternative
-width-leaves : (s : List ℕ) (m : Alternatives) → GrownPattern s m → patternWidth (patternOf s m) ≡ patternLeaves s m
-width-leaves s end g = absurd g
-width-leaves s noPattern g = absurd g
-width-leaves s (wholeType r t m) g = width-of-first (Whole (typeAt s t)) m (patternOf s m)
-width-leaves s (oneConstructor r t k m) g = width-of-first (Constructor t (wordA s t) k) m (patternOf s m)
-width-leaves s (pairOfPatterns r a b m) g =
-    width-of-first (Parts (patternOf s a) (patternOf s b)) m (patternOf s m) ∙ rw (width-leaves s a (g .0), width-leaves s b (g .1)) refl
+use Rattle.values.proofs.ChainLaws.{own-told, few-told, one-with-rest, chain-with-rest, width-leaves}
 
 module _ {s : List ℕ} {n : ℕ} {widths : List ℕ} {p : ℕ} {value : List ℕ} (m : Matching s n widths p value) where
   w : Written s
   w = written (m .against .passes)
 
   there : p < count s
-  there = in-sheet s n p (m .type) (m .against)
+  there = in-sheet (m .against)
 
   abbrev rest : Bool
   rest = patternFits s (follow end (alternatives s) (nextWord s p)) (m .type)
@@ -146,7 +53,7 @@ module _ {s : List ℕ} {n : ℕ} {widths : List ℕ} {p : ℕ} {value : List �
   kind = kind-of-sort patterns (kindAt s p) (m .against .sort)
 
   -- the number of the record, which is not the header, and the alternatives after it
-  past : 0 < p
+  pub past : 0 < p
   past = past-header w p (rw (kind .1) refl)
 
   low : p < 4096
@@ -181,7 +88,7 @@ module _ {s : List ℕ} {n : ℕ} {widths : List ℕ} {p : ℕ} {value : List �
 
   pub next-matched : {x : ℕ} → x ≡ word s p 1 → (x ≡ 0 → ⊥) → (p < x) × Matching s n widths x value
   next-matched {x} e f =
-      let q = next-matching s n p (m .type) (m .against) x e f in
+      let q = next-matching (m .against) x e f in
       (q .0, record { type = m .type; against = q .1; table = m .table; fits = rw (← follows x f, e) rest-fits; long = m .long })
     where
       follows : (x : ℕ) → (x ≡ 0 → ⊥) → follow end (alternatives s) x ≡ alternatives s x
@@ -189,7 +96,7 @@ module _ {s : List ℕ} {n : ℕ} {widths : List ℕ} {p : ℕ} {value : List �
       follows (suc x) f = refl
 
   -- an alternative is there
-  rest-is : (a : Decision) → withRest a s (alternatives s p) value ≡ chainDecision a (matches (patternOf s (alternatives s p)) value)
+  pub rest-is : (a : Decision) → withRest a s (alternatives s p) value ≡ chainDecision a (matches (patternOf s (alternatives s p)) value)
   rest-is a = go (kind .0) (kind .1)
     where
       go : (q : PatternKind) → kindAt s p ≡ pattern q
@@ -262,13 +169,13 @@ module _ {s : List ℕ} {n : ℕ} {widths : List ℕ} {p : ℕ} {value : List �
       module _ {x : ℕ} (ex : x ≡ word s p 2) where
         first-against : (p < x) × Fitting s n x (wordA s t)
         first-against =
-            first-matching s n p t (m .against) k ek fifty (word s t 0) refl seventeen x (wordA s t) ex refl
+            first-matching (m .against) k ek fifty (word s t 0) refl seventeen x (wordA s t) ex refl
 
         first-does-fit : patternFits s (alternatives s x) (wordA s t) ≡ true
         first-does-fit = rw ex (both-left first-fits (second-fits && rest) parts-fit)
 
         pub first-in : x < count s
-        first-in = in-sheet s n x (wordA s t) (first-against .1)
+        first-in = in-sheet (first-against .1)
 
         first-leaves : patternLeaves s (alternatives s x) ≡ leaves (typeAt s (wordA s t))
         first-leaves =
@@ -309,7 +216,7 @@ module _ {s : List ℕ} {n : ℕ} {widths : List ℕ} {p : ℕ} {value : List �
 
           pub second-matched : {y : ℕ} → y ≡ word s p 3 → (p < y) × Matching s n widths y (drop c value)
           second-matched {y} ey =
-              let q = second-matching s n p t (m .against) k ek fifty (word s t 0) refl seventeen y (wordB s t) ey refl in (
+              let q = second-matching (m .against) k ek fifty (word s t 0) refl seventeen y (wordB s t) ey refl in (
                 q .0,
                 record {
                   type = wordB s t;
@@ -361,55 +268,3 @@ module _ {s : List ℕ} {n : ℕ} {widths : List ℕ} {p : ℕ} {value : List �
           first-refuses a e ea =
               parts-decide a Matched′.No (matches (patternOf s (alternatives s (wordB s p))) (drop c value)) ea refl
               (record { decides = rw e refl; tells = rw e refl })
-
--- the whole chain from p is what was matched so far, with what is left from x
-pub record Gathered (s : List ℕ) (p : ℕ) (v : List ℕ) (a : Match) (x : ℕ) : Type 0 where
-  pub decides : matches (patternOf s (alternatives s p)) v ≡ withRest (decisionOf a) s (follow end (alternatives s) x) v
-  pub tells : firstYes s (alternatives s p) v ≡ orAfter (decisionOf a) (told a) (firstYes s (follow end (alternatives s) x) v)
-  pub few : told a < 4096
-
--- at first nothing is matched, and the whole chain is left
-pub begun : {s : List ℕ} {n : ℕ} {widths : List ℕ} {p : ℕ} {v : List ℕ} → Matching s n widths p v → Gathered s p v Matched′.No p
-begun {p = zero} m = absurd (let h = past m in omega arith)
-begun {p = suc p} m = record { decides = sym (rest-is m No); tells = refl; few = omega arith }
-
-module _ {s : List ℕ} {p : ℕ} {v : List ℕ} where
-  pub gone-on : {n : ℕ} {widths : List ℕ} {at : ℕ} → Matching s n widths at v → (a b c : Match) {x : ℕ} → (at ≡ 0 → ⊥)
-      → Gathered s p v a at → MatchedOne s at v b
-      → (decisionOf c ≡ chainDecision (decisionOf a) (decisionOf b)) × (told c ≡ orAfter (decisionOf a) (told a) (told b))
-      → x ≡ word s at 1 → Gathered s p v c x
-  gone-on {at = zero} m a b c f h o e ex = absurd (f refl)
-  gone-on {at = suc at} m a b c f h o e ex =
-      record {
-        decides = h .decides ∙ taken-in m a b c (o .decides) (e .0) ex;
-        tells =
-            h .tells
-            ∙ rw (o .tells, e .0, e .1, ex)
-            (first-told (decisionOf a) (decisionOf b) (told a) (told b) (firstYes s (follow end (alternatives s) (nextWord s (suc at))) v));
-        few = rw (e .1) (few-told (decisionOf a) (told a) (told b) (h .few) (o .few));
-      }
-
-  -- and after a yes nothing more
-  pub up-to-yes : (a : Match) {x y : ℕ} → Gathered s p v a y → x ≡ orAfter (decisionOf a) 0 y → Gathered s p v a x
-  up-to-yes (Matched′.Yes r) {x} {y} h e =
-      record { decides = h .decides ∙ rw e (yes-stays s (follow end (alternatives s) y) v); tells = h .tells; few = h .few }
-  up-to-yes Matched′.No h e = rw e h
-  up-to-yes Matched′.Undecided h e = rw e h
-
-  pub ended : (a : Match) {x : ℕ} → Gathered s p v a x → x ≡ 0 → MatchedAll s p v a
-  ended a h e = record { decides = sym (rw e at (h .decides)); tells = sym (rw e at (h .tells) ∙ told-alone a); few = h .few }
-
-  -- the value of an IF, by the answer of its match
-  pub by-match : (a : Match) {otherwise out out′ : List ℕ} {k : ℕ} → MatchedAll s p v a
-      → (out′ ≡ choose undecidedRule (decisionOf a) out otherwise) × (k ≡ told a) → Chosen s p v otherwise out out′ k
-  by-match a e g = record { chosen = rw (← e .decides) (g .0); tells = g .1 ∙ e .tells; few = rw (g .1) (e .few) }
-
--- what is left of the records, and nothing at the end of a chain
-abbrev pub left : ℕ → ℕ → ℕ
-left n zero = 0
-left n (suc x) = suc (n - suc x)
-
-pub left-falls : (n at x : ℕ) → (at ≡ 0 → ⊥) → at < n → ((x ≡ 0 → ⊥) → (at < x) × (x < n)) → left n x < left n at
-left-falls n zero x f h g = absurd (f refl)
-left-falls n (suc at) zero f h g = omega arith
-left-falls n (suc at) (suc x) f h g = let q = g (λ z. omega arith) in omega (arith, q .0, q .1)

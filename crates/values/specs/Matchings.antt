@@ -4,21 +4,11 @@ use mathlib.Core.Path.{_≡_}
 use mathlib.Core.Bool.{true}
 use mathlib.Core.List.{List}
 use lib.ListN.{length, getD}
-use Rattle.picoella.specs.Types.{leaves}
+use Rattle.picoella.specs.Language.{leaves}
 use Rattle.records.specs.Words.{count, nextWord}
 use Rattle.records.specs.Kinds.{patterns}
 use Rattle.records.specs.Says.{sortAt}
-use Rattle.records.specs.TypeRecords.{typeAt}
-use Rattle.records.specs.Trees.{
-  Alternatives,
-  end,
-  noPattern,
-  wholeType,
-  oneConstructor,
-  pairOfPatterns,
-  alternatives,
-  follow,
-}
+use Rattle.records.specs.Trees.{typeAt, Alternatives, end, noPattern, wholeType, oneConstructor, pairOfPatterns, alternatives, follow}
 use Rattle.records.specs.Decoding.{patternOf}
 use Rattle.typing.specs.Judgements.{patternFits}
 use Rattle.typing.specs.Judging.{Fitting}

@@ -22,7 +22,7 @@ use records::WORD_A;
 use records::WORD_B;
 use records::WORD_KIND;
 use records::WORD_NEXT;
-use records::Widths;
+use records::WidthTable;
 use records::word;
 
 // A table of the delays' next values, one byte a record.
@@ -232,7 +232,7 @@ fn after(answer: Match, next: usize) -> usize
 }
 
 // Matches a value against the alternatives from p, up to the first yes.
-pub fn match_all(sheet: &[u8], n: usize, widths: &Widths, p: usize, value: &[u8]) -> Match
+pub fn match_all(sheet: &[u8], n: usize, widths: &WidthTable, p: usize, value: &[u8]) -> Match
     requires { ⌜ Matching (now sheet) n (now widths) p (now value) ⌝ }
     ensures { λ r. ⌜ MatchedAll (now (sheet .entry)) p (now (value .entry)) r ⌝ }
 {
@@ -246,7 +246,7 @@ pub fn match_all(sheet: &[u8], n: usize, widths: &Widths, p: usize, value: &[u8]
 }
 
 // Matches a value against the alternative at p, a pair pattern part by part, up to the first no.
-fn match_one(sheet: &[u8], n: usize, widths: &Widths, p: usize, value: &[u8]) -> Match
+fn match_one(sheet: &[u8], n: usize, widths: &WidthTable, p: usize, value: &[u8]) -> Match
     requires { ⌜ Matching (now sheet) n (now widths) p (now value) ⌝ }
     ensures { λ r. ⌜ MatchedOne (now (sheet .entry)) p (now (value .entry)) r ⌝ }
 {
@@ -285,7 +285,7 @@ fn by_answer(answer: Match, otherwise: &[u8], out: &mut [u8]) -> usize
 pub fn choose_value(
     sheet: &[u8],
     n: usize,
-    widths: &Widths,
+    widths: &WidthTable,
     p: usize,
     tested: &[u8],
     otherwise: &[u8],

@@ -46,20 +46,18 @@ use Rattle.records.specs.Kinds.{
   free,
   total,
   never,
-  askNumber,
   isHeader,
 }
-use Rattle.records.specs.Says.{kindAt, sortAt, askAt}
-use Rattle.records.specs.Namings.{Naming, names, namings, wellNamed}
-use Rattle.records.specs.Trees.{treeAt}
+use Rattle.records.specs.AskNumbers.{askNumber}
+use Rattle.records.specs.Says.{kindAt, sortAt, askAt, Naming, names, namings, wellNamed}
+use Rattle.records.specs.Trees.{treeAt, typeRecordOf}
 use Rattle.records.specs.Written.{Written}
 use Rattle.records.proofs.Tests.{never-both, both-left, both-right}
 use Rattle.records.proofs.Table.{askOfKind, ask-by-kind}
 use Rattle.records.proofs.Asked.{Means, as-asked, past-header}
 use Rattle.records.proofs.Namings.{in-namings-names, namer-lower}
-use Rattle.structure.specs.Passes.{Passes}
+use Rattle.structure.specs.Rules.{Passes}
 use Rattle.structure.proofs.Passes.{written, well-named}
-use Rattle.typing.specs.Judgements.{typeRecordOf}
 use Rattle.verdict.specs.Verdict.{inputs}
 use Rattle.verdict.specs.Scopes.{
   Scope,

@@ -7,14 +7,13 @@ use mathlib.Core.List.{List}
 use mathlib.Core.Option.{Option, none, some}
 use mathlib.Core.Path.{_≡_, refl}
 use mathlib.Core.Logic.{_↔_}
-use Rattle.records.specs.TypeRecords.{typeAt}
-use Rattle.records.specs.Trees.{circuit}
+use Rattle.records.specs.Trees.{typeAt, circuit, typeRecordOf}
 use Rattle.records.specs.Decoding.{expressionOf}
 use Rattle.records.proofs.TypeRecords.{input-type, same-type-same-record}
 use Rattle.records.proofs.Grown.{grown-circuit}
 use Rattle.records.proofs.Decoding.{decodes}
-use Rattle.typing.specs.Judgements.{judgements, typeRecordOf, firstFailing}
-use Rattle.structure.specs.Passes.{Passes}
+use Rattle.typing.specs.Judgements.{judgements, firstFailing}
+use Rattle.structure.specs.Rules.{Passes}
 use Rattle.verdict.specs.Verdict.{inputs, refusing, byTypes, verdict}
 use Rattle.verdict.specs.Promises.{WellTyped, Exact}
 use Rattle.verdict.specs.declared.Verdict.the-variants.{Accepted, IllTyped}

@@ -29,28 +29,15 @@ use Rattle.records.specs.Kinds.{
   part,
 }
 use Rattle.records.specs.Says.{kindAt}
-use Rattle.records.specs.Trees.{chain, treeAt}
+use Rattle.records.specs.Trees.{chain, treeAt, typeRecordOf}
 use Rattle.records.proofs.Table.{askOfKind, kind-of-sort}
 use Rattle.records.proofs.Asked.{part-of-kind}
 use Rattle.records.proofs.Trees.{from-above, tree-of}
-use Rattle.structure.specs.Passes.{Passes}
+use Rattle.structure.specs.Rules.{Passes}
 use Rattle.structure.proofs.Passes.{written}
-use Rattle.typing.specs.Judgements.{
-  Judgement,
-  Rule,
-  leavesFit,
-  inScope,
-  pairDeclared,
-  pairType,
-  sameType,
-  holds,
-  judge,
-  judgements,
-  typeRecordOf,
-  firstFailing,
-}
+use Rattle.typing.specs.Judgements.{Judgement, Rule, leavesFit, inScope, pairDeclared, pairType, sameType, holds, judge, judgements, firstFailing}
 use Rattle.typing.proofs.Failing.{orElse, first-of-both, judged, judgement-holds}
-use Rattle.verdict.specs.FirstIllTyped.{
+use Rattle.verdict.specs.Scopes.{
   WellTypedAt,
   PartsTyped,
   FirstIllTyped,

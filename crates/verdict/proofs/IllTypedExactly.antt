@@ -25,31 +25,18 @@ use Rattle.records.specs.Kinds.{
   expressions,
 }
 use Rattle.records.specs.Says.{kindAt}
-use Rattle.records.specs.Trees.{chain, treeAt, circuit}
+use Rattle.records.specs.Trees.{chain, treeAt, circuit, typeRecordOf}
 use Rattle.records.proofs.Table.{askOfKind, kind-of-sort}
 use Rattle.records.proofs.Asked.{root-is}
 use Rattle.records.proofs.Trees.{tree-of}
-use Rattle.structure.specs.Passes.{Passes}
+use Rattle.structure.specs.Rules.{Passes}
 use Rattle.structure.proofs.Passes.{written}
-use Rattle.typing.specs.Judgements.{
-  Judgement,
-  Rule,
-  leavesFit,
-  inScope,
-  pairDeclared,
-  pairType,
-  sameType,
-  holds,
-  judge,
-  judgements,
-  typeRecordOf,
-  firstFailing,
-}
+use Rattle.typing.specs.Judgements.{Judgement, Rule, leavesFit, inScope, pairDeclared, pairType, sameType, holds, judge, judgements, firstFailing}
 use Rattle.typing.proofs.Failing.{first-of-both, judgement-holds}
 use Rattle.typing.proofs.Outcomes.{fault-first}
 use Rattle.verdict.specs.Verdict.{inputs, byTypes, verdict}
 use Rattle.verdict.specs.Promises.{IllTypedExactly}
-use Rattle.verdict.specs.FirstIllTyped.{
+use Rattle.verdict.specs.Scopes.{
   IllTypedAt,
   PartsTyped,
   FirstIllTyped,
@@ -86,7 +73,7 @@ use Rattle.verdict.proofs.FirstIllTyped.{find-first}
 abbrev Own : ℕ → Option ℕ → Type 0
 Own q o = (o ≡ none) ⊎ (o ≡ some q)
 
-module _ (s : List ℕ) (q : ℕ) where
+module _ (s : List ℕ) {q : ℕ} where
   own-one : (rule : Rule) → Own q (firstFailing s (judge q rule))
   own-one rule = go (holds s rule)
     where
@@ -114,28 +101,28 @@ module _ {s : List ℕ} (p : Passes s) where
   own-judgements : {q : ℕ} {Γ : List ℕ} → Standing s q Γ → (k : ExpressionKind) → kindAt s q ≡ expression k
       → PartsTyped s Γ q (expression k) → Own q (firstFailing s (judgements s Γ (treeAt s q)))
   own-judgements {q} {Γ} o constant e t =
-      rw (tree-of (written p) q (o .there) (expression constant) e) (own-one s q (leavesFit (wordA s q) (chain s (wordB s q))))
+      rw (tree-of (written p) q (o .there) (expression constant) e) (own-one s (leavesFit (wordA s q) (chain s (wordB s q))))
   own-judgements {q} {Γ} o name e t =
-      rw (tree-of (written p) q (o .there) (expression name) e) (own-one s q (inScope (wordA s q) (length Γ)))
+      rw (tree-of (written p) q (o .there) (expression name) e) (own-one s (inScope (wordA s q) (length Γ)))
   own-judgements {q} {Γ} o tuple e (ta, tb) =
       let A = treeAt s (wordA s q) in
       let B = treeAt s (wordB s q) in
       let last = pairDeclared (typeRecordOf s Γ A) (typeRecordOf s Γ B) in
       rw (tree-of (written p) q (o .there) (expression tuple) e)
-      (own-then s q (judgements s Γ A) (judgements s Γ B ++ judge q last)
+      (own-then s (judgements s Γ A) (judgements s Γ B ++ judge q last)
       (typed-passes p (part-standing p o tuple e 2 refl (unfold askOfKind in refl) (o .context)) ta)
-      (own-then s q (judgements s Γ B) (judge q last)
-      (typed-passes p (part-standing p o tuple e 3 refl (unfold askOfKind in refl) (o .context)) tb) (own-one s q last)))
+      (own-then s (judgements s Γ B) (judge q last)
+      (typed-passes p (part-standing p o tuple e 3 refl (unfold askOfKind in refl) (o .context)) tb) (own-one s last)))
   own-judgements {q} {Γ} o first e t =
       let last = pairType (typeRecordOf s Γ (treeAt s (wordA s q))) in
       rw (tree-of (written p) q (o .there) (expression first) e)
-      (own-then s q (judgements s Γ (treeAt s (wordA s q))) (judge q last)
-      (typed-passes p (part-standing p o first e 2 refl (unfold askOfKind in refl) (o .context)) t) (own-one s q last))
+      (own-then s (judgements s Γ (treeAt s (wordA s q))) (judge q last)
+      (typed-passes p (part-standing p o first e 2 refl (unfold askOfKind in refl) (o .context)) t) (own-one s last))
   own-judgements {q} {Γ} o second e t =
       let last = pairType (typeRecordOf s Γ (treeAt s (wordA s q))) in
       rw (tree-of (written p) q (o .there) (expression second) e)
-      (own-then s q (judgements s Γ (treeAt s (wordA s q))) (judge q last)
-      (typed-passes p (part-standing p o second e 2 refl (unfold askOfKind in refl) (o .context)) t) (own-one s q last))
+      (own-then s (judgements s Γ (treeAt s (wordA s q))) (judge q last)
+      (typed-passes p (part-standing p o second e 2 refl (unfold askOfKind in refl) (o .context)) t) (own-one s last))
   own-judgements {q} {Γ} o letIn e t = absurd t
   own-judgements {q} {Γ} o feedback e (ta, tb) =
       let Δ = wordA s q ∷ Γ in
@@ -144,10 +131,10 @@ module _ {s : List ℕ} (p : Passes s) where
       let B = treeAt s (wordC s q) in
       let last = sameType (typeRecordOf s Δ A) (wordA s q) in
       rw (tree-of (written p) q (o .there) (expression feedback) e)
-      (own-then s q (judgements s Δ A) (judgements s Δ B ++ judge q last)
+      (own-then s (judgements s Δ A) (judgements s Δ B ++ judge q last)
       (typed-passes p (part-standing p o feedback e 3 refl (unfold askOfKind in refl) c) ta)
-      (own-then s q (judgements s Δ B) (judge q last)
-      (typed-passes p (part-standing p o feedback e 4 refl (unfold askOfKind in refl) c) tb) (own-one s q last)))
+      (own-then s (judgements s Δ B) (judge q last)
+      (typed-passes p (part-standing p o feedback e 4 refl (unfold askOfKind in refl) c) tb) (own-one s last)))
   own-judgements {q} {Γ} o ifMatches e (ta, rest) =
       let A = treeAt s (wordA s q) in
       let B = treeAt s (wordB s q) in
@@ -155,22 +142,22 @@ module _ {s : List ℕ} (p : Passes s) where
       let has = patternRule s Γ q in
       let last = sameType (typeRecordOf s Γ B) (typeRecordOf s Γ C) in
       rw (tree-of (written p) q (o .there) (expression ifMatches) e)
-      (own-then s q (judgements s Γ A) (judge q has ++ (judgements s Γ B ++ (judgements s Γ C ++ judge q last)))
+      (own-then s (judgements s Γ A) (judge q has ++ (judgements s Γ B ++ (judgements s Γ C ++ judge q last)))
       (typed-passes p (part-standing p o ifMatches e 2 refl (unfold askOfKind in refl) (o .context)) ta)
-      (own-deciding s q has (judgements s Γ B ++ (judgements s Γ C ++ judge q last))
+      (own-deciding s has (judgements s Γ B ++ (judgements s Γ C ++ judge q last))
       (λ held. let t = rest (fits-tested p o e ta held) in
-      own-then s q (judgements s Γ B) (judgements s Γ C ++ judge q last)
+      own-then s (judgements s Γ B) (judgements s Γ C ++ judge q last)
       (typed-passes p (part-standing p o ifMatches e 3 refl (unfold askOfKind in refl) (o .context)) (t .0))
-      (own-then s q (judgements s Γ C) (judge q last)
-      (typed-passes p (part-standing p o ifMatches e 4 refl (unfold askOfKind in refl) (o .context)) (t .1)) (own-one s q last)))))
+      (own-then s (judgements s Γ C) (judge q last)
+      (typed-passes p (part-standing p o ifMatches e 4 refl (unfold askOfKind in refl) (o .context)) (t .1)) (own-one s last)))))
   own-judgements {q} {Γ} o delay e t =
       let A = treeAt s (wordC s q) in
       let fit = leavesFit (wordA s q) (chain s (wordB s q)) in
       let last = sameType (typeRecordOf s Γ A) (wordA s q) in
       rw (tree-of (written p) q (o .there) (expression delay) e)
-      (own-then s q (judgements s Γ A) (judge q fit ++ judge q last)
+      (own-then s (judgements s Γ A) (judge q fit ++ judge q last)
       (typed-passes p (part-standing p o delay e 4 refl (unfold askOfKind in refl) (o .context)) t)
-      (own-deciding s q fit (judge q last) (λ held. own-one s q last)))
+      (own-deciding s fit (judge q last) (λ held. own-one s last)))
 
   -- so one of them does where the record has no type
   own-fails : {q : ℕ} {Γ : List ℕ} → Standing s q Γ → PartsTyped s Γ q (kindAt s q) → IllTypedAt s Γ q

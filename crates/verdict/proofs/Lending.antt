@@ -11,12 +11,11 @@ use lib.ListN.{length}
 use Rattle.records.specs.Words.{count}
 use Rattle.records.specs.Sized.{Sized}
 use Rattle.records.specs.Trees.{circuit}
-use Rattle.structure.specs.Passes.{Passes}
-use Rattle.structure.specs.Rules.{wrongLength, wrongHeader}
+use Rattle.structure.specs.Rules.{Passes, wrongLength, wrongHeader}
 use Rattle.structure.specs.LeafTable.{Counts}
 use Rattle.typing.specs.Judging.{noted}
-use Rattle.verdict.specs.Stages.{CheckingRecords}
-use Rattle.verdict.specs.Verdict.{inputs, verdict, unless, byRecords, Tabled}
+use Rattle.verdict.specs.Stages.{CheckingRecords, Tabled}
+use Rattle.verdict.specs.Verdict.{inputs, verdict, unless, byRecords}
 use Rattle.verdict.specs.Widths.{PatternsFrom, Widths, Checked, accepts}
 use Rattle.verdict.specs.declared.Verdict.{Verdict}
 use Rattle.verdict.specs.declared.Verdict.the-variants.{
@@ -119,7 +118,7 @@ module _ (s : List ℕ) (low : 12 ≤ length s) (high : length s ≤ 49152) (eve
           let n = t .notes (u .0) (u .1) in (
             measured .sized,
             accepted-passes,
-            rw (n .2) (judged-widths s (length s / 12) (n .0) accepted-passes (measured .sized .counted) (n .1)),
+            rw (n .2) (judged-widths accepted-passes (measured .sized .counted) (n .1)),
           )
 
       pub accepted-lent : (before table : List ℕ) → Widths s table → Checked s answer before table

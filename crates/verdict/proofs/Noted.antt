@@ -38,14 +38,12 @@ use Rattle.records.specs.Kinds.{
   part,
 }
 use Rattle.records.specs.Says.{kindAt, sortAt}
-use Rattle.records.specs.Trees.{Tree, treeStep, treeAt, circuit}
-use Rattle.records.specs.Held.{expressionRecords}
-use Rattle.records.specs.Written.{Written, WellNamed}
+use Rattle.records.specs.Trees.{Tree, treeStep, treeAt, circuit, typeRecordOf}
+use Rattle.records.specs.Written.{expressionRecords, Written, WellNamed}
 use Rattle.records.proofs.Table.{askOfKind, kind-of-sort}
 use Rattle.records.proofs.Asked.{part-of-kind, root-is}
 use Rattle.records.proofs.Trees.{from-above, tree-of}
 use Rattle.records.proofs.Distinct.{circuit-distinct}
-use Rattle.typing.specs.Judgements.{typeRecordOf}
 use Rattle.typing.specs.Judging.{width, noted}
 use Rattle.verdict.specs.Verdict.{inputs}
 use Rattle.verdict.specs.Scopes.{

@@ -18,10 +18,9 @@ use Rattle.records.specs.Kinds.{
   ifMatches,
   delay,
 }
-use Rattle.records.specs.Trees.{treeAt}
+use Rattle.records.specs.Trees.{treeAt, typeRecordOf}
 use Rattle.records.proofs.Table.{askOfKind}
-use Rattle.structure.specs.Passes.{Passes}
-use Rattle.typing.specs.Judgements.{typeRecordOf}
+use Rattle.structure.specs.Rules.{Passes}
 use Rattle.verdict.specs.Verdict.{inputs}
 use Rattle.verdict.specs.Scopes.{
   Scope,

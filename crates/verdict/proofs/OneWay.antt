@@ -10,12 +10,11 @@ use native.Mathlib.Omega.{arith}
 use lib.Dec.{eqb, ltb}
 use Rattle.records.specs.Words.{count, word, wordB}
 use Rattle.records.specs.Kinds.{expressions, expression, ExpressionKind, part}
-use Rattle.records.specs.Says.{kindAt, sortAt}
-use Rattle.records.specs.Namings.{Naming, names}
+use Rattle.records.specs.Says.{kindAt, sortAt, Naming, names}
 use Rattle.records.proofs.Table.{askOfKind}
 use Rattle.records.proofs.Asked.{part-of-kind, root-is, past-header}
 use Rattle.records.proofs.Namings.{Names, namer-lower, part-names, part-word-other, only-naming}
-use Rattle.structure.specs.Passes.{Passes}
+use Rattle.structure.specs.Rules.{Passes}
 use Rattle.structure.proofs.Passes.{written, well-named}
 use Rattle.structure.proofs.Depths.{root-names}
 use Rattle.verdict.proofs.EveryScoped.{from-below}
@@ -35,7 +34,7 @@ one-naming {s} p r x y past d e n m =
     let b = only-naming s (well-named p) r y past h e m in
     cc
 
-module _ (A : Type 0) (s : List ℕ) (start : A) (rule : ℕ → ExpressionKind → ℕ → A → A) (p : Passes s) where
+module _ (A : Type 0) {s : List ℕ} (start : A) (rule : ℕ → ExpressionKind → ℕ → A → A) (p : Passes s) where
   carried-there : {r : ℕ} {a : A} → Carried s start rule r a → r < count s
   carried-there to-root = root-is (written p) .1
   carried-there (to-part {q = q} k j e t a c) =
@@ -123,4 +122,4 @@ module _ (A : Type 0) (s : List ℕ) (start : A) (rule : ℕ → ExpressionKind 
 
 pub carried-only : {A : Type 0} {s : List ℕ} {start : A} {rule : ℕ → ExpressionKind → ℕ → A → A} → Passes s → (r : ℕ) (a b : A)
     → Carried s start rule r a → Carried s start rule r b → a ≡ b
-carried-only {A} {s} {start} {rule} p = one-carried A s start rule p
+carried-only {A} {s} {start} {rule} p = one-carried A start rule p

@@ -7,17 +7,16 @@ use mathlib.Core.Path.{_≡_, refl}
 use Rattle.records.specs.Words.{wordA, wordD}
 use Rattle.records.specs.Kinds.{expression, ifMatches, patterns}
 use Rattle.records.specs.Says.{kindAt}
-use Rattle.records.specs.TypeRecords.{typeAt}
-use Rattle.records.specs.Trees.{alternatives, treeAt}
+use Rattle.records.specs.Trees.{typeAt, alternatives, treeAt, typeRecordOf}
 use Rattle.records.proofs.Table.{askOfKind}
 use Rattle.records.proofs.Asked.{part-of-kind}
 use Rattle.records.proofs.Grown.{GrownPattern, grown-tree, grown-pattern}
-use Rattle.structure.specs.Passes.{Passes}
+use Rattle.structure.specs.Rules.{Passes}
 use Rattle.structure.proofs.Passes.{written, types-fit}
-use Rattle.typing.specs.Judgements.{Rule, patternHas, holds, typeRecordOf}
+use Rattle.typing.specs.Judgements.{Rule, patternHas, holds}
 use Rattle.typing.proofs.PatternTypes.{fits-typed, typed-fits}
 use Rattle.typing.proofs.Typings.{typed-judged}
-use Rattle.verdict.specs.FirstIllTyped.{WellTypedAt, PatternHasTested}
+use Rattle.verdict.specs.Scopes.{WellTypedAt, PatternHasTested}
 use Rattle.verdict.proofs.Reached.{Standing, part-standing, typed-type, typed-record}
 
 -- the rule on the pattern of the IF at record q

@@ -8,11 +8,10 @@ use mathlib.Core.Option.{Option, none, some}
 use mathlib.Core.Path.{_≡_, refl, sym, _∙_}
 use mathlib.Core.Logic.{_↔_}
 use Rattle.records.specs.Words.{count}
-use Rattle.records.specs.Trees.{circuit}
-use Rattle.answers.specs.Lowest.{lowest}
-use Rattle.structure.specs.Rules.{wrongLength, wrongHeader, wrongRecord, wrongNaming, wrongType, tooDeep}
-use Rattle.typing.specs.Judgements.{judgements, typeRecordOf, firstFailing}
-use Rattle.structure.specs.Passes.{Passes}
+use Rattle.records.specs.Trees.{circuit, typeRecordOf}
+use Rattle.answers.specs.Answers.{lowest}
+use Rattle.structure.specs.Rules.{wrongLength, wrongHeader, wrongRecord, wrongNaming, wrongType, tooDeep, Passes}
+use Rattle.typing.specs.Judgements.{judgements, firstFailing}
 use Rattle.verdict.specs.Verdict.{unless, refusing, inputs, byTypes, byRecords, verdict}
 use Rattle.verdict.specs.Promises.{Says, Places}
 use Rattle.verdict.specs.declared.Verdict.{Verdict}

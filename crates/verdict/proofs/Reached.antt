@@ -21,15 +21,13 @@ use Rattle.records.specs.Kinds.{
   part,
 }
 use Rattle.records.specs.Says.{kindAt, sortAt}
-use Rattle.records.specs.TypeRecords.{typeAt, TypeRecord}
-use Rattle.records.specs.Trees.{treeAt}
+use Rattle.records.specs.Trees.{typeAt, TypeRecord, treeAt, typeRecordOf}
 use Rattle.records.proofs.Table.{askOfKind}
 use Rattle.records.proofs.Asked.{part-of-kind, root-is}
 use Rattle.records.proofs.TypeRecords.{type-word}
 use Rattle.records.proofs.Grown.{grown-tree}
-use Rattle.structure.specs.Passes.{Passes}
+use Rattle.structure.specs.Rules.{Passes}
 use Rattle.structure.proofs.Passes.{written, types-fit}
-use Rattle.typing.specs.Judgements.{typeRecordOf}
 use Rattle.typing.specs.Judging.{Context}
 use Rattle.typing.proofs.Judged.{RulesHold, Passed, passed-judged, judged-passed}
 use Rattle.typing.proofs.TypeRecordsOf.{type-of-record}
@@ -49,8 +47,6 @@ use Rattle.verdict.specs.Scopes.{
   if-then,
   if-else,
   of-delay,
-}
-use Rattle.verdict.specs.FirstIllTyped.{
   TypedAt,
   WellTypedAt,
   Reached,

@@ -8,16 +8,14 @@ use Prim.Native.Nat.{ℕ, _≤_, _<_}
 use native.Mathlib.Omega.{arith}
 use lib.ListN.{length}
 use Rattle.records.specs.Words.{count, word, wordA, wordB}
-use Rattle.records.specs.Trees.{treeAt, circuit}
+use Rattle.records.specs.Trees.{treeAt, circuit, typeRecordOf}
 use Rattle.records.specs.Written.{Written}
-use Rattle.records.specs.Namings.{namings}
+use Rattle.records.specs.Says.{namings}
 use Rattle.records.proofs.Asked.{root-is}
 use Rattle.records.proofs.TypeRecords.{input-type}
-use Rattle.answers.specs.Lowest.{lowest}
+use Rattle.answers.specs.Answers.{lowest, code}
 use Rattle.answers.specs.Searches.{found}
-use Rattle.structure.specs.Passes.{Passes}
-use Rattle.structure.specs.Rules.{wrongHeader, wrongRecord, wrongNaming, wrongType, tooDeep}
-use Rattle.structure.specs.Depth.{depth, nesting}
+use Rattle.structure.specs.Rules.{Passes, wrongHeader, wrongRecord, wrongNaming, wrongType, tooDeep, depth, nesting}
 use Rattle.structure.specs.NamerTable.{Holds}
 use Rattle.structure.specs.LeafTable.{Counts}
 use Rattle.structure.specs.DepthTable.{Capped, Placed, Placing}
@@ -26,11 +24,10 @@ use Rattle.answers.specs.declared.Found.the-variants.{At, Nothing}
 use Rattle.structure.proofs.Passes.{written, written-by, well-named-by, well-named}
 use Rattle.structure.proofs.Depths.{depth-of-root}
 use Rattle.structure.proofs.DepthCounts.{depth-of-header, nesting-of-header}
-use Rattle.typing.specs.Judgements.{judgements, typeRecordOf, firstFailing}
+use Rattle.typing.specs.Judgements.{judgements, firstFailing}
 use Rattle.typing.specs.Judging.{Ground, Judging, Judged, Context, scopeOf, noted}
-use Rattle.verdict.specs.Stages.{CheckingRecords, CheckingNamings, CheckingTypes, CheckingDepths}
-use Rattle.verdict.specs.Verdict.{inputs, refusing, unless, byTypes, byDepths, byTypeRecords, byNamings, byRecords, RulesChecked, Tabled, verdictAnswer}
-use Rattle.answers.specs.Answers.{code}
+use Rattle.verdict.specs.Stages.{CheckingRecords, CheckingNamings, CheckingTypes, CheckingDepths, RulesChecked, Tabled}
+use Rattle.verdict.specs.Verdict.{inputs, refusing, unless, byTypes, byDepths, byTypeRecords, byNamings, byRecords, verdictAnswer}
 use Rattle.typing.specs.declared.Outcome.{Outcome}
 use Rattle.typing.specs.declared.Outcome.the-variants.{Sound, Fault}
 use Rattle.verdict.specs.declared.Verdict.{Verdict}
@@ -47,7 +44,7 @@ use Rattle.typing.proofs.Bounds.{counts-leaves}
 use Rattle.typing.proofs.Outcomes.{Passed, passed, faulted}
 
 -- the type rules
-module _ (s : List ℕ) (n : ℕ) (table : List ℕ) (g : Ground s n table) (stack widths : List ℕ) (x y : ℕ) (ex : x ≡ word s 0 2)
+module _ {s : List ℕ} {n : ℕ} {table : List ℕ} (g : Ground s n table) (stack widths : List ℕ) {x y : ℕ} (ex : x ≡ word s 0 2)
     (ey : y ≡ word s 0 3) (scope : scopeOf 1 stack ≡ x ∷ []) where
   pub root-ready : length stack ≡ 64 → length widths ≡ 4096 → Judging s n table stack 1 y widths
   root-ready wide long =
@@ -75,7 +72,7 @@ module _ (s : List ℕ) (n : ℕ) (table : List ℕ) (g : Ground s n table) (sta
       → answer ≡ Sound t → RulesChecked s (byTypes s) (Accepted t) before after
   unfolding byTypes
   rules-accept answer t before after d e =
-      let p = passed s (inputs s) (circuit s) answer before after t (the-circuit answer before after d) e in
+      let p = passed t (the-circuit answer before after d) e in
       record { answered = rw (p .none-fails, p .typed); long = p .long; notes = λ u q. p .notes }
 
   pub rules-refuse : (answer : Outcome) (r : ℕ) (before after : List ℕ) → Judged s (scopeOf 1 stack) (treeAt s y) answer before after
@@ -83,7 +80,7 @@ module _ (s : List ℕ) (n : ℕ) (table : List ℕ) (g : Ground s n table) (sta
   unfolding byTypes
   rules-refuse answer r before after d e =
       let c = the-circuit answer before after d in
-      let f = faulted s (inputs s) (circuit s) answer before after r c e in
+      let f = faulted r c e in
       record {
         answered = rw f;
         long = c .long;
@@ -91,7 +88,7 @@ module _ (s : List ℕ) (n : ℕ) (table : List ℕ) (g : Ground s n table) (sta
       }
 
 -- the depths
-module _ (s : List ℕ) (n : ℕ) (f : CheckingDepths s n) where
+module _ {s : List ℕ} {n : ℕ} (f : CheckingDepths s n) where
   abbrev recorded : CheckingNamings s n
   recorded = f .named .recorded
 
@@ -128,7 +125,7 @@ module _ (s : List ℕ) (n : ℕ) (f : CheckingDepths s n) where
 pub searched : (s : List ℕ) (n : ℕ) (p : ℕ → Bool) (o : Found) (q : Option ℕ) → n ≡ count s → found o ≡ lowest p n → found o ≡ q → lowest p (count s) ≡ q
 searched s n p o q c e f = rw (← c) (sym e ∙ f)
 
-module _ (s : List ℕ) (n : ℕ) where
+module _ {s : List ℕ} (n : ℕ) where
   pub checked-refused : (v answer : Verdict) (before after : List ℕ) → answer ≡ v → length after ≡ 4096 → ((t : ℕ) → answer ≡ Accepted t → ⊥)
       → RulesChecked s v answer before after
   checked-refused v answer before after e l f = record { answered = e; long = l; notes = λ t q. absurd (f t q) }
@@ -152,7 +149,7 @@ not-accepted : (v : Verdict) → 0 < code (verdictAnswer v) → (t : ℕ) → v 
 not-accepted v h t e = let z : code (verdictAnswer v) ≡ 0 = ap (λ (w : Verdict). code (verdictAnswer w)) e in omega arith
 
 -- a search that found a record refuses, and one that found none goes on
-module _ (s : List ℕ) (n : ℕ) (c : n ≡ count s) (p : ℕ → Bool) (o : Found) (e : found o ≡ lowest p n) where
+module _ (s : List ℕ) {n : ℕ} (c : n ≡ count s) (p : ℕ → Bool) (o : Found) (e : found o ≡ lowest p n) where
   pub found-none : o ≡ Nothing → lowest p (count s) ≡ none
   found-none q = searched s n p o none c e (ap found q)
 
@@ -161,13 +158,13 @@ module _ (s : List ℕ) (n : ℕ) (c : n ≡ count s) (p : ℕ → Bool) (o : Fo
     found-answer = rw (searched s n p o (some r) c e (ap found q))
 
     pub found-checked : (before after : List ℕ) → length after ≡ 4096 → RulesChecked s (refusing (lowest p (count s)) g v) (g r) before after
-    found-checked before after l = checked-refused s n _ (g r) before after found-answer l (not-accepted (g r) h)
+    found-checked before after l = checked-refused n _ (g r) before after found-answer l (not-accepted (g r) h)
 
     pub found-tabled : (after : List ℕ) → Tabled s n (refusing (lowest p (count s)) g v) (g r) after
-    found-tabled after = tabled-refused s n _ (g r) after found-answer (not-accepted (g r) h)
+    found-tabled after = tabled-refused n _ (g r) after found-answer (not-accepted (g r) h)
 
 pub header-refused : (s : List ℕ) (n : ℕ) (v : Verdict) (after : List ℕ) → wrongHeader s ≡ true → Tabled s n (unless (wrongHeader s) WrongHeader v) WrongHeader after
-header-refused s n v after e = tabled-refused s n _ WrongHeader after (rw e) (not-accepted WrongHeader (omega arith))
+header-refused s n v after e = tabled-refused n _ WrongHeader after (rw e) (not-accepted WrongHeader (omega arith))
 
 pub records-on : (s : List ℕ) (n : ℕ) (answer : Verdict) (after : List ℕ) → wrongHeader s ≡ false → lowest (wrongRecord s) (count s) ≡ none
     → Tabled s n (byNamings s) answer after → Tabled s n (unless (wrongHeader s) WrongHeader (byRecords s)) answer after
@@ -177,4 +174,4 @@ records-on s n answer after e f t = rw (e, f) t
 pub record-refused : (s : List ℕ) (n : ℕ) (o : Found) (r : ℕ) (after : List ℕ) → n ≡ count s → found o ≡ lowest (wrongRecord s) n → o ≡ At r
     → wrongHeader s ≡ false → Tabled s n (unless (wrongHeader s) WrongHeader (byRecords s)) (WrongRecord r) after
 unfolding byRecords
-record-refused s n o r after c e q h = rw h (found-tabled s n c (wrongRecord s) o e r q WrongRecord (omega arith) (byNamings s) after)
+record-refused s n o r after c e q h = rw h (found-tabled s c (wrongRecord s) o e r q WrongRecord (omega arith) (byNamings s) after)

@@ -20,21 +20,8 @@ use mathlib.Core.Logic.{_⊎_, inl, inr}
 use lib.ListN.{length, getD, set, length-set}
 use lib.Seq.{getD-set-same, getD-set-other}
 use native.Mathlib.Omega.{arith}
-use Rattle.records.specs.Trees.{
-  Tree,
-  noExpression,
-  constantOf,
-  nameOf,
-  tupleOf,
-  firstOf,
-  secondOf,
-  letOf,
-  feedbackOf,
-  ifOf,
-  delayOf,
-}
-use Rattle.records.specs.Held.{expressionRecords, Distinct}
-use Rattle.typing.specs.Judgements.{typeRecordOf}
+use Rattle.records.specs.Trees.{Tree, noExpression, constantOf, nameOf, tupleOf, firstOf, secondOf, letOf, feedbackOf, ifOf, delayOf, typeRecordOf}
+use Rattle.records.specs.Written.{expressionRecords, Distinct}
 use Rattle.typing.specs.Judging.{width, noted}
 
 -- a record and the width stored there

@@ -10,7 +10,7 @@ use lib.Seq.{ext-getD}
 use Rattle.records.specs.Words.{count}
 use Rattle.records.specs.Kinds.{Sort, headers, types, expressions, patterns, leafs, noSort}
 use Rattle.records.specs.Says.{sortAt}
-use Rattle.records.specs.TypeRecords.{TypeRecord}
+use Rattle.records.specs.Trees.{TypeRecord}
 use Rattle.records.proofs.Asked.{past-header}
 use Rattle.structure.proofs.Passes.{written}
 use Rattle.verdict.specs.Promises.{TableFixed}

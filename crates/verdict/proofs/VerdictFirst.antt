@@ -8,9 +8,8 @@ use mathlib.Core.List.{List}
 use mathlib.Core.Option.{Option, none, some}
 use Rattle.answers.specs.declared.Answer.{Answer}
 use Rattle.answers.specs.declared.Answer.the-variants.{Done, Refused}
-use Rattle.answers.specs.Checks.{when, orRefused, NoneApplies}
+use Rattle.answers.specs.Answers.{when, orRefused, NoneApplies, lowest}
 use Rattle.answers.proofs.First.{none-done}
-use Rattle.answers.specs.Lowest.{lowest}
 use Rattle.records.specs.Words.{count}
 use Rattle.records.specs.Trees.{circuit}
 use Rattle.structure.specs.Rules.{wrongLength, wrongHeader, wrongRecord, wrongNaming, wrongType, tooDeep}

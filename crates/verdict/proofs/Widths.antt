@@ -12,7 +12,7 @@ use native.Mathlib.Decide.{ℕ-discrete, decLt}
 use lib.Dec.{ltb}
 use lib.ListN.{getD, set, length-set}
 use lib.Seq.{getD-set-same, getD-set-other}
-use Rattle.picoella.specs.Types.{leaves}
+use Rattle.picoella.specs.Language.{leaves}
 use Rattle.records.specs.Words.{count, word}
 use Rattle.records.specs.Kinds.{
   pattern,
@@ -31,9 +31,8 @@ use Rattle.records.specs.Kinds.{
   sameSort,
 }
 use Rattle.records.specs.Says.{kindAt, sortAt}
-use Rattle.records.specs.TypeRecords.{typeAt, TypeRecord}
-use Rattle.records.specs.Trees.{alternatives, treeAt, circuit}
-use Rattle.records.specs.Held.{expressionRecords}
+use Rattle.records.specs.Trees.{typeAt, TypeRecord, alternatives, treeAt, circuit}
+use Rattle.records.specs.Written.{expressionRecords}
 use Rattle.records.proofs.Tests.{never-both}
 use Rattle.records.proofs.Table.{askOfKind}
 use Rattle.records.proofs.Asked.{part-of-kind}
@@ -41,7 +40,7 @@ use Rattle.records.proofs.Trees.{alternatives-of}
 use Rattle.records.proofs.Types.{few-leaves}
 use Rattle.records.proofs.TypeRecords.{type-word}
 use Rattle.structure.specs.LeafTable.{Counts}
-use Rattle.structure.specs.Passes.{Passes}
+use Rattle.structure.specs.Rules.{Passes}
 use Rattle.structure.proofs.Passes.{written, well-named, types-fit}
 use Rattle.typing.specs.Judging.{width, noted}
 use Rattle.verdict.specs.Verdict.{inputs}
@@ -70,7 +69,7 @@ few-of : {s : List ℕ} → Passes s → (t : ℕ) → TypeRecord s t → leaves
 few-of p t r = few-leaves (types-fit p) t (r .there) (r .sort)
 
 -- after judging
-module _ (s : List ℕ) (n : ℕ) (w : List ℕ) (p : Passes s) (counted : n ≡ count s) (c : Counts s n w) where
+module _ {s : List ℕ} {n : ℕ} {w : List ℕ} (p : Passes s) (counted : n ≡ count s) (c : Counts s n w) where
   stored : Stored (expressionRecords (circuit s)) (notes s (inputs s) (circuit s)) w (noted s (inputs s) (circuit s) w)
   stored = circuit-stored (written p) (well-named p) w (c .long)
 
@@ -105,7 +104,7 @@ module _ (s : List ℕ) (n : ℕ) (w : List ℕ) (p : Passes s) (counted : n ≡
   }
 
 -- one record lower
-module _ (s : List ℕ) (n m : ℕ) (table : List ℕ) (p : Passes s) (counted : n ≡ count s) (h : m < n) (o : PatternsFrom s (m + 1) table)
+module _ {s : List ℕ} (n m : ℕ) {table : List ℕ} (p : Passes s) (counted : n ≡ count s) (h : m < n) (o : PatternsFrom s (m + 1) table)
   where
     in-sheet : m < count s
     in-sheet = omega arith

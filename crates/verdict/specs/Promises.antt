@@ -6,25 +6,19 @@ use mathlib.Core.Path.{_≡_}
 use mathlib.Core.Bool.{true, false}
 use mathlib.Core.List.{List, [], _∷_, _++_, List·Memᴰ}
 use mathlib.Core.Option.{none, some}
-use Rattle.picoella.specs.Expressions.{Expr}
-use Rattle.picoella.specs.Typing.{Typed}
+use Rattle.picoella.specs.Language.{Expr, Typed}
 use Rattle.records.specs.Words.{count, wordA}
 use Rattle.records.specs.Kinds.{expressions}
 use Rattle.records.specs.Says.{sortAt}
-use Rattle.records.specs.TypeRecords.{typeAt, TypeRecord, Declared}
+use Rattle.records.specs.Trees.{typeAt, TypeRecord, Declared, circuit}
 use Rattle.records.specs.Decoding.{decode}
-use Rattle.records.specs.Trees.{circuit}
-use Rattle.answers.specs.Lowest.{lowest}
+use Rattle.answers.specs.Answers.{lowest, place, firstApplying}
 use Rattle.answers.specs.Promises.{LowestBreaking}
 use Rattle.answers.specs.declared.Answer.the-variants.{Done}
-use Rattle.answers.specs.Answers.{place}
-use Rattle.answers.specs.Checks.{firstApplying}
-use Rattle.structure.specs.Rules.{wrongLength, wrongHeader, wrongRecord, wrongNaming, wrongType, tooDeep}
+use Rattle.structure.specs.Rules.{wrongLength, wrongHeader, wrongRecord, wrongNaming, wrongType, tooDeep, Passes}
 use Rattle.typing.specs.Judgements.{Judgement, holds, judgements}
-use Rattle.structure.specs.Passes.{Passes}
 use Rattle.verdict.specs.Verdict.{inputs, outputType, sheetChecks, verdictAnswer, verdict}
-use Rattle.verdict.specs.Scopes.{Scope}
-use Rattle.verdict.specs.FirstIllTyped.{FirstIllTyped}
+use Rattle.verdict.specs.Scopes.{Scope, FirstIllTyped}
 use Rattle.verdict.specs.Widths.{Widths}
 use Rattle.verdict.specs.declared.Verdict.{Verdict}
 use Rattle.verdict.specs.declared.Verdict.the-variants.{

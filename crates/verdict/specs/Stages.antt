@@ -1,13 +1,20 @@
--- What is known before each stage of the check: the codes so far do not apply.
+-- What is known before each stage of the check: the codes so far do not apply. And what a stage gives.
 use Prim.Native.Nat.{ℕ}
 use mathlib.Core.Path.{_≡_}
 use mathlib.Core.Bool.{false}
 use mathlib.Core.List.{List}
 use mathlib.Core.Option.{none}
+use lib.ListN.{length}
 use Rattle.records.specs.Words.{count}
 use Rattle.records.specs.Sized.{Sized}
-use Rattle.answers.specs.Lowest.{lowest}
-use Rattle.structure.specs.Rules.{wrongLength, wrongHeader, wrongRecord, wrongNaming, wrongType, tooDeep}
+use Rattle.answers.specs.Answers.{lowest}
+use Rattle.records.specs.Trees.{circuit}
+use Rattle.structure.specs.LeafTable.{Counts}
+use Rattle.structure.specs.Rules.{wrongLength, wrongHeader, wrongRecord, wrongNaming, wrongType}
+use Rattle.typing.specs.Judging.{noted}
+use Rattle.verdict.specs.declared.Verdict.{Verdict}
+use Rattle.verdict.specs.declared.Verdict.the-variants.{Accepted}
+use Rattle.verdict.specs.Verdict.{inputs}
 
 -- not code 1
 pub record CheckingRecords (s : List ℕ) (n : ℕ) : Type 0 where
@@ -29,3 +36,16 @@ pub record CheckingTypes (s : List ℕ) (n : ℕ) : Type 0 where
 pub record CheckingDepths (s : List ℕ) (n : ℕ) : Type 0 where
   pub named : CheckingTypes s n
   pub types : lowest (wrongType s) (count s) ≡ none
+
+-- what a stage of the check gives: the verdict v, and for an accepted sheet the table `before` with the leaf count of each
+-- expression noted
+pub record RulesChecked (s : List ℕ) (v answer : Verdict) (before after : List ℕ) : Type 0 where
+  pub answered : answer ≡ v
+  pub long : length after ≡ 4096
+  pub notes : (t : ℕ) → answer ≡ Accepted t → after ≡ noted s (inputs s) (circuit s) before
+
+-- the same where the table is first filled with the leaf counts of types
+pub record Tabled (s : List ℕ) (n : ℕ) (v answer : Verdict) (after : List ℕ) : Type 0 where
+  pub answered : answer ≡ v
+  pub notes : (t : ℕ) → answer ≡ Accepted t
+      → (table : List ℕ) × Counts s n table × (after ≡ noted s (inputs s) (circuit s) table)

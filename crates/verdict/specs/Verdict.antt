@@ -1,21 +1,16 @@
 -- The verdict on a byte string (docs/SHEETS.md, "Codes", 0 to 7): the lowest code that applies, with its
 -- place; and the numbers that stand for a verdict.
 use Prim.Native.Nat.{ℕ}
-use mathlib.Core.Path.{_≡_}
-use lib.ListN.{length}
 use mathlib.Core.Bool.{Bool, true, false}
 use mathlib.Core.List.{List, [], _∷_}
 use mathlib.Core.Option.{Option, none, some}
 use Rattle.records.specs.Words.{count, wordA}
-use Rattle.records.specs.Trees.{circuit}
-use Rattle.structure.specs.LeafTable.{Counts}
+use Rattle.records.specs.Trees.{circuit, typeRecordOf}
 use Rattle.answers.specs.declared.Answer.{Answer}
 use Rattle.answers.specs.declared.Answer.the-variants.{Done, Refused}
-use Rattle.answers.specs.Checks.{Check, check, when}
-use Rattle.answers.specs.Lowest.{lowest}
+use Rattle.answers.specs.Answers.{Check, check, when, lowest}
 use Rattle.structure.specs.Rules.{wrongLength, wrongHeader, wrongRecord, wrongNaming, wrongType, tooDeep}
-use Rattle.typing.specs.Judgements.{judgements, typeRecordOf, firstFailing}
-use Rattle.typing.specs.Judging.{noted}
+use Rattle.typing.specs.Judgements.{judgements, firstFailing}
 use Rattle.verdict.specs.declared.Verdict.{Verdict}
 use Rattle.verdict.specs.declared.Verdict.the-variants.{
   Accepted,
@@ -89,16 +84,3 @@ byRecords s = refusing (lowest (wrongRecord s) (count s)) WrongRecord (byNamings
 
 unfoldable pub verdict : List ℕ → Verdict
 verdict s = unless (wrongLength s) WrongLength (unless (wrongHeader s) WrongHeader (byRecords s))
-
--- what a stage of the check gives: the verdict v, and for an accepted sheet the table `before` with the leaf count of each
--- expression noted
-pub record RulesChecked (s : List ℕ) (v answer : Verdict) (before after : List ℕ) : Type 0 where
-  pub answered : answer ≡ v
-  pub long : length after ≡ 4096
-  pub notes : (t : ℕ) → answer ≡ Accepted t → after ≡ noted s (inputs s) (circuit s) before
-
--- the same where the table is first filled with the leaf counts of types
-pub record Tabled (s : List ℕ) (n : ℕ) (v answer : Verdict) (after : List ℕ) : Type 0 where
-  pub answered : answer ≡ v
-  pub notes : (t : ℕ) → answer ≡ Accepted t
-      → (table : List ℕ) × Counts s n table × (after ≡ noted s (inputs s) (circuit s) table)

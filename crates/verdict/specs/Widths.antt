@@ -6,21 +6,11 @@ use mathlib.Core.Path.{_≡_}
 use mathlib.Core.Bool.{Bool, true, false}
 use mathlib.Core.List.{List}
 use lib.ListN.{length, getD}
-use Rattle.picoella.specs.Types.{leaves}
+use Rattle.picoella.specs.Language.{leaves}
 use Rattle.records.specs.Words.{count}
 use Rattle.records.specs.Kinds.{Sort, headers, types, expressions, patterns, leafs, noSort}
 use Rattle.records.specs.Says.{sortAt}
-use Rattle.records.specs.TypeRecords.{typeAt, TypeRecord}
-use Rattle.records.specs.Trees.{
-  Alternatives,
-  end,
-  noPattern,
-  wholeType,
-  oneConstructor,
-  pairOfPatterns,
-  alternatives,
-  treeAt,
-}
+use Rattle.records.specs.Trees.{typeAt, TypeRecord, Alternatives, end, noPattern, wholeType, oneConstructor, pairOfPatterns, alternatives, treeAt}
 use Rattle.typing.specs.Judging.{width}
 use Rattle.verdict.specs.Verdict.{verdict}
 use Rattle.verdict.specs.declared.Verdict.{Verdict}

@@ -3,16 +3,15 @@ ghost use mathlib.Core.Path.{_≡_};
 ghost use Prim.Native.Nat.{_+_, _/_, _<_};
 ghost use lib.ListN.{length};
 ghost use Rattle.records.specs.Sized.{Sized};
-ghost use Rattle.records.specs.Namings.{namings};
-ghost use Rattle.structure.specs.Rules.{wrongHeader};
-ghost use Rattle.structure.specs.Passes.{Passes};
+ghost use Rattle.records.specs.Says.{namings};
+ghost use Rattle.structure.specs.Rules.{wrongHeader, Passes};
 ghost use Rattle.structure.specs.NamerTable.{Holds};
 ghost use Rattle.structure.specs.LeafTable.{Counts};
 ghost use Rattle.typing.specs.Judging.{Ground};
-ghost use Rattle.verdict.specs.Verdict.{verdict, byTypes, byDepths, byTypeRecords, byNamings, byRecords, unless, RulesChecked, Tabled, verdictAnswer};
+ghost use Rattle.verdict.specs.Verdict.{verdict, byTypes, byDepths, byTypeRecords, byNamings, byRecords, unless, verdictAnswer};
+ghost use Rattle.verdict.specs.Stages.{RulesChecked, Tabled, CheckingRecords, CheckingNamings, CheckingTypes, CheckingDepths};
 ghost use Rattle.answers.specs.Answers.{place, packed};
 ghost use Rattle.verdict.specs.Widths.{PatternsFrom, Widths, Checked, accepts};
-ghost use Rattle.verdict.specs.Stages.{CheckingRecords, CheckingNamings, CheckingTypes, CheckingDepths};
 ghost use Rattle.verdict.specs.declared.Verdict.the-variants.{WrongHeader};
 use answers::Found;
 use answers::ILL_TYPED;
@@ -32,7 +31,7 @@ use records::SHEET_BYTES;
 use records::WORD_A;
 use records::WORD_B;
 use records::WORD_KIND;
-use records::Widths;
+use records::WidthTable;
 use records::records_in;
 use records::word;
 use structure::capped_sum;
@@ -49,7 +48,7 @@ use structure::place_all;
 use structure::wrong_header;
 use typing::Outcome;
 use typing::input_scope;
-use typing::judge;
+use typing::judge_root;
 
 // The answer of the check. `specs/Verdict.antt` gives the number and the place of each case (docs/SHEETS.md, "Codes").
 pub enum Verdict {
@@ -66,12 +65,12 @@ pub enum Verdict {
 }
 
 // By the type rules: code 7.
-fn check_rules(sheet: &[u8], n: usize, table: &Widths, widths: &mut Widths) -> Verdict
+fn check_rules(sheet: &[u8], n: usize, table: &WidthTable, widths: &mut WidthTable) -> Verdict
     requires { ⌜ Ground (now sheet) n (now table) × (length (now widths) ≡ 4096) ⌝ }
     ensures { λ r. ⌜ RulesChecked (now (sheet .entry)) (byTypes (now (sheet .entry))) r (now (widths .entry)) (now (widths .exit)) ⌝ }
 {
     let scope = input_scope(word(sheet, n, 0, WORD_A));
-    let judged = judge(
+    let judged = judge_root(
         sheet,
         n,
         table,
@@ -91,8 +90,8 @@ fn check_depths(
     sheet: &[u8],
     n: usize,
     namers: &Namers,
-    table: &Widths,
-    widths: &mut Widths,
+    table: &WidthTable,
+    widths: &mut WidthTable,
 ) -> Verdict
     requires { ⌜ CheckingDepths (now sheet) n × Holds (namings (now sheet)) (now namers) × Counts (now sheet) n (now table) × (length (now widths) ≡ 4096) ⌝ }
     ensures { λ r. ⌜ RulesChecked (now (sheet .entry)) (byDepths (now (sheet .entry))) r (now (widths .entry)) (now (widths .exit)) ⌝ }
@@ -108,7 +107,7 @@ fn check_depths(
 }
 
 // By the type records: code 5, and then by what comes after it. The leaf counts of types go to the table.
-fn check_types(sheet: &[u8], n: usize, namers: &Namers, widths: &mut Widths) -> Verdict
+fn check_types(sheet: &[u8], n: usize, namers: &Namers, widths: &mut WidthTable) -> Verdict
     requires { ⌜ CheckingTypes (now sheet) n × Holds (namings (now sheet)) (now namers) ⌝ }
     ensures { λ r. ⌜ Tabled (now (sheet .entry)) n (byTypeRecords (now (sheet .entry))) r (now (widths .exit)) ⌝ }
 {
@@ -123,7 +122,7 @@ fn check_types(sheet: &[u8], n: usize, namers: &Namers, widths: &mut Widths) -> 
 }
 
 // By the namings: code 4, and then by what comes after it.
-fn check_names(sheet: &[u8], n: usize, widths: &mut Widths) -> Verdict
+fn check_names(sheet: &[u8], n: usize, widths: &mut WidthTable) -> Verdict
     requires { ⌜ CheckingNamings (now sheet) n ⌝ }
     ensures { λ r. ⌜ Tabled (now (sheet .entry)) n (byNamings (now (sheet .entry))) r (now (widths .exit)) ⌝ }
 {
@@ -137,7 +136,7 @@ fn check_names(sheet: &[u8], n: usize, widths: &mut Widths) -> Verdict
 }
 
 // By the header and the records: codes 2 and 3, and then by what comes after them.
-fn check_records(sheet: &[u8], n: usize, widths: &mut Widths) -> Verdict
+fn check_records(sheet: &[u8], n: usize, widths: &mut WidthTable) -> Verdict
     requires { ⌜ CheckingRecords (now sheet) n ⌝ }
     ensures { λ r. ⌜ Tabled (now (sheet .entry)) n (unless (wrongHeader (now (sheet .entry))) WrongHeader (byRecords (now (sheet .entry)))) r (now (widths .exit)) ⌝ }
 {
@@ -152,7 +151,7 @@ fn check_records(sheet: &[u8], n: usize, widths: &mut Widths) -> Verdict
 }
 
 // Notes the width of rec where it is a pattern, from the widths of its parts.
-fn note_pattern(sheet: &[u8], n: usize, rec: usize, widths: &mut Widths)
+fn note_pattern(sheet: &[u8], n: usize, rec: usize, widths: &mut WidthTable)
     requires { ⌜ Sized (now sheet) n × Passes (now sheet) × (rec < n) × PatternsFrom (now sheet) (rec + 1) (now widths) ⌝ }
     ensures { λ _. ⌜ PatternsFrom (now (sheet .entry)) rec (now (widths .exit)) ⌝ }
 {
@@ -174,7 +173,7 @@ fn note_pattern(sheet: &[u8], n: usize, rec: usize, widths: &mut Widths)
 }
 
 // Notes the width of every pattern, the last record first.
-fn note_patterns(sheet: &[u8], n: usize, widths: &mut Widths)
+fn note_patterns(sheet: &[u8], n: usize, widths: &mut WidthTable)
     requires { ⌜ Sized (now sheet) n × Passes (now sheet) × PatternsFrom (now sheet) n (now widths) ⌝ }
     ensures { λ _. ⌜ Widths (now (sheet .entry)) (now (widths .exit)) ⌝ }
 {
@@ -201,14 +200,14 @@ fn is_accepted(v: Verdict) -> bool
 }
 
 // Room for a table of widths.
-pub fn no_widths() -> Widths
+pub fn no_widths() -> WidthTable
     ensures { λ r. ⌜ length r ≡ 4096 ⌝ }
 {
     [0; 4096]
 }
 
 // The check of a sheet of n records, with the leaf counts of the types of expressions, patterns and types for an accepted sheet.
-pub fn check_into(sheet: &[u8], n: usize, table: &mut Widths) -> Verdict
+pub fn check_into(sheet: &[u8], n: usize, table: &mut WidthTable) -> Verdict
     requires { ⌜ n ≡ length (now sheet) / 12 ⌝ }
     ensures { λ r. ⌜ Checked (now (sheet .entry)) r (now (table .entry)) (now (table .exit)) ⌝ }
 {
@@ -250,7 +249,7 @@ pub fn packed_verdict(v: Verdict) -> u64
 }
 
 // The check: the verdict's code and place in one number.
-pub fn check(sheet: &[u8]) -> u64
+pub fn check_sheet(sheet: &[u8]) -> u64
     ensures { λ r. ⌜ r ≡ packed (verdictAnswer (verdict (now (sheet .entry)))) ⌝ }
 {
     let mut table = no_widths();

@@ -1,6 +1,6 @@
 -- The invariant: what is left to take, put where it is taken, makes the whole. Assumes nothing.
 use native.Mathlib.Omega.{arith}
-use Rattle.values.proofs.Matches.{left}
+use Rattle.values.proofs.Gathering.{left}
 use Rattle.carry.specs.Carrying.{Taking}
 use Rattle.carry.proofs.Taking.{
   Remaining,

@@ -5,24 +5,24 @@ use borrow.Author.Needs.{needs}
 use Rattle.emitting.proofs.put_type.Statement.{statement}
 use Rattle.emitting.proofs.put_type.Tie as tie
 
-put-requires : tie.Need-put-requires
-put-requires c κs = search needs
+put-record-requires : tie.Need-put-record-requires
+put-record-requires c κs = search needs
 
 same-length : tie.Need-same-length
 same-length c = search needs
 
 returns : tie.Need-returns
-returns c = flat-put (c .before .before .before .before .before .before .args .pair) (c .before .before .before .before .before .before .args .second) (c .before .before .before .before .if1 .taken) (c .before .before .put .ensures)
+returns c = flat-put (c .before .before .before .before .before .before .args .pair) (c .before .before .before .before .before .before .args .second) (c .before .before .before .before .if1 .taken) (c .before .before .put-record .ensures)
 
-put-requires-2 : tie.Need-put-requires-2
-put-requires-2 c κs = search needs
+put-record-requires-2 : tie.Need-put-record-requires-2
+put-record-requires-2 c κs = search needs
 
 same-length-2 : tie.Need-same-length-2
 same-length-2 c = search needs
 
 returns-2 : tie.Need-returns-2
-returns-2 c = pair-put (c .before .before .before .before .before .before .args .pair) (c .before .before .before .before .if1 .left) (c .before .before .put2 .ensures)
+returns-2 c = pair-put (c .before .before .before .before .before .before .args .pair) (c .before .before .before .before .if1 .left) (c .before .before .put-record2 .ensures)
 
 pub put-type-spec : {M : Type 1} → statement M
 put-type-spec =
-    tie.close (tie.spec put-requires same-length returns put-requires-2 same-length-2 returns-2)
+    tie.close (tie.spec put-record-requires same-length returns put-record-requires-2 same-length-2 returns-2)

@@ -26,29 +26,29 @@ loop-holds c = nothing-emitted (c .before .before .before .args .ops .now) (c .b
 sub-k : tie.Need-sub-k Inv-loop μ-loop
 sub-k c = search needs
 
-element-copy-out-step : tie.Need-element-copy-out-step Inv-loop μ-loop
-element-copy-out-step c = (let f = c .before .before .before .before .loop .inv .few in omega arith)
+element-copy-out-emission-step : tie.Need-element-copy-out-emission-step Inv-loop μ-loop
+element-copy-out-emission-step c = (let f = c .before .before .before .before .loop .inv .few in omega arith)
 
-mul-step : tie.Need-mul-step Inv-loop μ-loop
-mul-step c = (let f = c .before .before .before .before .before .loop .inv .few in omega arith)
+mul-emission-step : tie.Need-mul-emission-step Inv-loop μ-loop
+mul-emission-step c = (let f = c .before .before .before .before .before .loop .inv .few in omega arith)
 
-element-copy-out-step-2 : tie.Need-element-copy-out-step-2 Inv-loop μ-loop
-element-copy-out-step-2 c = (let f = c .before .before .before .before .before .loop .inv .few in omega arith)
+element-copy-out-emission-step-2 : tie.Need-element-copy-out-emission-step-2 Inv-loop μ-loop
+element-copy-out-emission-step-2 c = (let f = c .before .before .before .before .before .loop .inv .few in omega arith)
 
-mul-step-2 : tie.Need-mul-step-2 Inv-loop μ-loop
-mul-step-2 c = (let f = c .before .before .before .before .before .before .loop .inv .few in omega arith)
+mul-emission-step-2 : tie.Need-mul-emission-step-2 Inv-loop μ-loop
+mul-emission-step-2 c = (let f = c .before .before .before .before .before .before .loop .inv .few in omega arith)
 
-element-copy-out-step-3 : tie.Need-element-copy-out-step-3 Inv-loop μ-loop
-element-copy-out-step-3 c = (let f = c .before .before .before .before .before .before .loop .inv .few in omega arith)
+element-copy-out-emission-step-3 : tie.Need-element-copy-out-emission-step-3 Inv-loop μ-loop
+element-copy-out-emission-step-3 c = (let f = c .before .before .before .before .before .before .loop .inv .few in omega arith)
 
-step-requires : tie.Need-step-requires Inv-loop μ-loop
-step-requires c κs = can-advance (c .before .before .before .before .before .before .before .before .before .before .before .args .ops .now) (c .before .before .before .before .before .before .before .before .before .before .before .args .firsts .now) (c .before .before .before .before .before .before .before .before .before .before .before .args .seconds .now) (c .before .before .before .before .before .before .before .before .before .before .before .args .m) (c .before .before .before .before .before .before .before .before .before .before .before .args .leaves .now) (c .before .before .before .before .before .before .before .before .before .before .before .args .types) (c .before .before .before .before .before .before .before .before .before .before .before .args .records) (c .before .before .before .before .before .before .before .before .before .before .before .args .sheet .now) (c .before .before .before .before .before .before .before .loop .inv)
+emission-step-requires : tie.Need-emission-step-requires Inv-loop μ-loop
+emission-step-requires c κs = can-advance (c .before .before .before .before .before .before .before .before .before .before .before .args .ops .now) (c .before .before .before .before .before .before .before .before .before .before .before .args .firsts .now) (c .before .before .before .before .before .before .before .before .before .before .before .args .seconds .now) (c .before .before .before .before .before .before .before .before .before .before .before .args .m) (c .before .before .before .before .before .before .before .before .before .before .before .args .leaves .now) (c .before .before .before .before .before .before .before .before .before .before .before .args .types) (c .before .before .before .before .before .before .before .before .before .before .before .args .records) (c .before .before .before .before .before .before .before .before .before .before .before .args .sheet .now) (c .before .before .before .before .before .before .before .loop .inv)
 
 loop-less : tie.Need-loop-less Inv-loop μ-loop
 loop-less c = search needs
 
 loop-again : tie.Need-loop-again Inv-loop μ-loop
-loop-again c = code-goes-on (c .before .before .before .before .before .before .before .before .before .before .before .before .before .before .args .ops .now) (c .before .before .before .before .before .before .before .before .before .before .before .before .before .before .args .firsts .now) (c .before .before .before .before .before .before .before .before .before .before .before .before .before .before .args .seconds .now) (c .before .before .before .before .before .before .before .before .before .before .before .before .before .before .args .m) (c .before .before .before .before .before .before .before .before .before .before .before .before .before .before .args .leaves .now) (c .before .before .before .before .before .before .before .before .before .before .before .before .before .before .args .types) (c .before .before .before .before .before .before .before .before .before .before .before .before .before .before .args .records) (c .before .before .before .before .before .before .before .before .before .before .before .before .before .before .args .sheet .now) (c .before .before .before .before .before .before .before .before .before .before .loop .sheet) (c .before .before .before .before .before .before .before .before .before .before .loop .kinds) (c .before .before .before .before .before .before .before .before .before .before .loop .values) (c .before .before .before .before .before .before .before .before .before .before .loop .cursor) (c .before .before .before .before .before .before .before .before .before .before .loop .height) (c .before .before .before .before .before .before .before .before .before .before .loop .next) (c .before .before .before .before .before .before .before .before .before .before .loop .k) _ _ _ _ _ _ (c .before .before .before .before .before .before .before .before .before .before .before .before .before .before .pre .2) (c .before .before .before .before .before .before .before .before .before .loop-test .taken) (c .before .before .before .before .before .before .before .before .before .before .loop .inv) (c .before .before .step .ensures)
+loop-again c = code-goes-on (c .before .before .before .before .before .before .before .before .before .before .before .before .before .before .args .ops .now) (c .before .before .before .before .before .before .before .before .before .before .before .before .before .before .args .firsts .now) (c .before .before .before .before .before .before .before .before .before .before .before .before .before .before .args .seconds .now) (c .before .before .before .before .before .before .before .before .before .before .before .before .before .before .args .m) (c .before .before .before .before .before .before .before .before .before .before .before .before .before .before .args .leaves .now) (c .before .before .before .before .before .before .before .before .before .before .before .before .before .before .args .types) (c .before .before .before .before .before .before .before .before .before .before .before .before .before .before .args .records) (c .before .before .before .before .before .before .before .before .before .before .before .before .before .before .args .sheet .now) (c .before .before .before .before .before .before .before .before .before .before .loop .sheet) (c .before .before .before .before .before .before .before .before .before .before .loop .kinds) (c .before .before .before .before .before .before .before .before .before .before .loop .values) (c .before .before .before .before .before .before .before .before .before .before .loop .cursor) (c .before .before .before .before .before .before .before .before .before .before .loop .height) (c .before .before .before .before .before .before .before .before .before .before .loop .next) (c .before .before .before .before .before .before .before .before .before .before .loop .k) _ _ _ _ _ _ (c .before .before .before .before .before .before .before .before .before .before .before .before .before .before .pre .2) (c .before .before .before .before .before .before .before .before .before .loop-test .taken) (c .before .before .before .before .before .before .before .before .before .before .loop .inv) (c .before .before .emission-step .ensures)
 
 same-length : tie.Need-same-length Inv-loop μ-loop
 same-length c = c .before .loop .inv .as-long
@@ -66,12 +66,12 @@ write-code-spec =
     no-values-requires
     loop-holds
     sub-k
-    element-copy-out-step
-    mul-step
-    element-copy-out-step-2
-    mul-step-2
-    element-copy-out-step-3
-    step-requires
+    element-copy-out-emission-step
+    mul-emission-step
+    element-copy-out-emission-step-2
+    mul-emission-step-2
+    element-copy-out-emission-step-3
+    emission-step-requires
     loop-less
     loop-again
     same-length

@@ -20,23 +20,23 @@ write-code-requires c κs = (search needs, search needs, some-leaves (c .before 
 write-types-requires : tie.Need-write-types-requires
 write-types-requires c κs = search needs
 
-add-put : tie.Need-add-put
-add-put c = search needs
+add-put-record : tie.Need-add-put-record
+add-put-record c = search needs
 
-cast-put : tie.Need-cast-put
-cast-put c = search needs
+cast-put-record : tie.Need-cast-put-record
+cast-put-record c = search needs
 
-cast-put-2 : tie.Need-cast-put-2
-cast-put-2 c = search needs
+cast-put-record-2 : tie.Need-cast-put-record-2
+cast-put-record-2 c = search needs
 
-put-requires : tie.Need-put-requires
-put-requires c κs = search needs
+put-record-requires : tie.Need-put-record-requires
+put-record-requires c κs = search needs
 
 same-length : tie.Need-same-length
 same-length c = search needs
 
 returns : tie.Need-returns
-returns c = sheet-whole (c .before .before .before .before .before .before .before .before .before .before .before .before .before .before .before .before .before .args .pairs .now) (c .before .before .before .before .before .before .before .before .before .before .before .before .before .before .before .before .before .args .parts .now) (c .before .before .before .before .before .before .before .before .before .before .before .before .before .before .before .before .before .args .others .now) (c .before .before .before .before .before .before .before .before .before .before .before .before .before .before .before .before .before .args .input) (c .before .before .before .before .before .before .before .before .before .before .before .before .before .before .before .before .before .pre) _ _ _ _ (c .before .before .before .before .before .before .before .before .before .before .before .before .before .before .clear-from .ensures .0) (c .before .before .before .before .before .before .before .before .before .before .write-code .ensures) (c .before .before .before .before .before .before .write-types .ensures) _ (c .before .before .put .ensures)
+returns c = sheet-whole (c .before .before .before .before .before .before .before .before .before .before .before .before .before .before .before .before .before .args .pairs .now) (c .before .before .before .before .before .before .before .before .before .before .before .before .before .before .before .before .before .args .parts .now) (c .before .before .before .before .before .before .before .before .before .before .before .before .before .before .before .before .before .args .others .now) (c .before .before .before .before .before .before .before .before .before .before .before .before .before .before .before .before .before .args .input) (c .before .before .before .before .before .before .before .before .before .before .before .before .before .before .before .before .before .pre) _ _ _ _ (c .before .before .before .before .before .before .before .before .before .before .before .before .before .before .clear-from .ensures .0) (c .before .before .before .before .before .before .before .before .before .before .write-code .ensures) (c .before .before .before .before .before .before .write-types .ensures) _ (c .before .before .put-record .ensures)
 
 pub write-sheet-spec : {M : Type 1} → statement M
 write-sheet-spec =
@@ -47,9 +47,9 @@ write-sheet-spec =
     cast-write-code
     write-code-requires
     write-types-requires
-    add-put
-    cast-put
-    cast-put-2
-    put-requires
+    add-put-record
+    cast-put-record
+    cast-put-record-2
+    put-record-requires
     same-length
     returns)

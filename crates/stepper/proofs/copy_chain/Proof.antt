@@ -1,7 +1,7 @@
 -- Assumes nothing.
 use native.Mathlib.Omega.{arith}
 use Rattle.records.specs.Trees.{chain}
-use Rattle.values.proofs.Matches.{left}
+use Rattle.values.proofs.Gathering.{left}
 use Rattle.stepper.specs.Cycling.{Copying}
 use Rattle.stepper.proofs.Copies.{Left, all-left, leaf-there, leaf-bytes, high-byte, next-left, next-falls, none-left}
 use Rattle.stepper.proofs.copy_chain.Statement.{statement}

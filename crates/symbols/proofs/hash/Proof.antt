@@ -5,14 +5,14 @@ use borrow.Author.Needs.{needs}
 use native.Mathlib.Omega.{arith}
 use mathlib.Core.Path.{_≡_, sym, _∙_}
 use lib.ListN.{length}
-use Rattle.symbols.specs.Names.{nameOf, lettersFrom, hashOf, hashedFrom}
+use Rattle.symbols.specs.Names.{lettersAt, lettersFrom, hashOf, hashedFrom}
 use Rattle.symbols.proofs.Letters.{hash-first, hash-next, hash-last}
 use Rattle.symbols.proofs.hash.Statement.{statement}
 use Rattle.symbols.proofs.hash.Tie as tie
 
 abbrev Inv-loop : tie.InvT-loop
 Inv-loop text span p letters h₀ i₀ h i =
-    (hashOf (nameOf text span) ≡ hashedFrom h (lettersFrom text (p + i) (letters - i))) × (i ≤ letters) × (p + letters ≤ length text) × (h < 4096)
+    (hashOf (lettersAt text span) ≡ hashedFrom h (lettersFrom text (p + i) (letters - i))) × (i ≤ letters) × (p + letters ≤ length text) × (h < 4096)
 
 abbrev μ-loop : tie.MeasureT-loop
 μ-loop text span p letters h₀ i₀ h i = letters - i

@@ -6,14 +6,14 @@ use native.Mathlib.Omega.{arith}
 use mathlib.Core.Path.{_≡_, sym, _∙_}
 use lib.ListN.{length}
 use Rattle.naming.specs.Declared.{sameName}
-use Rattle.symbols.specs.Names.{nameOf, lettersFrom}
+use Rattle.symbols.specs.Names.{lettersAt, lettersFrom}
 use Rattle.symbols.proofs.Letters.{differ-length, same-first, same-next, differ-here, same-last}
 use Rattle.symbols.proofs.same.Statement.{statement}
 use Rattle.symbols.proofs.same.Tie as tie
 
 abbrev Inv-loop : tie.InvT-loop
 Inv-loop text a b letters p q i₀ i =
-    (sameName (nameOf text a) (nameOf text b) ≡ sameName (lettersFrom text (p + i) (letters - i)) (lettersFrom text (q + i) (letters - i))) × (i ≤ letters) × (p + letters ≤ length text) × (q + letters ≤ length text)
+    (sameName (lettersAt text a) (lettersAt text b) ≡ sameName (lettersFrom text (p + i) (letters - i)) (lettersFrom text (q + i) (letters - i))) × (i ≤ letters) × (p + letters ≤ length text) × (q + letters ≤ length text)
 
 abbrev μ-loop : tie.MeasureT-loop
 μ-loop text a b letters p q i₀ i = letters - i

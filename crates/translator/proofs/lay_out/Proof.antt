@@ -7,8 +7,8 @@ use Rattle.translator.proofs.lay_out.Tie as tie
 use Rattle.translator.proofs.lay_out.Reads as reads
 use Rattle.translator.proofs.lay_out.Lts as lts
 use Rattle.assembling.proofs.assembly.assemble.Reads as assemble-reads
-use Rattle.assembling.proofs.assembly.no_operands.Reads as no-operands-reads
-use Rattle.assembling.proofs.assembly.no_ops.Reads as no-ops-reads
+use Rattle.instructions.proofs.no_operands.Reads as no-operands-reads
+use Rattle.instructions.proofs.no_ops.Reads as no-ops-reads
 use Rattle.translator.proofs.write_out.Reads as write-out-reads
 
 -- src/lib.rt:91:24

@@ -11,8 +11,8 @@ use Rattle.translator.proofs.translate_legal.Tie as tie
 use Rattle.translator.proofs.translate_legal.Reads as reads
 use Rattle.translator.proofs.translate_legal.Lts as lts
 use Rattle.answers.proofs.in_one.Reads as in-one-reads
-use Rattle.assembling.proofs.assembly.no_operands.Reads as no-operands-reads
-use Rattle.assembling.proofs.assembly.no_ops.Reads as no-ops-reads
+use Rattle.instructions.proofs.no_operands.Reads as no-operands-reads
+use Rattle.instructions.proofs.no_ops.Reads as no-ops-reads
 use Rattle.resolving.proofs.resolve.Reads as resolve-reads
 use Rattle.translator.proofs.lay_out.Reads as lay-out-reads
 

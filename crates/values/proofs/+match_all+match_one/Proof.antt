@@ -5,7 +5,9 @@ use native.Mathlib.Omega.{arith}
 use Prim.Native.Nat.{_+_, _*_, _-_, _≤_}
 use mathlib.Core.Path.{_≡_, refl, _∙_}
 use Rattle.values.specs.Matchings.{Matching}
-use Rattle.values.proofs.Matches.{Gathered, begun, goes-on, gone-on, up-to-yes, ended, left, left-falls, next-matched, some-leaf, to-the-end, whole-matches, constructor-matches, first-in, cut-small, from-none, cut-inside, first-lent, second-lent, pair-matches, first-refuses}
+use Rattle.values.proofs.ChainLaws.{goes-on}
+use Rattle.values.proofs.Gathering.{Gathered, begun, gone-on, up-to-yes, ended, left, left-falls}
+use Rattle.values.proofs.Matches.{next-matched, some-leaf, to-the-end, whole-matches, constructor-matches, first-in, cut-small, from-none, cut-inside, first-lent, second-lent, pair-matches, first-refuses}
 use Prim.Native.Nat.{ℕ, _<_}
 use borrow.Fn.Kinds.{In}
 use borrow.Fn.PlainCycle.{Measures, is, falls, and}

@@ -1,5 +1,5 @@
 -- Assumes nothing.
-use Rattle.values.proofs.Matches.{by-match}
+use Rattle.values.proofs.Gathering.{by-match}
 use borrow.Author.Needs.{needs}
 use Rattle.values.proofs.choose_value.Statement.{statement}
 use Rattle.values.proofs.choose_value.Tie as tie

@@ -24,18 +24,18 @@ enum-known-wrong c = search needs
 
 returns : tie.Need-returns
 returns c =
-    found-tabled _ _ (c .before .before .before .before .before .before .before .before .before .pre .measured .sized .counted) (wrongNaming (now (c .before .before .before .before .before .before .before .before .before .args .sheet))) _ (c .before .before .before .first-wrong-naming .ensures (now (c .before .before .before .before .before .before .before .before .before .args .sheet)) (c .before .before .before .before .before .note-all .ensures)) _ (c .before .wrong .given .1) WrongNaming (omega arith) (byTypeRecords (now (c .before .before .before .before .before .before .before .before .before .args .sheet))) _
+    found-tabled _ (c .before .before .before .before .before .before .before .before .before .pre .measured .sized .counted) (wrongNaming (now (c .before .before .before .before .before .before .before .before .before .args .sheet))) _ (c .before .before .before .first-wrong-naming .ensures (now (c .before .before .before .before .before .before .before .before .before .args .sheet)) (c .before .before .before .before .before .note-all .ensures)) _ (c .before .wrong .given .1) WrongNaming (omega arith) (byTypeRecords (now (c .before .before .before .before .before .before .before .before .before .args .sheet))) _
 
 enum-told : tie.Need-enum-told
 enum-told c = search needs
 
 check-types-requires : tie.Need-check-types-requires
 check-types-requires c κs =
-    (record { recorded = c .before .before .before .before .before .before .before .before .before .before .pre; namings = (found-none _ _ (c .before .before .before .before .before .before .before .before .before .before .pre .measured .sized .counted) (wrongNaming (now (c .before .before .before .before .before .before .before .before .before .before .args .sheet))) _ (c .before .before .before .before .first-wrong-naming .ensures (now (c .before .before .before .before .before .before .before .before .before .before .args .sheet)) (c .before .before .before .before .before .before .note-all .ensures)) (c .before .before .enum-told .given .1)) }, c .before .before .before .before .before .before .note-all .ensures)
+    (record { recorded = c .before .before .before .before .before .before .before .before .before .before .pre; namings = (found-none _ (c .before .before .before .before .before .before .before .before .before .before .pre .measured .sized .counted) (wrongNaming (now (c .before .before .before .before .before .before .before .before .before .before .args .sheet))) _ (c .before .before .before .before .first-wrong-naming .ensures (now (c .before .before .before .before .before .before .before .before .before .before .args .sheet)) (c .before .before .before .before .before .before .note-all .ensures)) (c .before .before .enum-told .given .1)) }, c .before .before .before .before .before .before .note-all .ensures)
 
 returns-2 : tie.Need-returns-2
 returns-2 c =
-    tabled-on _ _ _ WrongNaming (byTypeRecords (now (c .before .before .before .before .before .before .before .before .before .before .before .args .sheet))) _ _ (found-none _ _ (c .before .before .before .before .before .before .before .before .before .before .before .pre .measured .sized .counted) (wrongNaming (now (c .before .before .before .before .before .before .before .before .before .before .before .args .sheet))) _ (c .before .before .before .before .before .first-wrong-naming .ensures (now (c .before .before .before .before .before .before .before .before .before .before .before .args .sheet)) (c .before .before .before .before .before .before .before .note-all .ensures)) (c .before .before .before .enum-told .given .1)) (c .check-types .ensures)
+    tabled-on _ _ WrongNaming (byTypeRecords (now (c .before .before .before .before .before .before .before .before .before .before .before .args .sheet))) _ _ (found-none _ (c .before .before .before .before .before .before .before .before .before .before .before .pre .measured .sized .counted) (wrongNaming (now (c .before .before .before .before .before .before .before .before .before .before .before .args .sheet))) _ (c .before .before .before .before .before .first-wrong-naming .ensures (now (c .before .before .before .before .before .before .before .before .before .before .before .args .sheet)) (c .before .before .before .before .before .before .before .note-all .ensures)) (c .before .before .before .enum-told .given .1)) (c .check-types .ensures)
 
 pub check-names-spec : {M : Type 1} → statement M
 check-names-spec =

@@ -29,11 +29,11 @@ enum-told c = search needs
 
 check-names-requires : tie.Need-check-names-requires
 check-names-requires c κs =
-    record { measured = c .before .before .before .before .before .before .before .pre; header = (sym (c .before .before .before .before .before .wrong-header .ensures) ∙ c .before .before .before .before .if1 .left); records = (found-none _ _ (c .before .before .before .before .before .before .before .pre .sized .counted) (wrongRecord (now (c .before .before .before .before .before .before .before .args .sheet))) _ (c .before .before .before .first-wrong-record .ensures) (c .before .enum-told .given .1)) }
+    record { measured = c .before .before .before .before .before .before .before .pre; header = (sym (c .before .before .before .before .before .wrong-header .ensures) ∙ c .before .before .before .before .if1 .left); records = (found-none _ (c .before .before .before .before .before .before .before .pre .sized .counted) (wrongRecord (now (c .before .before .before .before .before .before .before .args .sheet))) _ (c .before .before .before .first-wrong-record .ensures) (c .before .enum-told .given .1)) }
 
 returns-3 : tie.Need-returns-3
 returns-3 c =
-    records-on (now (c .before .before .before .before .before .before .before .before .args .sheet)) _ _ _ (sym (c .before .before .before .before .before .before .wrong-header .ensures) ∙ c .before .before .before .before .before .if1 .left) (found-none _ _ (c .before .before .before .before .before .before .before .before .pre .sized .counted) (wrongRecord (now (c .before .before .before .before .before .before .before .before .args .sheet))) _ (c .before .before .before .before .first-wrong-record .ensures) (c .before .before .enum-told .given .1)) (c .check-names .ensures)
+    records-on (now (c .before .before .before .before .before .before .before .before .args .sheet)) _ _ _ (sym (c .before .before .before .before .before .before .wrong-header .ensures) ∙ c .before .before .before .before .before .if1 .left) (found-none _ (c .before .before .before .before .before .before .before .before .pre .sized .counted) (wrongRecord (now (c .before .before .before .before .before .before .before .before .args .sheet))) _ (c .before .before .before .before .first-wrong-record .ensures) (c .before .before .enum-told .given .1)) (c .check-names .ensures)
 
 pub check-records-spec : {M : Type 1} → statement M
 check-records-spec =

@@ -25,18 +25,18 @@ enum-known-wrong c = search needs
 
 returns : tie.Need-returns
 returns c =
-    found-tabled _ _ (c .before .before .before .before .before .before .before .before .before .pre .0 .recorded .measured .sized .counted) (wrongType (now (c .before .before .before .before .before .before .before .before .before .args .sheet))) _ (c .before .before .before .first-wrong-type .ensures) _ (c .before .wrong .given .1) WrongType (omega arith) (byDepths (now (c .before .before .before .before .before .before .before .before .before .args .sheet))) _
+    found-tabled _ (c .before .before .before .before .before .before .before .before .before .pre .0 .recorded .measured .sized .counted) (wrongType (now (c .before .before .before .before .before .before .before .before .before .args .sheet))) _ (c .before .before .before .first-wrong-type .ensures) _ (c .before .wrong .given .1) WrongType (omega arith) (byDepths (now (c .before .before .before .before .before .before .before .before .before .args .sheet))) _
 
 enum-told : tie.Need-enum-told
 enum-told c = search needs
 
 check-depths-requires : tie.Need-check-depths-requires
 check-depths-requires c κs =
-    (record { named = c .before .before .before .before .before .before .before .before .before .before .pre .0; types = (found-none _ _ (c .before .before .before .before .before .before .before .before .before .before .pre .0 .recorded .measured .sized .counted) (wrongType (now (c .before .before .before .before .before .before .before .before .before .before .args .sheet))) _ (c .before .before .before .before .first-wrong-type .ensures) (c .before .before .enum-told .given .1)) }, c .before .before .before .before .before .before .before .before .before .before .pre .1, c .before .before .before .before .before .before .count-types .ensures, c .before .before .before .before .before .before .count-types .ensures .long)
+    (record { named = c .before .before .before .before .before .before .before .before .before .before .pre .0; types = (found-none _ (c .before .before .before .before .before .before .before .before .before .before .pre .0 .recorded .measured .sized .counted) (wrongType (now (c .before .before .before .before .before .before .before .before .before .before .args .sheet))) _ (c .before .before .before .before .first-wrong-type .ensures) (c .before .before .enum-told .given .1)) }, c .before .before .before .before .before .before .before .before .before .before .pre .1, c .before .before .before .before .before .before .count-types .ensures, c .before .before .before .before .before .before .count-types .ensures .long)
 
 returns-2 : tie.Need-returns-2
 returns-2 c =
-    tabled-on _ _ _ WrongType (byDepths (now (c .before .before .before .before .before .before .before .before .before .before .before .args .sheet))) _ _ (found-none _ _ (c .before .before .before .before .before .before .before .before .before .before .before .pre .0 .recorded .measured .sized .counted) (wrongType (now (c .before .before .before .before .before .before .before .before .before .before .before .args .sheet))) _ (c .before .before .before .before .before .first-wrong-type .ensures) (c .before .before .before .enum-told .given .1)) (tabled-by _ _ _ _ _ _ (c .before .before .before .before .before .before .before .count-types .ensures) (c .check-depths .ensures))
+    tabled-on _ _ WrongType (byDepths (now (c .before .before .before .before .before .before .before .before .before .before .before .args .sheet))) _ _ (found-none _ (c .before .before .before .before .before .before .before .before .before .before .before .pre .0 .recorded .measured .sized .counted) (wrongType (now (c .before .before .before .before .before .before .before .before .before .before .before .args .sheet))) _ (c .before .before .before .before .before .first-wrong-type .ensures) (c .before .before .before .enum-told .given .1)) (tabled-by _ _ _ _ _ (c .before .before .before .before .before .before .before .count-types .ensures) (c .check-depths .ensures))
 
 pub check-types-spec : {M : Type 1} → statement M
 check-types-spec =

@@ -14,19 +14,19 @@ word-requires-2 : tie.Need-word-requires-2
 word-requires-2 c κs = search needs
 
 element-copy-out-widths : tie.Need-element-copy-out-widths
-element-copy-out-widths c = whole-in-table _ _ _ _ (c .before .before .before .before .pre .1) (c .before .before .before .before .pre .0 .counted) (c .before .before .before .before .pre .2) (c .before .before .before .before .pre .3) _ (c .before .before .word .ensures .0) (c .before .if1 .taken) _ (c .word2 .ensures .0)
+element-copy-out-widths c = whole-in-table _ _ (c .before .before .before .before .pre .1) (c .before .before .before .before .pre .0 .counted) (c .before .before .before .before .pre .2) (c .before .before .before .before .pre .3) _ (c .before .before .word .ensures .0) (c .before .if1 .taken) _ (c .word2 .ensures .0)
 
 element-write-widths : tie.Need-element-write-widths
 element-write-widths c = search needs
 
 returns : tie.Need-returns
-returns c = whole-widths _ _ _ _ (c .before .before .before .before .before .pre .1) (c .before .before .before .before .before .pre .0 .counted) (c .before .before .before .before .before .pre .2) (c .before .before .before .before .before .pre .3) _ (c .before .before .before .word .ensures .0) (c .before .before .if1 .taken) _ (c .before .word2 .ensures .0)
+returns c = whole-widths _ _ (c .before .before .before .before .before .pre .1) (c .before .before .before .before .before .pre .0 .counted) (c .before .before .before .before .before .pre .2) (c .before .before .before .before .before .pre .3) _ (c .before .before .before .word .ensures .0) (c .before .before .if1 .taken) _ (c .before .word2 .ensures .0)
 
 element-write-widths-2 : tie.Need-element-write-widths-2
 element-write-widths-2 c = search needs
 
 returns-2 : tie.Need-returns-2
-returns-2 c = constructor-widths _ _ _ _ (c .before .before .before .before .pre .1) (c .before .before .before .before .pre .0 .counted) (c .before .before .before .before .pre .2) (c .before .before .before .before .pre .3) _ (c .before .before .word .ensures .0) (c .if2 .taken)
+returns-2 c = constructor-widths _ _ (c .before .before .before .before .pre .1) (c .before .before .before .before .pre .0 .counted) (c .before .before .before .before .pre .2) (c .before .before .before .before .pre .3) _ (c .before .before .word .ensures .0) (c .if2 .taken)
 
 word-requires-3 : tie.Need-word-requires-3
 word-requires-3 c κs = search needs
@@ -35,15 +35,15 @@ word-requires-4 : tie.Need-word-requires-4
 word-requires-4 c κs = search needs
 
 element-copy-out-capped-sum : tie.Need-element-copy-out-capped-sum
-element-copy-out-capped-sum c = first-in-table _ _ _ _ (c .before .before .before .before .before .before .before .pre .1) (c .before .before .before .before .before .before .before .pre .0 .counted) (c .before .before .before .before .before .before .before .pre .2) (c .before .before .before .before .before .before .before .pre .3) _ (c .before .before .before .before .before .word .ensures .0) (c .before .before .if3 .taken) _ (c .before .word3 .ensures .0)
+element-copy-out-capped-sum c = first-in-table _ _ (c .before .before .before .before .before .before .before .pre .1) (c .before .before .before .before .before .before .before .pre .0 .counted) (c .before .before .before .before .before .before .before .pre .2) (c .before .before .before .before .before .before .before .pre .3) _ (c .before .before .before .before .before .word .ensures .0) (c .before .before .if3 .taken) _ (c .before .word3 .ensures .0)
 
 element-copy-out-capped-sum-2 : tie.Need-element-copy-out-capped-sum-2
-element-copy-out-capped-sum-2 c = second-in-table _ _ _ _ (c .before .before .before .before .before .before .before .before .pre .1) (c .before .before .before .before .before .before .before .before .pre .0 .counted) (c .before .before .before .before .before .before .before .before .pre .2) (c .before .before .before .before .before .before .before .before .pre .3) _ (c .before .before .before .before .before .before .word .ensures .0) (c .before .before .before .if3 .taken) _ (c .before .word4 .ensures .0)
+element-copy-out-capped-sum-2 c = second-in-table _ _ (c .before .before .before .before .before .before .before .before .pre .1) (c .before .before .before .before .before .before .before .before .pre .0 .counted) (c .before .before .before .before .before .before .before .before .pre .2) (c .before .before .before .before .before .before .before .before .pre .3) _ (c .before .before .before .before .before .before .word .ensures .0) (c .before .before .before .if3 .taken) _ (c .before .word4 .ensures .0)
 
 capped-sum-requires : tie.Need-capped-sum-requires
 capped-sum-requires c κs = (
-  first-few _ _ _ _ (c .before .before .before .before .before .before .before .before .before .pre .1) (c .before .before .before .before .before .before .before .before .before .pre .0 .counted) (c .before .before .before .before .before .before .before .before .before .pre .2) (c .before .before .before .before .before .before .before .before .before .pre .3) _ (c .before .before .before .before .before .before .before .word .ensures .0) (c .before .before .before .before .if3 .taken) _ (c .before .before .before .word3 .ensures .0),
-  second-few _ _ _ _ (c .before .before .before .before .before .before .before .before .before .pre .1) (c .before .before .before .before .before .before .before .before .before .pre .0 .counted) (c .before .before .before .before .before .before .before .before .before .pre .2) (c .before .before .before .before .before .before .before .before .before .pre .3) _ (c .before .before .before .before .before .before .before .word .ensures .0) (c .before .before .before .before .if3 .taken) _ (c .before .before .word4 .ensures .0),
+  first-few _ _ (c .before .before .before .before .before .before .before .before .before .pre .1) (c .before .before .before .before .before .before .before .before .before .pre .0 .counted) (c .before .before .before .before .before .before .before .before .before .pre .2) (c .before .before .before .before .before .before .before .before .before .pre .3) _ (c .before .before .before .before .before .before .before .word .ensures .0) (c .before .before .before .before .if3 .taken) _ (c .before .before .before .word3 .ensures .0),
+  second-few _ _ (c .before .before .before .before .before .before .before .before .before .pre .1) (c .before .before .before .before .before .before .before .before .before .pre .0 .counted) (c .before .before .before .before .before .before .before .before .before .pre .2) (c .before .before .before .before .before .before .before .before .before .pre .3) _ (c .before .before .before .before .before .before .before .word .ensures .0) (c .before .before .before .before .if3 .taken) _ (c .before .before .word4 .ensures .0),
 )
 
 element-write-widths-3 : tie.Need-element-write-widths-3
@@ -52,10 +52,10 @@ element-write-widths-3 c = search needs
 returns-3 : tie.Need-returns-3
 returns-3 c =
     rw (c .capped-sum .ensures)
-    (parts-widths _ _ _ _ (c .before .before .before .before .before .before .before .before .before .before .pre .1) (c .before .before .before .before .before .before .before .before .before .before .pre .0 .counted) (c .before .before .before .before .before .before .before .before .before .before .pre .2) (c .before .before .before .before .before .before .before .before .before .before .pre .3) _ (c .before .before .before .before .before .before .before .before .word .ensures .0) (c .before .before .before .before .before .if3 .taken) _ _ (c .before .before .before .before .word3 .ensures .0) (c .before .before .before .word4 .ensures .0))
+    (parts-widths _ _ (c .before .before .before .before .before .before .before .before .before .before .pre .1) (c .before .before .before .before .before .before .before .before .before .before .pre .0 .counted) (c .before .before .before .before .before .before .before .before .before .before .pre .2) (c .before .before .before .before .before .before .before .before .before .before .pre .3) _ (c .before .before .before .before .before .before .before .before .word .ensures .0) (c .before .before .before .before .before .if3 .taken) _ _ (c .before .before .before .before .word3 .ensures .0) (c .before .before .before .word4 .ensures .0))
 
 returns-4 : tie.Need-returns-4
-returns-4 c = no-pattern-widths _ _ _ _ (c .before .before .before .before .before .pre .1) (c .before .before .before .before .before .pre .0 .counted) (c .before .before .before .before .before .pre .2) (c .before .before .before .before .before .pre .3) _ (c .before .before .before .word .ensures .0) (c .before .before .if1 .left) (c .before .if2 .left) (c .if3 .left)
+returns-4 c = no-pattern-widths _ _ (c .before .before .before .before .before .pre .1) (c .before .before .before .before .before .pre .0 .counted) (c .before .before .before .before .before .pre .2) (c .before .before .before .before .before .pre .3) _ (c .before .before .before .word .ensures .0) (c .before .before .if1 .left) (c .before .if2 .left) (c .if3 .left)
 
 pub note-pattern-spec : {M : Type 1} → statement M
 note-pattern-spec =

@@ -25,23 +25,23 @@ no-progress-requires c κs = search needs
 loop-holds : tie.Need-loop-holds Inv-loop μ-loop
 loop-holds c = (let h = c .no-progress .ensures (c .before .args .pairs .now) (c .before .args .type-firsts .now) (c .before .args .type-seconds .now) (c .before .args .leaves .now) (c .before .args .code-ops .now) (c .before .args .code-firsts .now) (c .before .args .code-seconds .now) (c .before .args .wait-ops .now) (c .before .args .wait-firsts .now) (c .before .args .wait-seconds .now) (c .before .args .numbers .now) (c .before .pre .1) (c .before .pre .2) (c .before .pre .3) (c .before .pre .5) in (omega arith, h .0, c .before .pre .4, h .1))
 
-element-copy-out-step : tie.Need-element-copy-out-step Inv-loop μ-loop
-element-copy-out-step c = (let l = c .loop-test .taken in let m = c .before .before .before .pre .0 in omega arith)
+element-copy-out-assembly-step : tie.Need-element-copy-out-assembly-step Inv-loop μ-loop
+element-copy-out-assembly-step c = (let l = c .loop-test .taken in let m = c .before .before .before .pre .0 in omega arith)
 
-mul-step : tie.Need-mul-step Inv-loop μ-loop
-mul-step c = (let l = c .before .loop-test .taken in let m = c .before .before .before .before .pre .0 in omega arith)
+mul-assembly-step : tie.Need-mul-assembly-step Inv-loop μ-loop
+mul-assembly-step c = (let l = c .before .loop-test .taken in let m = c .before .before .before .before .pre .0 in omega arith)
 
-element-copy-out-step-2 : tie.Need-element-copy-out-step-2 Inv-loop μ-loop
-element-copy-out-step-2 c = (let l = c .before .loop-test .taken in let m = c .before .before .before .before .pre .0 in omega arith)
+element-copy-out-assembly-step-2 : tie.Need-element-copy-out-assembly-step-2 Inv-loop μ-loop
+element-copy-out-assembly-step-2 c = (let l = c .before .loop-test .taken in let m = c .before .before .before .before .pre .0 in omega arith)
 
-mul-step-2 : tie.Need-mul-step-2 Inv-loop μ-loop
-mul-step-2 c = (let l = c .before .before .loop-test .taken in let m = c .before .before .before .before .before .pre .0 in omega arith)
+mul-assembly-step-2 : tie.Need-mul-assembly-step-2 Inv-loop μ-loop
+mul-assembly-step-2 c = (let l = c .before .before .loop-test .taken in let m = c .before .before .before .before .before .pre .0 in omega arith)
 
-element-copy-out-step-3 : tie.Need-element-copy-out-step-3 Inv-loop μ-loop
-element-copy-out-step-3 c = (let l = c .before .before .loop-test .taken in let m = c .before .before .before .before .before .pre .0 in omega arith)
+element-copy-out-assembly-step-3 : tie.Need-element-copy-out-assembly-step-3 Inv-loop μ-loop
+element-copy-out-assembly-step-3 c = (let l = c .before .before .loop-test .taken in let m = c .before .before .before .before .before .pre .0 in omega arith)
 
-step-requires : tie.Need-step-requires Inv-loop μ-loop
-step-requires c κs = (c .before .before .before .before .before .before .before .before .before .before .before .before .before .before .before .loop .inv .1, (let l = c .before .before .before .before .before .before .before .before .before .before .before .before .before .before .loop-test .taken in let m = c .before .before .before .before .before .before .before .before .before .before .before .before .before .before .before .before .before .pre .0 in omega arith), c .before .before .before .before .before .before .before .before .before .before .before .before .before .before .before .loop .inv .2)
+assembly-step-requires : tie.Need-assembly-step-requires Inv-loop μ-loop
+assembly-step-requires c κs = (c .before .before .before .before .before .before .before .before .before .before .before .before .before .before .before .loop .inv .1, (let l = c .before .before .before .before .before .before .before .before .before .before .before .before .before .before .loop-test .taken in let m = c .before .before .before .before .before .before .before .before .before .before .before .before .before .before .before .before .before .pre .0 in omega arith), c .before .before .before .before .before .before .before .before .before .before .before .before .before .before .before .loop .inv .2)
 
 add-i : tie.Need-add-i Inv-loop μ-loop
 add-i c = (let l = c .before .before .before .before .before .before .before .before .before .before .before .before .before .before .before .loop-test .taken in let m = c .before .before .before .before .before .before .before .before .before .before .before .before .before .before .before .before .before .before .pre .0 in omega arith)
@@ -50,7 +50,7 @@ loop-less : tie.Need-loop-less Inv-loop μ-loop
 loop-less c = (let l = c .before .before .before .before .before .before .before .before .before .before .before .before .before .before .before .loop-test .taken in let m = c .before .before .before .before .before .before .before .before .before .before .before .before .before .before .before .before .before .before .pre .0 in omega arith)
 
 loop-again : tie.Need-loop-again Inv-loop μ-loop
-loop-again c = ((let l = c .before .before .before .before .before .before .before .before .before .before .before .before .before .before .before .loop-test .taken in let m = c .before .before .before .before .before .before .before .before .before .before .before .before .before .before .before .before .before .before .pre .0 in omega arith), c .step .ensures .0, c .step .ensures .1, one-more-instruction (c .before .before .before .before .before .before .before .before .before .before .before .before .before .before .before .before .before .before .args .ops .now) (c .before .before .before .before .before .before .before .before .before .before .before .before .before .before .before .before .before .before .args .firsts .now) (c .before .before .before .before .before .before .before .before .before .before .before .before .before .before .before .before .before .before .args .seconds .now) nothingAssembled _ _ (c .before .before .before .before .before .before .before .before .before .before .before .before .before .before .before .before .loop .i) (c .before .before .before .before .before .before .before .before .before .before .before .before .before .before .before .before .loop .inv .3) (c .step .ensures .2))
+loop-again c = ((let l = c .before .before .before .before .before .before .before .before .before .before .before .before .before .before .before .loop-test .taken in let m = c .before .before .before .before .before .before .before .before .before .before .before .before .before .before .before .before .before .before .pre .0 in omega arith), c .assembly-step .ensures .0, c .assembly-step .ensures .1, one-more-instruction (c .before .before .before .before .before .before .before .before .before .before .before .before .before .before .before .before .before .before .args .ops .now) (c .before .before .before .before .before .before .before .before .before .before .before .before .before .before .before .before .before .before .args .firsts .now) (c .before .before .before .before .before .before .before .before .before .before .before .before .before .before .before .before .before .before .args .seconds .now) nothingAssembled _ _ (c .before .before .before .before .before .before .before .before .before .before .before .before .before .before .before .before .loop .i) (c .before .before .before .before .before .before .before .before .before .before .before .before .before .before .before .before .loop .inv .3) (c .assembly-step .ensures .2))
 
 returns : tie.Need-returns Inv-loop μ-loop
 returns c = (let z : c .before .loop .i ≡ c .before .before .before .args .n = (let l = c .before .loop .inv .0 in let m = c .loop-test .left in omega arith) in (at-the-end z (c .before .loop .inv .1), all-instructions (c .before .before .before .args .ops .now) (c .before .before .before .args .firsts .now) (c .before .before .before .args .seconds .now) nothingAssembled _ (c .before .loop .i) (c .before .before .before .args .n) z (c .before .loop .inv .3)))
@@ -63,12 +63,12 @@ assemble-all-spec =
     μ-loop
     no-progress-requires
     loop-holds
-    element-copy-out-step
-    mul-step
-    element-copy-out-step-2
-    mul-step-2
-    element-copy-out-step-3
-    step-requires
+    element-copy-out-assembly-step
+    mul-assembly-step
+    element-copy-out-assembly-step-2
+    mul-assembly-step-2
+    element-copy-out-assembly-step-3
+    assembly-step-requires
     add-i
     loop-less
     loop-again

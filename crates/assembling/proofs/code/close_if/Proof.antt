@@ -14,15 +14,15 @@ pattern-start-requires c κs = search needs
 move-onto-requires : tie.Need-move-onto-requires
 move-onto-requires c κs = search needs
 
-push-requires : tie.Need-push-requires
-push-requires c κs = search needs
+push-instruction-requires : tie.Need-push-instruction-requires
+push-instruction-requires c κs = search needs
 
 add-t18 : tie.Need-add-t18
 add-t18 c = search needs
 
 returns : tie.Need-returns
-returns c = (c .push .ensures .0, (let e = c .before .before .before .before .move-onto .ensures .1 in let l = c .before .before .before .before .before .before .before .before .pattern-start .ensures .0 in omega arith), c .push .ensures .1 ∙ ap (λ X. close ∷ X) (c .before .before .before .before .move-onto .ensures .2 ∙ sym (c .before .before .before .before .before .before .before .before .pattern-start .ensures .2 (c .before .before .before .before .before .before .before .before .before .args .wait-firsts .now) (c .before .before .before .before .before .before .before .before .before .args .wait-seconds .now) (heldCode (c .before .before .before .before .before .before .before .before .before .args .ops .now) (c .before .before .before .before .before .before .before .before .before .args .firsts .now) (c .before .before .before .before .before .before .before .before .before .args .seconds .now) (c .before .before .before .before .before .before .before .before .before .args .code)))), sym (c .before .before .before .before .before .before .before .before .pattern-start .ensures .1 (c .before .before .before .before .before .before .before .before .before .args .wait-firsts .now) (c .before .before .before .before .before .before .before .before .before .args .wait-seconds .now)))
+returns c = (c .push-instruction .ensures .0, (let e = c .before .before .before .before .move-onto .ensures .1 in let l = c .before .before .before .before .before .before .before .before .pattern-start .ensures .0 in omega arith), c .push-instruction .ensures .1 ∙ ap (λ X. close ∷ X) (c .before .before .before .before .move-onto .ensures .2 ∙ sym (c .before .before .before .before .before .before .before .before .pattern-start .ensures .2 (c .before .before .before .before .before .before .before .before .before .args .wait-firsts .now) (c .before .before .before .before .before .before .before .before .before .args .wait-seconds .now) (heldCode (c .before .before .before .before .before .before .before .before .before .args .ops .now) (c .before .before .before .before .before .before .before .before .before .args .firsts .now) (c .before .before .before .before .before .before .before .before .before .args .seconds .now) (c .before .before .before .before .before .before .before .before .before .args .code)))), sym (c .before .before .before .before .before .before .before .before .pattern-start .ensures .1 (c .before .before .before .before .before .before .before .before .before .args .wait-firsts .now) (c .before .before .before .before .before .before .before .before .before .args .wait-seconds .now)))
 
 pub close-if-spec : {M : Type 1} → statement M
 close-if-spec =
-    tie.close (tie.spec pattern-start-requires move-onto-requires push-requires add-t18 returns)
+    tie.close (tie.spec pattern-start-requires move-onto-requires push-instruction-requires add-t18 returns)

@@ -13,8 +13,8 @@ records-added-requires c κs = ((let t = c .if1 .taken in omega arith), c .befor
 add-r : tie.Need-add-r
 add-r c = (let h = c .before .before .before .pre .0 .few-records in let l = c .before .before .before .pre .1 in let k = c .before .records-added .ensures .0 in omega arith)
 
-push-requires : tie.Need-push-requires
-push-requires c κs = (c .before .before .before .before .before .before .pre .0 .coded, (let h = c .before .before .before .before .before .before .pre .0 .few-instructions in let l = c .before .before .before .before .before .before .pre .1 in omega arith))
+push-instruction-requires : tie.Need-push-instruction-requires
+push-instruction-requires c κs = (c .before .before .before .before .before .before .pre .0 .coded, (let h = c .before .before .before .before .before .before .pre .0 .few-instructions in let l = c .before .before .before .before .before .before .pre .1 in omega arith))
 
 add-r-2 : tie.Need-add-r-2
 add-r-2 c = (let h = c .before .before .before .before .before .before .before .before .pre .0 .few-instructions in let l = c .before .before .before .before .before .before .before .before .pre .1 in omega arith)
@@ -26,7 +26,7 @@ add-r-3 : tie.Need-add-r-3
 add-r-3 c = (let h = c .before .before .before .before .before .before .before .before .before .before .before .pre .0 .few-constants in let l = c .before .before .before .before .before .before .before .before .before .before .before .pre .1 in omega arith)
 
 returns : tie.Need-returns
-returns c = (leaf-step (c .before .before .before .before .before .before .before .before .before .before .before .pre .0) (c .before .before .before .before .before .before .before .before .before .before .before .args .s .input) (c .before .before .before .before .before .before .before .before .before .before .before .args .s .place) (c .before .before .before .before .before .before .before .before .before .before .before .args .s .bad) (c .before .before .before .before .before .before .before .before .before .before .before .args .s .ok) [] (c .before .before .before .before .before .before .before .before .before .before .before .args .op) (c .before .before .before .before .before .before .before .before .before .before .before .args .a) (c .before .before .before .before .before .before .before .before .before .before .before .args .b) (c .before .before .before .before .before .before .before .before .before .records-added .result) (c .before .before .before .before .before .before .before .before .before .before .before .pre .2) (c .before .before .before .before .before .before .before .before .before .before .if1 .taken) (c .before .before .before .before .push .ensures .0) (c .before .before .before .before .push .ensures .1) (c .before .before .before .before .before .before .before .before .before .records-added .ensures .1 (c .before .before .before .before .before .before .before .before .before .before .before .args .pairs .now) (c .before .before .before .before .before .before .before .before .before .before .before .args .firsts .now) (c .before .before .before .before .before .before .before .before .before .before .before .args .seconds .now) (c .before .before .before .before .before .before .before .before .before .before .before .pre .0 .gathered .held)) (c .before .push-number .ensures .0) (c .before .push-number .ensures .1) .0, λ f. leaf-step (c .before .before .before .before .before .before .before .before .before .before .before .pre .0) (c .before .before .before .before .before .before .before .before .before .before .before .args .s .input) (c .before .before .before .before .before .before .before .before .before .before .before .args .s .place) (c .before .before .before .before .before .before .before .before .before .before .before .args .s .bad) (c .before .before .before .before .before .before .before .before .before .before .before .args .s .ok) (f (c .before .before .before .before .before .before .before .before .before .before .before .args .s .waiting)) (c .before .before .before .before .before .before .before .before .before .before .before .args .op) (c .before .before .before .before .before .before .before .before .before .before .before .args .a) (c .before .before .before .before .before .before .before .before .before .before .before .args .b) (c .before .before .before .before .before .before .before .before .before .records-added .result) (c .before .before .before .before .before .before .before .before .before .before .before .pre .2) (c .before .before .before .before .before .before .before .before .before .before .if1 .taken) (c .before .before .before .before .push .ensures .0) (c .before .before .before .before .push .ensures .1) (c .before .before .before .before .before .before .before .before .before .records-added .ensures .1 (c .before .before .before .before .before .before .before .before .before .before .before .args .pairs .now) (c .before .before .before .before .before .before .before .before .before .before .before .args .firsts .now) (c .before .before .before .before .before .before .before .before .before .before .before .args .seconds .now) (c .before .before .before .before .before .before .before .before .before .before .before .pre .0 .gathered .held)) (c .before .push-number .ensures .0) (c .before .push-number .ensures .1) .1)
+returns c = (leaf-step (c .before .before .before .before .before .before .before .before .before .before .before .pre .0) (c .before .before .before .before .before .before .before .before .before .before .before .args .s .input) (c .before .before .before .before .before .before .before .before .before .before .before .args .s .place) (c .before .before .before .before .before .before .before .before .before .before .before .args .s .bad) (c .before .before .before .before .before .before .before .before .before .before .before .args .s .ok) [] (c .before .before .before .before .before .before .before .before .before .before .before .args .op) (c .before .before .before .before .before .before .before .before .before .before .before .args .a) (c .before .before .before .before .before .before .before .before .before .before .before .args .b) (c .before .before .before .before .before .before .before .before .before .records-added .result) (c .before .before .before .before .before .before .before .before .before .before .before .pre .2) (c .before .before .before .before .before .before .before .before .before .before .if1 .taken) (c .before .before .before .before .push-instruction .ensures .0) (c .before .before .before .before .push-instruction .ensures .1) (c .before .before .before .before .before .before .before .before .before .records-added .ensures .1 (c .before .before .before .before .before .before .before .before .before .before .before .args .pairs .now) (c .before .before .before .before .before .before .before .before .before .before .before .args .firsts .now) (c .before .before .before .before .before .before .before .before .before .before .before .args .seconds .now) (c .before .before .before .before .before .before .before .before .before .before .before .pre .0 .gathered .held)) (c .before .push-number .ensures .0) (c .before .push-number .ensures .1) .0, λ f. leaf-step (c .before .before .before .before .before .before .before .before .before .before .before .pre .0) (c .before .before .before .before .before .before .before .before .before .before .before .args .s .input) (c .before .before .before .before .before .before .before .before .before .before .before .args .s .place) (c .before .before .before .before .before .before .before .before .before .before .before .args .s .bad) (c .before .before .before .before .before .before .before .before .before .before .before .args .s .ok) (f (c .before .before .before .before .before .before .before .before .before .before .before .args .s .waiting)) (c .before .before .before .before .before .before .before .before .before .before .before .args .op) (c .before .before .before .before .before .before .before .before .before .before .before .args .a) (c .before .before .before .before .before .before .before .before .before .before .before .args .b) (c .before .before .before .before .before .before .before .before .before .records-added .result) (c .before .before .before .before .before .before .before .before .before .before .before .pre .2) (c .before .before .before .before .before .before .before .before .before .before .if1 .taken) (c .before .before .before .before .push-instruction .ensures .0) (c .before .before .before .before .push-instruction .ensures .1) (c .before .before .before .before .before .before .before .before .before .records-added .ensures .1 (c .before .before .before .before .before .before .before .before .before .before .before .args .pairs .now) (c .before .before .before .before .before .before .before .before .before .before .before .args .firsts .now) (c .before .before .before .before .before .before .before .before .before .before .before .args .seconds .now) (c .before .before .before .before .before .before .before .before .before .before .before .pre .0 .gathered .held)) (c .before .push-number .ensures .0) (c .before .push-number .ensures .1) .1)
 
 outer-place-requires : tie.Need-outer-place-requires
 outer-place-requires c κs = search needs
@@ -43,8 +43,8 @@ returns-2 c = (open-step (c .before .before .before .before .before .before .bef
 top-number-requires : tie.Need-top-number-requires
 top-number-requires c κs = (let h = c .before .before .before .before .pre .0 .few-constants in let l = c .before .before .before .before .pre .1 in omega arith)
 
-push-requires-2 : tie.Need-push-requires-2
-push-requires-2 c κs = (c .before .before .before .before .before .before .before .before .pre .0 .coded, (let h = c .before .before .before .before .before .before .before .before .pre .0 .few-instructions in let l = c .before .before .before .before .before .before .before .before .pre .1 in omega arith))
+push-instruction-requires-2 : tie.Need-push-instruction-requires-2
+push-instruction-requires-2 c κs = (c .before .before .before .before .before .before .before .before .pre .0 .coded, (let h = c .before .before .before .before .before .before .before .before .pre .0 .few-instructions in let l = c .before .before .before .before .before .before .before .before .pre .1 in omega arith))
 
 add-r-5 : tie.Need-add-r-5
 add-r-5 c = (let h = c .before .before .before .before .before .before .before .before .before .before .pre .0 .few-instructions in let l = c .before .before .before .before .before .before .before .before .before .before .pre .1 in omega arith)
@@ -53,7 +53,7 @@ judge-requires : tie.Need-judge-requires
 judge-requires c κs = search needs
 
 returns-3 : tie.Need-returns-3
-returns-3 c = (end-step (c .before .before .before .before .before .before .before .before .before .before .before .pre .0) (c .before .before .before .before .before .before .before .before .before .before .before .args .s .input) (c .before .before .before .before .before .before .before .before .before .before .before .args .s .place) (c .before .before .before .before .before .before .before .before .before .before .before .args .s .bad) (c .before .before .before .before .before .before .before .before .before .before .before .args .s .ok) [] (c .before .before .before .before .before .before .before .before .before .before .before .args .op) (c .before .before .before .before .before .before .before .before .before .before .before .args .a) (c .before .before .before .before .before .before .before .before .before .before .before .args .b) (c .before .before .before .before .before .before .top-number .result) (c .judge .result .bad) (c .judge .result .ok) (c .before .before .before .before .before .before .before .before .if3 .taken) (c .before .before .before .before .before .before .top-number .ensures) (c .before .before .push2 .ensures .0) (c .before .before .push2 .ensures .1) (c .judge .ensures) .0, λ f. end-step (c .before .before .before .before .before .before .before .before .before .before .before .pre .0) (c .before .before .before .before .before .before .before .before .before .before .before .args .s .input) (c .before .before .before .before .before .before .before .before .before .before .before .args .s .place) (c .before .before .before .before .before .before .before .before .before .before .before .args .s .bad) (c .before .before .before .before .before .before .before .before .before .before .before .args .s .ok) (f (c .before .before .before .before .before .before .before .before .before .before .before .args .s .waiting)) (c .before .before .before .before .before .before .before .before .before .before .before .args .op) (c .before .before .before .before .before .before .before .before .before .before .before .args .a) (c .before .before .before .before .before .before .before .before .before .before .before .args .b) (c .before .before .before .before .before .before .top-number .result) (c .judge .result .bad) (c .judge .result .ok) (c .before .before .before .before .before .before .before .before .if3 .taken) (c .before .before .before .before .before .before .top-number .ensures) (c .before .before .push2 .ensures .0) (c .before .before .push2 .ensures .1) (c .judge .ensures) .1)
+returns-3 c = (end-step (c .before .before .before .before .before .before .before .before .before .before .before .pre .0) (c .before .before .before .before .before .before .before .before .before .before .before .args .s .input) (c .before .before .before .before .before .before .before .before .before .before .before .args .s .place) (c .before .before .before .before .before .before .before .before .before .before .before .args .s .bad) (c .before .before .before .before .before .before .before .before .before .before .before .args .s .ok) [] (c .before .before .before .before .before .before .before .before .before .before .before .args .op) (c .before .before .before .before .before .before .before .before .before .before .before .args .a) (c .before .before .before .before .before .before .before .before .before .before .before .args .b) (c .before .before .before .before .before .before .top-number .result) (c .judge .result .bad) (c .judge .result .ok) (c .before .before .before .before .before .before .before .before .if3 .taken) (c .before .before .before .before .before .before .top-number .ensures) (c .before .before .push-instruction2 .ensures .0) (c .before .before .push-instruction2 .ensures .1) (c .judge .ensures) .0, λ f. end-step (c .before .before .before .before .before .before .before .before .before .before .before .pre .0) (c .before .before .before .before .before .before .before .before .before .before .before .args .s .input) (c .before .before .before .before .before .before .before .before .before .before .before .args .s .place) (c .before .before .before .before .before .before .before .before .before .before .before .args .s .bad) (c .before .before .before .before .before .before .before .before .before .before .before .args .s .ok) (f (c .before .before .before .before .before .before .before .before .before .before .before .args .s .waiting)) (c .before .before .before .before .before .before .before .before .before .before .before .args .op) (c .before .before .before .before .before .before .before .before .before .before .before .args .a) (c .before .before .before .before .before .before .before .before .before .before .before .args .b) (c .before .before .before .before .before .before .top-number .result) (c .judge .result .bad) (c .judge .result .ok) (c .before .before .before .before .before .before .before .before .if3 .taken) (c .before .before .before .before .before .before .top-number .ensures) (c .before .before .push-instruction2 .ensures .0) (c .before .before .push-instruction2 .ensures .1) (c .judge .ensures) .1)
 
 returns-4 : tie.Need-returns-4
 returns-4 c = (nothing-step (c .before .before .before .before .pre .0) (c .before .before .before .before .args .s .input) (c .before .before .before .before .args .s .place) (c .before .before .before .before .args .s .bad) (c .before .before .before .before .args .s .ok) [] (c .before .before .before .before .args .op) (c .before .before .before .before .args .a) (c .before .before .before .before .args .b) (c .if4 .taken) .0, λ f. nothing-step (c .before .before .before .before .pre .0) (c .before .before .before .before .args .s .input) (c .before .before .before .before .args .s .place) (c .before .before .before .before .args .s .bad) (c .before .before .before .before .args .s .ok) (f (c .before .before .before .before .args .s .waiting)) (c .before .before .before .before .args .op) (c .before .before .before .before .args .a) (c .before .before .before .before .args .b) (c .if4 .taken) .1)
@@ -70,7 +70,7 @@ step-constant-spec =
     (tie.spec
     records-added-requires
     add-r
-    push-requires
+    push-instruction-requires
     add-r-2
     push-number-requires
     add-r-3
@@ -80,7 +80,7 @@ step-constant-spec =
     add-r-4
     returns-2
     top-number-requires
-    push-requires-2
+    push-instruction-requires-2
     add-r-5
     judge-requires
     returns-3

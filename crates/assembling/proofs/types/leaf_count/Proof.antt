@@ -16,17 +16,17 @@ returns c = (search needs, λ P F S h. leaves-none P F S (c .before .before .arg
 returns-2 : tie.Need-returns-2
 returns-2 c = (search needs, λ P F S h. leaves-beyond P F S (c .before .before .before .args .k) (c .before .before .before .args .d) (c .before .before .number .result) (c .before .before .number .ensures) (c .if2 .taken))
 
-sub-wide : tie.Need-sub-wide
-sub-wide c = search needs
+sub-byte-number : tie.Need-sub-byte-number
+sub-byte-number c = search needs
 
-element-copy-out-wide : tie.Need-element-copy-out-wide
-element-copy-out-wide c = search needs
+element-copy-out-byte-number : tie.Need-element-copy-out-byte-number
+element-copy-out-byte-number c = search needs
 
-wide-requires : tie.Need-wide-requires
-wide-requires c κs = search needs
+byte-number-requires : tie.Need-byte-number-requires
+byte-number-requires c κs = search needs
 
 returns-3 : tie.Need-returns-3
-returns-3 c = (c .wide .ensures .1, λ P F S h. c .wide .ensures .0 ∙ leaves-at P F S (c .before .before .before .before .before .args .d) (c .before .before .before .before .number .result) (c .before .before .before .before .number .ensures) (c .before .before .before .if1 .left) (let l = c .before .before .if2 .left in omega arith) h)
+returns-3 c = (c .byte-number .ensures .1, λ P F S h. c .byte-number .ensures .0 ∙ leaves-at P F S (c .before .before .before .before .before .args .d) (c .before .before .before .before .number .result) (c .before .before .before .before .number .ensures) (c .before .before .before .if1 .left) (let l = c .before .before .if2 .left in omega arith) h)
 
 pub leaf-count-spec : {M : Type 1} → statement M
 leaf-count-spec =
@@ -35,7 +35,7 @@ leaf-count-spec =
     number-requires
     returns
     returns-2
-    sub-wide
-    element-copy-out-wide
-    wide-requires
+    sub-byte-number
+    element-copy-out-byte-number
+    byte-number-requires
     returns-3)

@@ -5,7 +5,7 @@ use Rattle.assembling.proofs.TypeLaws.{none-kept, last-kept, last-set, 
 use Prim.Native.Nat.{_-_}
 use mathlib.Core.Path.{refl}
 use lib.ListN.{getD}
-use Rattle.instructions.specs.Assembly.{pairType, withSecond}
+use Rattle.instructions.specs.Assembly.{pairedType, withSecond}
 use Rattle.instructions.specs.Assembly.{heldTypes}
 use borrow.Author.Needs.{needs}
 use Rattle.assembling.proofs.types.second_type.Statement.{statement}
@@ -36,7 +36,7 @@ set-type-requires : tie.Need-set-type-requires
 set-type-requires c κs = (held-fewer (c .before .before .before .before .before .before .before .before .before .before .args .pairs .now) (c .before .before .before .before .before .before .before .before .before .before .args .firsts .now) (c .before .before .before .before .before .before .before .before .before .before .args .seconds .now) (c .before .before .before .before .before .before .before .before .before .before .args .k - 1) (omega arith) (c .before .before .before .before .before .before .before .before .before .before .pre .0 .held), (let l = c .before .before .before .before .before .before .before .before .before .before .pre .0 .few-types in omega arith), c .before .before .before .before .pair-leaves .ensures (c .before .before .before .before .before .before .before .before .before .before .args .pairs .now) (c .before .before .before .before .before .before .before .before .before .before .args .firsts .now) (c .before .before .before .before .before .before .before .before .before .before .args .seconds .now) (held-fewer (c .before .before .before .before .before .before .before .before .before .before .args .pairs .now) (c .before .before .before .before .before .before .before .before .before .before .args .firsts .now) (c .before .before .before .before .before .before .before .before .before .before .args .seconds .now) (c .before .before .before .before .before .before .before .before .before .before .args .k - 1) (omega arith) (c .before .before .before .before .before .before .before .before .before .before .pre .0 .held)))
 
 returns-3 : tie.Need-returns-3
-returns-3 c = last-set (c .before .before .before .before .before .before .before .before .before .before .before .args .pairs .now) (c .before .before .before .before .before .before .before .before .before .before .before .args .firsts .now) (c .before .before .before .before .before .before .before .before .before .before .before .args .seconds .now) (withSecond (c .before .before .before .before .before .before .before .before .before .before .before .args .b)) (c .before .before .before .before .before .before .before .before .before .before .before .args .k - 1) (pairType (getD (c .before .before .before .before .before .before .before .before .before .before .before .args .firsts .now) (c .before .before .before .before .before .before .before .before .before .before .before .args .k - 1) 0) (c .before .before .before .before .before .before .before .before .before .before .before .args .b)) (c .before .before .before .before .before .before .before .before .before .before .before .pre .0) (let z = c .before .before .before .before .before .before .before .before .before .before .if1 .left in omega (arith, z)) (c .set-type .ensures .0) (c .set-type .ensures .1) (second-read (getD (c .before .before .before .before .before .before .before .before .before .before .before .args .pairs .now) (c .before .before .before .before .before .before .before .before .before .before .before .args .k - 1) 0) (getD (c .before .before .before .before .before .before .before .before .before .before .before .args .firsts .now) (c .before .before .before .before .before .before .before .before .before .before .before .args .k - 1) 0) (getD (c .before .before .before .before .before .before .before .before .before .before .before .args .seconds .now) (c .before .before .before .before .before .before .before .before .before .before .before .args .k - 1) 0) (c .before .before .before .before .before .before .before .before .before .before .before .args .b) (heldTypes (c .before .before .before .before .before .before .before .before .before .before .before .args .pairs .now) (c .before .before .before .before .before .before .before .before .before .before .before .args .firsts .now) (c .before .before .before .before .before .before .before .before .before .before .before .args .seconds .now) (c .before .before .before .before .before .before .before .before .before .before .before .args .k - 1)) (c .before .before .before .before .before .before .before .before .if2 .left)) (omega arith)
+returns-3 c = last-set (c .before .before .before .before .before .before .before .before .before .before .before .args .pairs .now) (c .before .before .before .before .before .before .before .before .before .before .before .args .firsts .now) (c .before .before .before .before .before .before .before .before .before .before .before .args .seconds .now) (withSecond (c .before .before .before .before .before .before .before .before .before .before .before .args .b)) (c .before .before .before .before .before .before .before .before .before .before .before .args .k - 1) (pairedType (getD (c .before .before .before .before .before .before .before .before .before .before .before .args .firsts .now) (c .before .before .before .before .before .before .before .before .before .before .before .args .k - 1) 0) (c .before .before .before .before .before .before .before .before .before .before .before .args .b)) (c .before .before .before .before .before .before .before .before .before .before .before .pre .0) (let z = c .before .before .before .before .before .before .before .before .before .before .if1 .left in omega (arith, z)) (c .set-type .ensures .0) (c .set-type .ensures .1) (second-read (getD (c .before .before .before .before .before .before .before .before .before .before .before .args .pairs .now) (c .before .before .before .before .before .before .before .before .before .before .before .args .k - 1) 0) (getD (c .before .before .before .before .before .before .before .before .before .before .before .args .firsts .now) (c .before .before .before .before .before .before .before .before .before .before .before .args .k - 1) 0) (getD (c .before .before .before .before .before .before .before .before .before .before .before .args .seconds .now) (c .before .before .before .before .before .before .before .before .before .before .before .args .k - 1) 0) (c .before .before .before .before .before .before .before .before .before .before .before .args .b) (heldTypes (c .before .before .before .before .before .before .before .before .before .before .before .args .pairs .now) (c .before .before .before .before .before .before .before .before .before .before .before .args .firsts .now) (c .before .before .before .before .before .before .before .before .before .before .before .args .seconds .now) (c .before .before .before .before .before .before .before .before .before .before .before .args .k - 1)) (c .before .before .before .before .before .before .before .before .if2 .left)) (omega arith)
 
 pub second-type-spec : {M : Type 1} → statement M
 second-type-spec =

@@ -14,8 +14,8 @@ abbrev μ-loop : tie.MeasureT-loop
 loop-holds : tie.Need-loop-holds Inv-loop μ-loop
 loop-holds c = all-left (c .before .args .sheet .now) (c .before .args .cursor) (c .before .args .next) (c .before .args .count) (c .before .pre)
 
-put-requires : tie.Need-put-requires Inv-loop μ-loop
-put-requires c κs = c .before .before .loop .inv .room
+put-record-requires : tie.Need-put-record-requires Inv-loop μ-loop
+put-record-requires c κs = c .before .before .loop .inv .room
 
 sub-left : tie.Need-sub-left Inv-loop μ-loop
 sub-left c = omega arith
@@ -24,7 +24,7 @@ loop-less : tie.Need-loop-less Inv-loop μ-loop
 loop-less c = omega arith
 
 loop-again : tie.Need-loop-again Inv-loop μ-loop
-loop-again c = zero-put (c .before .before .before .before .loop-test .taken) (c .before .before .before .before .before .loop .inv) (c .before .before .put .ensures)
+loop-again c = zero-put (c .before .before .before .before .loop-test .taken) (c .before .before .before .before .before .loop .inv) (c .before .before .put-record .ensures)
 
 same-length : tie.Need-same-length Inv-loop μ-loop
 same-length c = c .before .loop .inv .as-long
@@ -39,7 +39,7 @@ put-zeros-spec =
     Inv-loop
     μ-loop
     loop-holds
-    put-requires
+    put-record-requires
     sub-left
     loop-less
     loop-again

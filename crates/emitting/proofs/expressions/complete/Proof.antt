@@ -20,8 +20,8 @@ waiting-kind-requires c κs = c .before .before .before .pre .stacking
 loop-holds : tie.Need-loop-holds Inv-loop μ-loop
 loop-holds c = (no-index-put (c .before .before .before .before .pre), c .waiting-kind .ensures)
 
-put-requires : tie.Need-put-requires Inv-loop μ-loop
-put-requires c κs = c .before .before .loop .inv .0 .room
+put-record-requires : tie.Need-put-record-requires Inv-loop μ-loop
+put-record-requires c κs = c .before .before .loop .inv .0 .room
 
 sub-left : tie.Need-sub-left Inv-loop μ-loop
 sub-left c = waits-above (c .before .before .before .before .before .before .before .before .before .before .args .kinds .now) (c .before .before .before .before .before .before .before .before .before .before .args .values .now) (c .before .before .before .before .before .loop .left) (c .before .before .before .before .before .loop .kind) (c .before .before .before .before .before .loop .inv .1) (c .before .before .before .before .loop-test .taken)
@@ -33,10 +33,10 @@ loop-less : tie.Need-loop-less Inv-loop μ-loop
 loop-less c = (let h = waits-above (c .before .before .before .before .before .before .before .before .before .before .before .before .before .args .kinds .now) (c .before .before .before .before .before .before .before .before .before .before .before .before .before .args .values .now) (c .before .before .before .before .before .before .before .before .loop .left) (c .before .before .before .before .before .before .before .before .loop .kind) (c .before .before .before .before .before .before .before .before .loop .inv .1) (c .before .before .before .before .before .before .before .loop-test .taken) in omega arith)
 
 loop-again : tie.Need-loop-again Inv-loop μ-loop
-loop-again c = (index-put (c .before .before .before .before .before .before .before .before .loop .inv .1) (c .before .before .before .before .before .before .before .loop-test .taken) (c .before .before .before .before .before .before .before .before .loop .inv .0) (c .before .before .before .before .before .put .ensures), c .waiting-kind2 .ensures)
+loop-again c = (index-put (c .before .before .before .before .before .before .before .before .loop .inv .1) (c .before .before .before .before .before .before .before .loop-test .taken) (c .before .before .before .before .before .before .before .before .loop .inv .0) (c .before .before .before .before .before .put-record .ensures), c .waiting-kind2 .ensures)
 
-push-requires : tie.Need-push-requires Inv-loop μ-loop
-push-requires c κs = (c .before .before .before .loop .inv .0 .stacking, (let h = c .before .before .before .loop .inv .0 .lower in let l = c .before .before .before .before .before .before .before .before .pre .room in omega arith))
+push-slot-requires : tie.Need-push-slot-requires Inv-loop μ-loop
+push-slot-requires c κs = (c .before .before .before .loop .inv .0 .stacking, (let h = c .before .before .before .loop .inv .0 .lower in let l = c .before .before .before .before .before .before .before .before .pre .room in omega arith))
 
 add-t19 : tie.Need-add-t19 Inv-loop μ-loop
 add-t19 c = (let h = c .before .before .before .before .loop .inv .0 .lower in let l = c .before .before .before .before .before .before .before .before .before .pre .room in omega arith)
@@ -45,7 +45,7 @@ same-length : tie.Need-same-length Inv-loop μ-loop
 same-length c = c .before .before .before .before .loop .inv .0 .as-long
 
 returns : tie.Need-returns Inv-loop μ-loop
-returns c = (indices-done (c .before .before .before .before .loop .inv .1) (c .before .before .before .loop-test .left) (c .before .before .before .before .loop .inv .0) (c .push .ensures), (let h = c .before .before .before .before .loop .inv .0 .lower in omega arith))
+returns c = (indices-done (c .before .before .before .before .loop .inv .1) (c .before .before .before .loop-test .left) (c .before .before .before .before .loop .inv .0) (c .push-slot .ensures), (let h = c .before .before .before .before .loop .inv .0 .lower in omega arith))
 
 pub complete-spec : {M : Type 1} → statement M
 complete-spec =
@@ -55,12 +55,12 @@ complete-spec =
     μ-loop
     waiting-kind-requires
     loop-holds
-    put-requires
+    put-record-requires
     sub-left
     waiting-kind-requires-2
     loop-less
     loop-again
-    push-requires
+    push-slot-requires
     add-t19
     same-length
     returns)

@@ -24,8 +24,8 @@ same-length-2 c = search needs
 returns-2 : tie.Need-returns-2
 returns-2 c = λ x. ((λ T held R. the-same (emit-at T R (c .before .before .before .before .before .before .before .before .before .args .kinds .now) (c .before .before .before .before .before .before .before .before .before .args .values .now) (c .before .before .before .before .before .before .before .before .before .args .cursor) (c .before .before .before .before .before .before .before .before .before .args .height) x (c .before .before .before .before .before .before .before .before .before .args .op) (c .before .before .before .before .before .before .before .before .before .args .first) (c .before .before .before .before .before .before .before .before .before .args .second) 6 (c .before .before .before .before .before .before .if2 .taken)) (c .before .before .put-constant .ensures .0 R)), c .before .before .put-constant .ensures .1)
 
-leaf-count-requires : tie.Need-leaf-count-requires
-leaf-count-requires c κs = search needs
+declared-leaves-requires : tie.Need-declared-leaves-requires
+declared-leaves-requires c κs = search needs
 
 put-undefined-requires : tie.Need-put-undefined-requires
 put-undefined-requires c κs = search needs
@@ -34,7 +34,7 @@ same-length-3 : tie.Need-same-length-3
 same-length-3 c = search needs
 
 returns-3 : tie.Need-returns-3
-returns-3 c = λ x. ((λ T held R. the-same (undefined-step T R (c .before .before .before .before .before .before .before .before .before .before .before .args .kinds .now) (c .before .before .before .before .before .before .before .before .before .before .before .args .values .now) (c .before .before .before .before .before .before .before .before .before .before .before .args .cursor) (c .before .before .before .before .before .before .before .before .before .before .before .args .height) x (c .before .before .before .before .before .before .before .before .before .before .before .args .op) (c .before .before .before .before .before .before .before .before .before .before .before .args .first) (c .before .before .before .before .before .before .before .before .before .before .before .args .second) (c .before .before .before .before .before .before .leaf-count .result) (c .before .before .before .before .before .before .leaf-count .ensures T held) (c .before .before .before .before .before .before .before .if3 .taken)) (c .before .before .put-undefined .ensures .0 R)), c .before .before .put-undefined .ensures .1)
+returns-3 c = λ x. ((λ T held R. the-same (undefined-step T R (c .before .before .before .before .before .before .before .before .before .before .before .args .kinds .now) (c .before .before .before .before .before .before .before .before .before .before .before .args .values .now) (c .before .before .before .before .before .before .before .before .before .before .before .args .cursor) (c .before .before .before .before .before .before .before .before .before .before .before .args .height) x (c .before .before .before .before .before .before .before .before .before .before .before .args .op) (c .before .before .before .before .before .before .before .before .before .before .before .args .first) (c .before .before .before .before .before .before .before .before .before .before .before .args .second) (c .before .before .before .before .before .before .declared-leaves .result) (c .before .before .before .before .before .before .declared-leaves .ensures T held) (c .before .before .before .before .before .before .before .if3 .taken)) (c .before .before .put-undefined .ensures .0 R)), c .before .before .put-undefined .ensures .1)
 
 put-two-requires : tie.Need-put-two-requires
 put-two-requires c κs = search needs
@@ -91,7 +91,7 @@ step-expression-spec =
     put-constant-requires
     same-length-2
     returns-2
-    leaf-count-requires
+    declared-leaves-requires
     put-undefined-requires
     same-length-3
     returns-3

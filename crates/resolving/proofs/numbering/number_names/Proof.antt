@@ -27,13 +27,13 @@ entry-requires : tie.Need-entry-requires Inv-loop μ-loop
 entry-requires c κs = (c .before .before .before .loop .inv .0 .types-long, search needs)
 
 types-after-requires : tie.Need-types-after-requires Inv-loop μ-loop
-types-after-requires c κs = (let h = few-types (c .before .before .before .before .loop .k) (c .before .before .before .before .loop .inv .0) (let a = c .before .before .before .before .loop .inv .1 in let b = c .before .before .before .before .before .pre .2 in let d = c .before .before .before .loop-test .taken in omega arith) in let e = c .entry .ensures in omega arith)
+types-after-requires c κs = (let h = few-types (c .before .before .before .before .loop .inv .0) (let a = c .before .before .before .before .loop .inv .1 in let b = c .before .before .before .before .before .pre .2 in let d = c .before .before .before .loop-test .taken in omega arith) in let e = c .entry .ensures in omega arith)
 
 entry-requires-2 : tie.Need-entry-requires-2 Inv-loop μ-loop
 entry-requires-2 c κs = (c .before .before .before .before .before .before .loop .inv .0 .ranks-long, search needs)
 
 ranks-after-requires : tie.Need-ranks-after-requires Inv-loop μ-loop
-ranks-after-requires c κs = (let h = few-ranks (c .before .before .before .before .before .before .before .loop .k) (c .before .before .before .before .before .before .before .loop .inv .0) (let a = c .before .before .before .before .before .before .before .loop .inv .1 in let b = c .before .before .before .before .before .before .before .before .pre .2 in let d = c .before .before .before .before .before .before .loop-test .taken in omega arith) in let e = c .entry2 .ensures in omega arith)
+ranks-after-requires c κs = (let h = few-ranks (c .before .before .before .before .before .before .before .loop .inv .0) (let a = c .before .before .before .before .before .before .before .loop .inv .1 in let b = c .before .before .before .before .before .before .before .before .pre .2 in let d = c .before .before .before .before .before .before .loop-test .taken in omega arith) in let e = c .entry2 .ensures in omega arith)
 
 mul-types : tie.Need-mul-types Inv-loop μ-loop
 mul-types c = search needs
@@ -54,7 +54,7 @@ loop-less : tie.Need-loop-less Inv-loop μ-loop
 loop-less c = search needs
 
 loop-again : tie.Need-loop-again Inv-loop μ-loop
-loop-again c = (number-next (c .before .before .before .before .before .before .before .before .loop .k) (c .before .before .before .before .before .before .before .before .loop .inv .0) _ _ _ _ _ (let b = c .before .before .before .before .before .before .before .before .before .pre .2 in let d = c .before .before .before .before .before .before .before .loop-test .taken in omega arith) refl (c .before .before .before .before .entry .ensures) (c .before .entry2 .ensures) (c .before .before .before .types-after .ensures) (c .ranks-after .ensures), search needs)
+loop-again c = (number-next (c .before .before .before .before .before .before .before .before .loop .inv .0) _ _ _ _ _ (let b = c .before .before .before .before .before .before .before .before .before .pre .2 in let d = c .before .before .before .before .before .before .before .loop-test .taken in omega arith) refl (c .before .before .before .before .entry .ensures) (c .before .entry2 .ensures) (c .before .before .before .types-after .ensures) (c .ranks-after .ensures), search needs)
 
 returns : tie.Need-returns Inv-loop μ-loop
 returns c = (let e : c .before .loop .k ≡ c .before .before .args .to = (let a = c .before .loop .inv .1 in let b = c .loop-test .left in omega arith) in subst (λ x. Numbered (c .before .before .args .roles .now) (c .before .loop .types) (c .before .loop .ranks) x) e (c .before .loop .inv .0))

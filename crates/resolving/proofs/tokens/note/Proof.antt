@@ -4,7 +4,7 @@ use Prim.Native.Nat.{_-_}
 use borrow.Author.Needs.{needs}
 use mathlib.Core.Path.{ap}
 use Rattle.naming.specs.TokenWalk.{declaredIn}
-use Rattle.symbols.specs.Names.{nameOf, boundNames}
+use Rattle.symbols.specs.Names.{lettersAt, boundNames}
 use Rattle.scoping.specs.Scoped.{effectOf, pendingNames}
 use Rattle.resolving.proofs.DeclareLaws.{name-declares, other-declares}
 use Rattle.resolving.proofs.Noted.{name-noted, other-noted}
@@ -15,7 +15,7 @@ note-name-requires : tie.Need-note-name-requires
 note-name-requires c κs = search needs
 
 returns : tie.Need-returns
-returns c = (λ o. (c .note-name .ensures .rescoped o .scoping, name-declares (effectOf (c .before .before .before .before .before .before .before .before .args .effect)) (nameOf (c .before .before .before .before .before .before .before .before .args .text .now) (c .before .before .before .before .before .before .before .before .args .span)) (pendingNames (c .before .before .before .before .before .before .before .before .args .text .now) (c .before .before .before .before .before .before .before .before .args .pendings .now) (c .before .before .before .before .before .before .before .before .args .m)) (boundNames (c .before .before .before .before .before .before .before .before .args .text .now) (c .before .before .before .before .before .before .before .before .args .spans .now) (c .before .before .before .before .before .before .before .before .args .base) (c .before .before .before .before .before .before .before .before .args .n - c .before .before .before .before .before .before .before .before .args .base)) (ap declaredIn (c .note-name .ensures .rescoped o .same-scope))), λ a b t others f. name-noted f (c .before .before .before .before .before .before .if1 .taken) (c .note-name .ensures))
+returns c = (λ o. (c .note-name .ensures .rescoped o .scoping, name-declares (effectOf (c .before .before .before .before .before .before .before .before .args .effect)) (lettersAt (c .before .before .before .before .before .before .before .before .args .text .now) (c .before .before .before .before .before .before .before .before .args .span)) (pendingNames (c .before .before .before .before .before .before .before .before .args .text .now) (c .before .before .before .before .before .before .before .before .args .pendings .now) (c .before .before .before .before .before .before .before .before .args .m)) (boundNames (c .before .before .before .before .before .before .before .before .args .text .now) (c .before .before .before .before .before .before .before .before .args .spans .now) (c .before .before .before .before .before .before .before .before .args .base) (c .before .before .before .before .before .before .before .before .args .n - c .before .before .before .before .before .before .before .before .args .base)) (ap declaredIn (c .note-name .ensures .rescoped o .same-scope))), λ a b t others f. name-noted f (c .before .before .before .before .before .before .if1 .taken) (c .note-name .ensures))
 
 note-other-requires : tie.Need-note-other-requires
 note-other-requires c κs = search needs

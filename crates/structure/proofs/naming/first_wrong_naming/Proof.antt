@@ -8,7 +8,7 @@ use mathlib.Core.Path.{_≡_, sym}
 use mathlib.Core.Bool.{false}
 use mathlib.Core.List.{List}
 use borrow.Author.Count.{below-more}
-use Rattle.records.specs.Namings.{namings}
+use Rattle.records.specs.Says.{namings}
 use Rattle.structure.specs.Rules.{wrongNaming}
 use Rattle.structure.specs.NamerTable.{Holds}
 use Rattle.answers.proofs.Lowest.{lowest-is, lowest-none}

@@ -4,7 +4,7 @@ use Rattle.structure.proofs.naming.note_all.Statement.{statement}
 use Rattle.structure.proofs.naming.note_all.Tie as tie
 use borrow.Author.Needs.{needs}
 use Prim.Native.Nat.{_+_, _-_, _≤_}
-use Rattle.records.specs.Namings.{namingsBelow, namingsIn}
+use Rattle.records.specs.Says.{namingsBelow, namingsIn}
 use Rattle.structure.specs.NamerTable.{Holds}
 use Rattle.structure.proofs.Namers.{adds-to, words-below, one-record-more, all-records}
 

@@ -12,10 +12,10 @@ well-said-requires : tie.Need-well-said-requires
 well-said-requires c κs = search needs
 
 returns : tie.Need-returns
-returns c = header-said _ _ _ (c .before .before .word .ensures .0) (c .before .if1 .taken) (c .well-said .ensures)
+returns c = header-said _ _ (c .before .before .word .ensures .0) (c .before .if1 .taken) (c .well-said .ensures)
 
 returns-2 : tie.Need-returns-2
-returns-2 c = no-header _ _ false (c .before .word .ensures .0) (c .if1 .left)
+returns-2 c = no-header _ false (c .before .word .ensures .0) (c .if1 .left)
 
 pub wrong-header-spec : {M : Type 1} → statement M
 wrong-header-spec = tie.close (tie.spec word-requires well-said-requires returns returns-2)

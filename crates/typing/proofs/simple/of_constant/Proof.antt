@@ -6,10 +6,9 @@ use mathlib.Core.Path.{refl, _∙_, ap}
 use Prim.Native.Nat.{ℕ}
 use lib.ListN.{set}
 use denote.Ref.{now}
-use Rattle.picoella.specs.Types.{leaves}
-use Rattle.records.specs.TypeRecords.{typeAt}
+use Rattle.picoella.specs.Language.{leaves}
+use Rattle.records.specs.Trees.{typeAt, chain}
 use Rattle.records.specs.Kinds.{expression, constant}
-use Rattle.records.specs.Trees.{chain}
 use Rattle.typing.specs.Judgements.{leavesFit}
 use Rattle.records.proofs.Table.{askOfKind}
 use Rattle.typing.specs.declared.Outcome.the-variants.{Sound}
