@@ -22,7 +22,7 @@ places-append [] ds = refl
 places-append (checkAt p h ∷ cs) ds = ap (λ l. p ∷ l) (places-append cs ds)
 
 -- checks up to a rest, in two parts
-both : (cs ds : List PlacedCheck) (z : List ℕ) {x y : List ℕ} → checkPlaces cs ++ y ≡ x → checkPlaces ds ++ z ≡ y → checkPlaces (cs ++ ds) ++ z ≡ x
+pub both : (cs ds : List PlacedCheck) (z : List ℕ) {x y : List ℕ} → checkPlaces cs ++ y ≡ x → checkPlaces ds ++ z ≡ y → checkPlaces (cs ++ ds) ++ z ≡ x
 both cs ds z e f = ap (λ l. l ++ z) (places-append cs ds) ∙ append-assoc (checkPlaces cs) (checkPlaces ds) z ∙ ap (λ l. checkPlaces cs ++ l) f ∙ e
 
 others-once : {a r : List Token} {cs : List Identifier} (D : List DeclaredName)
@@ -80,7 +80,7 @@ expression-once {r} D bound (reads-if {c} {d} {e} {f} {g} {m} h i k l) =
 expression-once {r} D bound (reads-delay {c} {e} h k) =
     both (constantNames D c) (expressionChecks D bound e) (namePlaces r) (constant-once D h) (expression-once D bound k)
 
-append-nothing : (l : List ℕ) → l ++ [] ≡ l
+pub append-nothing : (l : List ℕ) → l ++ [] ≡ l
 append-nothing [] = refl
 append-nothing (x ∷ l) = ap (λ k. x ∷ k) (append-nothing l)
 

@@ -8,6 +8,7 @@ use Rattle.naming.proofs.EachOnce.{each-once}
 use Rattle.naming.proofs.Bounded.{records-bounded}
 use Rattle.naming.proofs.SameName.{same-equal, equal-same}
 use Rattle.naming.proofs.TextOrder.{names-increase}
+use Rattle.naming.proofs.ConstantOrder.{each-constant-once, constants-increase}
 
 pub kept : NamingPromises
 kept =
@@ -17,6 +18,8 @@ kept =
       one-bad-place = λ t p q f g. one-bad-place f g;
       each-name-once = λ ts t r. each-once r;
       in-text-order = λ bytes ts t r. subst Increasing (sym (each-once (r .parsed))) (names-increase (r .lexed));
+      each-constant-once = λ ts t r. each-constant-once r;
+      constants-in-text-order = λ bytes ts t r. subst Increasing (sym (each-constant-once (r .parsed))) (constants-increase (r .lexed));
       records-bounded = λ bytes ts t r. records-bounded (r .lexed) (r .parsed);
       same-letters = λ v w. (same-equal v w, equal-same v w);
     }

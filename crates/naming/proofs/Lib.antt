@@ -2,6 +2,7 @@
 pub mod First
 pub mod EachOnce
 pub mod TextOrder
+pub mod ConstantOrder
 pub mod Bounded
 pub mod ByTokens
 pub mod SameName

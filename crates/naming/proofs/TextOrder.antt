@@ -9,11 +9,11 @@ use Rattle.grammar.specs.Tokens.{spells-keyword, spells-name}
 use Rattle.naming.specs.Promises.{namePlaces, Increasing, increasing-none, increasing-one, increasing-more}
 
 -- places from i on, increasing
-data From : ℕ → List ℕ → Type 0 where
+pub data From : ℕ → List ℕ → Type 0 where
   from-none : {i : ℕ} → From i []
   from-one : {i p : ℕ} {ps : List ℕ} → i ≤ p → From (suc p) ps → From i (p ∷ ps)
 
-lower : {i j : ℕ} {ps : List ℕ} → i ≤ j → From j ps → From i ps
+pub lower : {i j : ℕ} {ps : List ℕ} → i ≤ j → From j ps → From i ps
 lower h from-none = from-none
 lower {i} h (from-one {p} l f) = from-one {i = i} {p = p} (omega arith) f
 
@@ -21,11 +21,11 @@ after : {p : ℕ} {ps : List ℕ} → From (suc p) ps → Increasing (p ∷ ps)
 after from-none = increasing-one
 after {p} (from-one {p = q} h f) = increasing-more {p = p} {q = q} (omega arith) (after f)
 
-increasing : {i : ℕ} {ps : List ℕ} → From i ps → Increasing ps
+pub increasing : {i : ℕ} {ps : List ℕ} → From i ps → Increasing ps
 increasing from-none = increasing-none
 increasing (from-one h f) = after f
 
-run-long : {bs word rest : List ℕ} → Run bs word rest → 1 ≤ length word
+pub run-long : {bs word rest : List ℕ} → Run bs word rest → 1 ≤ length word
 run-long (run-last h n) = omega arith
 run-long (run-more h r) = omega arith
 
