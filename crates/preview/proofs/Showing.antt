@@ -5,28 +5,31 @@ use Prim.Native.Nat.{ℕ, _≤_, _<_}
 use mathlib.Core.List.{List}
 use mathlib.Core.Path.{_≡_, refl, sym, ap, _∙_}
 use native.Mathlib.Omega.{arith}
-use borrow.Author.Tests.{ne-eqb}
 use lib.ListN.{length, getD}
 use Rattle.picoella.specs.Language.{leaves}
 use Rattle.records.specs.Trees.{typeAt}
-use Rattle.answers.specs.Answers.{inOne, packed, onDone, firstApplying, NoneApplies}
+use Rattle.answers.specs.Answers.{inOne, packed}
 use Rattle.answers.specs.declared.Answer.{Answer}
 use Rattle.answers.specs.declared.Answer.the-variants.{Done, Refused}
-use Rattle.answers.proofs.First.{first-both, first-then, none-done, when-none}
-use Rattle.verdict.specs.Verdict.{verdictAnswer, outputType, verdict}
+use Rattle.verdict.specs.Verdict.{verdictAnswer, verdict}
 use Rattle.verdict.specs.declared.Verdict.{Verdict}
 use Rattle.verdict.specs.declared.Verdict.the-variants.{Accepted}
 use Rattle.accepted.specs.Accepting.{Accepting}
-use Rattle.accepted.proofs.Calls.{accepted-output, sheet-refused}
-use Rattle.accepted.proofs.Laws.{Refusing, refusing-answer}
+use Rattle.accepted.proofs.Calls.{accepted-output}
+use Rattle.accepted.proofs.Laws.{Refusing}
 use Rattle.accepted.proofs.Small.{output-typed, accepted-few}
-use Rattle.stimulus.specs.OneCycle.{notOneCycle, oneCycleChecks, HeldToOne}
+use Rattle.stimulus.specs.OneCycle.{HeldToOne}
 use Rattle.stimulus.proofs.OneCycle.{one-cycle-passes, one-cycle-typed}
+use Rattle.stimulus.proofs.OneCycleCalls.{
+  one-cycle-done,
+  one-cycle-sheet,
+  one-cycle-input,
+  one-cycle-length,
+  one-cycle-good,
+}
 use Rattle.behaviour.specs.Cycle.{output}
 use Rattle.stepper.specs.Cycling.{Cycling}
-use Rattle.preview.specs.Preview.{outputLeaves, shownChecks, previewAnswer, finalPreview, Previewed, Showing}
-use Rattle.preview.specs.Promises.{WellPreviewed}
-use Rattle.preview.proofs.Answered.{roomChecks, by-shown, previewed-done}
+use Rattle.preview.specs.Preview.{outputLeaves, previewAnswer, finalPreview, Previewed, Showing}
 
 previewed-refusal : (s stim out : List ℕ) (c p : ℕ) → previewAnswer s stim out ≡ Refused c p → Previewed s stim out (inOne c p) out
 unfolding finalPreview
@@ -37,10 +40,8 @@ pub preview-refused-sheet : (s stim out : List ℕ) (w : Verdict) → w ≡ verd
     → Previewed s stim out result out
 unfolding previewAnswer
 preview-refused-sheet s stim out w e o result q =
-    let r = refusing-answer w o in
-    let f : verdictAnswer (verdict s) ≡ Refused (r .0) (r .1) = ap verdictAnswer (sym e) ∙ r .2 in
-    rw (q, r .2)
-    (previewed-refusal s stim out (r .0) (r .1) (sheet-refused s (shownChecks s stim out) (Done 0) (r .0) (r .1) f))
+    let r = one-cycle-sheet 10 (outputLeaves s) s stim out w e o in
+    rw (q, r .2) (previewed-refusal s stim out (r .0) (r .1) (r .3))
 
 module _ {s : List ℕ} {n : ℕ} {W : List ℕ} {t : ℕ} (g : Accepting s n W) (v : verdict s ≡ Accepted t) where
   pub preview-type-there : t < 4096
@@ -57,29 +58,21 @@ module _ {s : List ℕ} {n : ℕ} {W : List ℕ} {t : ℕ} (g : Accepting s n W)
   needed = output-width ∙ ap (λ (u : ℕ). leaves (typeAt s u)) (accepted-output s t v)
 
   module _ (stim out : List ℕ) (a : Answer) (h : HeldToOne s stim a) where
-    by-room : previewAnswer s stim out ≡ onDone a (λ k. firstApplying (roomChecks s out) (Done 0))
-    by-room =
-        let rest : ℕ → Answer = λ k. firstApplying (roomChecks s out) (Done 0) in
-        by-shown s stim out t v
-        ∙ first-both (oneCycleChecks s stim) (roomChecks s out) (Done 0)
-        ∙ first-then (oneCycleChecks s stim) 1 rest
-        ∙ ap (λ (b : Answer). onDone b rest) (sym (h .answered))
-
     -- 8 and 9
     pub preview-refused-input : (c p : ℕ) → a ≡ Refused c p → (result : ℕ) → result ≡ packed a → Previewed s stim out result out
-    preview-refused-input c p e result q = rw (q, e) (previewed-refusal s stim out c p (by-room ∙ rw e refl))
+    unfolding previewAnswer
+    preview-refused-input c p e result q =
+        rw (q, e) (previewed-refusal s stim out c p (one-cycle-input 10 (outputLeaves s) s stim out t v a h c p e))
 
     module _ (k : ℕ) (e : a ≡ Done k) where
-      passes : NoneApplies (oneCycleChecks s stim)
-      passes = one-cycle-passes s stim h e
-
       -- 10
       pub preview-refused-output : (length out ≡ getD W t 0 → ⊥) → (result : ℕ) → result ≡ inOne 10 (getD W t 0)
           → Previewed s stim out result out
+      unfolding previewAnswer
       preview-refused-output d result q =
           rw (q, needed)
           (previewed-refusal s stim out 10 (outputLeaves s)
-          (by-room ∙ rw (e, ne-eqb (length out) (outputLeaves s) (λ y. d (y ∙ sym needed))) refl))
+          (one-cycle-length 10 (outputLeaves s) s stim out t v a h k e (λ y. d (y ∙ sym needed))))
 
       module _ (y : length out ≡ getD W t 0) where
         pub showing : Showing s n W stim out
@@ -88,23 +81,15 @@ module _ {s : List ℕ} {n : ℕ} {W : List ℕ} {t : ℕ} (g : Accepting s n W)
               accepting = g;
               type = t;
               accepted = v;
-              typed = one-cycle-typed s stim passes;
+              typed = one-cycle-typed s stim (one-cycle-passes s stim h e);
               room = y ∙ output-width;
             }
 
-        formed : WellPreviewed s stim out
-        formed =
-            record {
-              accepted = v ∙ ap Accepted (accepted-output s t v);
-              one-cycle = when-none (notOneCycle s stim) 0 (passes .0);
-              fitting = passes .1 .0;
-              room = y ∙ needed;
-            }
-
         pub preview-done : (out′ : List ℕ) → out′ ≡ output s stim → Previewed s stim out 0 out′
-        unfolding finalPreview
+        unfolding finalPreview previewAnswer
         preview-done out′ o =
-            let d = previewed-done s stim out formed in
+            let f = one-cycle-good 10 (outputLeaves s) s stim out t v a h k e (y ∙ needed) in
+            let d : previewAnswer s stim out ≡ Done 0 = one-cycle-done 10 (outputLeaves s) s stim out f in
             record { result-is = rw d refl; out-is = rw (o, d) refl }
 
 -- a cycle from the sheet that was checked

@@ -3,38 +3,26 @@
 use Prim.Native.Nat.{ℕ, _<_, _^_}
 use mathlib.Core.Path.{_≡_}
 use mathlib.Core.Logic.{_↔_, _≢_}
-use mathlib.Core.Bool.{false}
 use mathlib.Core.List.{List, [], _∷_}
-use mathlib.Core.Option.{none}
 use lib.ListN.{length}
 use Rattle.picoella.specs.Language.{OfType}
 use Rattle.records.specs.Trees.{typeAt}
-use Rattle.answers.specs.Answers.{code, place, onDone, lowest, Refuses}
+use Rattle.answers.specs.Answers.{code, place, onDone}
 use Rattle.answers.specs.declared.Answer.{Answer}
 use Rattle.answers.specs.declared.Answer.the-variants.{Done, Refused}
-use Rattle.verdict.specs.Verdict.{outputType, verdict}
-use Rattle.verdict.specs.declared.Verdict.the-variants.{Accepted}
-use Rattle.stimulus.specs.Stimulus.{inputLeaves, wrongByte}
-use Rattle.stimulus.specs.OneCycle.{notOneCycle}
+use Rattle.verdict.specs.Verdict.{outputType}
+use Rattle.stimulus.specs.Stimulus.{inputLeaves}
+use Rattle.stimulus.specs.OneCycleCalls.{SaysOfOneCycle}
 use Rattle.behaviour.specs.Run.{answer, finalOut}
 use Rattle.behaviour.specs.Bench.{toggle}
 use Rattle.preview.specs.Preview.{outputLeaves, previewChecks, previewAnswer, finalPreview}
 
--- a call to which no check applies
-pub record WellPreviewed (sheet stimulus out : List ℕ) : Type 0 where
-  pub accepted : verdict sheet ≡ Accepted (outputType sheet)
-  pub one-cycle : notOneCycle sheet stimulus ≡ false
-  pub fitting : lowest (wrongByte sheet stimulus) (length stimulus) ≡ none
-  pub room : length out ≡ outputLeaves sheet
-
--- What each answer says of the call: done, at place 0, exactly where it is such a one; or refused by a check of the list, at its
--- place, where no check before it applies.
-abbrev pub SaysOfPreview : (sheet stimulus out : List ℕ) → Answer → Type 0
-SaysOfPreview s stim out (Done p) = WellPreviewed s stim out × (p ≡ 0)
-SaysOfPreview s stim out (Refused c p) = Refuses (previewChecks s stim out) c p
-
+-- What each answer says of the call: done, at place 0, exactly where no check applies; or refused by a check of the list, at its place,
+-- where no check before it applies.
 abbrev pub PreviewLowestFirst : Type 0
-PreviewLowestFirst = (s stim out : List ℕ) (a : Answer) → previewAnswer s stim out ≡ a ↔ SaysOfPreview s stim out a
+PreviewLowestFirst =
+    (s stim out : List ℕ) (a : Answer)
+    → previewAnswer s stim out ≡ a ↔ SaysOfOneCycle (previewChecks s stim out) s stim out (outputLeaves s) a
 
 -- The place of every answer is below 2^32.
 abbrev pub PreviewPlacesSmall : Type 0
