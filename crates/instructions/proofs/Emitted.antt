@@ -3,13 +3,13 @@
 -- Assumes nothing.
 use Prim.Native.Nat.{ℕ, zero, suc, _+_, _-_, min}
 use native.Mathlib.Omega.{arith}
-use mathlib.Core.Path.{_≡_, refl, sym, ap, ap₂, subst, _∙_}
+use mathlib.Core.Path.{_≡_, refl, sym, ap, ap₂, _∙_}
 use mathlib.Core.Bool.{Bool, true, false, cond}
 use mathlib.Core.List.{List, [], _∷_, _++_, append-assoc}
 use lib.ListN.{length, replicate, length-append, length-replicate}
 use Rattle.records.specs.SheetOf.{Record, words}
 use Rattle.picoella.specs.Language.{leaves}
-use Rattle.grammar.specs.Source.{Identifier, identifier, Declaration, SourceConstant, OfConstructor, Undefined, ConstantPair}
+use Rattle.grammar.specs.Source.{identifier, Declaration, SourceConstant, OfConstructor, Undefined, ConstantPair}
 use Rattle.grammar.specs.Source.{SourcePattern, Alone, PatternPair, Either}
 use Rattle.grammar.specs.Source.{
   Expression,
@@ -51,7 +51,7 @@ use Rattle.instructions.specs.Instruction.{
   matchOne,
   constantHas,
 }
-use Rattle.instructions.specs.TextOrder.{numberOfType, constructorIn, alternativeOf, valueInstruction}
+use Rattle.instructions.specs.TextOrder.{numberOfType, constructorIn}
 use Rattle.instructions.specs.Assembly.{leavesNumbered}
 use Rattle.instructions.specs.RecordOrder.{declaredTypes, constantOnto, patternInOrder, expressionOnto}
 use Rattle.instructions.specs.Emission.{
@@ -65,7 +65,6 @@ use Rattle.instructions.specs.Emission.{
   completed,
   zerosWritten,
   zerosNext,
-  emit,
   emitAll,
 }
 use Rattle.instructions.proofs.LeavesNumbered.{leaves-numbered}

@@ -27,6 +27,7 @@ use records::KIND_PAIR_PATTERN;
 use records::KIND_WHOLE_PATTERN;
 use records::Namers;
 use records::RECORD_BYTES;
+use records::RECORDS;
 use records::SHEET_BYTES;
 use records::WORD_A;
 use records::WORD_B;
@@ -203,7 +204,7 @@ fn is_accepted(v: Verdict) -> bool
 pub fn no_widths() -> WidthTable
     ensures { λ r. ⌜ length r ≡ 4096 ⌝ }
 {
-    [0; 4096]
+    [0; RECORDS]
 }
 
 // The check of a sheet of n records, with the leaf counts of the types of expressions, patterns and types for an accepted sheet.
