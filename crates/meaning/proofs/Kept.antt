@@ -52,23 +52,23 @@ module _
     unfolding eval next
     settles typed env =
         record {
-          rises = λ k. both-below (feedback-rises undecided law Declared typed env k);
-          stable = feedback-stable undecided law Declared typed env;
-          of-type = feedback-typed undecided law Declared typed env;
-          fixed = feedback-fixed undecided law Declared typed env;
-          least = λ w h p. both-below (feedback-least undecided law Declared typed env h p);
-          at-most = applications-most undecided law Declared typed env;
-          reached = applications-reach undecided law Declared typed env;
-          none-fewer = applications-fewest undecided law Declared typed env;
+          rises = λ k. both-below (feedback-rises law typed env k);
+          stable = feedback-stable law typed env;
+          of-type = feedback-typed law typed env;
+          fixed = feedback-fixed law typed env;
+          least = λ w h p. both-below (feedback-least law typed env h p);
+          at-most = applications-most law typed env;
+          reached = applications-reach law typed env;
+          none-fewer = applications-fewest law typed env;
           value = λ s. refl;
           after-cycle = λ s. refl;
         }
 
     iterate-equations : IterateEquations undecided law tree agree Declared
     iterate-equations Γ ρ σ t v typed env h below = (
-      λ p. iterate-unchanged undecided law Declared typed env p ∙ sym p,
-      iterate-again undecided law Declared typed env
-          (both-of h (application-typed undecided law Declared typed env h) below),
+      λ p. iterate-unchanged law typed env p ∙ sym p,
+      iterate-again law typed env
+          (both-of h (application-typed law typed env h) below),
     )
 
     kept-promises : Promises undecided law tree agree Declared
