@@ -4,7 +4,6 @@
 use Prim.Native.Nat.{ℕ}
 use mathlib.Core.List.{List, []}
 use mathlib.Core.Path.{_≡_}
-use Rattle.records.specs.Trees.{Declared}
 use Rattle.verdict.specs.Verdict.{verdict}
 use Rattle.verdict.specs.declared.Verdict.the-variants.{Accepted}
 use Rattle.meaning.specs.Values.{no-values, AllOf}
@@ -32,7 +31,7 @@ module _
     run-writable : Writable s t (after undecided [] (circuitTerm s) is)
     run-writable = record {
       frame = after-frame undecided [] (circuitTerm s) is;
-      typed = after-typed undecided law (Declared s) (circuit-typed s t v) no-values given;
+      typed = after-typed law (circuit-typed s t v) no-values given;
     }
 
     pub run-only-delays : OnlyDelays s (sheetAfter undecided s is)

@@ -37,7 +37,7 @@ module _
     pub cycle-writable : Writable s t (next undecided (i ∷ []) (circuitTerm s))
     cycle-writable = record {
       frame = next-frame undecided (i ∷ []) (circuitTerm s);
-      typed = next-typed undecided law (Declared s) (circuit-typed s t v) (more-values given no-values);
+      typed = next-typed law (circuit-typed s t v) (more-values given no-values);
     }
 
     pub output-typed : OfType (typeAt s t) (outputBy undecided s i)

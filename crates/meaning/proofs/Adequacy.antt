@@ -81,7 +81,7 @@ module _
     run-derived typed env (of-all-more h k) =
         let (d, i, p, r) = derived undecided tree law agree Declared typed (beside-more h refl env) in
         let (ds, j, q, s)
-        = run-derived (next-typed undecided law Declared typed (more-values (flatten-typed h) (beside-values env))) env k in
+        = run-derived (next-typed law typed (more-values (flatten-typed h) (beside-values env))) env k in
         (d ∷ ds, of-all-more i j, ap₂ (λ v vs. v ∷ vs) p q, s-cycle r s)
 
     pub run-adequate

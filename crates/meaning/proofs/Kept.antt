@@ -79,10 +79,10 @@ module _
           erasure-typed = λ Γ t τ h. erased-typed Declared h;
           annotation-ignored = λ places ρ t. (eval-annotation undecided places ρ t, next-annotation undecided places ρ t);
           evaluation-typed = λ Γ t τ ρ h env. eval-typed undecided law Declared h env;
-          next-typed = λ Γ t τ ρ h env. (next-typed undecided law Declared h env, next-frame undecided ρ t);
+          next-typed = λ Γ t τ ρ h env. (next-typed law h env, next-frame undecided ρ t);
           run-typed = λ Γ t σ τ ρ inputs h env given. (
-            outputs-typed undecided law Declared h env given,
-            after-typed undecided law Declared h env given,
+            outputs-typed law h env given,
+            after-typed law h env given,
             after-frame undecided ρ t inputs,
           );
           match-monotone = λ p τ v w h i j below. match-monotone h (both-of i j below);

@@ -58,7 +58,7 @@ unfolding after
 after-frame u ρ t [] = refl
 after-frame u ρ t (v ∷ vs) = after-frame u ρ (next u (v ∷ ρ) t) vs ∙ next-frame u (v ∷ ρ) t
 
-module _ (undecided : List ℕ → List ℕ → List ℕ) (law : Lawful undecided) (Declared : Ty → Type 0) where
+module _ {undecided : List ℕ → List ℕ → List ℕ} (law : Lawful undecided) {Declared : Ty → Type 0} where
   pub next-typed
       : {Γ : List Ty} {t : Term} {τ : Ty} {ρ : List (List ℕ)}
       → Elaborated Declared Γ t τ → ValuesOf Γ ρ → Elaborated Declared Γ (next undecided ρ t) τ
