@@ -36,11 +36,11 @@ all-flatten-one (of-all-more h k) (of-all-more i j) p =
     ap₂ (λ c cs. c ∷ cs) (flatten-one h i (head-eq-of-cons-eq p)) (all-flatten-one k j (tail-eq-of-cons-eq p))
 
 module _
-    (undecided : List ℕ → List ℕ → List ℕ)
-    (tree : ConstantTree → ConstantTree → ConstantTree)
+    {undecided : List ℕ → List ℕ → List ℕ}
+    {tree : ConstantTree → ConstantTree → ConstantTree}
     (law : Lawful undecided)
     (agree : Agreeing undecided tree)
-    (Declared : Ty → Type 0)
+    {Declared : Ty → Type 0}
   where
     pub cycle-adequate
         : {Γ : List Ty} {t : Term} {τ : Ty} {l : List ConstantTree} {c : ConstantTree} {f : Expr}

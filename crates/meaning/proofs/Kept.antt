@@ -92,12 +92,12 @@ module _
           flatten-one-to-one = λ τ.
               (λ c h. flatten-typed h, λ c d h k p. flatten-one h k p, λ v h. flatten-onto τ h);
           match-agrees = λ p τ c h k. match-agrees h k;
-          cycle-adequate = λ Γ t τ l c f h env. cycle-adequate undecided tree law agree Declared h env;
-          cycle-exists = λ Γ t τ l h env. cycle-exists undecided tree law agree Declared h env;
+          cycle-adequate = λ Γ t τ l c f h env. cycle-adequate law agree h env;
+          cycle-exists = λ Γ t τ l h env. cycle-exists law agree h env;
           cycle-unique = λ l e f g c d r s. reduces-one tree r s;
           run-adequate = λ Γ t σ τ l inputs cs f h env given.
-              run-adequate undecided tree law agree Declared h env given;
-          run-exists = λ Γ t σ τ l inputs h env given. run-exists undecided tree law agree Declared h env given;
+              run-adequate law agree h env given;
+          run-exists = λ Γ t σ τ l inputs h env given. run-exists law agree h env given;
           run-unique = λ l inputs cs ds e f g r s. reduces-seq-one tree r s;
         }
 
