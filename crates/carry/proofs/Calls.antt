@@ -119,7 +119,7 @@ new-refused {old} {new} {next} {w} {x} {c} {d} {result} ew ec z ex ed f er =
     rw (er, e) (gives-refused old new next 18 (r .0) a)
 
 accepted-of : {s : List ℕ} {n : ℕ} (t : ℕ) → n ≡ length s / 12 → verdict s ≡ Verdicts.Accepted t → IsAccepted s n
-accepted-of {s} {n} t e v = record { sized = rw e (accepted-sized s v); type = t; accepted = v }
+accepted-of {s} {n} t e v = record { sized = rw e (accepted-sized v); type = t; accepted = v }
 
 pub both-accepted : {old new : List ℕ} {n m : ℕ} {w x : Verdict} {c d : ℕ} → n ≡ length old / 12 → w ≡ verdict old → c ≡ code (verdictAnswer w)
     → c ≡ 0 → m ≡ length new / 12 → x ≡ verdict new → d ≡ code (verdictAnswer x) → d ≡ 0 → IsAccepted old n × IsAccepted new m

@@ -47,10 +47,10 @@ unfolding verdict byRecords byTypes wrongLength wrongHeader wrongRecord wrongNam
 accepted-running = refl
 
 began-is : IsAccepted began 17
-began-is = record { sized = accepted-sized began accepted-began; type = 1; accepted = accepted-began }
+began-is = record { sized = accepted-sized accepted-began; type = 1; accepted = accepted-began }
 
 running-is : IsAccepted running 17
-running-is = record { sized = accepted-sized running accepted-running; type = 1; accepted = accepted-running }
+running-is = record { sized = accepted-sized accepted-running; type = 1; accepted = accepted-running }
 
 running-labelling : Labelling running 17 0 (replicate {A = ℕ} 65536 0)
 running-labelling =

@@ -70,11 +70,11 @@ unfolding finalFired
 unaltered s stim words f = kept-bytes (firedAnswer s stim words) (fired s stim) words f
 
 pub reached-once : ReachedOnce
-reached-once s t v input r h e = evaluated-once input (accepted-passes s v) r h e
+reached-once s t v input r h e = evaluated-once input (accepted-passes v) r h e
 
 pub reached-expressions : ReachedExpressions
 reached-expressions s t v input r Γ ρ c =
-    let o = scope-checked t (accepted-passes s v) v (evaluates-scope c) in (o .there, o .sort)
+    let o = scope-checked t (accepted-passes v) v (evaluates-scope c) in (o .there, o .sort)
 
 pub fired-in : FiredIn
 unfolding finalFired
@@ -84,7 +84,7 @@ fired-in s stim words e =
 
 pub first-yes-tells : FirstYesTells
 first-yes-tells s t v d h e x =
-    let w = written (accepted-passes s v) in tells-first w d (past-header w d (rw e)) h e x
+    let w = written (accepted-passes v) in tells-first w d (past-header w d (rw e)) h e x
 
 -- a call that is refused
 told-refusal : (s stim words : List ℕ) (c p : ℕ) → firedAnswer s stim words ≡ Refused c p → ToldFired s stim words (inOne c p) words
@@ -140,11 +140,11 @@ module _ {s : List ℕ} {n : ℕ} {W : List ℕ} {t : ℕ} {input words : List �
   output-there =
       let c = g .accepting .sized .counted in
       let f = g .accepting .sized .few in
-      let h = output-typed s (g .accepted) .there in
+      let h = output-typed (g .accepted) .there in
       omega arith
 
   output-width : getD W t 0 ≡ leaves (typeAt s t)
-  output-width = g .accepting .table .types t (output-typed s (g .accepted))
+  output-width = g .accepting .table .types t (output-typed (g .accepted))
 
   pub output-few : getD W t 0 ≤ 64
   output-few = let f = accepted-few s (g .accepted) in let e = output-width in omega arith

@@ -46,10 +46,10 @@ preview-refused-sheet s stim out w e o result q =
 module _ {s : List ℕ} {n : ℕ} {W : List ℕ} {t : ℕ} (g : Accepting s n W) (v : verdict s ≡ Accepted t) where
   pub preview-type-there : t < 4096
   preview-type-there =
-      let c = g .sized .counted in let f = g .sized .few in let h = output-typed s v .there in omega arith
+      let c = g .sized .counted in let f = g .sized .few in let h = output-typed v .there in omega arith
 
   output-width : getD W t 0 ≡ leaves (typeAt s t)
-  output-width = g .table .types t (output-typed s v)
+  output-width = g .table .types t (output-typed v)
 
   pub preview-room-few : getD W t 0 ≤ 64
   preview-room-few = let f = accepted-few s v in let e = output-width in omega arith
