@@ -105,7 +105,7 @@ module _ {s : List ℕ} {n : ℕ} {W : List ℕ} {t : ℕ} (g : Accepting s n W)
     pub told-input : (c p : ℕ) → a ≡ Refused c p → (result : ℕ) → result ≡ packed a → ToldFired s stim words result words
     unfolding firedAnswer
     told-input c p e result q =
-        rw (q, e) (told-refusal s stim words c p (one-cycle-input 16 (count s) s stim words t v a h c p e))
+        rw (q, e) (told-refusal s stim words c p (one-cycle-input 16 (count s) words v h c p e))
 
     module _ (k : ℕ) (e : a ≡ Done k) where
       -- 16
@@ -115,7 +115,7 @@ module _ {s : List ℕ} {n : ℕ} {W : List ℕ} {t : ℕ} (g : Accepting s n W)
           let same = g .sized .counted in
           rw (q, same)
           (told-refusal s stim words 16 (count s)
-          (one-cycle-length 16 (count s) s stim words t v a h k e (λ y. d (y ∙ rw same refl))))
+          (one-cycle-length 16 (count s) words v h k e (λ y. d (y ∙ rw same refl))))
 
       module _ (y : length words ≡ n) where
         pub telling : TellingFired s n W t stim words
@@ -130,8 +130,8 @@ module _ {s : List ℕ} {n : ℕ} {W : List ℕ} {t : ℕ} (g : Accepting s n W)
         pub told-done : (words′ : List ℕ) → words′ ≡ fired s stim → ToldFired s stim words 0 words′
         unfolding finalFired firedAnswer
         told-done words′ o =
-            let f = one-cycle-good 16 (count s) s stim words t v a h k e (y ∙ g .sized .counted) in
-            let d : firedAnswer s stim words ≡ Done 0 = one-cycle-done 16 (count s) s stim words f in
+            let f = one-cycle-good {lent = words} v h k e (y ∙ g .sized .counted) in
+            let d : firedAnswer s stim words ≡ Done 0 = one-cycle-done 16 f in
             record { result-is = rw d refl; words-is = rw (o, d) refl }
 
 -- the cycle whose words are told begins from the sheet that was checked
