@@ -22,7 +22,7 @@ use Rattle.behaviour.proofs.Run.{run-sheet}
 module _
     {undecided : List ℕ → List ℕ → List ℕ}
     (law : Lawful undecided)
-    (s : List ℕ)
+    {s : List ℕ}
     {t : ℕ}
     (v : verdict s ≡ Accepted t)
     {is : List (List ℕ)}
@@ -39,10 +39,20 @@ module _
         rw (run-sheet law s v given)
         (write-only-delays s (after undecided [] (circuitTerm s) is) (run-writable .frame))
 
+-- no signature here determines the sheet
+module _
+    {undecided : List ℕ → List ℕ → List ℕ}
+    (law : Lawful undecided)
+    (s : List ℕ)
+    {t : ℕ}
+    (v : verdict s ≡ Accepted t)
+    {is : List (List ℕ)}
+    (given : AllOf (inputType s) is)
+  where
     pub run-read : circuitTerm (sheetAfter undecided s is) ≡ after undecided [] (circuitTerm s) is
     run-read =
-        rw (run-sheet law s v given) (write-read s v run-writable)
+        rw (run-sheet law s v given) (write-read s v (run-writable law v given))
 
     pub run-accepted : verdict (sheetAfter undecided s is) ≡ verdict s
     run-accepted =
-        rw (run-sheet law s v given) (write-accepted s v run-writable)
+        rw (run-sheet law s v given) (write-accepted s v (run-writable law v given))
