@@ -26,12 +26,12 @@ use Rattle.behaviour.proofs.Sheets.{write-only-delays, only-leaves, hea
 use Rattle.behaviour.proofs.Bytes.{write-bytes}
 
 module _
-    (undecided : List ℕ → List ℕ → List ℕ)
+    {undecided : List ℕ → List ℕ → List ℕ}
     (law : Lawful undecided)
     (s : List ℕ)
     {t : ℕ}
     (v : verdict s ≡ Accepted t)
-    (i : List ℕ)
+    {i : List ℕ}
     (given : OfType (typeAt s (wordA s 0)) i)
   where
     pub cycle-writable : Writable s t (next undecided (i ∷ []) (circuitTerm s))
