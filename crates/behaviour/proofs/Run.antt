@@ -66,7 +66,7 @@ module _ {undecided : List ℕ → List ℕ → List ℕ} (law : Lawful undecide
   -- inputs of the sheet's type are of that of the sheet after a cycle
   given-again : (s : List ℕ) {t : ℕ} → verdict s ≡ Accepted t → {i : List ℕ} {is : List (List ℕ)}
       → OfType (inputType s) i → AllOf (inputType s) is → AllOf (inputType (afterBy undecided s i)) is
-  given-again s {t} v {i} h r =
+  given-again s v h r =
       rw (after-input law s v h, after-types law s v h (wordA s 0)) r
 
   -- the run of the meaning
