@@ -63,4 +63,4 @@ pub accepting-checked : (s : List ℕ) (n : ℕ) → n ≡ length s / 12 → (w 
     → w ≡ Accepted t → Accepting s n table × (verdict s ≡ Accepted t)
 accepting-checked s n c w before table t l e =
     let v : verdict s ≡ Accepted t = sym (l .answered) ∙ e in
-    (record { sized = rw c (accepted-sized s v); type = t; accepted = v; table = l .accepted (rw e refl) }, v)
+    (record { sized = rw c (accepted-sized v); type = t; accepted = v; table = l .accepted (rw e refl) }, v)

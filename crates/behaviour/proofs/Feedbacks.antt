@@ -95,13 +95,13 @@ settles D Γ ρ σ whole part body typed env e = record {
   value = settled undecidedRule ρ σ part;
   given = refl;
   evaluates = rw e;
-  of-type = feedback-typed undecidedRule rule-lawful D typed env;
-  unchanged = feedback-fixed undecidedRule rule-lawful D typed env;
-  least = λ w h p. both-below (feedback-least undecidedRule rule-lawful D typed env h p);
+  of-type = feedback-typed rule-lawful typed env;
+  unchanged = feedback-fixed rule-lawful typed env;
+  least = λ w h p. both-below (feedback-least rule-lawful typed env h p);
   count = applications undecidedRule ρ σ part;
-  at-most = applications-most undecidedRule rule-lawful D typed env;
-  reached = applications-reach undecidedRule rule-lawful D typed env;
-  none-fewer = applications-fewest undecidedRule rule-lawful D typed env;
+  at-most = applications-most rule-lawful typed env;
+  reached = applications-reach rule-lawful typed env;
+  none-fewer = applications-fewest rule-lawful typed env;
   by-iteration = iteration D typed env;
 }
 

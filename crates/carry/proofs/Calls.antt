@@ -119,7 +119,7 @@ new-refused {old} {new} {next} {w} {x} {c} {d} {result} ew ec z ex ed f er =
     rw (er, e) (gives-refused old new next 18 (r .0) a)
 
 accepted-of : {s : List ℕ} {n : ℕ} (t : ℕ) → n ≡ length s / 12 → verdict s ≡ Verdicts.Accepted t → IsAccepted s n
-accepted-of {s} {n} t e v = record { sized = rw e (accepted-sized s v); type = t; accepted = v }
+accepted-of t e v = record { sized = rw e (accepted-sized v); type = t; accepted = v }
 
 pub both-accepted : {old new : List ℕ} {n m : ℕ} {w x : Verdict} {c d : ℕ} → n ≡ length old / 12 → w ≡ verdict old → c ≡ code (verdictAnswer w)
     → c ≡ 0 → m ≡ length new / 12 → x ≡ verdict new → d ≡ code (verdictAnswer x) → d ≡ 0 → IsAccepted old n × IsAccepted new m
@@ -132,7 +132,7 @@ put-over new next next′ l p = p ∙ rw (← l, drop-length next) (append-nil n
 
 -- the searches
 pub searching : {s : List ℕ} {n : ℕ} → IsAccepted s n → Sized s n × Written s
-searching {s} g = (g .sized, is-written s (g .accepted))
+searching g = (g .sized, is-written (g .accepted))
 
 at-count : {s : List ℕ} {n : ℕ} → IsAccepted s n → (o : Found) → found o ≡ lowest (labelTwice s) n → (x : Option ℕ) → found o ≡ x
     → lowest (labelTwice s) (count s) ≡ x
@@ -197,7 +197,7 @@ module _ {old new : List ℕ} {n m : ℕ} (g : IsAccepted old n) (k : IsAccepted
 -- the table of the old sheet's labels is whole
 module _ {old new next : List ℕ} {n m : ℕ} (g : CarryingAll old n new m next) where
   pub values-written : Written old
-  values-written = is-written old (g .before .accepted)
+  values-written = is-written (g .before .accepted)
 
   pub values-carrying : {o : Found} {table : List ℕ} → AllLabelled old n o table → Carrying old n new m table next
   values-carrying l =

@@ -112,7 +112,7 @@ assigned-small (l ∷ ls) (v ∷ vs) small e (List·Memᴰ·tail m) = assigned-s
 
 module _ (old new : List ℕ) (t′ t : ℕ) (v′ : verdict old ≡ Accepted t′) (v : verdict new ≡ Accepted t) where
   w : Written new
-  w = is-written new v
+  w = is-written v
 
   -- what is taken is bytes
   taken-small : (r : ℕ) (e : Entry) → List·Memᴰ e (takenFrom old new r (giver old new r)) → e .value ≤ 255
@@ -122,7 +122,7 @@ module _ (old new : List ℕ) (t′ t : ℕ) (v′ : verdict old ≡ Accepted t�
       go none z m = elim m [ ]
       go (some q) z m =
           let d = bearer-delay old (label new r) q (giver-some old new q r z .bears) in
-          let wo = is-written old v′ in
+          let wo = is-written v′ in
           let f = first-leaf wo (is-well-named old v′) q (d .0) (expression delay) (d .3) delay-chain in
           assigned-small (leavesAt new r) (heldAt old q)
           (mapped-small (wordA old) (leavesAt old q)
@@ -155,7 +155,7 @@ module _ (old new : List ℕ) (t′ t : ℕ) (v′ : verdict old ≡ Accepted t�
   constants-fit : (r : ℕ) → r < count new → kindAt new r ≡ expression constant
       → OfType (typeAt (carried old new) (wordA new r)) (leafValues (carried old new) (leavesAt new r))
   constants-fit r h e =
-      let p = accepted-passes new v in
+      let p = accepted-passes v in
       let c = every-expression w (is-well-named new v) r (past-header w r (rw e refl)) h (rw e refl) in
       rw (
         same-type (carried-rewritten old new v) (wordA new r),

@@ -74,7 +74,7 @@ delay-chain = unfold askOfKind in refl
 
 module _ (old new : List ℕ) {t : ℕ} (v : verdict new ≡ Accepted t) where
   w : Written new
-  w = is-written new v
+  w = is-written v
 
   once : WellNamed new
   once = is-well-named new v

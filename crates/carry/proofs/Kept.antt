@@ -18,11 +18,11 @@ kept = record {
       let f = carried-formed v v′ o a next l in
       (formed-done running s next f, formed-final running s next f ∙ back v v′ o a);
   carried-after-run = λ undecided law s t v a inputs given next l.
-      let o = run-only-delays law s v given in
+      let o = run-only-delays law v given in
       let v′ = run-accepted law s v given ∙ v in
       let f = carried-formed v v′ o a next l in
       (formed-done _ s next f, formed-final _ s next f ∙ back v v′ o a);
   labels-alone = labels-alone;
   labels-kept = λ undecided law s t v inputs given r.
-      running-label v (run-accepted law s v given ∙ v) (run-only-delays law s v given) r;
+      running-label v (run-accepted law s v given ∙ v) (run-only-delays law v given) r;
 }

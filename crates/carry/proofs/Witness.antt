@@ -47,14 +47,14 @@ unfolding verdict byRecords byTypes wrongLength wrongHeader wrongRecord wrongNam
 accepted-running = refl
 
 began-is : IsAccepted began 17
-began-is = record { sized = accepted-sized began accepted-began; type = 1; accepted = accepted-began }
+began-is = record { sized = accepted-sized accepted-began; type = 1; accepted = accepted-began }
 
 running-is : IsAccepted running 17
-running-is = record { sized = accepted-sized running accepted-running; type = 1; accepted = accepted-running }
+running-is = record { sized = accepted-sized accepted-running; type = 1; accepted = accepted-running }
 
 running-labelling : Labelling running 17 0 (replicate {A = ℕ} 65536 0)
 running-labelling =
-    record { sized = running-is .sized; written = is-written running accepted-running; there = omega arith; below = no-bearer running }
+    record { sized = running-is .sized; written = is-written accepted-running; there = omega arith; below = no-bearer running }
 
 carrying-all : CarryingAll running 17 began 17 began
 unfolding labelTwice kindOf rowOf word
@@ -119,7 +119,7 @@ running-small q h =
 running-table : (table : List ℕ) × Bearers running 17 table
 unfolding labelTwice kindOf rowOf word
 running-table =
-    table-of (running-is .sized) (is-written running accepted-running) running-small
+    table-of (running-is .sized) (is-written accepted-running) running-small
     (lowest-none-fails (labelTwice running) 17 refl) 17 (omega arith)
 
 carrying : Carrying running 17 began 17 (running-table .0) began

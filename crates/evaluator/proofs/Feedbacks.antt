@@ -127,7 +127,7 @@ module _ {s : List ℕ} {n : ℕ} {W env : List ℕ} {names rec : ℕ} {out Γ :
                 (name-values r t few-around (undefined τ) (undefined-typed τ) env (r .wide) refl feedback-small env₁ started);
             same = same-type;
             rises = rw (slot₁, framed₁, applies)
-                (undefined-rises undecidedRule rule-lawful (Declared s) {ρ = π} {t = body-part} part-typed (r .values));
+                (undefined-rises rule-lawful {ρ = π} {t = body-part} part-typed (r .values));
           }
 
       -- no more leaves are undefined than there is room for
@@ -165,7 +165,7 @@ module _ {s : List ℕ} {n : ℕ} {W env : List ℕ} {names rec : ℕ} {out Γ :
         body-values : ValuesOf (map (typeAt s) (t ∷ Γ)) (frames s (t ∷ Γ) env₂)
         body-values =
             rw framed₂
-            (more-values (feedback-typed undecidedRule rule-lawful (Declared s) {ρ = π} {t = body-part} part-typed (r .values)) (r .values))
+            (more-values (feedback-typed rule-lawful {ρ = π} {t = body-part} part-typed (r .values)) (r .values))
 
         body-value : valueAt undecidedRule s Γ π rec ≡ valueAt undecidedRule s (t ∷ Γ) (frames s (t ∷ Γ) env₂) y
         body-value = rw (framed₂, ed, ey) (feedback-value undecidedRule s w Γ π rec b e)

@@ -95,7 +95,7 @@ module _ {s : List ℕ} {n : ℕ} {W env : List ℕ} {names d : ℕ} {value : Li
 
     given-typed : OfType σ o
     given-typed =
-        rw given (application-typed undecidedRule rule-lawful (Declared s) {ρ = ρ} {t = part} typed (typed-values .1) (typed-values .0))
+        rw given (application-typed rule-lawful {ρ = ρ} {t = part} typed (typed-values .1) (typed-values .0))
 
     given-long : length o ≡ leaves σ
     given-long = value-length σ given-typed
@@ -124,7 +124,7 @@ module _ {s : List ℕ} {n : ℕ} {W env : List ℕ} {names d : ℕ} {value : Li
       unchanged-settled e =
           let u : application undecidedRule ρ part v ≡ v = sym given ∙ a .same e ∙ standing in
           let i : iterate undecidedRule ρ σ part v ≡ v =
-          iterate-unchanged undecidedRule rule-lawful (Declared s) {ρ = ρ} {t = part} typed (typed-values .1) u in
+          iterate-unchanged rule-lawful {ρ = ρ} {t = part} typed (typed-values .1) u in
           record {
             reached = same-slot ∙ sym i;
             stored = held-is ∙ rw i refl;
@@ -159,7 +159,7 @@ module _ {s : List ℕ} {n : ℕ} {W env : List ℕ} {names d : ℕ} {value : Li
 
         rises₂ : Both (bounds σ) o (application undecidedRule ρ part o)
         rises₂ =
-            rw given (application-monotone undecidedRule rule-lawful (Declared s) {ρ = ρ} {t = part} typed (typed-values .1) v
+            rw given (application-monotone rule-lawful {ρ = ρ} {t = part} typed (typed-values .1) v
             (application undecidedRule ρ part v) rises)
 
         pub settling-again : SettlingIn s n W env₂ names d o t Γ
@@ -174,12 +174,12 @@ module _ {s : List ℕ} {n : ℕ} {W env : List ℕ} {names d : ℕ} {value : Li
         pub fewer-undefined : zeros (slot names (length o) env₂) < zeros (slot names (length value) env)
         fewer-undefined =
             rw (given-long, value-wide, slot₂, given)
-            (application-falls undecidedRule rule-lawful (Declared s) {ρ = ρ} {t = part} typed (typed-values .1) rises changed)
+            (application-falls rule-lawful {ρ = ρ} {t = part} typed (typed-values .1) rises changed)
 
         leads : leadsTo s t Γ d names env₂ ≡ leadsTo s t Γ d names env
         leads =
             rw (ρ₂, slot₂, given)
-            (sym (iterate-again undecidedRule rule-lawful (Declared s) {ρ = ρ} {t = part} typed (typed-values .1) rises))
+            (sym (iterate-again rule-lawful {ρ = ρ} {t = part} typed (typed-values .1) rises))
 
         pub changed-settled : {env₃ held₂ fired₂ : List ℕ} → Settled s n W env₂ names d held₁ fired₁ o env₃ held₂ fired₂
             → SettledIn s t Γ env names d held fired env₃ held₂ fired₂

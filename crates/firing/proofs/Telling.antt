@@ -70,11 +70,11 @@ unfolding finalFired
 unaltered s stim words f = kept-bytes (firedAnswer s stim words) (fired s stim) words f
 
 pub reached-once : ReachedOnce
-reached-once s t v input r h e = evaluated-once input (accepted-passes s v) r h e
+reached-once s t v input r h e = evaluated-once input (accepted-passes v) r h e
 
 pub reached-expressions : ReachedExpressions
 reached-expressions s t v input r Γ ρ c =
-    let o = scope-checked t (accepted-passes s v) v (evaluates-scope c) in (o .there, o .sort)
+    let o = scope-checked t (accepted-passes v) v (evaluates-scope c) in (o .there, o .sort)
 
 pub fired-in : FiredIn
 unfolding finalFired
@@ -84,7 +84,7 @@ fired-in s stim words e =
 
 pub first-yes-tells : FirstYesTells
 first-yes-tells s t v d h e x =
-    let w = written (accepted-passes s v) in tells-first w d (past-header w d (rw e)) h e x
+    let w = written (accepted-passes v) in tells-first w d (past-header w d (rw e)) h e x
 
 -- a call that is refused
 told-refusal : (s stim words : List ℕ) (c p : ℕ) → firedAnswer s stim words ≡ Refused c p → ToldFired s stim words (inOne c p) words
@@ -105,7 +105,7 @@ module _ {s : List ℕ} {n : ℕ} {W : List ℕ} {t : ℕ} (g : Accepting s n W)
     pub told-input : (c p : ℕ) → a ≡ Refused c p → (result : ℕ) → result ≡ packed a → ToldFired s stim words result words
     unfolding firedAnswer
     told-input c p e result q =
-        rw (q, e) (told-refusal s stim words c p (one-cycle-input 16 (count s) s stim words t v a h c p e))
+        rw (q, e) (told-refusal s stim words c p (one-cycle-input 16 (count s) words v h c p e))
 
     module _ (k : ℕ) (e : a ≡ Done k) where
       -- 16
@@ -115,7 +115,7 @@ module _ {s : List ℕ} {n : ℕ} {W : List ℕ} {t : ℕ} (g : Accepting s n W)
           let same = g .sized .counted in
           rw (q, same)
           (told-refusal s stim words 16 (count s)
-          (one-cycle-length 16 (count s) s stim words t v a h k e (λ y. d (y ∙ rw same refl))))
+          (one-cycle-length 16 (count s) words v h k e (λ y. d (y ∙ rw same refl))))
 
       module _ (y : length words ≡ n) where
         pub telling : TellingFired s n W t stim words
@@ -130,8 +130,8 @@ module _ {s : List ℕ} {n : ℕ} {W : List ℕ} {t : ℕ} (g : Accepting s n W)
         pub told-done : (words′ : List ℕ) → words′ ≡ fired s stim → ToldFired s stim words 0 words′
         unfolding finalFired firedAnswer
         told-done words′ o =
-            let f = one-cycle-good 16 (count s) s stim words t v a h k e (y ∙ g .sized .counted) in
-            let d : firedAnswer s stim words ≡ Done 0 = one-cycle-done 16 (count s) s stim words f in
+            let f = one-cycle-good {lent = words} v h k e (y ∙ g .sized .counted) in
+            let d : firedAnswer s stim words ≡ Done 0 = one-cycle-done 16 f in
             record { result-is = rw d refl; words-is = rw (o, d) refl }
 
 -- the cycle whose words are told begins from the sheet that was checked
@@ -140,11 +140,11 @@ module _ {s : List ℕ} {n : ℕ} {W : List ℕ} {t : ℕ} {input words : List �
   output-there =
       let c = g .accepting .sized .counted in
       let f = g .accepting .sized .few in
-      let h = output-typed s (g .accepted) .there in
+      let h = output-typed (g .accepted) .there in
       omega arith
 
   output-width : getD W t 0 ≡ leaves (typeAt s t)
-  output-width = g .accepting .table .types t (output-typed s (g .accepted))
+  output-width = g .accepting .table .types t (output-typed (g .accepted))
 
   pub output-few : getD W t 0 ≤ 64
   output-few = let f = accepted-few s (g .accepted) in let e = output-width in omega arith

@@ -36,9 +36,9 @@ use Rattle.meaning.proofs.FixedPoint.{
 }
 
 module _
-    (undecided : List ℕ → List ℕ → List ℕ)
+    {undecided : List ℕ → List ℕ → List ℕ}
     (law : Lawful undecided)
-    (Declared : Ty → Type 0)
+    {Declared : Ty → Type 0}
     {Γ : List Ty}
     {ρ : List (List ℕ)}
     {σ : Ty}

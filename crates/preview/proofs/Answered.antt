@@ -17,7 +17,6 @@ use Rattle.verdict.specs.Verdict.{sheetChecks, outputType, verdict}
 use Rattle.verdict.specs.declared.Verdict.the-variants.{Accepted}
 use Rattle.accepted.proofs.Calls.{accepted-output}
 use Rattle.accepted.proofs.Small.{accepted-few}
-use Rattle.meaning.specs.Undecided.{undecidedRule}
 use Rattle.meaning.proofs.UndecidedRule.{rule-lawful}
 use Rattle.stimulus.specs.Stimulus.{inputLeaves, cycleCount, stimulusChecks}
 use Rattle.stimulus.specs.OneCycle.{oneCycleChecks}
@@ -127,4 +126,4 @@ unfolding finalPreview
 typed s stim out e =
     let h = lowest-first s stim out (Done 0) .0 e .0 in
     let passes : NoneApplies (oneCycleChecks s stim) = (rw (h .one-cycle) refl, (h .fitting, tt)) in
-    rw e (output-typed undecidedRule rule-lawful s (h .accepted) stim (one-cycle-typed s stim passes))
+    rw e (output-typed rule-lawful s (h .accepted) (one-cycle-typed s stim passes))

@@ -50,7 +50,7 @@ unfolding verdict byRecords byTypes wrongLength wrongHeader wrongRecord wrongNam
 toggle-accepted = refl
 
 passes : Passes toggle
-passes = accepted-passes toggle toggle-accepted
+passes = accepted-passes toggle-accepted
 
 full : length toggle ≡ 12 * count toggle
 full = accepted-records toggle toggle-accepted

@@ -209,7 +209,7 @@ module _ {s : List ℕ} {n : ℕ} {W stim : List ℕ} {wi wo count : ℕ} {curre
         output-long : length (output begins input) ≡ wo
         output-long =
             value-length (typeAt begins (r .type))
-            (output-typed undecidedRule rule-lawful begins begins-accepted input
+            (output-typed rule-lawful begins begins-accepted {i = input}
             (rw (header-same (accepted-written s (r .accepted)) delays 2 (omega arith), same-type begins-leaves (wordA s 0)) input-typed))
             ∙ rw (same-type begins-leaves (r .type)) (sym (r .gives))
 

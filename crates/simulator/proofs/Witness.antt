@@ -62,7 +62,7 @@ names = replicate 4096 0
 -- a well-formed call with a first cycle
 module _ {s stim out next : List ℕ} {t : ℕ} (h : WellFormed s stim out next t) (some : 0 < length stim) where
   passes : Passes s
-  passes = accepted-passes s (h .accepted)
+  passes = accepted-passes (h .accepted)
 
   full : length s ≡ 12 * count s
   full = accepted-records s (h .accepted)
