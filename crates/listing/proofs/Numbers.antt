@@ -10,10 +10,12 @@ use Rattle.listing.specs.Wrote.{Wrote}
 use Rattle.listing.proofs.Written.{wrote-then}
 use Rattle.listing.proofs.Digits.{digits-one, digits-more}
 
-module _ (size at n : ℕ) (room : at + length (digits n) ≤ size) where
+module _ {size at n : ℕ} (room : at + length (digits n) ≤ size) where
   pub one-room : n < 10 → at < size
   one-room h = let e : length (digits n) ≡ 1 = ap length (digits-one n h) in omega arith
 
+-- no signature here determines the place
+module _ {size n : ℕ} (at : ℕ) (room : at + length (digits n) ≤ size) where
   -- the front digits leave room for the last
   pub front-room : 10 ≤ n → at + length (digits (n / 10)) < size
   front-room h =
@@ -22,7 +24,7 @@ module _ (size at n : ℕ) (room : at + length (digits n) ≤ size) where
       in
       omega arith
 
-module _ {buffer : List ℕ} {at : ℕ} (n : ℕ) where
+module _ {buffer : List ℕ} {at n : ℕ} where
   pub one-digit :
       {after : List ℕ} {place : ℕ} →
       n < 10 →

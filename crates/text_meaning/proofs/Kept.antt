@@ -76,7 +76,7 @@ runs : (ds : List Declaration) (declared : Ty → Type 0) {e f : Expr} {c : Circ
     → (after : Circuit) × GivesSeq (afterAll atFirst ds) c (map (nameTree ds) is) (map (nameTree ds) os) after
 runs ds declared {c = c} s-end t env k r = (c, no-cycle)
 runs ds declared (s-cycle x y) t (of-all-more h hs) k r =
-    let u = follows ds declared (numbered ds) x t (of-more h of-none) (one-known k none-known) scoped-input r in
+    let u = follows (numbered ds) x t (of-more h of-none) (one-known k none-known) scoped-input r in
     let v = runs ds declared y (u .typed) hs k (u .related) in
     (v .0, one-cycle (u .gives) (v .1))
 

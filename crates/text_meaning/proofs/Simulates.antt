@@ -94,17 +94,18 @@ use Rattle.text_meaning.proofs.InScope.{
   not-found,
 }
 
+module _ {ds : List Declaration} where
+  -- the constant of a delay after the cycle
+  stands-for : {τ : Ty} {k : ConstantTree} {v : List ℕ} → KnownType ds τ → ConstantOf τ k → flatten k ≡ v → StandsFor ds τ v (nameTree ds k)
+  stands-for {τ} {k} {v} known of e =
+      record { value = λ c of-c e-c. ap (nameTree ds) (flatten-one of-c of (e-c ∙ sym e)); known = known }
+
 module _
-    (ds : List Declaration)
-    (Declared : Ty → Type 0)
+    {ds : List Declaration}
+    {Declared : Ty → Type 0}
     (numbered : (w : List ℕ) → isDeclared constructorRole w (afterAll atFirst ds) ≡ true
     → IsNumber ds w (constructorMeant (constructorEntries ds) w))
   where
-    -- the constant of a delay after the cycle
-    stands-for : {τ : Ty} {k : ConstantTree} {v : List ℕ} → KnownType ds τ → ConstantOf τ k → flatten k ≡ v → StandsFor ds τ v (nameTree ds k)
-    stands-for {τ} {k} {v} known of e =
-        record { value = λ c of-c e-c. ap (nameTree ds) (flatten-one of-c of (e-c ∙ sym e)); known = known }
-
     mutual
       pub follows : {Γ : List Ty} {bound : List (List ℕ)} {l : List ConstantTree} {ρ : List Binding} {e f : Expr} {c : Circuit} {τ : Ty}
           {k : ConstantTree} → Reduces undecidedConstant l e k f → Typed Declared Γ e τ → ConstantsOf Γ l → AllKnown ds Γ
