@@ -96,16 +96,16 @@ abbrev table : List ℕ
 table = Callable.table passes full
 
 abbrev scope : List ℕ
-scope = Callable.scope passes full
+scope = Callable.scopeStack passes full
 
 abbrev noted : List ℕ
-noted = Callable.noted passes full
+noted = Callable.widthsNoted passes full
 
 abbrev index : List ℕ
 index = Callable.index passes full
 
 abbrev types : List ℕ
-types = Callable.types passes full
+types = Callable.typesNoted passes full
 
 -- the index of pair types, before record 3 and whole
 note-pairs-there : (none : List ℕ) × Sized sheet (count sheet) × Indexed sheet 0 none

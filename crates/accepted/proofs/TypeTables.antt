@@ -155,8 +155,8 @@ module _ (s : List ℕ) (p : Passes s) (full : length s ≡ 12 * count s) where
       let y = one-more-indexed s m (omega arith) (x .0) (x .1) in
       (y .0, subst (λ (k : ℕ). Indexed s k (y .0)) (add-one m) (y .1))
 
-  pub pairs : (index : List ℕ) × Indexed s (count s) index
-  pairs = pairs-below (count s) (omega arith)
+  pub pairs-indexed : (index : List ℕ) × Indexed s (count s) index
+  pairs-indexed = pairs-below (count s) (omega arith)
 
   -- the types of the patterns from record m on, where k records are left
   types-above : (k m : ℕ) → m + k ≡ count s → (types : List ℕ) × PatternsTyped s m types
@@ -165,19 +165,19 @@ module _ (s : List ℕ) (p : Passes s) (full : length s ≡ 12 * count s) where
       (replicate 4096 0, subst (λ (k : ℕ). PatternsTyped s k (replicate 4096 0)) c (no-types-typed s))
   types-above (suc k) m e =
       let x = types-above k (m + 1) (omega arith) in
-      let q : TypingPattern s (count s) (pairs .0) (x .0) m =
-      record { sized = sized p full; passes = p; indexed = pairs .1; there = omega arith; above = x .1 } in
+      let q : TypingPattern s (count s) (pairs-indexed .0) (x .0) m =
+      record { sized = sized p full; passes = p; indexed = pairs-indexed .1; there = omega arith; above = x .1 } in
       one-more-typed q
 
   pub types-from : (m : ℕ) → m ≤ count s → (types : List ℕ) × PatternsTyped s m types
   types-from m h = types-above (count s - m) m (omega arith)
 
-  pub typing-pattern : (r : ℕ) → r < count s → (types : List ℕ) × TypingPattern s (count s) (pairs .0) types r
+  pub typing-pattern : (r : ℕ) → r < count s → (types : List ℕ) × TypingPattern s (count s) (pairs-indexed .0) types r
   typing-pattern r h =
       let x = types-from (r + 1) (omega arith) in (
         x .0,
-        record { sized = sized p full; passes = p; indexed = pairs .1; there = h; above = x .1 },
+        record { sized = sized p full; passes = p; indexed = pairs-indexed .1; there = h; above = x .1 },
       )
 
-  pub type-tables : (types : List ℕ) × TypeTables s (count s) (pairs .0) types
-  type-tables = let x = types-from 0 (omega arith) in (x .0, record { indexed = pairs .1; typed = x .1 })
+  pub type-tables : (types : List ℕ) × TypeTables s (count s) (pairs-indexed .0) types
+  type-tables = let x = types-from 0 (omega arith) in (x .0, record { indexed = pairs-indexed .1; typed = x .1 })

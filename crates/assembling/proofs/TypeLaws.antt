@@ -38,14 +38,14 @@ undeclared-leaves (x ∷ T) d l =
     ∙ ap (λ b. cond b (leavesOver T x) (leavesNumbered T d)) (ne-eqb d (suc (length T)) (λ e. omega arith))
     ∙ undeclared-leaves T d (omega arith)
 
-pub few-leaves : (T : List DeclaredType) (d : ℕ) → leavesNumbered T d ≤ 64
-few-leaves [] d = omega arith
-few-leaves (flatType n ∷ T) d = go (eqb d (suc (length T))) (few-leaves T d)
+pub few-leaves-numbered : (T : List DeclaredType) (d : ℕ) → leavesNumbered T d ≤ 64
+few-leaves-numbered [] d = omega arith
+few-leaves-numbered (flatType n ∷ T) d = go (eqb d (suc (length T))) (few-leaves-numbered T d)
   where
     go : (b : Bool) → leavesNumbered T d ≤ 64 → cond b 1 (leavesNumbered T d) ≤ 64
     go true l = omega arith
     go false l = l
-few-leaves (pairedType x y ∷ T) d = go (eqb d (suc (length T))) (few-leaves T d)
+few-leaves-numbered (pairedType x y ∷ T) d = go (eqb d (suc (length T))) (few-leaves-numbered T d)
   where
     go : (b : Bool) → leavesNumbered T d ≤ 64 → cond b (min 64 (leavesNumbered T x + leavesNumbered T y)) (leavesNumbered T d) ≤ 64
     go true l = omega arith

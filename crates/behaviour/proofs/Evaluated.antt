@@ -51,10 +51,10 @@ module _ (undecided : List ℕ → List ℕ → List ℕ) where
   root-stored s i h = refl
 
   -- the value of a feedback's name: any in the chain from undefined that an application gives back unchanged
-  pub unchanged-settled : (ρ : List (List ℕ)) (σ : Ty) (t : Term) (k : ℕ) → k ≤ leaves σ
+  pub stopped-settled : (ρ : List (List ℕ)) (σ : Ty) (t : Term) (k : ℕ) → k ≤ leaves σ
       → application undecided ρ t (iter (application undecided ρ t) k (undefined σ)) ≡ iter (application undecided ρ t) k (undefined σ)
       → settled undecided ρ σ t ≡ iter (application undecided ρ t) k (undefined σ)
-  unchanged-settled ρ σ t k h e = iter-stays (application undecided ρ t) k (undefined σ) e (leaves σ) h
+  stopped-settled ρ σ t k h e = iter-stays (application undecided ρ t) k (undefined σ) e (leaves σ) h
 
   module _ (s : List ℕ) (w : Written s) (Γ : List ℕ) (ρ : List (List ℕ)) (r : ℕ) (b : r < count s) where
     pub constant-value : kindAt s r ≡ expression constant → valueAt undecided s Γ ρ r ≡ leafValues s (chain s (wordB s r))

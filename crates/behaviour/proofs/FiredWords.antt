@@ -72,7 +72,7 @@ use Rattle.behaviour.proofs.Members.{either}
 use Rattle.behaviour.proofs.Entries.{place-of-member, put-leaves, put-elsewhere}
 use Rattle.behaviour.proofs.Cells.{table-cells}
 use Rattle.behaviour.proofs.Reaching.{evaluates-scope, one-evaluation}
-use Rattle.behaviour.proofs.AgreedEntries.{entry-of-place, read-agreed, zeros}
+use Rattle.behaviour.proofs.AgreedEntries.{entry-of-place, read-agreed, zero-everywhere}
 
 -- the entry of an IF that is reached with these names and values
 abbrev ifEntry : (sheet : List ℕ) → ℕ → List ℕ → List (List ℕ) → Entry
@@ -244,7 +244,7 @@ fired-words s t v input = record { one-a-record = as-many; at-if = at-if; elsewh
         let o = circuit-fires s t v input (x .0) (x .1) in
         let at : o .at ≡ r = ap (λ (y : Entry). y .place) (sym (o .entry-is)) ∙ x .2 in
         f (rw at at (o .is-if)))
-        ∙ zeros (count s) r
+        ∙ zero-everywhere (count s) r
 
 -- the first entries of a table, after entries are put
 take-set : (n : ℕ) (h : List ℕ) (l v : ℕ) → take n (set h l v) ≡ set (take n h) l v

@@ -122,9 +122,9 @@ module _ (pairs firsts seconds : List ℕ) where
       → LeavesHeld (heldTypes pairs firsts seconds types) leaves types
   leaves-held {types = types} h = record { counted = h; none-above = none-above types; none-of-zero = none-of-zero types }
 
-  pub some-leaves : {leaves : List ℕ} {types : ℕ}
+  pub types-have-leaves : {leaves : List ℕ} {types : ℕ}
       → ((k : ℕ) → k < types → getD leaves k 0 ≡ leavesNumbered (heldTypes pairs firsts seconds types) (suc k)) → SomeLeaves leaves types
-  some-leaves {leaves} {types} h = (heldTypes pairs firsts seconds types, leaves-held h)
+  types-have-leaves {leaves} {types} h = (heldTypes pairs firsts seconds types, leaves-held h)
 
   -- the whole
   module _ {ops code-firsts code-seconds : List ℕ} {m : ℕ} {leaves : List ℕ} {types records : ℕ} {sheet : List ℕ} (input : ℕ)

@@ -56,18 +56,18 @@ use Rattle.firing.specs.Promises.{
 records-few : (s : List ℕ) (t : ℕ) → verdict s ≡ Accepted t → count s ≤ 4096
 records-few s t v = let l = accepted-length s v in let w = accepted-records s v in omega arith
 
-pub lowest-first : FiredLowestFirst
+pub fired-lowest-first : FiredLowestFirst
 unfolding firedAnswer
-lowest-first s stim words a = one-cycle-lowest-first 16 (count s) s stim words a
+fired-lowest-first s stim words a = one-cycle-lowest-first 16 (count s) s stim words a
 
-pub places-small : FiredPlacesSmall
+pub fired-places-small : FiredPlacesSmall
 unfolding firedAnswer
-places-small s stim words =
+fired-places-small s stim words =
     one-cycle-place 16 (count s) s stim words (λ t v. let f = records-few s t v in omega arith)
 
-pub unaltered : FiredUnaltered
+pub fired-unaltered : FiredUnaltered
 unfolding finalFired
-unaltered s stim words f = kept-bytes (firedAnswer s stim words) (fired s stim) words f
+fired-unaltered s stim words f = kept-bytes (firedAnswer s stim words) (fired s stim) words f
 
 pub reached-once : ReachedOnce
 reached-once s t v input r h e = evaluated-once input (accepted-passes s v) r h e
@@ -79,7 +79,7 @@ reached-expressions s t v input r Γ ρ c =
 pub fired-in : FiredIn
 unfolding finalFired
 fired-in s stim words e =
-    let f = lowest-first s stim words (Done 0) .0 e .0 in
+    let f = fired-lowest-first s stim words (Done 0) .0 e .0 in
     (rw e (fired-words s _ (f .accepted) stim .one-a-record), rw e refl)
 
 pub first-yes-tells : FirstYesTells
@@ -136,8 +136,8 @@ module _ {s : List ℕ} {n : ℕ} {W : List ℕ} {t : ℕ} (g : Accepting s n W)
 
 -- the cycle whose words are told begins from the sheet that was checked
 module _ {s : List ℕ} {n : ℕ} {W : List ℕ} {t : ℕ} {input words : List ℕ} (g : TellingFired s n W t input words) where
-  pub output-there : t < 4096
-  output-there =
+  pub fired-output-there : t < 4096
+  fired-output-there =
       let c = g .accepting .sized .counted in
       let f = g .accepting .sized .few in
       let h = output-typed s (g .accepted) .there in
@@ -146,8 +146,8 @@ module _ {s : List ℕ} {n : ℕ} {W : List ℕ} {t : ℕ} {input words : List �
   output-width : getD W t 0 ≡ leaves (typeAt s t)
   output-width = g .accepting .table .types t (output-typed s (g .accepted))
 
-  pub output-few : getD W t 0 ≤ 64
-  output-few = let f = accepted-few s (g .accepted) in let e = output-width in omega arith
+  pub fired-output-few : getD W t 0 ≤ 64
+  fired-output-few = let f = accepted-few s (g .accepted) in let e = output-width in omega arith
 
   pub words-few : length words ≤ 4096
   words-few = let f = records-few s t (g .accepted) in let r = g .room in omega arith
@@ -179,6 +179,6 @@ module _ {s : List ℕ} {n : ℕ} {W : List ℕ} {t : ℕ} {input words : List �
   pub told-looking : (names held output : List ℕ) → length names ≡ 4096 → length held ≡ 4096 → length output ≡ 64
       → Cycling s n W (take 4096 names) held input s (take (getD W t 0 - 0) output)
   told-looking names held output wide long room =
-      let f = output-few in
+      let f = fired-output-few in
       told-cycling (take 4096 names) held (take (getD W t 0 - 0) output) (length-take-le 4096 names (omega arith)) long
       (length-take-le (getD W t 0 - 0) output (omega arith) ∙ omega arith)

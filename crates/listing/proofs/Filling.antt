@@ -33,8 +33,8 @@ line-more :
 line-more w count k leaves = lines-join w count 1 k leaves ∙ rw append-nil refl
 
 module _ {buffer : List ℕ} {at k w : ℕ} {outputs : List ℕ} {first : ℕ} (asked : Fillable buffer at k w outputs first) where
-  pub none-filled : Filling buffer at k w outputs first buffer 0 first at
-  none-filled =
+  pub no-line-filled : Filling buffer at k w outputs first buffer 0 first at
+  no-line-filled =
       record {
         wrote = wrote-none buffer at (asked .room);
         taken = rw (zero-mul w) (omega arith);
@@ -98,8 +98,8 @@ printed-inside : (w k first : ℕ) (outputs text : List ℕ) → Printed w outpu
 printed-inside w k first outputs text nothing = omega arith
 printed-inside w k first outputs text (piece buffer at after count next end p h) = h .lines .inside
 
-pub whole : WholeListing
-whole w k first outputs text some p left =
+pub whole-listing : WholeListing
+whole-listing w k first outputs text some p left =
     let lines = printed-lines w k first outputs text p in
     let inside = printed-inside w k first outputs text p in
     let start = lines .1 in

@@ -48,8 +48,8 @@ module _ {texts : List ℕ → List ℕ} {item : ℕ → List ℕ} (each : Each 
         in
         omega arith
 
-  pub begin : (buffer : List ℕ) (at : ℕ) (items : List ℕ) → at ≤ length buffer → Begun texts buffer at items 0 buffer at
-  begin buffer at items h = record { few = omega arith; so-far = rw (each .none) (wrote-none buffer at h) }
+  pub items-begun : (buffer : List ℕ) (at : ℕ) (items : List ℕ) → at ≤ length buffer → Begun texts buffer at items 0 buffer at
+  items-begun buffer at items h = record { few = omega arith; so-far = rw (each .none) (wrote-none buffer at h) }
 
   module _ {buffer : List ℕ} {at : ℕ} {items : List ℕ} {i : ℕ} {now : List ℕ} {place : ℕ} (b : Begun texts buffer at items i now place) where
     pub next-room :

@@ -155,9 +155,9 @@ module _ (s stim : List ℕ) (i o many : ℕ) (m : Measured s i o) (q : OutputsL
         let y : r % 2 ^ 32 ≡ p = apart .1 ∙ ap place e in
         rw (← same-answer, e, z, y) (sym (refusal-text c p (v % 2 ^ 32) w ro (refused-code s stim lo ln c p e)))
 
-    pub told : (out′ next′ : List ℕ) → take many out′ ≡ ro → many ≤ length out′ → take (length s) next′ ≡ rn
+    pub run-told : (out′ next′ : List ℕ) → take many out′ ≡ ro → many ≤ length out′ → take (length s) next′ ≡ rn
         → Tells s stim (r / 2 ^ 32) (r % 2 ^ 32) (v % 2 ^ 32) w many out′ next′
-    told out′ next′ eo′ inside en′ =
+    run-told out′ next′ eo′ inside en′ =
         record {
           coded = apart .0 ∙ ap code same-answer;
           text = rw eo′ (sym (go (answer s stim lo ln) refl));
@@ -192,7 +192,7 @@ module _ (s stim : List ℕ) (i o many : ℕ) (m : Measured s i o) (q : OutputsL
       → v ≡ packed (verdictAnswer (verdict s)) → (0 < w) × (w ≤ 64) × (0 < o → o ≤ 64 → w ≡ o)
       → Tells s stim (r / 2 ^ 32) (r % 2 ^ 32) (v % 2 ^ 32) w many (ro ++ drop (many - 0) out) (rn ++ drop (length s - 0) next)
   told-lent {ro = ro} {rn = rn} ran lo ln ev ew =
-      told s stim i o many m q (take (many - 0) out) (take (length s - 0) next) out-long next-long ran ev ew
+      run-told s stim i o many m q (take (many - 0) out) (take (length s - 0) next) out-long next-long ran ev ew
       (ro ++ drop (many - 0) out) (rn ++ drop (length s - 0) next)
       (take-at ro (drop (many - 0) out) many (lo ∙ out-long))
       (let l = length-append ro (drop (many - 0) out) in let e = out-long in omega arith)

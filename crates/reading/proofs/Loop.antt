@@ -74,10 +74,10 @@ module _ {text : List ℕ} {i state word depth : ℕ} {stack : List ℕ} (left :
       subst (Told text) (ap (concluded (length text)) (one-byte h false state′ word′ depth′ stack′ s)) (first-illegal-exact text)
 
   -- nothing left
-  pub all-read : min 65535 (length text) ≤ i → Ready state word depth stack → (letter : ℕ) → getD letterTable word 0 ≡ letter
+  pub text-read : min 65535 (length text) ≤ i → Ready state word depth stack → (letter : ℕ) → getD letterTable word 0 ≡ letter
       → (o : Option ℕ) → o ≡ conclusion (length text) state letter → Told text o
   unfolding firstIllegal
-  all-read h r letter l o e =
+  text-read h r letter l o e =
       let none-left : drop i (readOf text) ≡ [] = drop-of-length-le (readOf text) {i = i} (omega (arith, length-take limit text)) in
       subst (Told text)
       (ap (concluded (length text)) (left .same-walk ∙ ap (λ k. walk k i (live (stateOf state) (stackOf depth stack) (wordOf word))) none-left)

@@ -12,7 +12,7 @@ use Rattle.naming.specs.TokenWalk.{ScopeEffect, keepsScope, pends, declaresFirs
 use Rattle.symbols.specs.Names.{declaredNames}
 use Rattle.instructions.specs.TokenOrder.{typesAmong, constructorsAmong}
 use Rattle.resolving.specs.Said.{Declares, Numbered, typesBelow, ranksBelow}
-use Rattle.resolving.proofs.NameEntries.{types-counted, ranks-counted}
+use Rattle.resolving.proofs.NameEntries.{type-names-counted, ranks-counted}
 
 -- some names before others
 data Extends (D : List DeclaredName) : List DeclaredName → Type 0 where
@@ -101,9 +101,9 @@ still-numbered {text} {spans} {roles} {spans′} {roles′} d s = record {
   ranks-long = s .ranks-long;
   types-right = λ k h.
       s .types-right k h
-      ∙ sym (types-counted text spans roles (suc k))
+      ∙ sym (type-names-counted text spans roles (suc k))
       ∙ ap typesAmong (sym (d .same (suc k) (omega arith)))
-      ∙ types-counted text spans′ roles′ (suc k);
+      ∙ type-names-counted text spans′ roles′ (suc k);
   ranks-right = λ k h.
       s .ranks-right k h
       ∙ sym (ranks-counted text spans roles (suc k))

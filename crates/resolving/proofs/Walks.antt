@@ -85,10 +85,10 @@ pub record Meets (text : List ℕ) (ts : List Token) (t : Text) (first end class
   pub same-code : walkInstructions begins firstScope ts
       ≡ said ++ (instructionsOn q K token S ++ walkInstructions (perform action K noWord) (scopeAfter q token S) others)
 
-pub meets : {text : List ℕ} {ts : List Token} {t : Text} {i first end class : ℕ} {q : State} {K : List State} {S : NameScope} {said : List Instruction} → i ≤ length text
+pub meets-token : {text : List ℕ} {ts : List Token} {t : Text} {i first end class : ℕ} {q : State} {K : List State} {S : NameScope} {said : List Instruction} → i ≤ length text
     → first ≡ i + blanksIn (drop i text) → first < length text → FoundFrom text i first end class → Walks text ts t i q K S said
     → Meets text ts t first end class q K S said
-meets {text} {ts} {t} {i} {first} {end} {class} {q} {K} {S} {said} l e h f w = go (w .left) (w .lexed) (w .readable) (w .same-place) (w .same-code)
+meets-token {text} {ts} {t} {i} {first} {end} {class} {q} {K} {S} {said} l e h f w = go (w .left) (w .lexed) (w .readable) (w .same-place) (w .same-code)
   where
     go : (l : List Token) → Tokens i (drop i text) l → ends (afterTokens (live q K noWord) l) ≡ true
         → firstBadPlace (nameChecks t) ≡ firstBadPlace (walkChecks (live q K noWord) S l)

@@ -13,9 +13,9 @@ none-bad [] e = no-check-left
 none-bad (checkAt p true ∷ cs) e = one-holds (none-bad cs e)
 none-bad (checkAt p false ∷ cs) e = let z : _≡_ {A = ℕ} 0 1 = cc in absurd (omega arith)
 
-pub all-none : {cs : List PlacedCheck} → AllPass cs → firstBadPlace cs ≡ none
-all-none no-check-left = refl
-all-none (one-holds h) = all-none h
+pub all-pass-none : {cs : List PlacedCheck} → AllPass cs → firstBadPlace cs ≡ none
+all-pass-none no-check-left = refl
+all-pass-none (one-holds h) = all-pass-none h
 
 pub both-pass : {cs ds : List PlacedCheck} → AllPass cs → AllPass ds → AllPass (cs ++ ds)
 both-pass no-check-left k = k

@@ -25,7 +25,7 @@ use Rattle.instructions.specs.Instruction.{heldFrom, heldCode}
 use Rattle.instructions.specs.TextOrder.{textInstructions}
 use Rattle.instructions.specs.Assembly.{DeclaredType, Assembly, nothingAssembled, assembleAll, leavesNumbered, heldTypes}
 use Rattle.instructions.specs.RecordOrder.{declaredTypes, textCode}
-use Rattle.instructions.specs.Emission.{Emission, emission, number, writtenOf, cursorOf, emitAll, recordsWritten}
+use Rattle.instructions.specs.Emission.{Emission, emission, ofNumber, writtenOf, cursorOf, emitAll, recordsWritten}
 use Rattle.instructions.proofs.Assembled.{assembled}
 use Rattle.instructions.proofs.Written.{declared-many, emitted, laid-many, records-written}
 use Rattle.assembling.specs.Held.{untypedAt}
@@ -141,7 +141,7 @@ module _ {bytes pairs parts others leaves ops firsts seconds : List ℕ} {types 
   emission-is : ok ≡ true
       → emittedFrom (heldTypes pairs parts others types) ops firsts seconds code all
       ≡ emission (laid (w .first ∷ w .more) [] (suc (length (w .first ∷ w .more))) (w .root)) (suc (length (w .first ∷ w .more)))
-      (number (suc (length (w .first ∷ w .more))) ∷ []) 0
+      (ofNumber (suc (length (w .first ∷ w .more))) ∷ []) 0
   emission-is o =
       ap (λ T. emitAll T (emission [] all [] 0) (heldCode ops firsts seconds code)) (w .types-are)
       ∙ ap₂ (λ k C. emitAll (declaredTypes (w .first ∷ w .more)) (emission [] k [] 0) C) needs (w .code-is)
@@ -166,11 +166,11 @@ module _ {bytes pairs parts others leaves ops firsts seconds : List ℕ} {types 
         fits = omega (arith, v, k, t, a);
       }
 
-  pub written : (entry exit : List ℕ) → ok ≡ true → 12 * all ≤ length entry → all ≤ 4096
+  pub out-written : (entry exit : List ℕ) → ok ≡ true → 12 * all ≤ length entry → all ≤ 4096
       → Emitted (heldTypes pairs parts others types) (emittedFrom (heldTypes pairs parts others types) ops firsts seconds code all) input all entry exit
       → TranslatedInOne bytes entry (12 * all) exit
   unfolding sheetOfText
-  written entry exit o l m x =
+  out-written entry exit o l m x =
       let room : noRoom source (length entry) ≡ false =
       ap (λ b. cond b true (ltb 4096 (recordsNeeded source)))
       (le-ltb (length entry) (lengthNeeded source) (subst (λ k. 12 * k ≤ length entry) needs l))

@@ -53,8 +53,8 @@ module _ (value slot : List ℕ) (room : length value ≤ length slot) where
     pub few : i ≤ length value
     pub so-far : take i value ≡ take i slot
 
-  pub same-next : (i : ℕ) → i < length value → Same i → getD slot i 0 ≡ getD value i 0 → Same (i + 1)
-  same-next i h c e =
+  pub slot-same-next : (i : ℕ) → i < length value → Same i → getD slot i 0 ≡ getD value i 0 → Same (i + 1)
+  slot-same-next i h c e =
       record {
         few = omega arith;
         so-far = rw (add-one i, take-suc value i 0 h, take-suc slot i 0 (omega arith), c .so-far, e) refl;
@@ -66,8 +66,8 @@ module _ (value slot : List ℕ) (room : length value ≤ length slot) where
       let e : i ≡ length value = omega arith in
       record { same = λ _. rw (e, take-length value) at (c .so-far); other = λ e. absurd (never-both true refl e) }
 
-  pub one-differs : (i : ℕ) → i < length value → getD slot i 0 ≢ getD value i 0 → Agrees value (take (length value) slot) false
-  one-differs i h d =
+  pub slot-differs : (i : ℕ) → i < length value → getD slot i 0 ≢ getD value i 0 → Agrees value (take (length value) slot) false
+  slot-differs i h d =
       record {
         same = λ e. absurd (never-both false e refl);
         other = λ _ e. d (sym (ap (λ v. getD v i 0) e ∙ getD-take (length value) slot i 0 h));

@@ -56,7 +56,7 @@ use Rattle.verdict.specs.Scopes.{
   in-delay,
 }
 use Rattle.verdict.specs.declared.Verdict.the-variants.{IllTyped}
-use Rattle.verdict.proofs.Places.{places, passes-by-types}
+use Rattle.verdict.proofs.Places.{places-right, passes-by-types}
 use Rattle.verdict.proofs.SaysExactly.{failing-first}
 use Rattle.verdict.proofs.Reached.{
   Standing,
@@ -248,7 +248,7 @@ ill-typed-exactly s r = (there, λ f. back (f .0) (f .1))
   where
     there : verdict s ≡ IllTyped r → Passes s × FirstIllTyped s r
     there e =
-        let says = rw e at (places s) in
+        let says = rw e at (places-right s) in
         let p = says .0 in
         (p, find-first p (wordB s 0) (root-is (written p) .1) (inputs s) at-root r (failing-first s (judgements s (inputs s) (circuit s)) r (says .1)))
 

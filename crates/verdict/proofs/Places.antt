@@ -62,9 +62,9 @@ records-say s l h =
     (λ r e. (l, h, records, namings, types, lowest-some-passes (tooDeep s) (count s) r e))
     (λ depths. types-say s (record { length = l; header = h; records = records; namings = namings; types = types; depths = depths })))))
 
-pub places : Places
+pub places-right : Places
 unfolding verdict
-places s =
+places-right s =
     tested (Says s) (wrongLength s) WrongLength (unless (wrongHeader s) WrongHeader (byRecords s)) (λ e. e)
     (λ l. tested (Says s) (wrongHeader s) WrongHeader (byRecords s) (λ e. (l, e)) (λ h. records-say s l h))
 
@@ -78,4 +78,4 @@ pub accepted-by-types : (s : List ℕ) (t : ℕ) → verdict s ≡ Accepted t �
 accepted-by-types s t = (there, λ p. passes-by-types (p .0) ∙ p .1)
   where
     there : verdict s ≡ Accepted t → Passes s × (byTypes s ≡ Accepted t)
-    there e = let p = (rw e at (places s)) .0 in (p, sym (passes-by-types p) ∙ e)
+    there e = let p = (rw e at (places-right s)) .0 in (p, sym (passes-by-types p) ∙ e)

@@ -21,7 +21,7 @@ use Rattle.verdict.specs.declared.Verdict.the-variants.{
 }
 use Rattle.verdict.proofs.Exact.{exact}
 use Rattle.verdict.proofs.IllTypedExactly.{ill-typed-exactly}
-use Rattle.verdict.proofs.Places.{places}
+use Rattle.verdict.proofs.Places.{places-right}
 
 -- the place of each verdict is below the count, or 0
 place-below : (s : List ℕ) (v : Verdict) → verdict s ≡ v → Says s v → place (verdictAnswer v) < 4096
@@ -40,4 +40,4 @@ place-below s (IllTyped r) e says =
     let few = length-fits s (says .0 .length) .1 in omega (arith, ill-typed-exactly s r .0 e .1 .there)
 
 pub verdict-place : PlacesBelow
-verdict-place s = place-below s (verdict s) refl (places s)
+verdict-place s = place-below s (verdict s) refl (places-right s)
