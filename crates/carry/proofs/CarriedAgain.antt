@@ -39,6 +39,7 @@ use Rattle.records.proofs.Leaves.{chain-leaves}
 use Rattle.records.proofs.Rewritten.{same-type}
 use Rattle.verdict.specs.Verdict.{verdict}
 use Rattle.verdict.specs.declared.Verdict.the-variants.{Accepted}
+use Rattle.accepted.proofs.Small.{accepted-passes}
 use Rattle.accepted.proofs.AcceptedAgain.{ValuesFit, accepted-again}
 use Rattle.accepted.proofs.Scopes.{scope-checked, constant-fits}
 use Rattle.behaviour.specs.Delays.{Entry, assigned}
@@ -52,7 +53,7 @@ use Rattle.carry.specs.Labels.{label, delayType}
 use Rattle.carry.specs.Carried.{leavesAt, heldAt, giver, takenFrom, takenBelow, carried}
 use Rattle.carry.proofs.ApartChains.{first-leaf}
 use Rattle.carry.proofs.Shapes.{shape-bounds}
-use Rattle.carry.proofs.Delays.{accepted-passes, is-written, is-well-named, delay-holds}
+use Rattle.carry.proofs.Delays.{is-written, is-well-named, delay-holds}
 use Rattle.carry.proofs.Takes.{bearer-delay}
 use Rattle.carry.proofs.Entered.{
   giver-some,

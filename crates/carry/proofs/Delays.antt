@@ -16,7 +16,8 @@ use Rattle.records.proofs.TypeRecords.{type-word}
 use Rattle.structure.specs.Rules.{Passes}
 use Rattle.verdict.specs.Verdict.{verdict}
 use Rattle.verdict.specs.declared.Verdict.the-variants.{Accepted}
-use Rattle.accepted.proofs.Laws.{written, well-named, accepted-by-types}
+use Rattle.accepted.proofs.Laws.{written, well-named}
+use Rattle.accepted.proofs.Small.{accepted-passes}
 use Rattle.accepted.proofs.Scopes.{scope-checked, delay-fits, as-many-leaves}
 use Rattle.behaviour.proofs.Scoped.{every-expression}
 use Rattle.carry.specs.Labels.{delayType}
@@ -24,21 +25,18 @@ use Rattle.carry.specs.Carried.{leavesAt, heldAt}
 use Rattle.carry.specs.Carrying.{OfTypes, OfLeaves, IsAccepted}
 
 module _ (s : List ℕ) {t : ℕ} (v : verdict s ≡ Accepted t) where
-  pub accepted-passes : Passes s
-  accepted-passes = accepted-by-types s t .0 v .0
-
   pub is-written : Written s
-  is-written = written accepted-passes
+  is-written = written (accepted-passes s v)
 
   pub is-well-named : WellNamed s
-  is-well-named = well-named accepted-passes
+  is-well-named = well-named (accepted-passes s v)
 
   module _ (r : ℕ) (h : r < count s) (e : kindAt s r ≡ expression delay) where
     -- the value that it holds is of its type
     pub delay-holds : OfType (delayType s r) (heldAt s r)
     delay-holds =
         let c = every-expression is-written is-well-named r (past-header is-written r (rw e refl)) h (rw e refl) in
-        delay-fits accepted-passes (scope-checked t accepted-passes v (c .1)) e
+        delay-fits (accepted-passes s v) (scope-checked t (accepted-passes s v) v (c .1)) e
 
     pub delay-many : length (leavesAt s r) ≡ leaves (delayType s r)
     delay-many = as-many-leaves s (delayType s r) (leavesAt s r) delay-holds

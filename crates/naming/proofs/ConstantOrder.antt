@@ -5,7 +5,7 @@ use Prim.Native.Nat.{ℕ}
 use native.Mathlib.Omega.{arith}
 use mathlib.Core.Path.{_≡_, refl, sym, ap, _∙_}
 use mathlib.Core.Bool.{Bool, true, false, cond}
-use mathlib.Core.List.{List, [], _∷_, _++_}
+use mathlib.Core.List.{List, [], _∷_, _++_, append-nil}
 use Rattle.grammar.specs.Tokens.{Token, Tokens, no-token, a-blank, a-symbol, a-word, spells-keyword, spells-name}
 use Rattle.grammar.specs.Source.{Identifier, Declaration, SourceConstant, SourcePattern, Expression, Text}
 use Rattle.grammar.specs.Grammar.{ReadsOthers, no-other, one-other, ReadsDeclaration, reads-constructors, reads-pair-of}
@@ -16,7 +16,7 @@ use Rattle.grammar.specs.Grammar.{reads-let-rec, reads-if, reads-delay, ReadsTe
 use Rattle.naming.specs.Checks.{checkPlaces}
 use Rattle.naming.specs.Constants.{constantPlace, constantChecks, constantsOfText}
 use Rattle.naming.specs.Promises.{DelayPhase, beforeDelay, bracketNext, constantNext, afterKeyword, isQuery, constantPlaces, Increasing}
-use Rattle.naming.proofs.EachOnce.{places-both, append-nothing}
+use Rattle.naming.proofs.EachOnce.{places-both}
 use Rattle.naming.proofs.TextOrder.{From, from-none, from-one, from-lower, increasing, run-long}
 
 abbrev places : List Token → List ℕ
@@ -72,7 +72,7 @@ expression-constants ds (reads-delay {c} h k) = ap (λ l. constantPlace c ∷ l)
 
 pub each-constant-once : {ts : List Token} {t : Text} → ReadsText ts t → checkPlaces (constantsOfText t) ≡ constantPlaces beforeDelay ts
 each-constant-once (reads-text {d} {ds} {e} h k l) =
-    sym (append-nothing (checkPlaces (constantChecks (d ∷ ds) e))) ∙ expression-constants (d ∷ ds) l ∙ list-none k ∙ declaration-none h
+    sym (append-nil (checkPlaces (constantChecks (d ∷ ds) e))) ∙ expression-constants (d ∷ ds) l ∙ list-none k ∙ declaration-none h
 
 either-from : {i : ℕ} {x y : List ℕ} (b : Bool) → From i x → From i y → From i (cond b x y)
 either-from true f g = f

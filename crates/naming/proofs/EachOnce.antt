@@ -2,7 +2,7 @@
 -- Assumes nothing.
 use Prim.Native.Nat.{ℕ}
 use mathlib.Core.Path.{_≡_, refl, sym, ap, _∙_}
-use mathlib.Core.List.{List, [], _∷_, _++_, append-assoc}
+use mathlib.Core.List.{List, [], _∷_, _++_, append-assoc, append-nil}
 use Rattle.grammar.specs.Tokens.{Token, nameToken}
 use Rattle.grammar.specs.Source.{Identifier, identifier, Declaration, SourceConstant, SourcePattern, Expression, Text}
 use Rattle.grammar.specs.Grammar.{ReadsOthers, no-other, one-other, ReadsDeclaration, reads-constructors, reads-pair-of}
@@ -80,16 +80,12 @@ expression-once {r} D bound (reads-if {c} {d} {e} {f} {g} {m} h i k l) =
 expression-once {r} D bound (reads-delay {c} {e} h k) =
     places-both (constantNames D c) (expressionChecks D bound e) (namePlaces r) (constant-once D h) (expression-once D bound k)
 
-pub append-nothing : (l : List ℕ) → l ++ [] ≡ l
-append-nothing [] = refl
-append-nothing (x ∷ l) = ap (λ k. x ∷ k) (append-nothing l)
-
 pub each-once : {ts : List Token} {t : Text} → ReadsText ts t → checkPlaces (nameChecks t) ≡ namePlaces ts
 each-once (reads-text {p} {w} {c} {d} {ds} {e} h k l) =
     let D = afterAll atFirst (d ∷ ds) in
     let head = declarationsChecks atFirst (d ∷ ds) in
     let body = isOne typeRole D (identifier w p) ∷ expressionChecks D [] e in
-    sym (append-nothing (checkPlaces (head ++ body)))
+    sym (append-nil (checkPlaces (head ++ body)))
     ∙ places-both head body []
     (places-both (declarationChecks atFirst d) (declarationsChecks (afterDeclaration atFirst d) ds) (namePlaces (nameToken w p ∷ c)) (declaration-once atFirst h) (list-once (afterDeclaration atFirst d) k))
     (ap (λ x. p ∷ x) (expression-once D [] l))

@@ -5,7 +5,7 @@ use native.Mathlib.Omega.{arith}
 use native.Mathlib.Numerals.{add-one}
 use mathlib.Core.Path.{_≡_, refl, sym, ap, ap₂, subst, _∙_}
 use mathlib.Core.Bool.{Bool, true, false, cond}
-use mathlib.Core.List.{List, [], _∷_, _++_, append-assoc, map}
+use mathlib.Core.List.{List, [], _∷_, _++_, append-assoc, map, append-nil}
 use lib.ListN.{length, getD, set, length-set, length-append}
 use lib.Seq.{getD-set-same, getD-set-other}
 use lib.Dec.{eqb, leb}
@@ -17,7 +17,6 @@ use Rattle.reading.proofs.RowLaws.{number-of-state}
 use Rattle.instructions.specs.Instruction.{Instruction, instructionOf, heldFrom, openPair}
 use Rattle.instructions.specs.TokenOrder.{opBy, inConstant, declaredOp, pairBefore, nameSaid, valueSaid, otherSaid}
 use Rattle.naming.specs.Declared.{DeclaredName}
-use Rattle.instructions.proofs.Instructed.{append-nothing}
 use Rattle.scoping.proofs.TableLaws.{mapped-at}
 use Rattle.resolving.specs.Said.{sayingTable, CodeSized, CodeHeld, CodeSaid, entryIn, roleAt, namedSaid, classSaid}
 
@@ -135,7 +134,7 @@ module _ {ops firsts seconds : List ℕ} {count : ℕ} (s : CodeSized ops firsts
   pub none-said : CodeSaid ops firsts seconds count [] ops firsts seconds count
   none-said = record {
     sized = s;
-    held = λ code h. subst (λ q. CodeHeld ops firsts seconds count q) (sym (append-nothing code)) h;
+    held = λ code h. subst (λ q. CodeHeld ops firsts seconds count q) (sym (append-nil code)) h;
   }
 
 -- by another name, and one after the other

@@ -29,7 +29,7 @@ use Rattle.emitting.specs.Tables.{heldStack, SomeLeaves}
 use Rattle.emitting.specs.Emitting.{Stacking, Advancing, Emitting}
 use Rattle.emitting.proofs.TypeLaws.{types-have-leaves}
 use Rattle.translator.specs.LayingOut.{LayingOut, WritingOut}
-use Rattle.translator.proofs.BadPlaces.{none-bad}
+use Rattle.naming.proofs.First.{none-bad}
 use Rattle.translator.proofs.LaysOut.{laid-out}
 use Rattle.text_table.specs.SheetRows.{sheetRows}
 use Rattle.text_table.specs.Lexer.{tokensIn}

@@ -37,7 +37,7 @@ use Rattle.instructions.proofs.Written.{declared-many, emitted, records-written
 use Rattle.translator.specs.Translation.{lengthNeeded, noRoom, textAnswer, finalSheet, Translated, outside-grammar, in-grammar}
 use Rattle.translator.proofs.Answered.{answerBy, answered}
 use Rattle.translator.proofs.Kept as Translator
-use Rattle.translator.proofs.BadPlaces.{none-bad}
+use Rattle.naming.proofs.First.{none-bad}
 use Rattle.text_table.specs.Lexer.{tokensIn}
 use Rattle.text_table.specs.Computed.{assembledFrom, roomAnswer, untypedAnswer, assemblyAnswer, namesAnswer, tokensAnswer, illegalAnswer, computedAnswer, assemblyRecords, computedRecords}
 use Rattle.instructions.specs.Emission.{writtenOf}

@@ -40,7 +40,7 @@ use Rattle.emitting.specs.Emitting.{emittedFrom, Emitting, Emitted}
 use Rattle.translator.specs.Translation.{lengthNeeded, noRoom, Translated, outside-grammar, TranslatedInOne}
 use Rattle.translator.specs.LayingOut.{LayingOut, WritingOut}
 use Rattle.translator.proofs.Answered.{bad-name, untyped-constant, no-room, sheet-written}
-use Rattle.translator.proofs.BadPlaces.{none-bad, both-pass}
+use Rattle.naming.proofs.First.{none-bad, both-pass}
 use Rattle.translator.proofs.PlacesWithin.{names-within, constants-within}
 
 types-held : (pairs parts others : List ℕ) (k : ℕ) → length (heldTypes pairs parts others k) ≡ k
