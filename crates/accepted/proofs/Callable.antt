@@ -18,7 +18,7 @@ use Rattle.records.specs.Trees.{typeAt, TypeRecord}
 use Rattle.records.specs.Written.{Written}
 use Rattle.records.proofs.Asked.{past-header}
 use Rattle.structure.specs.Rules.{Passes, depth}
-use Rattle.structure.specs.NamerTable.{Holds}
+use Rattle.structure.specs.NamerTable.{NamingsHeld}
 use Rattle.structure.specs.LeafTable.{Counts}
 use Rattle.structure.specs.PairIndex.{Linked, Indexed}
 use Rattle.structure.specs.DepthTable.{Placed, Placing}
@@ -58,7 +58,7 @@ module _ {s : List ℕ} (p : Passes s) (full : length s ≡ 12 * count s) where
   note-word-callable q k h low high =
       (askNumbers (rowOf (kindWord s q)), replicate 4096 0, size, h, refl, low, high, none-held .long)
 
-  pub note-all-callable : (namers : List ℕ) × Sized s (count s) × Holds (λ _. []) namers
+  pub note-all-callable : (namers : List ℕ) × Sized s (count s) × NamingsHeld (λ _. []) namers
   note-all-callable = (replicate 4096 0, size, none-held)
 
   -- structure: types
@@ -222,12 +222,12 @@ module _ {s : List ℕ} (p : Passes s) (full : length s ≡ 12 * count s) where
   pub check-rules-callable : Ground s (count s) table × (length widthsNoted ≡ 4096)
   check-rules-callable = (at-root .ground, at-root .long)
 
-  pub check-depths-callable : (namers : List ℕ) × (counted : List ℕ) × CheckingDepths s (count s) × Holds (namings s) namers
+  pub check-depths-callable : (namers : List ℕ) × (counted : List ℕ) × CheckingDepths s (count s) × NamingsHeld (namings s) namers
       × Counts s (count s) counted × (length widthsNoted ≡ 4096)
   check-depths-callable =
       let n = namers-held p full in let c = counts p full in (n .0, c .0, fitted p full, n .1, c .1, at-root .long)
 
-  pub check-types-callable : (namers : List ℕ) × CheckingTypes s (count s) × Holds (namings s) namers
+  pub check-types-callable : (namers : List ℕ) × CheckingTypes s (count s) × NamingsHeld (namings s) namers
   check-types-callable = let n = namers-held p full in (n .0, fitted p full .named, n .1)
 
   pub check-names-callable : CheckingNamings s (count s)

@@ -16,7 +16,7 @@ use Rattle.records.specs.Kinds as Kinds
 use Rattle.records.specs.Says.{sortAt, namings}
 use Rattle.records.specs.Sized.{Sized}
 use Rattle.structure.specs.Rules.{Passes, depth, nesting}
-use Rattle.structure.specs.NamerTable.{summary, Holds}
+use Rattle.structure.specs.NamerTable.{summary, NamingsHeld}
 use Rattle.structure.specs.LeafTable.{typeLeaves, Counts}
 use Rattle.structure.specs.DepthTable.{Capped, Placed, Placing}
 use Rattle.structure.proofs.Passes.{written, well-named, length-fits}
@@ -41,7 +41,7 @@ tabulated f (suc n) = go (tabulated f n)
         at r h (no d) = List·getD-append (t .0) (f n ∷ []) 0 r (omega (arith, t .1)) ∙ t .2 r (omega arith)
 
 -- a table of no namings
-pub none-held : Holds (λ _. []) (replicate 4096 0)
+pub none-held : NamingsHeld (λ _. []) (replicate 4096 0)
 none-held = record { long = length-replicate {A = ℕ} 4096 0; entries = λ r h. getD-replicate {A = ℕ} 4096 r 0 0 h }
 
 module _ {s : List ℕ} (p : Passes s) (whole : length s ≡ 12 * count s) where
@@ -78,7 +78,7 @@ module _ {s : List ℕ} (p : Passes s) (whole : length s ≡ 12 * count s) where
   pub counts : (table : List ℕ) × Counts s (count s) table
   counts = counts-below (count s) few
 
-  pub namers-held : (namers : List ℕ) × Holds (namings s) namers
+  pub namers-held : (namers : List ℕ) × NamingsHeld (namings s) namers
   namers-held = let t = tabulated (λ r. summary (namings s r)) 4096 in (t .0, record { long = t .1; entries = t .2 })
 
   capped : (cap : ℕ) (f : ℕ → ℕ) (m : ℕ) → m ≤ 4096 → (table : List ℕ) × Capped cap f m table

@@ -44,7 +44,7 @@ use lib.ListN.{length}
 use Rattle.records.specs.Sized.{Sized}
 use Rattle.records.specs.Written.{Written}
 use Rattle.picoella.specs.Language.{leaves}
-use Rattle.structure.specs.NamerTable.{Holds}
+use Rattle.structure.specs.NamerTable.{NamingsHeld}
 use Rattle.structure.specs.LeafTable.{Counts}
 use Rattle.structure.specs.PairIndex.{Indexed}
 use Rattle.structure.specs.DepthTable.{Placed, Placing}
@@ -182,7 +182,7 @@ note-word-there
     × (length namers ≡ 4096)
 note-word-there = Callable.note-word-callable (passes .0) full 2 3 (below 2 (omega arith)) (omega arith) (omega arith)
 
-note-all-there : (namers : List ℕ) × Sized sheet (count sheet) × Holds (λ _. []) namers
+note-all-there : (namers : List ℕ) × Sized sheet (count sheet) × NamingsHeld (λ _. []) namers
 note-all-there = Callable.note-all-callable (passes .0) full
 
 count-type-there : (counted : List ℕ) × Sized sheet (count sheet) × (1 < count sheet) × Written sheet × Counts sheet 1 counted
@@ -256,12 +256,12 @@ check-rules-there : Ground sheet (count sheet) table × (length noted ≡ 4096)
 check-rules-there = Callable.check-rules-callable (passes .0) full
 
 check-depths-there
-    : (namers : List ℕ) × (counted : List ℕ) × CheckingDepths sheet (count sheet) × Holds (namings sheet) namers
+    : (namers : List ℕ) × (counted : List ℕ) × CheckingDepths sheet (count sheet) × NamingsHeld (namings sheet) namers
     × Counts sheet (count sheet) counted
     × (length noted ≡ 4096)
 check-depths-there = Callable.check-depths-callable (passes .0) full
 
-check-types-there : (namers : List ℕ) × CheckingTypes sheet (count sheet) × Holds (namings sheet) namers
+check-types-there : (namers : List ℕ) × CheckingTypes sheet (count sheet) × NamingsHeld (namings sheet) namers
 check-types-there = Callable.check-types-callable (passes .0) full
 
 check-names-there : CheckingNamings sheet (count sheet)

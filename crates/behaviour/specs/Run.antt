@@ -78,7 +78,7 @@ finalNext s stim out next =
     let new = sheetAfter undecidedRule s (cycles s stim) in whenDone (answer s stim out next) new next
 
 -- what a call gives, for every content and length of the four slices: the number returned and the final bytes
-pub record Gives (sheet stimulus out next : List ℕ) (result : ℕ) (out′ next′ : List ℕ) : Type 0 where
+pub record RunGiven (sheet stimulus out next : List ℕ) (result : ℕ) (out′ next′ : List ℕ) : Type 0 where
   pub result-is : result ≡ packed (answer sheet stimulus out next)
   pub out-is : out′ ≡ finalOut sheet stimulus out next
   pub next-is : next′ ≡ finalNext sheet stimulus out next

@@ -23,7 +23,7 @@ use Rattle.behaviour.specs.Evaluated.{valueAt, storedAt}
 use Rattle.behaviour.proofs.Evaluated.{stored-again}
 use Rattle.behaviour.specs.Firing.{firedAt}
 use Rattle.behaviour.proofs.Firings.{fired-again}
-use Rattle.values.specs.Answers.{Agrees}
+use Rattle.values.specs.Answers.{Compared}
 use Rattle.values.specs.Slots.{slot, entered, frames}
 use Rattle.evaluator.specs.Evaluating.{EvaluatingIn, EvaluatedIn, Evaluated, SettlingIn, SettledIn, Settled, approximation, leadsTo}
 use Rattle.evaluator.proofs.Frames.{front-kept, slot-kept, frames-kept, entered-kept, entered-slot, entered-long}
@@ -116,7 +116,7 @@ module _ {s : List ℕ} {n : ℕ} {W env : List ℕ} {names d : ℕ} {value : Li
     fired-is : fired₁ ≡ firedAt undecidedRule s (t ∷ Γ) (v ∷ ρ) d fired
     fired-is = rw framed at (d₁ .noted)
 
-    module _ {answer : Bool} (a : Agrees o (slot names (length o) env₁) answer) where
+    module _ {answer : Bool} (a : Compared o (slot names (length o) env₁) answer) where
       standing : slot names (length o) env₁ ≡ v
       standing = rw given-long same-slot
 

@@ -54,7 +54,7 @@ toldText (suc c) p t w outputs = refusedLine (suc c) p
 
 -- what is told of a sheet and a stimulus: the text to print by these numbers and the first so many bytes of the outputs' room, and
 -- where nothing is refused the sheet for next.bin
-pub record Tells (s stim : List ℕ) (c p t w many : ℕ) (out′ next′ : List ℕ) : Type 0 where
+pub record RunTold (s stim : List ℕ) (c p t w many : ℕ) (out′ next′ : List ℕ) : Type 0 where
   pub coded : c ≡ code (runAnswer s stim)
   pub text : toldText c p t w (take many out′) ≡ printed s stim
   pub inside : many ≤ length out′

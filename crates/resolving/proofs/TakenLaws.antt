@@ -25,7 +25,7 @@ use Rattle.scoping.proofs.EffectLaws.{first-scoping}
 use Rattle.scoping.proofs.ScopeLaws.{roomier}
 use Rattle.reading.proofs.Loop.{ready-first}
 use Rattle.symbols.specs.Names.{lettersAt, Hashed, Roles}
-use Rattle.resolving.specs.Walked.{Walks, WalksHeld, Walking, WalkedOn, TokenTaken, TokenNoted, FoundWith, tokenHolds}
+use Rattle.resolving.specs.Walked.{Walks, WalksHeld, TakingToken, WalkedOn, TokenTaken, TokenNoted, FoundWith, tokenHolds}
 use Rattle.resolving.specs.Said.{Numbered, CodeSized, CodeSaid, spanBetween, classSaid}
 use Rattle.resolving.proofs.SayingLaws.{emptied}
 use Rattle.instructions.proofs.NameNumbers.{never-true}
@@ -155,10 +155,10 @@ module _ {text : List ℕ} {start class : ℕ} (h : start < length text) (c : cl
 -- the tables after a token
 pub walking-next : {text : List ℕ} {start state depth base n m count : ℕ} {stack spans links heads roles pendings types ranks ops firsts seconds : List ℕ} {c : Config} {ok : Bool}
     {end state′ word depth′ base′ n′ m′ count′ : ℕ} {stack′ spans′ links′ heads′ roles′ pendings′ types′ ranks′ ops′ firsts′ seconds′ : List ℕ}
-    → Walking text start state depth base n m count stack spans links heads roles pendings types ranks ops firsts seconds → Stepped c depth ok state′ word depth′ stack′
+    → TakingToken text start state depth base n m count stack spans links heads roles pendings types ranks ops firsts seconds → Stepped c depth ok state′ word depth′ stack′
     → start < end → end ≤ length text → Scoping text (n + m + 1) base′ n′ m′ spans′ links′ heads′ roles′ pendings′
     → Numbered roles′ types′ ranks′ base′ → CodeSized ops′ firsts′ seconds′ count′
-    → Walking text end state′ depth′ base′ n′ m′ count′ stack′ spans′ links′ heads′ roles′ pendings′ types′ ranks′ ops′ firsts′ seconds′
+    → TakingToken text end state′ depth′ base′ n′ m′ count′ stack′ spans′ links′ heads′ roles′ pendings′ types′ ranks′ ops′ firsts′ seconds′
 walking-next {end} w s h l z y x = record {
   short = w .short;
   scoping = roomier end (let k = w .scoping .few in omega arith) (let k = w .short in omega arith) z;
@@ -177,7 +177,7 @@ walking-next {end} w s h l z y x = record {
 -- the loop
 pub walking-first : {text stack spans links heads roles pendings types ranks ops firsts seconds : List ℕ} → length text ≤ 65535 → length stack ≡ 65536
     → Hashed text 0 spans links heads → Roles roles 0 → length pendings ≡ 65536 → length types ≡ 65536 → length ranks ≡ 65536 → CodeSized ops firsts seconds 0
-    → Walking text 0 0 0 0 0 0 0 stack spans links heads roles pendings types ranks ops firsts seconds
+    → TakingToken text 0 0 0 0 0 0 0 stack spans links heads roles pendings types ranks ops firsts seconds
 walking-first {stack} h l t r p x y z = record {
   short = h;
   scoping = first-scoping t r p;
@@ -192,8 +192,8 @@ pub walks-begin : {text : List ℕ} {ts : List Token} {t : Text} {ops firsts sec
 walks-begin r = record { said = []; walks = walks-first r; held = λ h. refl }
 
 pub walking-at : {text : List ℕ} {i state depth base n m count : ℕ} {stack spans links heads roles pendings types ranks ops firsts seconds : List ℕ} (first : ℕ)
-    → i ≤ first → first ≤ length text → Walking text i state depth base n m count stack spans links heads roles pendings types ranks ops firsts seconds
-    → Walking text first state depth base n m count stack spans links heads roles pendings types ranks ops firsts seconds
+    → i ≤ first → first ≤ length text → TakingToken text i state depth base n m count stack spans links heads roles pendings types ranks ops firsts seconds
+    → TakingToken text first state depth base n m count stack spans links heads roles pendings types ranks ops firsts seconds
 walking-at first h l w = record {
   short = w .short;
   scoping = roomier first h (let k = w .short in omega arith) (w .scoping);

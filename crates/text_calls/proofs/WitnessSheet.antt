@@ -28,7 +28,7 @@ use Rattle.assembling.specs.Assembled.{typesIn, codeIn, Assembled}
 use Rattle.emitting.specs.Tables.{heldStack, SomeLeaves}
 use Rattle.emitting.specs.Emitting.{Stacking, Advancing, Emitting}
 use Rattle.emitting.proofs.TypeLaws.{types-have-leaves}
-use Rattle.translator.specs.LayingOut.{LayingOut, WritingOut}
+use Rattle.translator.specs.LayingOut.{TranslatingResolved, TranslatingAssembled}
 use Rattle.naming.proofs.First.{none-bad}
 use Rattle.translator.proofs.LaysOut.{laid-out}
 use Rattle.text_table.specs.SheetRows.{sheetRows}
@@ -168,10 +168,10 @@ said : heldFrom (ops 24) (firstsTable 24) (secondsTable 24) 0 24 ≡ walkInstruc
 unfolding toggleText
 said = refl
 
-lay-out-asks : LayingOut toggleText (ops 24) (firstsTable 24) (secondsTable 24) 24
+lay-out-asks : TranslatingResolved toggleText (ops 24) (firstsTable 24) (secondsTable 24) 24
 lay-out-asks = of-reading (translate-legal-asks .legal .0) (translate-legal-asks .legal .1) (translate-legal-asks .legal .2)
   where
-    of-reading : (ts : List Token) (t : Text) → Reading toggleText ts t → LayingOut toggleText (ops 24) (firstsTable 24) (secondsTable 24) 24
+    of-reading : (ts : List Token) (t : Text) → Reading toggleText ts t → TranslatingResolved toggleText (ops 24) (firstsTable 24) (secondsTable 24) 24
     of-reading ts t r =
         let good : firstBadPlace (nameChecks t) ≡ none =
         sym (ap (λ l. firstBadPlace (walkChecks begins firstScope l)) (tokens-are (r .lexed)) ∙ ap firstBadPlace (by-tokens (r .parsed))) ∙ names-good in
@@ -202,5 +202,5 @@ toggle-assembled = record {
   code-tables = coded 20;
 }
 
-write-out-asks : WritingOut toggleText pairsTable (partsTable 2) others leavesTable (codeOps 20) (codeFirsts 20) (codeSeconds 20) 1 1 20 15 true 0
+write-out-asks : TranslatingAssembled toggleText pairsTable (partsTable 2) others leavesTable (codeOps 20) (codeFirsts 20) (codeSeconds 20) 1 1 20 15 true 0
 write-out-asks = laid-out (ops 24) (firstsTable 24) (secondsTable 24) 24 lay-out-asks toggle-assembled

@@ -24,7 +24,7 @@ use Rattle.meaning.proofs.Order.{value-length}
 use Rattle.meaning.proofs.FlattenOneToOne.{flatten-typed}
 use Rattle.stimulus.specs.Stimulus.{inputType, cycleCount, cycles, pieces, endToEnd}
 use Rattle.answers.specs.Answers.{packed}
-use Rattle.behaviour.specs.Run.{answer, finalOut, finalNext, Gives, RunsByRules}
+use Rattle.behaviour.specs.Run.{answer, finalOut, finalNext, RunGiven, RunsByRules}
 use Rattle.behaviour.specs.Afterwards.{WellFormed}
 use Rattle.behaviour.proofs.ByRules.{call-by-rules}
 use Rattle.translation.specs.Layout.{sheetOfText}

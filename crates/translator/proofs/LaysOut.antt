@@ -38,7 +38,7 @@ use Rattle.resolving.specs.declared.Resolved.{Resolved}
 use Rattle.resolving.specs.declared.Resolved.the-variants.{BadName, Sound}
 use Rattle.emitting.specs.Emitting.{emittedFrom, Emitting, Emitted}
 use Rattle.translator.specs.Translation.{lengthNeeded, noRoom, Translated, outside-grammar, TranslatedInOne}
-use Rattle.translator.specs.LayingOut.{LayingOut, WritingOut}
+use Rattle.translator.specs.LayingOut.{TranslatingResolved, TranslatingAssembled}
 use Rattle.translator.proofs.Answered.{bad-name, untyped-constant, no-room, sheet-written}
 use Rattle.naming.proofs.First.{none-bad, both-pass}
 use Rattle.translator.proofs.PlacesWithin.{names-within, constants-within}
@@ -51,7 +51,7 @@ module _ {bytes : List ℕ} (ops firsts seconds : List ℕ) {pairs parts others 
   of-text : {ts : List Token} (t : Text) → Keeps bytes → Reading bytes ts t → firstBadPlace (nameChecks t) ≡ none
       → heldFrom ops firsts seconds 0 n ≡ textInstructions t → n ≤ 65535
       → Assembled (assembleAll nothingAssembled (heldFrom ops firsts seconds 0 n)) n pairs parts others leaves codeOps codeFirsts codeSeconds types input code records ok place
-      → WritingOut bytes pairs parts others leaves codeOps codeFirsts codeSeconds types input code records ok place
+      → TranslatingAssembled bytes pairs parts others leaves codeOps codeFirsts codeSeconds types input code records ok place
   of-text {ts} (text d ds (identifier w p) e) k r g h f a =
       let t = text d ds (identifier w p) e in
       let q = ap (assembleAll nothingAssembled) h ∙ assembled d ds (identifier w p) e (none-bad (nameChecks t) g) in
@@ -84,13 +84,13 @@ module _ {bytes : List ℕ} (ops firsts seconds : List ℕ) {pairs parts others 
         place-small = λ o. let l = constants-within (r .lexed) (r .parsed) place (sym U ∙ ap (λ b. untypedAt b place) o) in omega (arith, l, s);
       }
 
-  pub laid-out : LayingOut bytes ops firsts seconds n
+  pub laid-out : TranslatingResolved bytes ops firsts seconds n
       → Assembled (assembleAll nothingAssembled (heldFrom ops firsts seconds 0 n)) n pairs parts others leaves codeOps codeFirsts codeSeconds types input code records ok place
-      → WritingOut bytes pairs parts others leaves codeOps codeFirsts codeSeconds types input code records ok place
+      → TranslatingAssembled bytes pairs parts others leaves codeOps codeFirsts codeSeconds types input code records ok place
   laid-out l a = of-text (l .source) (l .keeps) (l .reading) (l .good) (l .held) (l .few) a
 
 module _ {bytes pairs parts others leaves ops firsts seconds : List ℕ} {types input code expression place : ℕ} {ok : Bool}
-    (w : WritingOut bytes pairs parts others leaves ops firsts seconds types input code expression ok place) where
+    (w : TranslatingAssembled bytes pairs parts others leaves ops firsts seconds types input code expression ok place) where
   abbrev source : Text
   source = text (w .first) (w .more) (identifier (w .name) (w .named-at)) (w .root)
 
@@ -210,7 +210,7 @@ module _ {bytes : List ℕ} (ops firsts seconds : List ℕ) {r : Resolved} (k : 
         result-is = refl;
       }
 
-  pub laying : (n : ℕ) → r ≡ Sound n → LayingOut bytes ops firsts seconds n
+  pub laying : (n : ℕ) → r ≡ Sound n → TranslatingResolved bytes ops firsts seconds n
   laying n e =
       let l = k .legal in
       let s = k .short in

@@ -7,11 +7,11 @@ use Rattle.reading.proofs.Loop.{LeftToRead, left-at-first, ready-first,
 use Rattle.reading.proofs.Steps.{letter-read}
 use Rattle.reading.proofs.first_illegal.Statement.{statement}
 use Rattle.reading.proofs.first_illegal.Tie as tie
-use Rattle.reading.specs.Coded.{Ready}
+use Rattle.reading.specs.Coded.{Stepping}
 
 abbrev Inv-loop : tie.InvT-loop
 Inv-loop text all stop nexts waits words letters stack₀ state₀ word₀ depth₀ i₀ stack state word depth i =
-    LeftToRead text i state word depth stack × (i ≤ stop) × (depth ≤ i) × Ready state word depth stack
+    LeftToRead text i state word depth stack × (i ≤ stop) × (depth ≤ i) × Stepping state word depth stack
 
 abbrev μ-loop : tie.MeasureT-loop
 μ-loop text all stop nexts waits words letters stack₀ state₀ word₀ depth₀ i₀ stack state word depth i =
