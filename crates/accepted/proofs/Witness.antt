@@ -35,7 +35,8 @@ use Rattle.structure.specs.Rules.{
   tooDeep,
   Passes,
 }
-use Rattle.verdict.specs.Verdict.{inputs, byTypes, byRecords, verdict}
+use Rattle.verdict.specs.Verdict.{byTypes, byRecords, verdict}
+use Rattle.verdict.specs.Scopes.{inputs}
 use Rattle.verdict.specs.Promises.{WellTyped}
 use Rattle.verdict.specs.Scopes.{root}
 use Rattle.verdict.specs.declared.Verdict.the-variants.{Accepted}

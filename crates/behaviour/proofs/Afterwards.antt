@@ -20,16 +20,8 @@ use Rattle.behaviour.proofs.Cycle.{after-only-delays}
 use Rattle.stimulus.specs.Stimulus.{inputType, cycleCount, endToEnd, cycles}
 use Rattle.answers.specs.Answers.{packed}
 use Rattle.answers.specs.declared.Answer.the-variants.{Done}
-use Rattle.behaviour.specs.Run.{
-  outputsBy,
-  sheetBefore,
-  sheetAfter,
-  outputNeeded,
-  bySlices,
-  answer,
-  finalOut,
-  finalNext,
-}
+use Rattle.behaviour.specs.Run.{outputsBy, sheetAfter, outputNeeded, bySlices, answer, finalOut, finalNext}
+use Rattle.behaviour.specs.Midway.{sheetBefore}
 use Rattle.stimulus.proofs.Pieces.{joined-length, joined-at, typed-wide}
 use Rattle.stimulus.proofs.Stimulus.{cycles-typed, cycles-counted, cycle-at}
 use Rattle.behaviour.proofs.Run.{

@@ -26,7 +26,7 @@ use Rattle.records.specs.Trees.{typeAt, chain, alternatives, treeAt, circuit, t
 use Rattle.records.specs.Decoding.{leafValues, patternOf}
 use Rattle.records.specs.Written.{Written}
 use Rattle.records.proofs.Trees.{tree-of}
-use Rattle.verdict.specs.Verdict.{inputs}
+use Rattle.verdict.specs.Scopes.{inputs}
 use Rattle.meaning.specs.Values.{undefined}
 use Rattle.meaning.specs.Matching.{matches}
 use Rattle.meaning.specs.Elaboration.{Term}
@@ -35,7 +35,8 @@ use Rattle.meaning.proofs.FixedPoint.{iter-stays}
 use Rattle.behaviour.specs.Terms.{term, circuitTerm}
 use Rattle.behaviour.specs.Delays.{assigned, entries, putAll, enter, store}
 use Rattle.behaviour.specs.Cycle.{outputBy}
-use Rattle.behaviour.specs.Evaluated.{valueAt, storedAt}
+use Rattle.behaviour.specs.Evaluated.{valueAt}
+use Rattle.behaviour.specs.Midway.{storedAt}
 use Rattle.behaviour.proofs.Entries.{put-append}
 use Rattle.behaviour.proofs.Stores.{store-both, store-delay, store-next-again}
 

@@ -42,14 +42,16 @@ use Rattle.records.proofs.Table.{askOfKind, kind-of-sort}
 use Rattle.records.proofs.Asked.{part-of-kind, root-is}
 use Rattle.records.proofs.Trees.{from-above, tree-of}
 use Rattle.structure.specs.Rules.{Passes}
-use Rattle.verdict.specs.Verdict.{inputs, verdict}
+use Rattle.verdict.specs.Verdict.{verdict}
+use Rattle.verdict.specs.Scopes.{inputs}
 use Rattle.verdict.specs.declared.Verdict.the-variants.{Accepted}
 use Rattle.accepted.proofs.Laws.{written, accepted-by-types}
 use Rattle.accepted.proofs.Scopes.{scope-checked}
 use Rattle.meaning.specs.Undecided.{undecidedRule}
 use Rattle.behaviour.specs.Delays.{Entry, putAll, enter}
 use Rattle.behaviour.specs.Evaluated.{valueAt}
-use Rattle.behaviour.specs.Firing.{firstYes, firings, firedAt, fired}
+use Rattle.behaviour.specs.Firing.{firstYes, firings, fired}
+use Rattle.behaviour.specs.Midway.{firedAt}
 use Rattle.behaviour.specs.Reaching.{
   settledIn,
   Evaluates,

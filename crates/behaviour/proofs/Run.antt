@@ -34,7 +34,8 @@ use Rattle.behaviour.proofs.Cycle.{
   after-bytes,
 }
 use Rattle.stimulus.specs.Stimulus.{inputType}
-use Rattle.behaviour.specs.Run.{outputsBy, sheetBefore, sheetAfter}
+use Rattle.behaviour.specs.Run.{outputsBy, sheetAfter}
+use Rattle.behaviour.specs.Midway.{sheetBefore}
 
 module _ (undecided : List ℕ → List ℕ → List ℕ) where
   -- the sheet before the cycle after the last is the sheet after the last

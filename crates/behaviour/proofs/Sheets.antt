@@ -26,7 +26,8 @@ use Rattle.records.proofs.Grown.{grown-circuit}
 use Rattle.records.proofs.Rewritten.{same-circuit}
 use Rattle.structure.specs.Rules.{Passes}
 use Rattle.accepted.proofs.Laws.{written, well-named}
-use Rattle.verdict.specs.Verdict.{inputs, verdict}
+use Rattle.verdict.specs.Verdict.{verdict}
+use Rattle.verdict.specs.Scopes.{inputs}
 use Rattle.verdict.specs.declared.Verdict.the-variants.{Accepted}
 use Rattle.accepted.proofs.Laws.{accepted-by-types}
 use Rattle.accepted.proofs.Laws.{input-context, accepted-judged}

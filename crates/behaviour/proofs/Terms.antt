@@ -39,7 +39,8 @@ use Rattle.records.proofs.Grown.{Grown, grown-tree, grown-circuit}
 use Rattle.structure.specs.Rules.{Passes}
 use Rattle.accepted.proofs.Laws.{written}
 use Rattle.typing.specs.Judging.{Context}
-use Rattle.verdict.specs.Verdict.{inputs, verdict}
+use Rattle.verdict.specs.Verdict.{verdict}
+use Rattle.verdict.specs.Scopes.{inputs}
 use Rattle.verdict.specs.declared.Verdict.the-variants.{Accepted}
 use Rattle.accepted.proofs.Laws.{RulesHold}
 use Rattle.accepted.proofs.Laws.{type-of-record}

@@ -9,7 +9,8 @@ use lib.ListN.{length, replicate}
 use Rattle.records.specs.Words.{wordA, wordB}
 use Rattle.records.specs.Trees.{typeAt, alternatives, treeAt}
 use Rattle.records.specs.Decoding.{patternOf}
-use Rattle.verdict.specs.Verdict.{inputs, verdict}
+use Rattle.verdict.specs.Verdict.{verdict}
+use Rattle.verdict.specs.Scopes.{inputs}
 use Rattle.verdict.specs.declared.Verdict.the-variants.{Accepted}
 use Rattle.meaning.specs.Matching.{Decision, Yes, Undecided, matches}
 use Rattle.meaning.specs.Undecided.{undecidedRule}

@@ -11,7 +11,8 @@ use native.Mathlib.Omega.{arith}
 use lib.ListN.{length, getD, take}
 use Rattle.picoella.specs.Language.{Ty, bounds, leaves, OfType}
 use Rattle.records.specs.Trees.{typeAt, Declared, treeAt}
-use Rattle.meaning.specs.Values.{zeros, Both, ValuesOf, more-values}
+use Rattle.meaning.specs.Values.{Both, ValuesOf, more-values}
+use Rattle.meaning.proofs.Order.{zeros}
 use Rattle.meaning.specs.Elaboration.{Term, Elaborated}
 use Rattle.meaning.specs.Undecided.{undecidedRule}
 use Rattle.meaning.specs.Evaluation.{application, iterate, settled}
@@ -19,9 +20,10 @@ use Rattle.meaning.proofs.Order.{value-length}
 use Rattle.meaning.proofs.UndecidedRule.{rule-lawful}
 use Rattle.meaning.proofs.FeedbackLeast.{application-monotone, application-typed, application-falls, iterate-unchanged, iterate-again}
 use Rattle.behaviour.specs.Terms.{term}
-use Rattle.behaviour.specs.Evaluated.{valueAt, storedAt}
+use Rattle.behaviour.specs.Evaluated.{valueAt}
+use Rattle.behaviour.specs.Midway.{storedAt}
 use Rattle.behaviour.proofs.Evaluated.{stored-again}
-use Rattle.behaviour.specs.Firing.{firedAt}
+use Rattle.behaviour.specs.Midway.{firedAt}
 use Rattle.behaviour.proofs.Firings.{fired-again}
 use Rattle.values.specs.Answers.{Compared}
 use Rattle.values.specs.Slots.{slot, entered, frames}

@@ -17,7 +17,8 @@ use Rattle.answers.specs.Answers.{inOne, packed}
 use Rattle.answers.specs.declared.Answer.{Answer}
 use Rattle.answers.specs.declared.Answer.the-variants.{Done, Refused}
 use Rattle.answers.proofs.First.{kept-bytes}
-use Rattle.verdict.specs.Verdict.{verdictAnswer, inputs, verdict}
+use Rattle.verdict.specs.Verdict.{verdict}
+use Rattle.verdict.specs.Scopes.{verdictAnswer, inputs}
 use Rattle.verdict.specs.declared.Verdict.{Verdict}
 use Rattle.verdict.specs.declared.Verdict.the-variants.{Accepted}
 use Rattle.accepted.specs.Accepting.{Accepting}
@@ -25,7 +26,7 @@ use Rattle.accepted.proofs.Laws.{written, Refusing}
 use Rattle.accepted.proofs.Scopes.{scope-checked}
 use Rattle.accepted.proofs.Small.{accepted-passes, accepted-length, accepted-records, accepted-few, output-typed}
 use Rattle.meaning.specs.Undecided.{undecidedRule}
-use Rattle.stimulus.specs.OneCycle.{HeldToOne}
+use Rattle.stimulus.specs.Holding.{HeldToOne}
 use Rattle.stimulus.proofs.OneCycle.{one-cycle-passes, one-cycle-typed}
 use Rattle.stimulus.proofs.OneCycleCalls.{
   one-cycle-lowest-first,
@@ -36,12 +37,14 @@ use Rattle.stimulus.proofs.OneCycleCalls.{
   one-cycle-length,
   one-cycle-good,
 }
-use Rattle.behaviour.specs.Firing.{firedAt, fired}
+use Rattle.behaviour.specs.Firing.{fired}
+use Rattle.behaviour.specs.Midway.{firedAt}
 use Rattle.behaviour.proofs.Reaching.{evaluates-scope, evaluated-once}
 use Rattle.behaviour.proofs.FiredWords.{fired-words, fired-first}
 use Rattle.behaviour.proofs.FirstYes.{tells-first}
 use Rattle.stepper.specs.Cycling.{Cycling}
-use Rattle.firing.specs.Telling.{firedAnswer, finalFired, ToldFired, TellingFired}
+use Rattle.firing.specs.Telling.{firedAnswer, finalFired, ToldFired}
+use Rattle.firing.specs.TellingCycle.{TellingFired}
 use Rattle.firing.specs.Promises.{
   FiredLowestFirst,
   FiredPlacesSmall,

@@ -18,7 +18,8 @@ use Rattle.answers.specs.declared.Answer.{Answer}
 use Rattle.answers.specs.declared.Answer.the-variants.{Done, Refused}
 use Rattle.answers.proofs.First.{first-says}
 use Rattle.answers.proofs.Kept as Answers
-use Rattle.verdict.specs.Verdict.{verdictAnswer, sheetChecks, outputType, verdict}
+use Rattle.verdict.specs.Verdict.{sheetChecks, outputType, verdict}
+use Rattle.verdict.specs.Scopes.{verdictAnswer}
 use Rattle.verdict.specs.declared.Verdict.the-variants.{Accepted}
 use Rattle.accepted.proofs.Laws.{verdict-first, verdict-place, first-accepted}
 use Rattle.accepted.proofs.Small.{accepted-few}
@@ -29,7 +30,8 @@ use Rattle.behaviour.proofs.Answers.{lowest-first, places-small, refused-by-ver
 use Rattle.simulator.specs.Running.{Measured}
 use Rattle.simulator.specs.Calls.{Ran}
 use Rattle.listing.specs.Lines.{refusedLine}
-use Rattle.printout.specs.Printout.{outputRecord, runAnswer, runOutputs, runSheet, printed, toldText, RunTold, OutputsLong}
+use Rattle.printout.specs.Printout.{outputRecord, runAnswer, runOutputs, runSheet, printed, toldText, RunTold}
+use Rattle.printout.specs.OutputsLong.{OutputsLong}
 
 -- an answer depends on the slices' lengths alone
 answer-by-lengths : (s stim out out₂ next next₂ : List ℕ) → length out ≡ length out₂ → length next ≡ length next₂

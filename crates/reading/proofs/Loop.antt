@@ -10,7 +10,8 @@ use mathlib.Core.Option.{Option, none, some}
 use lib.ListN.{length, getD, take, drop, length-take, drop-of-length-le}
 use lib.Seq.{drop-cons, getD-take}
 use lib.Dec.{eqb, ltb}
-use Rattle.grammar.specs.Legal.{limit, Told, Leaves}
+use Rattle.grammar.specs.Legal.{limit, Leaves}
+use Rattle.grammar.specs.Walk.{Told}
 use Rattle.grammar.specs.Machine.{Config, live, onByte, begins}
 use Rattle.grammar.specs.Walk.{onward, walk, concluded, firstIllegal}
 use Rattle.grammar.proofs.Exact.{first-illegal-exact}

@@ -8,7 +8,7 @@ pub mod tables;
 ghost use mathlib.Core.Path.{_≡_};
 ghost use Prim.Native.Nat.{_+_, _≤_, _<_, min};
 ghost use lib.ListN.{length};
-ghost use Rattle.grammar.specs.Legal.{Told};
+ghost use Rattle.grammar.specs.Walk.{Told};
 ghost use Rattle.grammar.specs.Machine.{back, onByte};
 ghost use Rattle.reading.specs.Coded.{illegal, stateOf, stackOf, wordOf, letterTable, follows, afterLead, followed, lettered};
 ghost use Rattle.reading.specs.Coded.{spelledOut, conclusion, Stepping, Stepped, Worded, Tables};

@@ -1,7 +1,8 @@
 // Every call for hosts in C: libsheets.a.
 ghost use mathlib.Core.Path.{_≡_};
 ghost use Rattle.answers.specs.Answers.{packed};
-ghost use Rattle.verdict.specs.Verdict.{verdict, verdictAnswer};
+ghost use Rattle.verdict.specs.Verdict.{verdict};
+ghost use Rattle.verdict.specs.Scopes.{verdictAnswer};
 ghost use Rattle.simulator.specs.Calls.{Ran};
 ghost use Rattle.carry.specs.Carry.{CarryGiven};
 ghost use Rattle.firing.specs.Telling.{ToldFired};

@@ -28,7 +28,8 @@ use Rattle.behaviour.specs.Cycle.{output, sheetAfterCycle}
 use Rattle.behaviour.proofs.Cycle.{output-of-type}
 use Rattle.behaviour.proofs.Sheets.{only-leaves, header-same, accepted-written}
 use Rattle.stimulus.specs.Stimulus.{inputType, endToEnd, cycles}
-use Rattle.behaviour.specs.Run.{outputsBy, sheetBefore}
+use Rattle.behaviour.specs.Run.{outputsBy}
+use Rattle.behaviour.specs.Midway.{sheetBefore}
 use Rattle.stimulus.proofs.Stimulus.{stimulus-whole, cycles-typed, cycles-counted, cycle-at}
 use Rattle.behaviour.proofs.Run.{sheet-last, sheet-first, sheet-next, output-at, outputs-counted, accepted-before, sheet-only-delays}
 use Rattle.behaviour.proofs.Afterwards.{all-at}

@@ -33,7 +33,7 @@ use Rattle.records.specs.Trees.{typeWithin, typeAt, TypeRecord, chainWithin, ch
 use Rattle.structure.specs.Rules.{Passes}
 use Rattle.accepted.proofs.Laws.{written}
 use Rattle.typing.specs.Judgements.{patternFits}
-use Rattle.verdict.specs.Verdict.{inputs}
+use Rattle.verdict.specs.Scopes.{inputs}
 use Rattle.verdict.specs.Scopes.{Scope, tuple-first, tuple-second, let-defining, if-tested, of-delay}
 use Rattle.accepted.proofs.Requirements.{widths}
 use Rattle.accepted.proofs.Requirements as Requirements

@@ -18,7 +18,7 @@ use Rattle.records.proofs.Rewritten.{same-kind, same-chain, same-type}
 use Rattle.records.proofs.Types.{few-leaves}
 use Rattle.records.proofs.TypeRecords.{input-type}
 use Rattle.accepted.proofs.Laws.{written, types-fit}
-use Rattle.verdict.specs.Verdict.{inputs}
+use Rattle.verdict.specs.Scopes.{inputs}
 use Rattle.verdict.specs.Scopes.{root}
 use Rattle.verdict.specs.Widths.{Widths}
 use Rattle.accepted.proofs.Laws.{exact, accepted-judged}
@@ -32,7 +32,7 @@ use Rattle.behaviour.specs.Delays.{store}
 use Rattle.behaviour.specs.Copies.{copied, leavesOf, delayChains}
 use Rattle.behaviour.specs.Cycle.{output, sheetAfterCycle, afterBy}
 use Rattle.behaviour.specs.Evaluated.{valueAt}
-use Rattle.behaviour.specs.Firing.{firedAt}
+use Rattle.behaviour.specs.Midway.{firedAt}
 use Rattle.behaviour.proofs.Firings.{fired-long}
 use Rattle.behaviour.proofs.Evaluated.{root-value, root-stored}
 use Rattle.behaviour.proofs.Cycle.{cycle-writable}

@@ -15,7 +15,8 @@ use Rattle.answers.specs.declared.Answer.the-variants.{Done, Refused}
 use Rattle.grammar.specs.Tokens.{Token}
 use Rattle.grammar.specs.Source.{identifier, Text, text}
 use Rattle.grammar.specs.Grammar.{ReadsText}
-use Rattle.grammar.specs.Legal.{Reading, Keeps, Told}
+use Rattle.grammar.specs.Legal.{Reading, Keeps}
+use Rattle.grammar.specs.Walk.{Told}
 use Rattle.grammar.specs.Machine.{begins}
 use Rattle.grammar.specs.Walk.{firstIllegal}
 use Rattle.grammar.proofs.Exact.{first-illegal-exact}

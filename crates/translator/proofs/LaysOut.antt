@@ -14,7 +14,8 @@ use Rattle.answers.specs.Answers.{inOne}
 use Rattle.answers.specs.declared.Answer.the-variants.{Done, Refused}
 use Rattle.grammar.specs.Tokens.{Token}
 use Rattle.grammar.specs.Source.{identifier, Text, text}
-use Rattle.grammar.specs.Legal.{Reading, Leaves, Keeps, Told}
+use Rattle.grammar.specs.Legal.{Reading, Leaves, Keeps}
+use Rattle.grammar.specs.Walk.{Told}
 use Rattle.grammar.proofs.Kept as Grammar
 use Rattle.naming.specs.Checks.{AllPass, firstBadPlace}
 use Rattle.naming.specs.Constants.{constantsOfText}

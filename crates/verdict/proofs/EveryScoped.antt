@@ -58,7 +58,7 @@ use Rattle.records.proofs.Asked.{AskMeans, as-asked, past-header}
 use Rattle.records.proofs.Namings.{in-namings-names, namer-lower}
 use Rattle.structure.specs.Rules.{Passes}
 use Rattle.structure.proofs.Passes.{written, well-named}
-use Rattle.verdict.specs.Verdict.{inputs}
+use Rattle.verdict.specs.Scopes.{inputs}
 use Rattle.verdict.specs.Scopes.{
   Scope,
   root,

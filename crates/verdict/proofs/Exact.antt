@@ -14,7 +14,8 @@ use Rattle.records.proofs.Grown.{grown-circuit}
 use Rattle.records.proofs.Decoding.{decodes}
 use Rattle.typing.specs.Judgements.{judgements, firstFailing}
 use Rattle.structure.specs.Rules.{Passes}
-use Rattle.verdict.specs.Verdict.{inputs, refusing, byTypes, verdict}
+use Rattle.verdict.specs.Verdict.{refusing, byTypes, verdict}
+use Rattle.verdict.specs.Scopes.{inputs}
 use Rattle.verdict.specs.Promises.{WellTyped, Exact}
 use Rattle.verdict.specs.declared.Verdict.the-variants.{Accepted, IllTyped}
 use Rattle.structure.proofs.Passes.{written, types-fit}

@@ -34,7 +34,8 @@ use Rattle.structure.proofs.Passes.{written}
 use Rattle.typing.specs.Judgements.{Judgement, Rule, leavesFit, inScope, pairDeclared, pairType, sameType, holds, judge, judgements, firstFailing}
 use Rattle.typing.proofs.Failing.{first-of-both, judgement-holds}
 use Rattle.typing.proofs.Outcomes.{fault-first}
-use Rattle.verdict.specs.Verdict.{inputs, byTypes, verdict}
+use Rattle.verdict.specs.Verdict.{byTypes, verdict}
+use Rattle.verdict.specs.Scopes.{inputs}
 use Rattle.verdict.specs.Promises.{IllTypedExactly}
 use Rattle.verdict.specs.Scopes.{
   IllTypedAt,

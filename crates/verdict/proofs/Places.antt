@@ -12,7 +12,8 @@ use Rattle.records.specs.Trees.{circuit, typeRecordOf}
 use Rattle.answers.specs.Answers.{lowest}
 use Rattle.structure.specs.Rules.{wrongLength, wrongHeader, wrongRecord, wrongNaming, wrongType, tooDeep, Passes}
 use Rattle.typing.specs.Judgements.{judgements, firstFailing}
-use Rattle.verdict.specs.Verdict.{unless, refusing, inputs, byTypes, byRecords, verdict}
+use Rattle.verdict.specs.Verdict.{unless, refusing, byTypes, byRecords, verdict}
+use Rattle.verdict.specs.Scopes.{inputs}
 use Rattle.verdict.specs.Promises.{Says, Places}
 use Rattle.verdict.specs.declared.Verdict.{Verdict}
 use Rattle.verdict.specs.declared.Verdict.the-variants.{

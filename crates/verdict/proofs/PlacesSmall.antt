@@ -7,7 +7,8 @@ use native.Mathlib.Omega.{arith}
 use Rattle.answers.specs.Answers.{place}
 use Rattle.structure.proofs.Passes.{length-fits}
 use Rattle.verdict.specs.Promises.{Says, PlacesBelow}
-use Rattle.verdict.specs.Verdict.{verdictAnswer, verdict}
+use Rattle.verdict.specs.Verdict.{verdict}
+use Rattle.verdict.specs.Scopes.{verdictAnswer}
 use Rattle.verdict.specs.declared.Verdict.{Verdict}
 use Rattle.verdict.specs.declared.Verdict.the-variants.{
   Accepted,

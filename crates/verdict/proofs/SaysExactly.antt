@@ -10,7 +10,8 @@ use mathlib.Core.Path.{_≡_, refl, ap, _∙_}
 use Rattle.records.specs.Trees.{circuit}
 use Rattle.answers.proofs.Lowest.{lowest-is}
 use Rattle.typing.specs.Judgements.{Judgement, holds, judgements, firstFailing}
-use Rattle.verdict.specs.Verdict.{inputs, verdict, byRecords, byTypes}
+use Rattle.verdict.specs.Verdict.{verdict, byRecords, byTypes}
+use Rattle.verdict.specs.Scopes.{inputs}
 use Rattle.verdict.specs.Promises.{AllHold, FailsFirst, Says, SaysExactly}
 use Rattle.verdict.specs.declared.Verdict.{Verdict}
 use Rattle.verdict.specs.declared.Verdict.the-variants.{

@@ -27,7 +27,8 @@ use Rattle.structure.proofs.DepthCounts.{depth-of-header, nesting-of-header}
 use Rattle.typing.specs.Judgements.{judgements, firstFailing}
 use Rattle.typing.specs.Judging.{Ground, Judging, Judged, Context, scopeOf, noted}
 use Rattle.verdict.specs.Stages.{CheckingRecords, CheckingNamings, CheckingTypes, CheckingDepths, RulesChecked, StagesChecked}
-use Rattle.verdict.specs.Verdict.{inputs, refusing, unless, byTypes, byDepths, byTypeRecords, byNamings, byRecords, verdictAnswer}
+use Rattle.verdict.specs.Verdict.{refusing, unless, byTypes, byDepths, byTypeRecords, byNamings, byRecords}
+use Rattle.verdict.specs.Scopes.{inputs, verdictAnswer}
 use Rattle.typing.specs.declared.Outcome.{Outcome}
 use Rattle.typing.specs.declared.Outcome.the-variants.{Sound, Fault}
 use Rattle.verdict.specs.declared.Verdict.{Verdict}

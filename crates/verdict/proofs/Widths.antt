@@ -43,7 +43,7 @@ use Rattle.structure.specs.LeafTable.{Counts}
 use Rattle.structure.specs.Rules.{Passes}
 use Rattle.structure.proofs.Passes.{written, well-named, types-fit}
 use Rattle.typing.specs.Judging.{width, noted}
-use Rattle.verdict.specs.Verdict.{inputs}
+use Rattle.verdict.specs.Scopes.{inputs}
 use Rattle.verdict.specs.Widths.{patternLeaves, patternEntry, hasEntry, Widths, PatternsFrom}
 use Rattle.typing.proofs.PatternNumbers.{pattern-kind, no-pattern}
 use Rattle.verdict.proofs.Stores.{notes, Stored}

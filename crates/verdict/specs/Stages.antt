@@ -14,7 +14,7 @@ use Rattle.structure.specs.Rules.{wrongLength, wrongHeader, wrongRecord, wrongN
 use Rattle.typing.specs.Judging.{noted}
 use Rattle.verdict.specs.declared.Verdict.{Verdict}
 use Rattle.verdict.specs.declared.Verdict.the-variants.{Accepted}
-use Rattle.verdict.specs.Verdict.{inputs}
+use Rattle.verdict.specs.Scopes.{inputs}
 
 -- not code 1
 pub record CheckingRecords (s : List ℕ) (n : ℕ) : Type 0 where

@@ -55,7 +55,7 @@ use Prim.Native.Nat.{ℕ, _+_, _*_, _-_, _<_}
 use mathlib.Core.Path.{refl}
 use denote.Ref.{now}
 use lib.ListN.{length}
-use Rattle.meaning.specs.Values.{zeros}
+use Rattle.meaning.proofs.Order.{zeros}
 use Rattle.values.specs.Slots.{slot}
 use Rattle.records.specs.Kinds.{expression, constant, name, tuple, first, second, letIn, feedback, ifMatches, delay, kindOf}
 use Rattle.records.proofs.Table.{askOfKind}
