@@ -110,9 +110,9 @@ module _ (O F S : List ℕ) where
           (λ C. onto C ∙ ap (λ x. heldOnto O F S x (n - x) (patternOnto (heldCode O F S x) C)) k-is),
     )
 
-  pub no-pattern : (n k : ℕ) → k ≡ 0 → BelowFrom n k → OntoFrom n k
+  pub no-pattern-below : (n k : ℕ) → k ≡ 0 → BelowFrom n k → OntoFrom n k
       → (patternsBelow (heldCode O F S n) ≡ heldCode O F S 0) × ((C : List Instruction) → patternOnto (heldCode O F S n) C ≡ heldOnto O F S 0 (n - 0) C)
-  no-pattern n k z b o = (
+  no-pattern-below n k z b o = (
     b ∙ ap (λ x. patternsBelow (heldCode O F S x)) z,
     λ C. o C ∙ ap (λ x. heldOnto O F S x (n - x) (patternOnto (heldCode O F S x) C)) z,
   )

@@ -12,7 +12,7 @@ use borrow.Author.Tests.{eq-eqb, ne-eqb}
 use Rattle.instructions.specs.Instruction.{Instruction, instructionOf}
 use Rattle.instructions.specs.Assembly.{DeclaredType, leavesNumbered, beginsPattern, pairClosed, firstUntyped, Assembly, assembly, assemble}
 use Rattle.assembling.specs.Held.{untypedAt, typesAfter, recordCounts, recordsAdded}
-use Rattle.assembling.proofs.TypeLaws.{few-leaves}
+use Rattle.assembling.proofs.TypeLaws.{few-leaves-numbered}
 
 module _ (T : List DeclaredType) (i : ℕ) (C W : List Instruction) (Y : List ℕ) (p r : ℕ) (u : Option ℕ) (a b : ℕ) where
   abbrev before : Assembly
@@ -31,17 +31,17 @@ module _ (T : List DeclaredType) (i : ℕ) (C W : List Instruction) (Y : List �
 
   code-at : (k : ℕ) → k < 11 → CodeRead (5 + k)
   unfolding recordCounts
-  code-at zero l = (let f = few-leaves T a in (ap (λ n. assembly T i (instructionOf 5 a b ∷ C) W Y p n u) (omega arith), omega arith))
-  code-at (suc zero) l = (let f = few-leaves T a in (ap (λ n. assembly T i (instructionOf 6 a b ∷ C) W Y p n u) (omega arith), omega arith))
-  code-at (suc (suc zero)) l = (let f = few-leaves T a in (ap (λ n. assembly T i (instructionOf 7 a b ∷ C) W Y p n u) (omega arith), omega arith))
-  code-at (suc (suc (suc zero))) l = (let f = few-leaves T a in (ap (λ n. assembly T i (instructionOf 8 a b ∷ C) W Y p n u) (omega arith), omega arith))
-  code-at (suc (suc (suc (suc zero)))) l = (let f = few-leaves T a in (ap (λ n. assembly T i (instructionOf 9 a b ∷ C) W Y p n u) (omega arith), omega arith))
-  code-at (suc (suc (suc (suc (suc zero))))) l = (let f = few-leaves T a in (ap (λ n. assembly T i (instructionOf 10 a b ∷ C) W Y p n u) (omega arith), omega arith))
-  code-at (suc (suc (suc (suc (suc (suc zero)))))) l = (let f = few-leaves T a in (ap (λ n. assembly T i (instructionOf 11 a b ∷ C) W Y p n u) (omega arith), omega arith))
-  code-at (suc (suc (suc (suc (suc (suc (suc zero))))))) l = (let f = few-leaves T a in (ap (λ n. assembly T i (instructionOf 12 a b ∷ C) W Y p n u) (omega arith), omega arith))
-  code-at (suc (suc (suc (suc (suc (suc (suc (suc zero)))))))) l = (let f = few-leaves T a in (ap (λ n. assembly T i (instructionOf 13 a b ∷ C) W Y p n u) (omega arith), omega arith))
-  code-at (suc (suc (suc (suc (suc (suc (suc (suc (suc zero))))))))) l = (let f = few-leaves T a in (ap (λ n. assembly T i (instructionOf 14 a b ∷ C) W Y p n u) (omega arith), omega arith))
-  code-at (suc (suc (suc (suc (suc (suc (suc (suc (suc (suc zero)))))))))) l = (let f = few-leaves T a in (ap (λ n. assembly T i (instructionOf 15 a b ∷ C) W Y p n u) (omega arith), omega arith))
+  code-at zero l = (let f = few-leaves-numbered T a in (ap (λ n. assembly T i (instructionOf 5 a b ∷ C) W Y p n u) (omega arith), omega arith))
+  code-at (suc zero) l = (let f = few-leaves-numbered T a in (ap (λ n. assembly T i (instructionOf 6 a b ∷ C) W Y p n u) (omega arith), omega arith))
+  code-at (suc (suc zero)) l = (let f = few-leaves-numbered T a in (ap (λ n. assembly T i (instructionOf 7 a b ∷ C) W Y p n u) (omega arith), omega arith))
+  code-at (suc (suc (suc zero))) l = (let f = few-leaves-numbered T a in (ap (λ n. assembly T i (instructionOf 8 a b ∷ C) W Y p n u) (omega arith), omega arith))
+  code-at (suc (suc (suc (suc zero)))) l = (let f = few-leaves-numbered T a in (ap (λ n. assembly T i (instructionOf 9 a b ∷ C) W Y p n u) (omega arith), omega arith))
+  code-at (suc (suc (suc (suc (suc zero))))) l = (let f = few-leaves-numbered T a in (ap (λ n. assembly T i (instructionOf 10 a b ∷ C) W Y p n u) (omega arith), omega arith))
+  code-at (suc (suc (suc (suc (suc (suc zero)))))) l = (let f = few-leaves-numbered T a in (ap (λ n. assembly T i (instructionOf 11 a b ∷ C) W Y p n u) (omega arith), omega arith))
+  code-at (suc (suc (suc (suc (suc (suc (suc zero))))))) l = (let f = few-leaves-numbered T a in (ap (λ n. assembly T i (instructionOf 12 a b ∷ C) W Y p n u) (omega arith), omega arith))
+  code-at (suc (suc (suc (suc (suc (suc (suc (suc zero)))))))) l = (let f = few-leaves-numbered T a in (ap (λ n. assembly T i (instructionOf 13 a b ∷ C) W Y p n u) (omega arith), omega arith))
+  code-at (suc (suc (suc (suc (suc (suc (suc (suc (suc zero))))))))) l = (let f = few-leaves-numbered T a in (ap (λ n. assembly T i (instructionOf 14 a b ∷ C) W Y p n u) (omega arith), omega arith))
+  code-at (suc (suc (suc (suc (suc (suc (suc (suc (suc (suc zero)))))))))) l = (let f = few-leaves-numbered T a in (ap (λ n. assembly T i (instructionOf 15 a b ∷ C) W Y p n u) (omega arith), omega arith))
   code-at (suc (suc (suc (suc (suc (suc (suc (suc (suc (suc (suc k))))))))))) l = absurd (omega arith)
 
   pub code-read : (op : ℕ) → 5 ≤ op → op < 16 → CodeRead op
@@ -72,8 +72,8 @@ module _ (T : List DeclaredType) (i : ℕ) (C W : List Instruction) (Y : List �
 
   leaf-at : (k : ℕ) → k < 2 → LeafRead (24 + k)
   unfolding recordCounts
-  leaf-at zero l = (let f = few-leaves T a in (ap (λ n. assembly T i (instructionOf 24 a b ∷ C) W (a ∷ Y) p n u) (omega arith), omega arith))
-  leaf-at (suc zero) l = (let f = few-leaves T a in (ap (λ n. assembly T i (instructionOf 25 a b ∷ C) W (a ∷ Y) p n u) (omega arith), omega arith))
+  leaf-at zero l = (let f = few-leaves-numbered T a in (ap (λ n. assembly T i (instructionOf 24 a b ∷ C) W (a ∷ Y) p n u) (omega arith), omega arith))
+  leaf-at (suc zero) l = (let f = few-leaves-numbered T a in (ap (λ n. assembly T i (instructionOf 25 a b ∷ C) W (a ∷ Y) p n u) (omega arith), omega arith))
   leaf-at (suc (suc k)) l = absurd (omega arith)
 
   pub leaf-read : (op : ℕ) → 24 ≤ op → op ≤ 25 → LeafRead op

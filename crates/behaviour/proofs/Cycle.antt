@@ -40,9 +40,9 @@ module _
       typed = next-typed law (circuit-typed s t v) (more-values given no-values);
     }
 
-    pub output-typed : OfType (typeAt s t) (outputBy undecided s i)
+    pub output-of-type : OfType (typeAt s t) (outputBy undecided s i)
     unfolding outputBy
-    output-typed = eval-typed undecided law (Declared s) (circuit-typed s t v) (more-values given no-values)
+    output-of-type = eval-typed undecided law (Declared s) (circuit-typed s t v) (more-values given no-values)
 
     pub after-only-delays : OnlyDelays s (afterBy undecided s i)
     unfolding afterBy

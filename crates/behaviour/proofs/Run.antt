@@ -25,7 +25,7 @@ use Rattle.behaviour.proofs.Sheets.{write-own}
 use Rattle.behaviour.proofs.OnlyDelays.{only-delays-same, only-delays-chain}
 use Rattle.behaviour.proofs.Stores.{write-again}
 use Rattle.behaviour.proofs.Cycle.{
-  output-typed,
+  output-of-type,
   after-only-delays,
   after-term,
   after-accepted,
@@ -34,7 +34,8 @@ use Rattle.behaviour.proofs.Cycle.{
   after-bytes,
 }
 use Rattle.stimulus.specs.Stimulus.{inputType}
-use Rattle.behaviour.specs.Run.{outputsBy, sheetBefore, sheetAfter}
+use Rattle.behaviour.specs.Run.{outputsBy, sheetAfter}
+use Rattle.behaviour.specs.Midway.{sheetBefore}
 
 module _ (undecided : List ℕ → List ℕ → List ℕ) where
   -- the sheet before the cycle after the last is the sheet after the last
@@ -93,17 +94,17 @@ module _ {undecided : List ℕ → List ℕ → List ℕ} (law : Lawful undecide
       → AllOf (typeAt s t) (outputsBy undecided s is)
   outputs-typed s v {is = []} all-none = all-none
   outputs-typed s {t} v {is = i ∷ is} (all-more h r) =
-      all-more (output-typed law s v h)
+      all-more (output-of-type law s v h)
       (rw (after-types law s v h t) at
       (outputs-typed (afterBy undecided s i) (after-accepted law s v h ∙ v) (given-again s v h r)))
 
   -- each cycle's sheet is accepted with the same type
-  pub sheet-accepted : (s : List ℕ) {t : ℕ} → verdict s ≡ Accepted t → {is : List (List ℕ)} → AllOf (inputType s) is
+  pub accepted-before : (s : List ℕ) {t : ℕ} → verdict s ≡ Accepted t → {is : List (List ℕ)} → AllOf (inputType s) is
       → (k : ℕ) → verdict (sheetBefore undecided s is k) ≡ verdict s
-  sheet-accepted s v {is = []} all-none k = refl
-  sheet-accepted s v {is = i ∷ is} (all-more h r) zero = refl
-  sheet-accepted s {t} v {is = i ∷ is} (all-more h r) (suc k) =
-      sheet-accepted (afterBy undecided s i) (after-accepted law s v h ∙ v) (given-again s v h r) k
+  accepted-before s v {is = []} all-none k = refl
+  accepted-before s v {is = i ∷ is} (all-more h r) zero = refl
+  accepted-before s {t} v {is = i ∷ is} (all-more h r) (suc k) =
+      accepted-before (afterBy undecided s i) (after-accepted law s v h ∙ v) (given-again s v h r) k
       ∙ after-accepted law s v h
 
   pub sheet-only-delays : (s : List ℕ) {t : ℕ} → verdict s ≡ Accepted t → {is : List (List ℕ)} → AllOf (inputType s) is

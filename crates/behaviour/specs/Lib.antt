@@ -17,3 +17,4 @@ pub mod Bench
 pub mod FiringBench
 -- What functions ask and give, and their proofs need:
 pub mod Copies
+pub mod Midway

@@ -3,7 +3,7 @@
 -- sheet as it is. The answer is the lowest number that applies, with its place; "a refusal leaves every lent slice unaltered".
 -- What an undecided IF gives is a parameter of the run over a list; the call takes the rule in force. At the end stands a well-formed
 -- call as a run of 000's rules.
-use Prim.Native.Nat.{ℕ, zero, suc, _*_}
+use Prim.Native.Nat.{ℕ, _*_}
 use mathlib.Core.Path.{_≡_}
 use mathlib.Core.Bool.{not}
 use mathlib.Core.List.{List, [], _∷_, _++_, map}
@@ -14,7 +14,8 @@ use Rattle.records.specs.Trees.{typeAt}
 use Rattle.answers.specs.Answers.{packed, whenDone, onDone, Check, check, when, firstApplying}
 use Rattle.answers.specs.declared.Answer.{Answer}
 use Rattle.answers.specs.declared.Answer.the-variants.{Done}
-use Rattle.verdict.specs.Verdict.{verdictAnswer, sheetChecks, outputType, verdict}
+use Rattle.verdict.specs.Verdict.{sheetChecks, outputType, verdict}
+use Rattle.verdict.specs.Scopes.{verdictAnswer}
 use Rattle.meaning.specs.Undecided.{undecidedRule, undecidedConstant}
 use Rattle.behaviour.specs.Cycle.{outputBy, afterBy}
 use Rattle.stimulus.specs.Stimulus.{cycleCount, endToEnd, cycles, stimulusChecks, inputType}
@@ -28,12 +29,6 @@ module _ (undecided : List ℕ → List ℕ → List ℕ) where
   abbrev pub outputsBy : (sheet : List ℕ) (inputs : List (List ℕ)) → List (List ℕ)
   outputsBy s [] = []
   outputsBy s (i ∷ is) = outputBy undecided s i ∷ outputsBy (afterBy undecided s i) is
-
-  -- the sheet that cycle k begins from; after the last cycle, the sheet after it
-  abbrev pub sheetBefore : (sheet : List ℕ) (inputs : List (List ℕ)) → ℕ → List ℕ
-  sheetBefore s [] k = s
-  sheetBefore s (i ∷ is) zero = s
-  sheetBefore s (i ∷ is) (suc k) = sheetBefore (afterBy undecided s i) is k
 
   -- the sheet after the last cycle
   abbrev pub sheetAfter : (sheet : List ℕ) (inputs : List (List ℕ)) → List ℕ
@@ -78,7 +73,7 @@ finalNext s stim out next =
     let new = sheetAfter undecidedRule s (cycles s stim) in whenDone (answer s stim out next) new next
 
 -- what a call gives, for every content and length of the four slices: the number returned and the final bytes
-pub record Gives (sheet stimulus out next : List ℕ) (result : ℕ) (out′ next′ : List ℕ) : Type 0 where
+pub record RunGiven (sheet stimulus out next : List ℕ) (result : ℕ) (out′ next′ : List ℕ) : Type 0 where
   pub result-is : result ≡ packed (answer sheet stimulus out next)
   pub out-is : out′ ≡ finalOut sheet stimulus out next
   pub next-is : next′ ≡ finalNext sheet stimulus out next

@@ -17,7 +17,8 @@ use Rattle.answers.specs.declared.Answer.{Answer}
 use Rattle.answers.specs.declared.Answer.the-variants.{Done, Refused}
 use Rattle.answers.proofs.Lowest.{lowest-some-passes}
 use Rattle.answers.proofs.First.{first-says, says-first}
-use Rattle.verdict.specs.Verdict.{sheetChecks, outputType, verdictAnswer, verdict}
+use Rattle.verdict.specs.Verdict.{sheetChecks, outputType, verdict}
+use Rattle.verdict.specs.Scopes.{verdictAnswer}
 use Rattle.verdict.specs.declared.Verdict.the-variants.{Accepted}
 use Rattle.accepted.proofs.Laws.{verdict-place, first-accepted}
 use Rattle.accepted.proofs.Small.{accepted-length}

@@ -16,7 +16,8 @@ use Rattle.records.proofs.TypeRecords.{type-word}
 use Rattle.structure.specs.Rules.{Passes}
 use Rattle.verdict.specs.Verdict.{verdict}
 use Rattle.verdict.specs.declared.Verdict.the-variants.{Accepted}
-use Rattle.accepted.proofs.Laws.{written, well-named, accepted-by-types}
+use Rattle.accepted.proofs.Laws.{written, well-named}
+use Rattle.accepted.proofs.Small.{accepted-passes}
 use Rattle.accepted.proofs.Scopes.{scope-checked, delay-fits, as-many-leaves}
 use Rattle.behaviour.proofs.Scoped.{every-expression}
 use Rattle.carry.specs.Labels.{delayType}
@@ -24,11 +25,8 @@ use Rattle.carry.specs.Carried.{leavesAt, heldAt}
 use Rattle.carry.specs.Carrying.{OfTypes, OfLeaves, IsAccepted}
 
 module _ {s : List ℕ} {t : ℕ} (v : verdict s ≡ Accepted t) where
-  pub accepted-passes : Passes s
-  accepted-passes = accepted-by-types s t .0 v .0
-
   pub is-written : Written s
-  is-written = written accepted-passes
+  is-written = written (accepted-passes v)
 
 -- no signature here determines the sheet
 module _ (s : List ℕ) {t : ℕ} (v : verdict s ≡ Accepted t) where

@@ -13,7 +13,8 @@ use Rattle.records.specs.Words.{count}
 use Rattle.answers.specs.Answers.{lowest, packed, whenDone, Check, check, when, firstApplying}
 use Rattle.answers.specs.declared.Answer.{Answer}
 use Rattle.answers.specs.declared.Answer.the-variants.{Done, Refused}
-use Rattle.verdict.specs.Verdict.{sheetChecks, verdictAnswer, verdict}
+use Rattle.verdict.specs.Verdict.{sheetChecks, verdict}
+use Rattle.verdict.specs.Scopes.{verdictAnswer}
 use Rattle.carry.specs.Labels.{labelTwice}
 use Rattle.carry.specs.Carried.{carried}
 
@@ -41,6 +42,6 @@ unfoldable pub finalCarried : (old new next : List ℕ) → List ℕ
 finalCarried old new next = whenDone (carryAnswer old new next) (carried old new) next
 
 -- what a call gives, for every content and length of the three slices: the number returned and the final bytes
-pub record CarryGives (old new next : List ℕ) (result : ℕ) (next′ : List ℕ) : Type 0 where
+pub record CarryGiven (old new next : List ℕ) (result : ℕ) (next′ : List ℕ) : Type 0 where
   pub result-is : result ≡ packed (carryAnswer old new next)
   pub next-is : next′ ≡ finalCarried old new next

@@ -10,7 +10,7 @@ use Rattle.instructions.specs.Instruction.{instructionOf, heldCode}
 use Rattle.instructions.specs.Assembly.{DeclaredType}
 use Rattle.instructions.specs.Emission.{Emission, emission, emit, emitAll, writtenOf, cursorOf}
 use Rattle.emitting.specs.Tables.{heldStack, LeavesHeld, SomeLeaves}
-use Rattle.emitting.specs.Emitting.{Stacking, Advancing, Does, emittedFrom, CodeWritten}
+use Rattle.emitting.specs.Emitting.{Stacking, Advancing, InstructionDone, emittedFrom, CodeWritten}
 use Rattle.emitting.proofs.EmissionLaws.{emit-lower, emit-balance, written-grows}
 use Rattle.emitting.proofs.ByteLaws.{less-one}
 
@@ -45,7 +45,7 @@ module _ {ops firsts seconds : List ℕ} {m : ℕ} {leaves : List ℕ} {types re
 
   one-emitted : (sheet kinds values : List ℕ) (cursor height next k : ℕ) (sheet′ kinds′ values′ : List ℕ) (cursor′ height′ next′ : ℕ)
       → SomeLeaves leaves types → CodeLeft ops firsts seconds m leaves types records sheet₀ sheet kinds values cursor height next (suc k)
-      → Does leaves types (instructionOf (getD ops k 0) (getD firsts k 0) (getD seconds k 0)) sheet kinds values cursor height next sheet′ kinds′ values′ cursor′ height′ next′
+      → InstructionDone leaves types (instructionOf (getD ops k 0) (getD firsts k 0) (getD seconds k 0)) sheet kinds values cursor height next sheet′ kinds′ values′ cursor′ height′ next′
       → CodeLeft ops firsts seconds m leaves types records sheet₀ sheet′ kinds′ values′ cursor′ height′ next′ k
   one-emitted sheet kinds values cursor height next k sheet′ kinds′ values′ cursor′ height′ next′ some l does =
       let i = instructionOf (getD ops k 0) (getD firsts k 0) (getD seconds k 0) in
@@ -82,14 +82,14 @@ module _ {ops firsts seconds : List ℕ} {m : ℕ} {leaves : List ℕ} {types re
 
   pub code-goes-on : (sheet kinds values : List ℕ) (cursor height next k : ℕ) (sheet′ kinds′ values′ : List ℕ) (cursor′ height′ next′ : ℕ)
       → SomeLeaves leaves types → ¬ (k ≡ 0) → CodeLeft ops firsts seconds m leaves types records sheet₀ sheet kinds values cursor height next k
-      → Does leaves types (instructionOf (getD ops (k - 1) 0) (getD firsts (k - 1) 0) (getD seconds (k - 1) 0)) sheet kinds values cursor height next sheet′ kinds′ values′ cursor′ height′ next′
+      → InstructionDone leaves types (instructionOf (getD ops (k - 1) 0) (getD firsts (k - 1) 0) (getD seconds (k - 1) 0)) sheet kinds values cursor height next sheet′ kinds′ values′ cursor′ height′ next′
       → CodeLeft ops firsts seconds m leaves types records sheet₀ sheet′ kinds′ values′ cursor′ height′ next′ (k - 1)
   code-goes-on sheet kinds values cursor height next zero sheet′ kinds′ values′ cursor′ height′ next′ some n l does = absurd (n refl)
   code-goes-on sheet kinds values cursor height next (suc k) sheet′ kinds′ values′ cursor′ height′ next′ some n l does =
       subst (λ (j : ℕ). CodeLeft ops firsts seconds m leaves types records sheet₀ sheet′ kinds′ values′ cursor′ height′ next′ j) (sym (less-one k))
       (one-emitted sheet kinds values cursor height next k sheet′ kinds′ values′ cursor′ height′ next′ some l
       (subst
-      (λ (j : ℕ). Does leaves types (instructionOf (getD ops j 0) (getD firsts j 0) (getD seconds j 0)) sheet kinds values cursor height next sheet′ kinds′ values′ cursor′ height′ next′)
+      (λ (j : ℕ). InstructionDone leaves types (instructionOf (getD ops j 0) (getD firsts j 0) (getD seconds j 0)) sheet kinds values cursor height next sheet′ kinds′ values′ cursor′ height′ next′)
       (less-one k) does))
 
   pub code-ends : {sheet kinds values : List ℕ} {cursor height next k : ℕ} → k ≡ 0 → CodeLeft ops firsts seconds m leaves types records sheet₀ sheet kinds values cursor height next k

@@ -2,7 +2,7 @@
 ghost use Rattle.instructions.specs.Emission.{completed};
 ghost use Rattle.emitting.specs.Tables.{heldStack};
 ghost use Rattle.emitting.specs.Expressions.{expressionWritten, twoWritten, recursionWritten, choiceWritten, delayWritten, constantWritten, undefinedWritten};
-ghost use Rattle.emitting.specs.Emitting.{Advancing, Completes};
+ghost use Rattle.emitting.specs.Emitting.{Advancing, ExpressionCompleted};
 use crate::bytes::LEAF;
 use crate::bytes::put_record;
 use crate::bytes::put_zeros;
@@ -38,7 +38,7 @@ pub fn complete(
     height: usize,
 ) -> Place
     requires { ⌜ Advancing (now sheet) (now kinds) (now values) cursor height ⌝ }
-    ensures { λ r. ⌜ Completes (λ R. completed R cursor (heldStack (now (kinds .entry)) (now (values .entry)) height)) cursor height (now (sheet .entry)) (now (sheet .exit)) (now (kinds .exit)) (now (values .exit)) (r .cursor) (r .height) (r .next) ⌝ }
+    ensures { λ r. ⌜ ExpressionCompleted (λ R. completed R cursor (heldStack (now (kinds .entry)) (now (values .entry)) height)) cursor height (now (sheet .entry)) (now (sheet .exit)) (now (kinds .exit)) (now (values .exit)) (r .cursor) (r .height) (r .next) ⌝ }
 {
     let mut at = cursor;
     let mut left = height;
@@ -70,7 +70,7 @@ pub fn put_expression(
     d: u16,
 ) -> Place
     requires { ⌜ Advancing (now sheet) (now kinds) (now values) cursor height ⌝ }
-    ensures { λ r. ⌜ Completes (expressionWritten (now (kinds .entry)) (now (values .entry)) cursor height kind a b c d) cursor height (now (sheet .entry)) (now (sheet .exit)) (now (kinds .exit)) (now (values .exit)) (r .cursor) (r .height) (r .next) ⌝ }
+    ensures { λ r. ⌜ ExpressionCompleted (expressionWritten (now (kinds .entry)) (now (values .entry)) cursor height kind a b c d) cursor height (now (sheet .entry)) (now (sheet .exit)) (now (kinds .exit)) (now (values .exit)) (r .cursor) (r .height) (r .next) ⌝ }
 {
     let at = put_record(sheet, cursor, kind, 0, a, b, c, d);
     complete(sheet, kinds, values, at, height)
@@ -86,7 +86,7 @@ pub fn put_two(
     kind: u16,
 ) -> Place
     requires { ⌜ Advancing (now sheet) (now kinds) (now values) cursor height ⌝ }
-    ensures { λ r. ⌜ Completes (twoWritten (now (kinds .entry)) (now (values .entry)) cursor height kind) cursor height (now (sheet .entry)) (now (sheet .exit)) (now (kinds .exit)) (now (values .exit)) (r .cursor) (r .height) (r .next) ⌝ }
+    ensures { λ r. ⌜ ExpressionCompleted (twoWritten (now (kinds .entry)) (now (values .entry)) cursor height kind) cursor height (now (sheet .entry)) (now (sheet .exit)) (now (kinds .exit)) (now (values .exit)) (r .cursor) (r .height) (r .next) ⌝ }
 {
     let a = top_below(kinds, values, height, 0);
     let b = top_below(kinds, values, height, 1);
@@ -114,7 +114,7 @@ pub fn put_recursion(
     declared: u16,
 ) -> Place
     requires { ⌜ Advancing (now sheet) (now kinds) (now values) cursor height ⌝ }
-    ensures { λ r. ⌜ Completes (recursionWritten (now (kinds .entry)) (now (values .entry)) cursor height declared) cursor height (now (sheet .entry)) (now (sheet .exit)) (now (kinds .exit)) (now (values .exit)) (r .cursor) (r .height) (r .next) ⌝ }
+    ensures { λ r. ⌜ ExpressionCompleted (recursionWritten (now (kinds .entry)) (now (values .entry)) cursor height declared) cursor height (now (sheet .entry)) (now (sheet .exit)) (now (kinds .exit)) (now (values .exit)) (r .cursor) (r .height) (r .next) ⌝ }
 {
     let b = top_below(kinds, values, height, 0);
     let c = top_below(kinds, values, height, 1);
@@ -141,7 +141,7 @@ pub fn put_choice(
     height: usize,
 ) -> Place
     requires { ⌜ Advancing (now sheet) (now kinds) (now values) cursor height ⌝ }
-    ensures { λ r. ⌜ Completes (choiceWritten (now (kinds .entry)) (now (values .entry)) cursor height) cursor height (now (sheet .entry)) (now (sheet .exit)) (now (kinds .exit)) (now (values .exit)) (r .cursor) (r .height) (r .next) ⌝ }
+    ensures { λ r. ⌜ ExpressionCompleted (choiceWritten (now (kinds .entry)) (now (values .entry)) cursor height) cursor height (now (sheet .entry)) (now (sheet .exit)) (now (kinds .exit)) (now (values .exit)) (r .cursor) (r .height) (r .next) ⌝ }
 {
     let a = top_below(kinds, values, height, 0);
     let b = top_below(kinds, values, height, 1);
@@ -170,7 +170,7 @@ pub fn put_delay(
     height: usize,
 ) -> Place
     requires { ⌜ Advancing (now sheet) (now kinds) (now values) cursor height ⌝ }
-    ensures { λ r. ⌜ Completes (delayWritten (now (kinds .entry)) (now (values .entry)) cursor height) cursor height (now (sheet .entry)) (now (sheet .exit)) (now (kinds .exit)) (now (values .exit)) (r .cursor) (r .height) (r .next) ⌝ }
+    ensures { λ r. ⌜ ExpressionCompleted (delayWritten (now (kinds .entry)) (now (values .entry)) cursor height) cursor height (now (sheet .entry)) (now (sheet .exit)) (now (kinds .exit)) (now (values .exit)) (r .cursor) (r .height) (r .next) ⌝ }
 {
     let a = top_below(kinds, values, height, 0);
     let c = top_below(kinds, values, height, 1);
@@ -199,7 +199,7 @@ pub fn put_constant(
     number: u16,
 ) -> Place
     requires { ⌜ Advancing (now sheet) (now kinds) (now values) cursor height ⌝ }
-    ensures { λ r. ⌜ Completes (constantWritten (now (kinds .entry)) (now (values .entry)) cursor height declared number) cursor height (now (sheet .entry)) (now (sheet .exit)) (now (kinds .exit)) (now (values .exit)) (r .cursor) (r .height) (r .next) ⌝ }
+    ensures { λ r. ⌜ ExpressionCompleted (constantWritten (now (kinds .entry)) (now (values .entry)) cursor height declared number) cursor height (now (sheet .entry)) (now (sheet .exit)) (now (kinds .exit)) (now (values .exit)) (r .cursor) (r .height) (r .next) ⌝ }
 {
     let at = put_record(sheet, cursor, LEAF, 0, number, 0, 0, 0);
     put_expression(
@@ -227,7 +227,7 @@ pub fn put_undefined(
     count: usize,
 ) -> Place
     requires { ⌜ Advancing (now sheet) (now kinds) (now values) cursor height ⌝ }
-    ensures { λ r. ⌜ Completes (undefinedWritten (now (kinds .entry)) (now (values .entry)) cursor height declared count) cursor height (now (sheet .entry)) (now (sheet .exit)) (now (kinds .exit)) (now (values .exit)) (r .cursor) (r .height) (r .next) ⌝ }
+    ensures { λ r. ⌜ ExpressionCompleted (undefinedWritten (now (kinds .entry)) (now (values .entry)) cursor height declared count) cursor height (now (sheet .entry)) (now (sheet .exit)) (now (kinds .exit)) (now (values .exit)) (r .cursor) (r .height) (r .next) ⌝ }
 {
     let leaves = put_zeros(sheet, cursor, 0, count);
     let at = leaves.cursor;

@@ -15,7 +15,8 @@ use Rattle.records.specs.Trees.{typeAt, Declared, treeAt, typeRecordOf}
 use Rattle.records.specs.Written.{Written}
 use Rattle.verdict.specs.Scopes.{Scope, feedback-defining, feedback-body}
 use Rattle.accepted.proofs.Scopes.{judged-by-kind}
-use Rattle.meaning.specs.Values.{undefined, zeros, ValuesOf, more-values}
+use Rattle.meaning.specs.Values.{undefined, ValuesOf, more-values}
+use Rattle.meaning.proofs.Order.{zeros}
 use Rattle.meaning.specs.Elaboration.{Term, Elaborated}
 use Rattle.meaning.specs.Undecided.{undecidedRule}
 use Rattle.meaning.specs.Evaluation.{application, settled}
@@ -23,9 +24,10 @@ use Rattle.meaning.proofs.Order.{value-length, zeros-length, undefined-typed}
 use Rattle.meaning.proofs.UndecidedRule.{rule-lawful}
 use Rattle.meaning.proofs.FeedbackLeast.{undefined-rises, feedback-typed}
 use Rattle.behaviour.specs.Terms.{term}
-use Rattle.behaviour.specs.Evaluated.{valueAt, storedAt}
+use Rattle.behaviour.specs.Evaluated.{valueAt}
+use Rattle.behaviour.specs.Midway.{storedAt}
 use Rattle.behaviour.proofs.Evaluated.{feedback-value, feedback-stored}
-use Rattle.behaviour.specs.Firing.{firedAt}
+use Rattle.behaviour.specs.Midway.{firedAt}
 use Rattle.behaviour.proofs.Firings.{feedback-fired}
 use Rattle.values.specs.Slots.{slot, entered, frames}
 use Rattle.evaluator.specs.Evaluating.{EvaluatingIn, EvaluatedIn, Evaluated, SettlingIn, SettledIn, Settled, leadsTo}

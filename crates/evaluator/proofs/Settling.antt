@@ -11,7 +11,8 @@ use native.Mathlib.Omega.{arith}
 use lib.ListN.{length, getD, take}
 use Rattle.picoella.specs.Language.{Ty, bounds, leaves, OfType}
 use Rattle.records.specs.Trees.{typeAt, Declared, treeAt}
-use Rattle.meaning.specs.Values.{zeros, Both, ValuesOf, more-values}
+use Rattle.meaning.specs.Values.{Both, ValuesOf, more-values}
+use Rattle.meaning.proofs.Order.{zeros}
 use Rattle.meaning.specs.Elaboration.{Term, Elaborated}
 use Rattle.meaning.specs.Undecided.{undecidedRule}
 use Rattle.meaning.specs.Evaluation.{application, iterate, settled}
@@ -19,11 +20,12 @@ use Rattle.meaning.proofs.Order.{value-length}
 use Rattle.meaning.proofs.UndecidedRule.{rule-lawful}
 use Rattle.meaning.proofs.FeedbackLeast.{application-monotone, application-typed, application-falls, iterate-unchanged, iterate-again}
 use Rattle.behaviour.specs.Terms.{term}
-use Rattle.behaviour.specs.Evaluated.{valueAt, storedAt}
+use Rattle.behaviour.specs.Evaluated.{valueAt}
+use Rattle.behaviour.specs.Midway.{storedAt}
 use Rattle.behaviour.proofs.Evaluated.{stored-again}
-use Rattle.behaviour.specs.Firing.{firedAt}
+use Rattle.behaviour.specs.Midway.{firedAt}
 use Rattle.behaviour.proofs.Firings.{fired-again}
-use Rattle.values.specs.Answers.{Agrees}
+use Rattle.values.specs.Answers.{Compared}
 use Rattle.values.specs.Slots.{slot, entered, frames}
 use Rattle.evaluator.specs.Evaluating.{EvaluatingIn, EvaluatedIn, Evaluated, SettlingIn, SettledIn, Settled, approximation, leadsTo}
 use Rattle.evaluator.proofs.Frames.{front-kept, slot-kept, frames-kept, entered-kept, entered-slot, entered-long}
@@ -116,7 +118,7 @@ module _ {s : List ℕ} {n : ℕ} {W env : List ℕ} {names d : ℕ} {value : Li
     fired-is : fired₁ ≡ firedAt undecidedRule s (t ∷ Γ) (v ∷ ρ) d fired
     fired-is = rw framed at (d₁ .noted)
 
-    module _ {answer : Bool} (a : Agrees o (slot names (length o) env₁) answer) where
+    module _ {answer : Bool} (a : Compared o (slot names (length o) env₁) answer) where
       standing : slot names (length o) env₁ ≡ v
       standing = rw given-long same-slot
 

@@ -17,7 +17,8 @@ use Rattle.answers.specs.Answers.{inOne, packed}
 use Rattle.answers.specs.declared.Answer.{Answer}
 use Rattle.answers.specs.declared.Answer.the-variants.{Done, Refused}
 use Rattle.answers.proofs.First.{kept-bytes}
-use Rattle.verdict.specs.Verdict.{verdictAnswer, inputs, verdict}
+use Rattle.verdict.specs.Verdict.{verdict}
+use Rattle.verdict.specs.Scopes.{verdictAnswer, inputs}
 use Rattle.verdict.specs.declared.Verdict.{Verdict}
 use Rattle.verdict.specs.declared.Verdict.the-variants.{Accepted}
 use Rattle.accepted.specs.Accepting.{Accepting}
@@ -25,7 +26,7 @@ use Rattle.accepted.proofs.Laws.{written, Refusing}
 use Rattle.accepted.proofs.Scopes.{scope-checked}
 use Rattle.accepted.proofs.Small.{accepted-passes, accepted-length, accepted-records, accepted-few, output-typed}
 use Rattle.meaning.specs.Undecided.{undecidedRule}
-use Rattle.stimulus.specs.OneCycle.{HeldToOne}
+use Rattle.stimulus.specs.Holding.{HeldToOne}
 use Rattle.stimulus.proofs.OneCycle.{one-cycle-passes, one-cycle-typed}
 use Rattle.stimulus.proofs.OneCycleCalls.{
   one-cycle-lowest-first,
@@ -36,12 +37,14 @@ use Rattle.stimulus.proofs.OneCycleCalls.{
   one-cycle-length,
   one-cycle-good,
 }
-use Rattle.behaviour.specs.Firing.{firedAt, fired}
+use Rattle.behaviour.specs.Firing.{fired}
+use Rattle.behaviour.specs.Midway.{firedAt}
 use Rattle.behaviour.proofs.Reaching.{evaluates-scope, evaluated-once}
 use Rattle.behaviour.proofs.FiredWords.{fired-words, fired-first}
 use Rattle.behaviour.proofs.FirstYes.{tells-first}
 use Rattle.stepper.specs.Cycling.{Cycling}
-use Rattle.firing.specs.Telling.{firedAnswer, finalFired, ToldFired, TellingFired}
+use Rattle.firing.specs.Telling.{firedAnswer, finalFired, ToldFired}
+use Rattle.firing.specs.TellingCycle.{TellingFired}
 use Rattle.firing.specs.Promises.{
   FiredLowestFirst,
   FiredPlacesSmall,
@@ -56,18 +59,18 @@ use Rattle.firing.specs.Promises.{
 records-few : (s : List ℕ) (t : ℕ) → verdict s ≡ Accepted t → count s ≤ 4096
 records-few s t v = let l = accepted-length s v in let w = accepted-records s v in omega arith
 
-pub lowest-first : FiredLowestFirst
+pub fired-lowest-first : FiredLowestFirst
 unfolding firedAnswer
-lowest-first s stim words a = one-cycle-lowest-first 16 (count s) s stim words a
+fired-lowest-first s stim words a = one-cycle-lowest-first 16 (count s) s stim words a
 
-pub places-small : FiredPlacesSmall
+pub fired-places-small : FiredPlacesSmall
 unfolding firedAnswer
-places-small s stim words =
+fired-places-small s stim words =
     one-cycle-place 16 (count s) s stim words (λ t v. let f = records-few s t v in omega arith)
 
-pub unaltered : FiredUnaltered
+pub fired-unaltered : FiredUnaltered
 unfolding finalFired
-unaltered s stim words f = kept-bytes (firedAnswer s stim words) (fired s stim) words f
+fired-unaltered s stim words f = kept-bytes (firedAnswer s stim words) (fired s stim) words f
 
 pub reached-once : ReachedOnce
 reached-once s t v input r h e = evaluated-once input (accepted-passes v) r h e
@@ -79,7 +82,7 @@ reached-expressions s t v input r Γ ρ c =
 pub fired-in : FiredIn
 unfolding finalFired
 fired-in s stim words e =
-    let f = lowest-first s stim words (Done 0) .0 e .0 in
+    let f = fired-lowest-first s stim words (Done 0) .0 e .0 in
     (rw e (fired-words s _ (f .accepted) stim .one-a-record), rw e refl)
 
 pub first-yes-tells : FirstYesTells
@@ -136,8 +139,8 @@ module _ {s : List ℕ} {n : ℕ} {W : List ℕ} {t : ℕ} (g : Accepting s n W)
 
 -- the cycle whose words are told begins from the sheet that was checked
 module _ {s : List ℕ} {n : ℕ} {W : List ℕ} {t : ℕ} {input words : List ℕ} (g : TellingFired s n W t input words) where
-  pub output-there : t < 4096
-  output-there =
+  pub fired-output-there : t < 4096
+  fired-output-there =
       let c = g .accepting .sized .counted in
       let f = g .accepting .sized .few in
       let h = output-typed (g .accepted) .there in
@@ -146,8 +149,8 @@ module _ {s : List ℕ} {n : ℕ} {W : List ℕ} {t : ℕ} {input words : List �
   output-width : getD W t 0 ≡ leaves (typeAt s t)
   output-width = g .accepting .table .types t (output-typed (g .accepted))
 
-  pub output-few : getD W t 0 ≤ 64
-  output-few = let f = accepted-few s (g .accepted) in let e = output-width in omega arith
+  pub fired-output-few : getD W t 0 ≤ 64
+  fired-output-few = let f = accepted-few s (g .accepted) in let e = output-width in omega arith
 
   pub words-few : length words ≤ 4096
   words-few = let f = records-few s t (g .accepted) in let r = g .room in omega arith
@@ -179,6 +182,6 @@ module _ {s : List ℕ} {n : ℕ} {W : List ℕ} {t : ℕ} {input words : List �
   pub told-looking : (names held output : List ℕ) → length names ≡ 4096 → length held ≡ 4096 → length output ≡ 64
       → Cycling s n W (take 4096 names) held input s (take (getD W t 0 - 0) output)
   told-looking names held output wide long room =
-      let f = output-few in
+      let f = fired-output-few in
       told-cycling (take 4096 names) held (take (getD W t 0 - 0) output) (length-take-le 4096 names (omega arith)) long
       (length-take-le (getD W t 0 - 0) output (omega arith) ∙ omega arith)

@@ -9,15 +9,11 @@ use mathlib.Core.Bool.{not}
 use mathlib.Core.List.{List, [], _∷_, _++_}
 use lib.ListN.{length}
 use lib.Dec.{eqb}
-use Rattle.picoella.specs.Language.{OfType}
 use Rattle.records.specs.Words.{count}
 use Rattle.answers.specs.Answers.{packed, whenDone, Check, check, when, firstApplying}
 use Rattle.answers.specs.declared.Answer.{Answer}
 use Rattle.answers.specs.declared.Answer.the-variants.{Done}
-use Rattle.verdict.specs.Verdict.{sheetChecks, verdict}
-use Rattle.verdict.specs.declared.Verdict.the-variants.{Accepted}
-use Rattle.accepted.specs.Accepting.{Accepting}
-use Rattle.stimulus.specs.Stimulus.{inputType}
+use Rattle.verdict.specs.Verdict.{sheetChecks}
 use Rattle.stimulus.specs.OneCycle.{oneCycleChecks}
 use Rattle.behaviour.specs.Firing.{fired}
 
@@ -37,10 +33,3 @@ finalFired s stim words = whenDone (firedAnswer s stim words) (fired s stim) wor
 pub record ToldFired (sheet stimulus words : List ℕ) (result : ℕ) (words′ : List ℕ) : Type 0 where
   pub result-is : result ≡ packed (firedAnswer sheet stimulus words)
   pub words-is : words′ ≡ finalFired sheet stimulus words
-
--- the words of one cycle of an accepted sheet with output type t are told, into a slice of one a record
-pub record TellingFired (s : List ℕ) (n : ℕ) (widths : List ℕ) (t : ℕ) (input words : List ℕ) : Type 0 where
-  pub accepting : Accepting s n widths
-  pub accepted : verdict s ≡ Accepted t
-  pub typed : OfType (inputType s) input
-  pub room : length words ≡ count s

@@ -20,7 +20,7 @@ use Rattle.grammar.specs.Rows.{inRecBody, inTested, pattern, inMatched, 
 use Rattle.grammar.specs.Rows.{inElse, delayBracket, constant, inDelayConstant, inConstantFirst, inConstantSecond}
 use Rattle.grammar.specs.Rows.{inDelayed, delayClose, index, indexOne, indexTwo}
 use Rattle.grammar.specs.Machine.{Config, dead, live, noWord, back, perform}
-use Rattle.grammar.proofs.Awaiting.{Headed, AwaitsDeclared, Declares, Constructs, AwaitsAlternative, alternative-name, alternative-parts}
+use Rattle.grammar.proofs.Awaiting.{AwaitsBody, AwaitsDeclared, AwaitsDeclaration, Constructs, AwaitsAlternative, alternative-name, alternative-parts}
 use Rattle.grammar.proofs.Awaiting.{alone, barred, Awaits, await-end, await-pair-first, await-pair-second, await-let-bound}
 use Rattle.grammar.proofs.Awaiting.{await-let-body, await-rec-bound, await-rec-body, await-tested, await-then, await-else}
 use Rattle.grammar.proofs.Awaiting.{await-delayed, AwaitsPattern, await-matched, await-pattern-first, await-pattern-second}
@@ -33,23 +33,23 @@ Empty [] = Unit {0}
 Empty (q ∷ K) = ⊥
 
 abbrev pub Sound : List Token → State → List State → List Token → Type 0
-Sound ts start K b = Empty K × Declares ts b
+Sound ts start K b = Empty K × AwaitsDeclaration ts b
 Sound ts declared K b = Empty K × AwaitsDeclared ts b
-Sound ts typeName K b = Empty K × (p : ℕ) × Declares ts (keyword TYPE p ∷ b)
-Sound ts typeEquals K b = Empty K × (p : ℕ) × (w : List ℕ) × (q : ℕ) × Declares ts (keyword TYPE p ∷ nameToken w q ∷ b)
-Sound ts typeBody K b = Empty K × (p : ℕ) × (w : List ℕ) × (q : ℕ) × (s : ℕ) × Declares ts (keyword TYPE p ∷ nameToken w q ∷ symbol equals s ∷ b)
+Sound ts typeName K b = Empty K × (p : ℕ) × AwaitsDeclaration ts (keyword TYPE p ∷ b)
+Sound ts typeEquals K b = Empty K × (p : ℕ) × (w : List ℕ) × (q : ℕ) × AwaitsDeclaration ts (keyword TYPE p ∷ nameToken w q ∷ b)
+Sound ts typeBody K b = Empty K × (p : ℕ) × (w : List ℕ) × (q : ℕ) × (s : ℕ) × AwaitsDeclaration ts (keyword TYPE p ∷ nameToken w q ∷ symbol equals s ∷ b)
 Sound ts constructorEnd K b = Empty K × Constructs ts b
 Sound ts constructorNext K b = Empty K × (p : ℕ) × Constructs ts (symbol bar p ∷ b)
 Sound ts pairFirstType K b = Empty K × (p : ℕ) × (m : List ℕ) × (q : ℕ) × (s : ℕ) × (t : ℕ)
-    × Declares ts (keyword TYPE p ∷ nameToken m q ∷ symbol equals s ∷ symbol opens t ∷ b)
+    × AwaitsDeclaration ts (keyword TYPE p ∷ nameToken m q ∷ symbol equals s ∷ symbol opens t ∷ b)
 Sound ts pairComma K b = Empty K × (p : ℕ) × (m : List ℕ) × (q : ℕ) × (s : ℕ) × (t : ℕ) × (n : List ℕ) × (u : ℕ)
-    × Declares ts (keyword TYPE p ∷ nameToken m q ∷ symbol equals s ∷ symbol opens t ∷ nameToken n u ∷ b)
+    × AwaitsDeclaration ts (keyword TYPE p ∷ nameToken m q ∷ symbol equals s ∷ symbol opens t ∷ nameToken n u ∷ b)
 Sound ts pairSecondType K b = Empty K × (p : ℕ) × (m : List ℕ) × (q : ℕ) × (s : ℕ) × (t : ℕ) × (n : List ℕ) × (u : ℕ) × (v : ℕ)
-    × Declares ts (keyword TYPE p ∷ nameToken m q ∷ symbol equals s ∷ symbol opens t ∷ nameToken n u ∷ symbol comma v ∷ b)
+    × AwaitsDeclaration ts (keyword TYPE p ∷ nameToken m q ∷ symbol equals s ∷ symbol opens t ∷ nameToken n u ∷ symbol comma v ∷ b)
 Sound ts pairClose K b = Empty K × (p : ℕ) × (m : List ℕ) × (q : ℕ) × (s : ℕ) × (t : ℕ) × (n : List ℕ) × (u : ℕ) × (v : ℕ) × (o : List ℕ) × (x : ℕ)
-    × Declares ts (keyword TYPE p ∷ nameToken m q ∷ symbol equals s ∷ symbol opens t ∷ nameToken n u ∷ symbol comma v ∷ nameToken o x ∷ b)
+    × AwaitsDeclaration ts (keyword TYPE p ∷ nameToken m q ∷ symbol equals s ∷ symbol opens t ∷ nameToken n u ∷ symbol comma v ∷ nameToken o x ∷ b)
 Sound ts pairIn K b = Empty K × (p : ℕ) × (m : List ℕ) × (q : ℕ) × (s : ℕ) × (t : ℕ) × (n : List ℕ) × (u : ℕ) × (v : ℕ) × (o : List ℕ) × (x : ℕ) × (y : ℕ)
-    × Declares ts (keyword TYPE p ∷ nameToken m q ∷ symbol equals s ∷ symbol opens t ∷ nameToken n u ∷ symbol comma v ∷ nameToken o x ∷ symbol closes y ∷ b)
+    × AwaitsDeclaration ts (keyword TYPE p ∷ nameToken m q ∷ symbol equals s ∷ symbol opens t ∷ nameToken n u ∷ symbol comma v ∷ nameToken o x ∷ symbol closes y ∷ b)
 Sound ts inputType K b = Empty K × (p : ℕ) × AwaitsDeclared ts (keyword INPUT p ∷ b)
 Sound ts expression K b = Awaits ts K b
 Sound ts undefinedType K b = ((p : ℕ) × Awaits ts K (symbol query p ∷ b)) ⊎ ((p : ℕ) × AwaitsConstant ts K (symbol query p ∷ b))
@@ -96,7 +96,7 @@ SoundAt ts dead b = Unit {0}
 SoundAt ts (live q K w) b = Sound ts q K b
 
 module _ {ts : List Token} where
-  ended : {a : List Token} (K : List State) → Empty K → Headed ts a → Awaits ts K a
+  ended : {a : List Token} (K : List State) → Empty K → AwaitsBody ts a → Awaits ts K a
   ended [] u h = await-end h
   ended (q ∷ K) u h = absurd u
 

@@ -183,13 +183,3 @@ assembled d ds (identifier w q) e h =
     (declarations-run 1 [] (d ∷ ds) [] 0 [] [] [] 0 0 none)
     (expression-run (d ∷ ds) (both .0) i [] e (pass-rest (both .1)) [] [] 0 0 none
     ∙ finished (d ∷ ds) (both .0) i (textCode (text d ds (identifier w q) e)) [] (lastPlace 0 e) (omega arith) refl)
-
--- names are good where no check on them fails
-pub none-bad : (cs : List PlacedCheck) → firstBadPlace cs ≡ none → AllPass cs
-none-bad [] e = no-check-left
-none-bad (checkAt p true ∷ cs) e = one-holds (none-bad cs e)
-none-bad (checkAt p false ∷ cs) e = absurd (let z : _≡_ {A = ℕ} 0 1 = cc in omega arith)
-
-pub all-good : {cs : List PlacedCheck} → AllPass cs → firstBadPlace cs ≡ none
-all-good no-check-left = refl
-all-good (one-holds h) = all-good h

@@ -6,7 +6,7 @@ use mathlib.Core.List.{List, [], _∷_}
 use native.Mathlib.Omega.{arith}
 use lib.ListN.{length, length-append}
 use Rattle.listing.specs.Digits.{digit, digits}
-use Rattle.listing.specs.Wrote.{Wrote}
+use Rattle.listing.specs.Wrote.{TextPut}
 use Rattle.listing.proofs.Written.{wrote-then}
 use Rattle.listing.proofs.Digits.{digits-one, digits-more}
 
@@ -28,14 +28,14 @@ module _ {buffer : List ℕ} {at n : ℕ} where
   pub one-digit :
       {after : List ℕ} {place : ℕ} →
       n < 10 →
-      Wrote buffer at (digit (n % 10) ∷ []) after place →
-      Wrote buffer at (digits n) after place
+      TextPut buffer at (digit (n % 10) ∷ []) after place →
+      TextPut buffer at (digits n) after place
   one-digit h w = let e : n % 10 ≡ n = omega arith in rw (digits-one n h) (rw e at w)
 
   pub last-digit :
       {between after : List ℕ} {middle place : ℕ} →
       10 ≤ n →
-      Wrote buffer at (digits (n / 10)) between middle →
-      Wrote between middle (digit (n % 10) ∷ []) after place →
-      Wrote buffer at (digits n) after place
+      TextPut buffer at (digits (n / 10)) between middle →
+      TextPut between middle (digit (n % 10) ∷ []) after place →
+      TextPut buffer at (digits n) after place
   last-digit h v w = rw (digits-more n h) (wrote-then v w)

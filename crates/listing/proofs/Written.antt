@@ -8,7 +8,7 @@ use native.Mathlib.Numerals.{add-one}
 use native.Mathlib.Nat.{add-zero}
 use lib.ListN.{length, set, take, drop, length-append, length-drop, take-append-drop}
 use lib.Seq.{length-take-le, take-at, drop-append-add, drop-drop, set-split, append-snoc}
-use Rattle.listing.specs.Wrote.{written, Wrote}
+use Rattle.listing.specs.Wrote.{written, TextPut}
 
 module _ (buffer : List ℕ) (at : ℕ) (text : List ℕ) (room : at + length text ≤ length buffer) where
   -- the part of the buffer up to the text's end
@@ -37,7 +37,7 @@ module _ (buffer : List ℕ) (at : ℕ) (text : List ℕ) (room : at + length te
       let far : at + length (text ++ more) ≡ end + length more = rw length-append (omega arith) in
       rw (front, back, far, append-assoc (take at buffer) text more) refl
 
-module _ {buffer : List ℕ} {at : ℕ} {text after : List ℕ} {place : ℕ} (w : Wrote buffer at text after place) where
+module _ {buffer : List ℕ} {at : ℕ} {text after : List ℕ} {place : ℕ} (w : TextPut buffer at text after place) where
   wrote-room : at + length text ≤ length buffer
   wrote-room = let p = w .place in let i = w .inside in omega arith
 
@@ -45,7 +45,7 @@ module _ {buffer : List ℕ} {at : ℕ} {text after : List ℕ} {place : ℕ} (w
   wrote-long = rw (w .bytes) (written-length buffer at text wrote-room)
 
   pub wrote-then :
-      {more final : List ℕ} {end : ℕ} → Wrote after place more final end → Wrote buffer at (text ++ more) final end
+      {more final : List ℕ} {end : ℕ} → TextPut after place more final end → TextPut buffer at (text ++ more) final end
   wrote-then {more} v =
       record {
         bytes = v .bytes ∙ rw (w .bytes, w .place) (written-then buffer at text wrote-room more);
@@ -53,7 +53,7 @@ module _ {buffer : List ℕ} {at : ℕ} {text after : List ℕ} {place : ℕ} (w
         inside = let i = v .inside in let l = wrote-long in omega arith;
       }
 
-pub wrote-none : (buffer : List ℕ) (at : ℕ) → at ≤ length buffer → Wrote buffer at [] buffer at
+pub wrote-none : (buffer : List ℕ) (at : ℕ) → at ≤ length buffer → TextPut buffer at [] buffer at
 unfolding written
 wrote-none buffer at h =
     record {
@@ -62,7 +62,7 @@ wrote-none buffer at h =
       inside = h;
     }
 
-pub wrote-byte : (buffer : List ℕ) (at b : ℕ) → at < length buffer → Wrote buffer at (b ∷ []) (set buffer at b) (at + 1)
+pub wrote-byte : (buffer : List ℕ) (at b : ℕ) → at < length buffer → TextPut buffer at (b ∷ []) (set buffer at b) (at + 1)
 unfolding written
 wrote-byte buffer at b h =
     record {

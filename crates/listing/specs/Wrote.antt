@@ -9,7 +9,7 @@ unfoldable pub written : (buffer : List ℕ) (at : ℕ) (text : List ℕ) → Li
 written buffer at text = take at buffer ++ text ++ drop (at + length text) buffer
 
 -- the text stands at the place, and the result is the place after it, inside the buffer
-pub record Wrote (buffer : List ℕ) (at : ℕ) (text after : List ℕ) (result : ℕ) : Type 0 where
+pub record TextPut (buffer : List ℕ) (at : ℕ) (text after : List ℕ) (result : ℕ) : Type 0 where
   pub bytes : after ≡ written buffer at text
   pub place : result ≡ at + length text
   pub inside : result ≤ length buffer

@@ -9,7 +9,8 @@ use mathlib.Core.Logic.{_⊎_, inl, inr, _≢_}
 use mathlib.Core.List.{List, [], _∷_, _++_, map}
 use lib.ListN.{getD, take, drop, replicate-append-replicate}
 use Rattle.picoella.specs.Language.{Ty, Flat, TyTuple, bounds, leaves, OfType, Expr, Index1, Index2, Named, here, there}
-use Rattle.meaning.specs.Values.{zeros, undefined, Both, ValuesOf, no-values, more-values}
+use Rattle.meaning.specs.Values.{undefined, Both, ValuesOf, no-values, more-values}
+use Rattle.meaning.proofs.Order.{zeros}
 use Rattle.meaning.specs.Matching.{Decision, Yes, No, Undecided, matches}
 use Rattle.meaning.specs.Elaboration.{
   Term,

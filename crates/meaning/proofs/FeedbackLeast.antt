@@ -8,7 +8,8 @@ use mathlib.Core.Path.{_≡_, sym, ap, _∙_}
 use mathlib.Core.Logic.{_⊎_, inl, inr, _≢_}
 use mathlib.Core.List.{List, _∷_}
 use Rattle.picoella.specs.Language.{Ty, bounds, leaves, OfType}
-use Rattle.meaning.specs.Values.{undefined, zeros, Both, ValuesOf, both-more-values}
+use Rattle.meaning.specs.Values.{undefined, Both, ValuesOf, both-more-values}
+use Rattle.meaning.proofs.Order.{zeros}
 use Rattle.meaning.specs.Elaboration.{Term, Elaborated}
 use Rattle.meaning.specs.Undecided.{Lawful}
 use Rattle.meaning.specs.Evaluation.{iter, application, iterate, settled, applications}

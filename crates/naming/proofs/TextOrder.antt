@@ -13,9 +13,9 @@ pub data From : ℕ → List ℕ → Type 0 where
   from-none : {i : ℕ} → From i []
   from-one : {i p : ℕ} {ps : List ℕ} → i ≤ p → From (suc p) ps → From i (p ∷ ps)
 
-pub lower : {i j : ℕ} {ps : List ℕ} → i ≤ j → From j ps → From i ps
-lower h from-none = from-none
-lower {i} h (from-one {p} l f) = from-one {i = i} {p = p} (omega arith) f
+pub from-lower : {i j : ℕ} {ps : List ℕ} → i ≤ j → From j ps → From i ps
+from-lower h from-none = from-none
+from-lower {i} h (from-one {p} l f) = from-one {i = i} {p = p} (omega arith) f
 
 after : {p : ℕ} {ps : List ℕ} → From (suc p) ps → Increasing (p ∷ ps)
 after from-none = increasing-one
@@ -31,10 +31,10 @@ run-long (run-more h r) = omega arith
 
 names-from : {i : ℕ} {bs : List ℕ} {ts : List Token} → Tokens i bs ts → From i (namePlaces ts)
 names-from no-token = from-none
-names-from (a-blank e t) = lower (omega arith) (names-from t)
-names-from (a-symbol e t) = lower (omega arith) (names-from t)
-names-from (a-word {i} {word} r (spells-keyword e) t) = lower (omega (arith, run-long r)) (names-from t)
-names-from (a-word {i} {word} r (spells-name a l) t) = from-one {i = i} {p = i} (omega arith) (lower (omega (arith, run-long r)) (names-from t))
+names-from (a-blank e t) = from-lower (omega arith) (names-from t)
+names-from (a-symbol e t) = from-lower (omega arith) (names-from t)
+names-from (a-word {i} {word} r (spells-keyword e) t) = from-lower (omega (arith, run-long r)) (names-from t)
+names-from (a-word {i} {word} r (spells-name a l) t) = from-one {i = i} {p = i} (omega arith) (from-lower (omega (arith, run-long r)) (names-from t))
 
 pub names-increase : {i : ℕ} {bs : List ℕ} {ts : List Token} → Tokens i bs ts → Increasing (namePlaces ts)
 names-increase t = increasing (names-from t)

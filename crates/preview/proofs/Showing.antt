@@ -11,14 +11,15 @@ use Rattle.records.specs.Trees.{typeAt}
 use Rattle.answers.specs.Answers.{inOne, packed}
 use Rattle.answers.specs.declared.Answer.{Answer}
 use Rattle.answers.specs.declared.Answer.the-variants.{Done, Refused}
-use Rattle.verdict.specs.Verdict.{verdictAnswer, verdict}
+use Rattle.verdict.specs.Verdict.{verdict}
+use Rattle.verdict.specs.Scopes.{verdictAnswer}
 use Rattle.verdict.specs.declared.Verdict.{Verdict}
 use Rattle.verdict.specs.declared.Verdict.the-variants.{Accepted}
 use Rattle.accepted.specs.Accepting.{Accepting}
 use Rattle.accepted.proofs.Calls.{accepted-output}
 use Rattle.accepted.proofs.Laws.{Refusing}
 use Rattle.accepted.proofs.Small.{output-typed, accepted-few}
-use Rattle.stimulus.specs.OneCycle.{HeldToOne}
+use Rattle.stimulus.specs.Holding.{HeldToOne}
 use Rattle.stimulus.proofs.OneCycle.{one-cycle-passes, one-cycle-typed}
 use Rattle.stimulus.proofs.OneCycleCalls.{
   one-cycle-done,
@@ -29,7 +30,8 @@ use Rattle.stimulus.proofs.OneCycleCalls.{
 }
 use Rattle.behaviour.specs.Cycle.{output}
 use Rattle.stepper.specs.Cycling.{Cycling}
-use Rattle.preview.specs.Preview.{outputLeaves, previewAnswer, finalPreview, Previewed, Showing}
+use Rattle.preview.specs.Preview.{outputLeaves, previewAnswer, finalPreview, Previewed}
+use Rattle.preview.specs.Showing.{Showing}
 
 previewed-refusal : (s stim out : List ℕ) (c p : ℕ) → previewAnswer s stim out ≡ Refused c p → Previewed s stim out (inOne c p) out
 unfolding finalPreview

@@ -37,7 +37,8 @@ use Rattle.behaviour.specs.Cycle.{outputBy}
 use Rattle.behaviour.specs.Bench.{toggle}
 use Rattle.evaluator.proofs.Frames.{zeros-long}
 use Rattle.stepper.specs.Cycling.{Cycling}
-use Rattle.preview.specs.Preview.{previewAnswer, finalPreview, Showing}
+use Rattle.preview.specs.Preview.{previewAnswer, finalPreview}
+use Rattle.preview.specs.Showing.{Showing}
 use Rattle.preview.specs.Promises.{PreviewToggle}
 use Rattle.preview.proofs.Showing.{shown-cycling}
 

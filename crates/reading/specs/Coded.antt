@@ -171,7 +171,7 @@ configOf true s w d K = live (stateOf s) (stackOf d K) (wordOf w)
 configOf false s w d K = dead
 
 -- what a step asks of the machine's numbers
-pub record Ready (state word depth : ℕ) (stack : List ℕ) : Type 0 where
+pub record Stepping (state word depth : ℕ) (stack : List ℕ) : Type 0 where
   pub few-states : state < 47
   pub few-words : word < 60
   pub room : depth < 65536

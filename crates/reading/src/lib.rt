@@ -8,10 +8,10 @@ pub mod tables;
 ghost use mathlib.Core.Path.{_≡_};
 ghost use Prim.Native.Nat.{_+_, _≤_, _<_, min};
 ghost use lib.ListN.{length};
-ghost use Rattle.grammar.specs.Legal.{Told};
+ghost use Rattle.grammar.specs.Walk.{Told};
 ghost use Rattle.grammar.specs.Machine.{back, onByte};
 ghost use Rattle.reading.specs.Coded.{illegal, stateOf, stackOf, wordOf, letterTable, follows, afterLead, followed, lettered};
-ghost use Rattle.reading.specs.Coded.{spelledOut, conclusion, Ready, Stepped, Worded, Tables};
+ghost use Rattle.reading.specs.Coded.{spelledOut, conclusion, Stepping, Stepped, Worded, Tables};
 use numbers::BACK;
 use numbers::BLANK;
 use numbers::ContextStack;
@@ -38,7 +38,7 @@ pub struct Moved {
 
 // Back to the state that waits.
 fn resume(word: u8, depth: usize, stack: &ContextStack) -> Moved
-    requires { ⌜ Ready 0 word depth (now stack) ⌝ }
+    requires { ⌜ Stepping 0 word depth (now stack) ⌝ }
     ensures { λ r. ⌜ Stepped (back (stackOf depth (now (stack .entry))) (wordOf word)) depth (r .ok) (r .state) (r .word) (r .depth) (now (stack .entry)) ⌝ }
 {
     if depth == 0 {
@@ -66,7 +66,7 @@ fn take_row(
     depth: usize,
     stack: &mut ContextStack,
 ) -> Moved
-    requires { ⌜ Ready state word depth (now stack) × (next ≤ 48) × (waits ≤ 47) ⌝ }
+    requires { ⌜ Stepping state word depth (now stack) × (next ≤ 48) × (waits ≤ 47) ⌝ }
     ensures { λ r. ⌜ Stepped (follows next waits word (stackOf depth (now (stack .entry)))) depth (r .ok) (r .state) (r .word) (r .depth) (now (stack .exit)) ⌝ }
 {
     if next == 0 {
@@ -151,7 +151,7 @@ pub fn begin(
     waits: &[[u8; 18]; 47],
     words: &[[u8; 18]; 47],
 ) -> Moved
-    requires { ⌜ Ready state 0 depth (now stack) × (class < 18) × Tables (now nexts) (now waits) (now words) ⌝ }
+    requires { ⌜ Stepping state 0 depth (now stack) × (class < 18) × Tables (now nexts) (now waits) (now words) ⌝ }
     ensures { λ r. ⌜ Stepped (afterLead class (stateOf state) (stackOf depth (now (stack .entry)))) depth (r .ok) (r .state) (r .word) (r .depth) (now (stack .exit)) ⌝ }
 {
     let row = wide(state);
@@ -177,7 +177,7 @@ fn follow(
     waits: &[[u8; 18]; 47],
     words: &[[u8; 18]; 47],
 ) -> Moved
-    requires { ⌜ Ready state word depth (now stack) × (class < 21) × Tables (now nexts) (now waits) (now words) ⌝ }
+    requires { ⌜ Stepping state word depth (now stack) × (class < 21) × Tables (now nexts) (now waits) (now words) ⌝ }
     ensures { λ r. ⌜ Stepped (followed class (stateOf state) (stackOf depth (now (stack .entry))) word) depth (r .ok) (r .state) (r .word) (r .depth) (now (stack .exit)) ⌝ }
 {
     if class == BLANK {
@@ -216,7 +216,7 @@ pub fn step(
     words: &[[u8; 18]; 47],
     letters: &[u8; 60],
 ) -> Moved
-    requires { ⌜ Ready state word depth (now stack) × Tables (now nexts) (now waits) (now words) × (now letters ≡ letterTable) ⌝ }
+    requires { ⌜ Stepping state word depth (now stack) × Tables (now nexts) (now waits) (now words) × (now letters ≡ letterTable) ⌝ }
     ensures { λ r. ⌜ Stepped (onByte b (stateOf state) (stackOf depth (now (stack .entry))) (wordOf word)) depth (r .ok) (r .state) (r .word) (r .depth) (now (stack .exit)) ⌝ }
 {
     let letter = letters[wide(word)];

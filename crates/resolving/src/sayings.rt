@@ -5,7 +5,7 @@ ghost use Prim.Native.Nat.{_-_, _≤_, _<_};
 ghost use Rattle.reading.specs.Coded.{stateOf};
 ghost use Rattle.symbols.specs.Names.{lettersAt, Inside, declaredNames, boundNames};
 ghost use Rattle.instructions.specs.TokenOrder.{declaredOp, nameSaid, otherSaid, valueSaid, pairBefore};
-ghost use Rattle.resolving.specs.Said.{CodeSized, CodeSaid, Speaking, namedSaid, classSaid};
+ghost use Rattle.resolving.specs.Said.{CodeSized, CodeSaid, Saying, namedSaid, classSaid};
 use crate::code::say;
 use crate::numbering::entry;
 use crate::numbering::has_role;
@@ -75,7 +75,7 @@ fn say_value(
     firsts: &mut Operands,
     seconds: &mut Operands,
 ) -> usize
-    requires { ⌜ Speaking (now text) base n (now spans) (now links) (now heads) (now roles) (now types) (now ranks) count (now ops) (now firsts) (now seconds) × Inside (now text) span ⌝ }
+    requires { ⌜ Saying (now text) base n (now spans) (now links) (now heads) (now roles) (now types) (now ranks) count (now ops) (now firsts) (now seconds) × Inside (now text) span ⌝ }
     ensures { λ r. ⌜ CodeSaid (now (ops .entry)) (now (firsts .entry)) (now (seconds .entry)) count (valueSaid (lettersAt (now (text .entry)) span) (boundNames (now (text .entry)) (now (spans .entry)) base (n - base)) (declaredNames (now (text .entry)) (now (spans .entry)) (now (roles .entry)) base) ∷ []) (now (ops .exit)) (now (firsts .exit)) (now (seconds .exit)) r ⌝ }
 {
     let k = find_name(text, span, n, n, spans, links, heads);
@@ -115,7 +115,7 @@ fn say_declared(
     firsts: &mut Operands,
     seconds: &mut Operands,
 ) -> usize
-    requires { ⌜ Speaking (now text) base n (now spans) (now links) (now heads) (now roles) (now types) (now ranks) count (now ops) (now firsts) (now seconds) × Inside (now text) span ⌝ }
+    requires { ⌜ Saying (now text) base n (now spans) (now links) (now heads) (now roles) (now types) (now ranks) count (now ops) (now firsts) (now seconds) × Inside (now text) span ⌝ }
     ensures { λ r. ⌜ CodeSaid (now (ops .entry)) (now (firsts .entry)) (now (seconds .entry)) count (namedSaid op delayed (lettersAt (now (text .entry)) span) (declaredNames (now (text .entry)) (now (spans .entry)) (now (roles .entry)) base) ∷ []) (now (ops .exit)) (now (firsts .exit)) (now (seconds .exit)) r ⌝ }
 {
     let k = find_declared(text, span, base, n, spans, links, heads, roles);
@@ -149,7 +149,7 @@ fn say_name(
     firsts: &mut Operands,
     seconds: &mut Operands,
 ) -> usize
-    requires { ⌜ Speaking (now text) base n (now spans) (now links) (now heads) (now roles) (now types) (now ranks) count (now ops) (now firsts) (now seconds) × Inside (now text) span ⌝ }
+    requires { ⌜ Saying (now text) base n (now spans) (now links) (now heads) (now roles) (now types) (now ranks) count (now ops) (now firsts) (now seconds) × Inside (now text) span ⌝ }
     ensures { λ r. ⌜ CodeSaid (now (ops .entry)) (now (firsts .entry)) (now (seconds .entry)) count (nameSaid op delayed (lettersAt (now (text .entry)) span) (boundNames (now (text .entry)) (now (spans .entry)) base (n - base)) (declaredNames (now (text .entry)) (now (spans .entry)) (now (roles .entry)) base)) (now (ops .exit)) (now (firsts .exit)) (now (seconds .exit)) r ⌝ }
 {
     if op == SILENT {
@@ -250,7 +250,7 @@ pub fn say_token(
     firsts: &mut Operands,
     seconds: &mut Operands,
 ) -> usize
-    requires { ⌜ Speaking (now text) base n (now spans) (now links) (now heads) (now roles) (now types) (now ranks) count (now ops) (now firsts) (now seconds) × Inside (now text) span × (state < 47) × (start ≤ 65535) ⌝ }
+    requires { ⌜ Saying (now text) base n (now spans) (now links) (now heads) (now roles) (now types) (now ranks) count (now ops) (now firsts) (now seconds) × Inside (now text) span × (state < 47) × (start ≤ 65535) ⌝ }
     ensures { λ r. ⌜ CodeSaid (now (ops .entry)) (now (firsts .entry)) (now (seconds .entry)) count (classSaid class start (stateOf state) op delayed (lettersAt (now (text .entry)) span) (boundNames (now (text .entry)) (now (spans .entry)) base (n - base)) (declaredNames (now (text .entry)) (now (spans .entry)) (now (roles .entry)) base)) (now (ops .exit)) (now (firsts .exit)) (now (seconds .exit)) r ⌝ }
 {
     if class != SMALL_LETTER {

@@ -9,8 +9,8 @@ ghost use Rattle.reading.specs.Coded.{stateOf, stackOf, Tables};
 ghost use Rattle.scoping.specs.Scoped.{admissionTable, effectTable, heldScope, Scoping};
 ghost use Rattle.symbols.specs.Names.{Inside};
 ghost use Rattle.instructions.specs.TokenOrder.{inConstant};
-ghost use Rattle.resolving.specs.Said.{spanBetween, Declares, sayingTable};
-ghost use Rattle.resolving.specs.Walked.{TokenNoted, FoundWith, Walking, TokenTaken};
+ghost use Rattle.resolving.specs.Said.{spanBetween, NamesDeclared, sayingTable};
+ghost use Rattle.resolving.specs.Walked.{TokenNoted, FoundWith, TakingToken, TokenTaken};
 use crate::numbering::number_names;
 use crate::sayings::say_token;
 use crate::tables::Sayings;
@@ -99,7 +99,7 @@ fn note(
     admissions: &Admissions,
 ) -> ScopeCounts
     requires { ⌜ Scoping (now text) 65534 base n m (now spans) (now links) (now heads) (now roles) (now pendings) × Inside (now text) span × (state < 47) × (now admissions ≡ admissionTable) ⌝ }
-    ensures { λ r. ⌜ (r .ok ≡ true → Scoping (now (text .entry)) (n + m + 1) (r .base) (r .all) (r .waiting) (now (spans .exit)) (now (links .exit)) (now (heads .exit)) (now (roles .exit)) (now (pendings .exit)) × Declares (now (text .entry)) (now (spans .entry)) (now (roles .entry)) base (now (spans .exit)) (now (roles .exit)) (r .base)) × ((start end : ℕ) (t : Token) (others : List Token) → FoundWith (now (text .entry)) start end class span effect (stateOf state) t others → TokenNoted (stateOf state) t (heldScope (now (text .entry)) base n m (now (spans .entry)) (now (roles .entry)) (now (pendings .entry))) (r .ok) (heldScope (now (text .entry)) (r .base) (r .all) (r .waiting) (now (spans .exit)) (now (roles .exit)) (now (pendings .exit)))) ⌝ }
+    ensures { λ r. ⌜ (r .ok ≡ true → Scoping (now (text .entry)) (n + m + 1) (r .base) (r .all) (r .waiting) (now (spans .exit)) (now (links .exit)) (now (heads .exit)) (now (roles .exit)) (now (pendings .exit)) × NamesDeclared (now (text .entry)) (now (spans .entry)) (now (roles .entry)) base (now (spans .exit)) (now (roles .exit)) (r .base)) × ((start end : ℕ) (t : Token) (others : List Token) → FoundWith (now (text .entry)) start end class span effect (stateOf state) t others → TokenNoted (stateOf state) t (heldScope (now (text .entry)) base n m (now (spans .entry)) (now (roles .entry)) (now (pendings .entry))) (r .ok) (heldScope (now (text .entry)) (r .base) (r .all) (r .waiting) (now (spans .exit)) (now (roles .exit)) (now (pendings .exit)))) ⌝ }
 {
     if class == SMALL_LETTER {
         return note_name(
@@ -182,7 +182,7 @@ pub fn take_token(
     admissions: &Admissions,
     sayings: &Sayings,
 ) -> Taken
-    requires { ⌜ Walking (now text) start state depth base n m count (now stack) (now spans) (now links) (now heads) (now roles) (now pendings) (now types) (now ranks) (now ops) (now firsts) (now seconds) × (start < length (now text)) × Tables (now nexts) (now waits) (now words) × (now effects ≡ effectTable) × (now admissions ≡ admissionTable) × (now sayings ≡ sayingTable) ⌝ }
+    requires { ⌜ TakingToken (now text) start state depth base n m count (now stack) (now spans) (now links) (now heads) (now roles) (now pendings) (now types) (now ranks) (now ops) (now firsts) (now seconds) × (start < length (now text)) × Tables (now nexts) (now waits) (now words) × (now effects ≡ effectTable) × (now admissions ≡ admissionTable) × (now sayings ≡ sayingTable) ⌝ }
     ensures { λ r. ⌜ TokenTaken (now (text .entry)) start (stateOf state) (stackOf depth (now (stack .entry))) (heldScope (now (text .entry)) base n m (now (spans .entry)) (now (roles .entry)) (now (pendings .entry))) (now (ops .entry)) (now (firsts .entry)) (now (seconds .entry)) count (r .ok) (r .end) (r .state) (r .depth) (r .base) (r .all) (r .waiting) (r .count) (now (stack .exit)) (now (spans .exit)) (now (links .exit)) (now (heads .exit)) (now (roles .exit)) (now (pendings .exit)) (now (types .exit)) (now (ranks .exit)) (now (ops .exit)) (now (firsts .exit)) (now (seconds .exit)) ⌝ }
 {
     let class = class_of(text[start]);

@@ -15,7 +15,8 @@ use Rattle.answers.specs.Answers.{code, place, inOne, packed, firstApplying, Sa
 use Rattle.answers.specs.declared.Answer.{Answer}
 use Rattle.answers.specs.declared.Answer.the-variants.{Done, Refused}
 use Rattle.answers.proofs.First.{when-none, first-says}
-use Rattle.verdict.specs.Verdict.{verdictAnswer, verdict}
+use Rattle.verdict.specs.Verdict.{verdict}
+use Rattle.verdict.specs.Scopes.{verdictAnswer}
 use Rattle.verdict.specs.Widths.{Widths, Checked}
 use Rattle.verdict.specs.declared.Verdict.{Verdict}
 use Rattle.verdict.specs.declared.Verdict.the-variants as Verdicts
@@ -25,7 +26,7 @@ use Rattle.accepted.proofs.Small.{output-typed, accepted-sized, accepted-few}
 use Rattle.stimulus.specs.Stimulus.{cycleCount, wrongStimulus, wrongByte, stimulusChecks}
 use Rattle.stimulus.specs.Holding.{Held}
 use Rattle.stimulus.proofs.Holding as Holding
-use Rattle.behaviour.specs.Run.{outputNeeded, answer, Gives}
+use Rattle.behaviour.specs.Run.{outputNeeded, answer, RunGiven}
 use Rattle.behaviour.specs.Afterwards.{WellFormed}
 use Rattle.behaviour.proofs.Answers.{
   gives-refusal,
@@ -57,7 +58,7 @@ module _ {s : List ℕ} {n : ℕ} {W : List ℕ} {t : ℕ} (g : RunningAccepted 
 
   module _ {stim : List ℕ} {a : Answer} (h : Held s stim a) where
     -- 8 and 9
-    pub refused-stimulus : {out next : List ℕ} {c p : ℕ} → a ≡ Refused c p → {result : ℕ} → result ≡ packed a → Gives s stim out next result out next
+    pub refused-stimulus : {out next : List ℕ} {c p : ℕ} → a ≡ Refused c p → {result : ℕ} → result ≡ packed a → RunGiven s stim out next result out next
     refused-stimulus {out} {next} e q =
         rw (q, e) (gives-refusal (stimulus-refused s stim out next (g .accepted) (sym (h .answered) ∙ e)))
 
@@ -91,13 +92,13 @@ module _ {s : List ℕ} {n : ℕ} {W : List ℕ} {t : ℕ} (g : RunningAccepted 
 
       -- 10 and 11
       pub refused-output : {out next : List ℕ} → (length out ≡ count * getD W t 0 → ⊥) → {result : ℕ} → result ≡ inOne 10 (count * getD W t 0)
-          → Gives s stim out next result out next
+          → RunGiven s stim out next result out next
       refused-output {out} {next} d q =
           rw (q, needed)
           (gives-refusal (output-refused s stim out next (g .accepted) stimulus-done (λ y. d (y ∙ sym needed))))
 
       module _ {out : List ℕ} (y : length out ≡ count * getD W t 0) where
-        pub refused-next : {next : List ℕ} → (length next ≡ length s → ⊥) → {result : ℕ} → result ≡ inOne 11 (length s) → Gives s stim out next result out next
+        pub refused-next : {next : List ℕ} → (length next ≡ length s → ⊥) → {result : ℕ} → result ≡ inOne 11 (length s) → RunGiven s stim out next result out next
         refused-next {next} d q =
             rw q
             (gives-refusal (next-refused s stim out next (g .accepted) stimulus-done (y ∙ needed) d))
@@ -124,11 +125,11 @@ module _ {s : List ℕ} {n : ℕ} {W : List ℕ} {t : ℕ} (g : RunningAccepted 
                 start = put-whole s next next₁ (sym x) c;
               }
 
-          pub call-done : {next₂ out₂ : List ℕ} → RanCycles s stim next₂ out₂ → Gives s stim out next count out₂ next₂
+          pub call-done : {next₂ out₂ : List ℕ} → RanCycles s stim next₂ out₂ → RunGiven s stim out next count out₂ next₂
           call-done r = rw (counted, r .outputs, r .next) (gives-done well-formed)
 
 pub call-runs : {s stim out next : List ℕ} {result : ℕ} {out′ next′ : List ℕ} → ((i : ℕ) → Fits w8 (getD s i 0))
-    → Gives s stim out next result out′ next′ → Ran s stim out next result out′ next′
+    → RunGiven s stim out next result out′ next′ → Ran s stim out next result out′ next′
 call-runs {s} {stim} {out} {next} {result} {out′} {next′} b g =
     record {
       gives = g;

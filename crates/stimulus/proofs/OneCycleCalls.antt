@@ -26,13 +26,15 @@ use Rattle.answers.proofs.First.{
   same-length-by,
   place-or,
 }
-use Rattle.verdict.specs.Verdict.{verdictAnswer, sheetChecks, outputType, verdict}
+use Rattle.verdict.specs.Verdict.{sheetChecks, outputType, verdict}
+use Rattle.verdict.specs.Scopes.{verdictAnswer}
 use Rattle.verdict.specs.declared.Verdict.{Verdict}
 use Rattle.verdict.specs.declared.Verdict.the-variants.{Accepted}
 use Rattle.accepted.proofs.Calls.{accepted-output, sheet-refused, sheet-accepted, call-place}
 use Rattle.accepted.proofs.Laws.{first-accepted, Refusing, refusing-answer}
 use Rattle.stimulus.specs.Stimulus.{wrongByte}
-use Rattle.stimulus.specs.OneCycle.{notOneCycle, oneCycleChecks, HeldToOne}
+use Rattle.stimulus.specs.OneCycle.{notOneCycle, oneCycleChecks}
+use Rattle.stimulus.specs.Holding.{HeldToOne}
 use Rattle.stimulus.specs.OneCycleCalls.{FormedOneCycle, SaysOfOneCycle}
 use Rattle.stimulus.proofs.Stimulus.{stimulus-whole}
 use Rattle.stimulus.proofs.OneCycle.{one-cycle-whole, one-cycle-passes}

@@ -9,7 +9,7 @@ ghost use Rattle.answers.specs.Searches.{found};
 ghost use Rattle.accepted.specs.Accepting.{Accepting};
 ghost use Rattle.stimulus.specs.Tests.{notWhole, above};
 ghost use Rattle.stimulus.specs.Holding.{Held};
-ghost use Rattle.stimulus.specs.OneCycle.{HeldToOne};
+ghost use Rattle.stimulus.specs.Holding.{HeldToOne};
 use accepted::fill_bounds;
 use answers::Answer;
 use answers::Found;

@@ -9,7 +9,7 @@ use Rattle.grammar.specs.Tokens.{Token}
 use Rattle.grammar.specs.Source.{Text}
 use Rattle.grammar.specs.Legal.{Reading}
 use Rattle.stimulus.specs.Stimulus.{inputType, cycleCount, cycles, pieces}
-use Rattle.behaviour.specs.Run.{Gives}
+use Rattle.behaviour.specs.Run.{RunGiven}
 use Rattle.behaviour.specs.Afterwards.{WellFormed}
 use Rattle.translator.specs.Translation.{Translated}
 use Rattle.text_meaning.specs.NamedValues.{valueOf}
@@ -32,7 +32,7 @@ abbrev pub TranslatedRunMeans : Type 0
 TranslatedRunMeans =
     (bytes entry : List ℕ) (n : ℕ) (exit : List ℕ) → Translated bytes entry (Done n) exit
     → (stim out next : List ℕ) (τ result : ℕ) (out′ next′ : List ℕ)
-    → WellFormed (take n exit) stim out next τ → Gives (take n exit) stim out next result out′ next′
+    → WellFormed (take n exit) stim out next τ → RunGiven (take n exit) stim out next result out′ next′
     → RanAsMeant bytes (take n exit) stim τ out′
 
 pub record TextCallPromises : Type 0 where

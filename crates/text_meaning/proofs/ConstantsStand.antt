@@ -41,7 +41,7 @@ use Rattle.text_meaning.proofs.Naming.{nameTree, KnownType, known-flat,
 use Rattle.text_meaning.proofs.Matched.{IsNumber}
 use Rattle.text_meaning.proofs.Related.{StandsFor}
 use Rattle.text_meaning.proofs.InScope.{bottom-of-type}
-use Rattle.text_meaning.proofs.NamesStand.{all-differ, numbered, type-known, unknown-is}
+use Rattle.text_meaning.proofs.NamesStand.{all-differ, constructor-has-number, type-known, unknown-is}
 use Rattle.text_meaning.proofs.TakenNames.{AllTaken, after-taken, later-same, first-entry, among-entry, not-among-entry}
 
 module _ (w u : List ℕ) where
@@ -201,7 +201,7 @@ module _ (ds : List Declaration) (good : AllPass (declarationsChecks atFirst ds)
         type = u;
         type-is = e;
         stands = subst (λ τ. StandsFor ds τ (m .number ∷ []) (Made w)) (sym is)
-            (constructor-stands w m (numbered ds w h) (subst (KnownType ds) is (type-known ds (all-differ atFirst ds good) u)));
+            (constructor-stands w m (constructor-has-number ds w h) (subst (KnownType ds) is (type-known ds (all-differ atFirst ds good) u)));
         few = one-leaf (typeMeant (typeEntries ds) u);
       }
 
@@ -210,7 +210,7 @@ module _ (ds : List Declaration) (good : AllPass (declarationsChecks atFirst ds)
       → KnownType ds (Flat (constructorMeant (constructorEntries ds) w .type) (constructorMeant (constructorEntries ds) w .constructors))
   constructor-known w h =
       let m = constructorMeant (constructorEntries ds) w in
-      known-flat (numbered ds w h .many) (all-differ atFirst ds good (m .type))
+      known-flat (constructor-has-number ds w h .many) (all-differ atFirst ds good (m .type))
 
   two-stand : (σ τ : Ty) (v w : List ℕ) (x y : NamedValue) → StandsFor ds σ v x → StandsFor ds τ w y → length v ≤ leaves σ
       → length w ≤ leaves τ → StandsFor ds (TyTuple σ τ) (v ++ w) (Couple x y)

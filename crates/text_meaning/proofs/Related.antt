@@ -98,7 +98,7 @@ pub record Followed
     pub related : Related ds bound f after
 
 -- and an iteration
-pub record Settled
+pub record FeedbackFollowed
     (ds : List Declaration)
     (Declared : Ty → Type 0)
     (Γ : List Ty)

@@ -11,7 +11,7 @@ use Rattle.naming.specs.Declared.{DeclaredName, atFirst}
 use Rattle.naming.specs.Checks.{AllPass}
 use Rattle.naming.specs.Names.{afterAll, textChecks}
 use Rattle.stimulus.specs.Stimulus.{inputType, cycleCount, cycles, pieces}
-use Rattle.behaviour.specs.Run.{Gives}
+use Rattle.behaviour.specs.Run.{RunGiven}
 use Rattle.behaviour.specs.Afterwards.{WellFormed}
 use Rattle.translation.specs.Layout.{sheetOfText}
 use Rattle.text_meaning.specs.NamedValues.{NamedValue, valueOf}
@@ -42,7 +42,7 @@ abbrev pub RunGivesMeaning : Type 0
 RunGivesMeaning =
     (ts : List Token) (t : Text) → ReadsText ts t → AllPass (textChecks t)
     → (stim out next : List ℕ) (τ result : ℕ) (out′ next′ : List ℕ)
-    → WellFormed (sheetOfText t) stim out next τ → Gives (sheetOfText t) stim out next result out′ next′
+    → WellFormed (sheetOfText t) stim out next τ → RunGiven (sheetOfText t) stim out next result out′ next′
     → Means t (map (valueOf (declarations t) (inputType (sheetOfText t))) (cycles (sheetOfText t) stim))
     (map (valueOf (declarations t) (typeAt (sheetOfText t) τ))
     (pieces (leaves (typeAt (sheetOfText t) τ)) (cycleCount (sheetOfText t) stim) out′))

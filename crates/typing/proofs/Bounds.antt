@@ -55,15 +55,15 @@ module _ {s : List ℕ} {n : ℕ} {table : List ℕ} (g : Ground s n table) wher
   leaves-counted t r = g .leaves t r
 
   -- the leaf `at` of the type record `part` is leaf i of t
-  pub record Reached (t i part at : ℕ) : Type 0 where
+  pub record LeafReached (t i part at : ℕ) : Type 0 where
     pub typed : TypeRecord s part
     pub below : at < leaves (typeAt s part)
     pub same : getD (bounds (typeAt s t)) i 0 ≡ getD (bounds (typeAt s part)) at 0
 
-  pub reached-itself : (t i : ℕ) → TypeRecord s t → i < leaves (typeAt s t) → Reached t i t i
+  pub reached-itself : (t i : ℕ) → TypeRecord s t → i < leaves (typeAt s t) → LeafReached t i t i
   reached-itself t i r h = record { typed = r; below = h; same = refl }
 
-  module _ (t i part at k : ℕ) (r : Reached t i part at) (ek : k ≡ word s part 0) where
+  module _ (t i part at k : ℕ) (r : LeafReached t i part at) (ek : k ≡ word s part 0) where
     module _ (e : k ≡ 17) where
       is-pair-record : kindAt s part ≡ typeOf pair
       is-pair-record = pair-kind s part k ek e
@@ -77,7 +77,7 @@ module _ {s : List ℕ} {n : ℕ} {table : List ℕ} (g : Ground s n table) wher
       pub parts-lower : (wordA s part < part) × (wordB s part < part)
       parts-lower = let p = pair-parts ground-written part (r .typed .there) is-pair-record in (p .0, p .2)
 
-      pub reached-first : (x w : ℕ) → x ≡ word s part 2 → w ≡ getD table x 0 → at < w → Reached t i x at
+      pub reached-first : (x w : ℕ) → x ≡ word s part 2 → w ≡ getD table x 0 → at < w → LeafReached t i x at
       reached-first x w ex ew h =
           let m = leaves-counted (wordA s part) first-typed in
           let lw : w ≡ leaves (typeAt s (wordA s part)) = ew ∙ ap (λ (y : ℕ). getD table y 0) ex ∙ m in
@@ -92,7 +92,7 @@ module _ {s : List ℕ} {n : ℕ} {table : List ℕ} (g : Ground s n table) wher
                 (omega (arith, leaves-of-bounds (typeAt s (wordA s part))));
           })
 
-      pub reached-second : (x y w : ℕ) → x ≡ word s part 2 → y ≡ word s part 3 → w ≡ getD table x 0 → w ≤ at → Reached t i y (at - w)
+      pub reached-second : (x y w : ℕ) → x ≡ word s part 2 → y ≡ word s part 3 → w ≡ getD table x 0 → w ≤ at → LeafReached t i y (at - w)
       reached-second x y w ex ey ew h =
           let m = leaves-counted (wordA s part) first-typed in
           let lw : w ≡ leaves (typeAt s (wordA s part)) = ew ∙ ap (λ (z : ℕ). getD table z 0) ex ∙ m in

@@ -25,8 +25,8 @@ use Rattle.typing.specs.Judgements.{
 use Rattle.typing.proofs.Failing.{none-in-both, none-of-both, judged, judgement-holds}
 
 -- no judgement of the tree fails
-abbrev pub Passed : List ℕ → List ℕ → Tree → Type 0
-Passed s Γ e = firstFailing s (judgements s Γ e) ≡ none
+abbrev pub NoneFails : List ℕ → List ℕ → Tree → Type 0
+NoneFails s Γ e = firstFailing s (judgements s Γ e) ≡ none
 
 abbrev pub RuleHolds : List ℕ → Rule → Type 0
 RuleHolds s rule = holds s rule ≡ true
@@ -49,7 +49,7 @@ RulesHold s Γ (ifOf r a p b c) =
     × RuleHolds s (sameType (typeRecordOf s Γ b) (typeRecordOf s Γ c))
 RulesHold s Γ (delayOf r t ls a) = RulesHold s Γ a × RuleHolds s (leavesFit t ls) × RuleHolds s (sameType (typeRecordOf s Γ a) t)
 
-pub passed-judged : (s Γ : List ℕ) (e : Tree) → Passed s Γ e → RulesHold s Γ e
+pub passed-judged : (s Γ : List ℕ) (e : Tree) → NoneFails s Γ e → RulesHold s Γ e
 passed-judged s Γ noExpression p = judged s 0 noRule p
 passed-judged s Γ (constantOf r t ls) p = judged s r (leavesFit t ls) p
 passed-judged s Γ (nameOf r k) p = judged s r (inScope k (length Γ)) p
@@ -92,7 +92,7 @@ passed-judged s Γ (delayOf r t ls a) p =
     let h = none-in-both s (judge r fit) (judge r same) (q .1) in
     (passed-judged s Γ a (q .0), judged s r fit (h .0), judged s r same (h .1))
 
-pub judged-passed : (s Γ : List ℕ) (e : Tree) → RulesHold s Γ e → Passed s Γ e
+pub judged-passed : (s Γ : List ℕ) (e : Tree) → RulesHold s Γ e → NoneFails s Γ e
 judged-passed s Γ noExpression j = judgement-holds s 0 noRule j
 judged-passed s Γ (constantOf r t ls) j = judgement-holds s r (leavesFit t ls) j
 judged-passed s Γ (nameOf r k) j = judgement-holds s r (inScope k (length Γ)) j

@@ -9,7 +9,7 @@ ghost use Rattle.behaviour.specs.Delays.{assigned, putAll, enter};
 ghost use mathlib.Core.List.{List, [], _∷_, _++_};
 ghost use Rattle.meaning.specs.Matching.{constructorDecision, pairDecision, chainDecision};
 ghost use Rattle.values.specs.Chained.{Chained};
-ghost use Rattle.values.specs.Answers.{decisionOf, told, Own, Agrees};
+ghost use Rattle.values.specs.Answers.{decisionOf, told, Own, Compared};
 ghost use Rattle.values.specs.Matchings.{Matching, MatchedAll, MatchedOne, Chosen};
 ghost use Rattle.values.specs.Slots.{slot, entered};
 ghost use Rattle.meaning.specs.Evaluation.{choose};
@@ -94,7 +94,7 @@ pub fn put(value: &[u8], slot: &mut [u8])
 // Whether a value stands at the front of a slot.
 pub fn stands(value: &[u8], slot: &[u8]) -> bool
     requires { ⌜ length (now value) ≤ length (now slot) ⌝ }
-    ensures { λ r. ⌜ Agrees (now (value .entry)) (take (length (now (value .entry))) (now (slot .entry))) r ⌝ }
+    ensures { λ r. ⌜ Compared (now (value .entry)) (take (length (now (value .entry))) (now (slot .entry))) r ⌝ }
 {
     let all = value.len();
     let mut i = 0;
@@ -119,7 +119,7 @@ pub fn enter_value(env: &mut [u8], level: usize, value: &[u8])
 // Whether a value stands in the slot of the name at this level.
 pub fn stands_at(env: &[u8], level: usize, value: &[u8]) -> bool
     requires { ⌜ (64 * level + length (now value) ≤ length (now env)) × (length (now env) ≤ 4096) ⌝ }
-    ensures { λ r. ⌜ Agrees (now (value .entry)) (slot level (length (now (value .entry))) (now (env .entry))) r ⌝ }
+    ensures { λ r. ⌜ Compared (now (value .entry)) (slot level (length (now (value .entry))) (now (env .entry))) r ⌝ }
 {
     stands(value, look_up(env, level, value.len()))
 }

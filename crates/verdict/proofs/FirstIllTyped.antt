@@ -36,7 +36,7 @@ use Rattle.records.proofs.Trees.{from-above, tree-of}
 use Rattle.structure.specs.Rules.{Passes}
 use Rattle.structure.proofs.Passes.{written}
 use Rattle.typing.specs.Judgements.{Judgement, Rule, leavesFit, inScope, pairDeclared, pairType, sameType, holds, judge, judgements, firstFailing}
-use Rattle.typing.proofs.Failing.{orElse, first-of-both, judged, judgement-holds}
+use Rattle.typing.proofs.Failing.{orNextFailing, first-of-both, judged, judgement-holds}
 use Rattle.verdict.specs.Scopes.{
   WellTypedAt,
   PartsTyped,
@@ -67,7 +67,7 @@ module _ (s : List ℕ) where
       → (firstFailing s js ≡ none → firstFailing s ks ≡ some r → A) → A
   split {A} js ks r e left right = go (firstFailing s js) refl (rw first-of-both at e)
     where
-      go : (o : Option ℕ) → firstFailing s js ≡ o → orElse o (firstFailing s ks) ≡ some r → A
+      go : (o : Option ℕ) → firstFailing s js ≡ o → orNextFailing o (firstFailing s ks) ≡ some r → A
       go none f g = right f g
       go (some x) f g = left (f ∙ g)
 

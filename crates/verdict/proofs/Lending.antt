@@ -14,8 +14,9 @@ use Rattle.records.specs.Trees.{circuit}
 use Rattle.structure.specs.Rules.{Passes, wrongLength, wrongHeader}
 use Rattle.structure.specs.LeafTable.{Counts}
 use Rattle.typing.specs.Judging.{noted}
-use Rattle.verdict.specs.Stages.{CheckingRecords, Tabled}
-use Rattle.verdict.specs.Verdict.{inputs, verdict, unless, byRecords}
+use Rattle.verdict.specs.Stages.{CheckingRecords, StagesChecked}
+use Rattle.verdict.specs.Verdict.{verdict, unless, byRecords}
+use Rattle.verdict.specs.Scopes.{inputs}
 use Rattle.verdict.specs.Widths.{PatternsFrom, Widths, Checked, accepts}
 use Rattle.verdict.specs.declared.Verdict.{Verdict}
 use Rattle.verdict.specs.declared.Verdict.the-variants.{
@@ -71,13 +72,13 @@ module _ {s : List ℕ} (low : 12 ≤ length s) (high : length s ≤ 49152) (eve
     length = right-length s low high even;
   }
 
-  stages : (answer : Verdict) (after : List ℕ) → Tabled s (length s / 12) (unless (wrongHeader s) WrongHeader (byRecords s)) answer after
+  stages : (answer : Verdict) (after : List ℕ) → StagesChecked s (length s / 12) (unless (wrongHeader s) WrongHeader (byRecords s)) answer after
       → answer ≡ verdict s
   unfolding verdict
   stages answer after t = t .answered ∙ rw (right-length s low high even)
 
   module _ {answer : Verdict} {after : List ℕ}
-      (t : Tabled s (length s / 12) (unless (wrongHeader s) WrongHeader (byRecords s)) answer after) where
+      (t : StagesChecked s (length s / 12) (unless (wrongHeader s) WrongHeader (byRecords s)) answer after) where
     pub refused-lent : (before : List ℕ) (b : Bool) → b ≡ accepts answer → not b ≡ true → Checked s answer before before
     refused-lent before b e f =
         let z : accepts answer ≡ false = sym e ∙ not-so b f in

@@ -1,7 +1,7 @@
--- The names in scope at an expression, and the first expression that has no type.
+-- The code and the place of each verdict; the names in scope at an expression, and the first expression that has no type.
 use Prim.Native.Nat.{ℕ, _<_}
 use mathlib.Core.Path.{_≡_}
-use mathlib.Core.List.{List, _∷_, map}
+use mathlib.Core.List.{List, [], _∷_, map}
 use Rattle.records.specs.Words.{wordA, wordB, wordC, count, wordD}
 use Rattle.records.specs.Kinds.{
   tuple,
@@ -24,13 +24,40 @@ use Rattle.records.specs.Kinds.{
 }
 use Rattle.records.specs.Says.{kindAt, sortAt}
 use Rattle.records.specs.Trees.{treeAt, typeRecordOf, typeAt, Declared, alternatives}
-use Rattle.verdict.specs.Verdict.{inputs}
+use Rattle.answers.specs.declared.Answer.{Answer}
+use Rattle.answers.specs.declared.Answer.the-variants.{Done, Refused}
+use Rattle.verdict.specs.declared.Verdict.{Verdict}
+use Rattle.verdict.specs.declared.Verdict.the-variants.{
+  Accepted,
+  WrongLength,
+  WrongHeader,
+  WrongRecord,
+  WrongNaming,
+  WrongType,
+  TooDeep,
+  IllTyped,
+}
 use Rattle.picoella.specs.Language.{Ty, HasType, Typed}
 use Rattle.records.specs.Decoding.{patternOf, expressionOf}
+
+-- the number and the place of each case
+abbrev pub verdictAnswer : Verdict → Answer
+verdictAnswer (Accepted t) = Done t
+verdictAnswer WrongLength = Refused 1 0
+verdictAnswer WrongHeader = Refused 2 0
+verdictAnswer (WrongRecord r) = Refused 3 r
+verdictAnswer (WrongNaming r) = Refused 4 r
+verdictAnswer (WrongType r) = Refused 5 r
+verdictAnswer (TooDeep r) = Refused 6 r
+verdictAnswer (IllTyped r) = Refused 7 r
 
 -- Which names are in scope at an expression of the circuit (docs/SHEETS.md, "Type rules": "The input is the outermost name. A LET
 -- adds a name for its body; a feedback adds one of its type for both parts"). A scope lists the names' type records, the innermost
 -- first.
+
+-- the context of the whole circuit: the input alone, of the type in the header's word a
+abbrev pub inputs : List ℕ → List ℕ
+inputs s = wordA s 0 ∷ []
 
 -- record q is an expression of the circuit, with the names of Γ in scope there: the root, or a part of such a record
 pub data Scope (s : List ℕ) : ℕ → List ℕ → Type 0 where
