@@ -2,8 +2,8 @@
 
 use crate::accepted::Circuit;
 use crate::evaluator::Evaluator;
-use crate::listing::{listing, refusal};
 use crate::matching::{chain, Match};
+use crate::printout::{listing, refusal};
 use crate::records::{bytes, read, A, D, FEEDBACK, IF, KIND};
 use crate::rule::IN_FORCE;
 use crate::run_mistakes::MISTAKES;

@@ -3,6 +3,6 @@
 mod expected;
 mod generate;
 mod grammar;
-mod layout;
-mod meaning;
-mod names;
+mod naming;
+mod text_meaning;
+mod translation;
