@@ -1,4 +1,4 @@
-//! Runs worked out by hand from the document.
+//! Runs worked out by hand from docs/SHEETS.md.
 
 use crate::accepted::Circuit;
 use crate::evaluator::Evaluator;

@@ -1,4 +1,4 @@
-//! Texts: answers, records and outputs worked out by hand from the document.
+//! Texts: answers, records and outputs worked out by hand from docs/SHEETS.md.
 
 mod expected;
 mod generate;
