@@ -19,6 +19,7 @@ ghost use Rattle.carry.specs.Bearers.{Bearers, Labelling, Labelled, AllL
 ghost use Rattle.carry.specs.Carrying.{Comparing, Taking, IsAccepted, Carrying, CarryingAll};
 ghost use Rattle.carry.specs.Carried.{giver, takenFrom, takenBelow};
 ghost use Rattle.carry.specs.Carry.{CarryGiven};
+ghost use Rattle.records.specs.Limits.{wordBound};
 use answers::Found;
 use answers::ILL_TYPED;
 use answers::LABEL_TWICE;
@@ -56,7 +57,7 @@ pub type LabelTable = [u16; LABELS];
 // The label of rec, 0 where it has none or is no delay.
 fn label_of(sheet: &[u8], n: usize, rec: usize) -> usize
     requires { ⌜ Sized (now sheet) n × (rec < n) ⌝ }
-    ensures { λ r. ⌜ (r ≡ label (now (sheet .entry)) rec) × (r < 65536) ⌝ }
+    ensures { λ r. ⌜ (r ≡ label (now (sheet .entry)) rec) × (r < wordBound) ⌝ }
 {
     if word(sheet, n, rec, WORD_KIND) != KIND_DELAY {
         return 0;

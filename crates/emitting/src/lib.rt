@@ -8,6 +8,8 @@ ghost use Rattle.instructions.specs.Emission.{typeRecord};
 ghost use Rattle.instructions.specs.Assembly.{typeHeld, heldTypes};
 ghost use Rattle.emitting.specs.Tables.{SomeLeaves};
 ghost use Rattle.emitting.specs.Emitting.{RecordPut, emittedFrom, Emitting, Emitted, CodeWritten, TypesPut};
+ghost use Rattle.grammar.specs.Legal.{limit};
+ghost use Rattle.records.specs.Limits.{mostRecords};
 use bytes::clear_from;
 use bytes::put_record;
 use instructions::Operands;
@@ -41,7 +43,7 @@ fn write_code(
     records: u16,
     sheet: &mut [u8],
 )
-    requires { ⌜ (m ≤ 65535) × (12 * records ≤ length (now sheet)) × SomeLeaves (now leaves) types ⌝ }
+    requires { ⌜ (m ≤ limit) × (12 * records ≤ length (now sheet)) × SomeLeaves (now leaves) types ⌝ }
     ensures { λ _. ⌜ CodeWritten (now (ops .entry)) (now (firsts .entry)) (now (seconds .entry)) m (now (leaves .entry)) types records (now (sheet .entry)) (now (sheet .exit)) ⌝ }
 {
     let mut kinds = no_kinds();
@@ -84,7 +86,7 @@ fn put_type(sheet: &mut [u8], cursor: u16, next: u16, pair: u8, first: u16, seco
 
 // The records of the types, before those that stand.
 fn write_types(pairs: &Ops, firsts: &Operands, seconds: &Operands, types: usize, sheet: &mut [u8])
-    requires { ⌜ (12 * (types + 1) ≤ length (now sheet)) × (types < 4096) ⌝ }
+    requires { ⌜ (12 * (types + 1) ≤ length (now sheet)) × (types < mostRecords) ⌝ }
     ensures { λ _. ⌜ TypesPut (now (pairs .entry)) (now (firsts .entry)) (now (seconds .entry)) types (now (sheet .entry)) (now (sheet .exit)) ⌝ }
 {
     let mut k = types;

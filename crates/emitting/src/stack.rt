@@ -6,6 +6,7 @@ ghost use lib.ListN.{length};
 ghost use Rattle.instructions.specs.Emission.{top};
 ghost use Rattle.emitting.specs.Tables.{slotOf, heldStack, waitingKind};
 ghost use Rattle.emitting.specs.Emitting.{Stacking, Stacked};
+ghost use Rattle.grammar.specs.Sizes.{textTable};
 use instructions::INSTRUCTIONS;
 use instructions::Operands;
 use instructions::Ops;
@@ -23,13 +24,13 @@ const FIRST: u16 = 35;
 const SECOND: u16 = 36;
 
 pub fn no_kinds() -> Ops
-    ensures { λ r. ⌜ length r ≡ 65536 ⌝ }
+    ensures { λ r. ⌜ length r ≡ textTable ⌝ }
 {
     [0; INSTRUCTIONS]
 }
 
 pub fn no_values() -> Operands
-    ensures { λ r. ⌜ length r ≡ 65536 ⌝ }
+    ensures { λ r. ⌜ length r ≡ textTable ⌝ }
 {
     [0; INSTRUCTIONS]
 }
@@ -85,7 +86,7 @@ pub fn waiting_kind(kinds: &Ops, values: &Operands, height: usize) -> u16
 
 // A slot more.
 pub fn push_slot(kinds: &mut Ops, values: &mut Operands, height: usize, kind: u8, value: u16)
-    requires { ⌜ Stacking (now kinds) (now values) height × (height < 65536) ⌝ }
+    requires { ⌜ Stacking (now kinds) (now values) height × (height < textTable) ⌝ }
     ensures { λ _. ⌜ Stacked (slotOf kind value) (now (kinds .entry)) (now (values .entry)) (now (kinds .exit)) (now (values .exit)) height ⌝ }
 {
     kinds[height] = kind;

@@ -8,6 +8,7 @@ ghost use Rattle.accepted.specs.Accepting.{Accepting};
 ghost use Rattle.behaviour.specs.Firing.{fired};
 ghost use Rattle.firing.specs.Telling.{ToldFired};
 ghost use Rattle.firing.specs.TellingCycle.{TellingFired};
+ghost use Rattle.records.specs.Limits.{mostRecords};
 use answers::Answer;
 use answers::WRONG_WORDS;
 use answers::in_one;
@@ -27,7 +28,7 @@ use verdict::packed_verdict;
 
 // Copies the first words of a table.
 fn copy_words(table: &Fired, words: &mut [u16])
-    requires { ⌜ (length (now words) ≤ 4096) × (length (now table) ≡ 4096) ⌝ }
+    requires { ⌜ (length (now words) ≤ mostRecords) × (length (now table) ≡ mostRecords) ⌝ }
     ensures { λ _. ⌜ now (words .exit) ≡ take (length (now (words .entry))) (now (table .entry)) ⌝ }
 {
     let all = words.len();

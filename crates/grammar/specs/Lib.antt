@@ -9,3 +9,4 @@ pub mod Promises
 pub mod Rows
 pub mod Machine
 pub mod Walk
+pub mod Sizes

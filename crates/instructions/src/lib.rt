@@ -2,6 +2,7 @@
 // specs/, with theorems in proofs/; here the tables that hold them, one of their numbers and two of operands.
 ghost use mathlib.Core.Path.{_≡_};
 ghost use lib.ListN.{length};
+ghost use Rattle.grammar.specs.Sizes.{textTable};
 
 // One more than the bytes of a text, and so than its instructions.
 pub const INSTRUCTIONS: usize = 65536;
@@ -11,13 +12,13 @@ pub type Ops = [u8; INSTRUCTIONS];
 pub type Operands = [u16; INSTRUCTIONS];
 
 pub fn no_ops() -> Ops
-    ensures { λ r. ⌜ length r ≡ 65536 ⌝ }
+    ensures { λ r. ⌜ length r ≡ textTable ⌝ }
 {
     [0; INSTRUCTIONS]
 }
 
 pub fn no_operands() -> Operands
-    ensures { λ r. ⌜ length r ≡ 65536 ⌝ }
+    ensures { λ r. ⌜ length r ≡ textTable ⌝ }
 {
     [0; INSTRUCTIONS]
 }

@@ -8,29 +8,29 @@ use native.Mathlib.Numerals.{add-one}
 use native.Mathlib.Nat.{add-zero}
 use lib.ListN.{length, set, take, drop, length-append, length-drop, take-append-drop}
 use lib.Seq.{length-take-le, take-at, drop-append-add, drop-drop, set-split, append-snoc}
-use Rattle.listing.specs.Wrote.{written, TextPut}
+use Rattle.listing.specs.Wrote.{withText, TextPut}
 
 module _ (buffer : List ℕ) (at : ℕ) (text : List ℕ) (room : at + length text ≤ length buffer) where
   -- the part of the buffer up to the text's end
   head-length : length (take at buffer ++ text) ≡ at + length text
   head-length = rw (length-append, length-take-le at buffer (omega arith)) refl
 
-  written-length : length (written buffer at text) ≡ length buffer
-  unfolding written
+  written-length : length (withText buffer at text) ≡ length buffer
+  unfolding withText
   written-length =
       rw (length-append, head-length, length-drop) (omega arith)
 
   written-then :
       (more : List ℕ) →
-      written (written buffer at text) (at + length text) more ≡ written buffer at (text ++ more)
-  unfolding written
+      withText (withText buffer at text) (at + length text) more ≡ withText buffer at (text ++ more)
+  unfolding withText
   written-then more =
       let end : ℕ = at + length text in
-      let front : take end (written buffer at text) ≡ take at buffer ++ text =
+      let front : take end (withText buffer at text) ≡ take at buffer ++ text =
       take-at (take at buffer ++ text) (drop end buffer) end head-length
       in
-      let back : drop (end + length more) (written buffer at text) ≡ drop (end + length more) buffer =
-      ap (λ k. drop (k + length more) (written buffer at text)) (sym head-length)
+      let back : drop (end + length more) (withText buffer at text) ≡ drop (end + length more) buffer =
+      ap (λ k. drop (k + length more) (withText buffer at text)) (sym head-length)
       ∙ drop-append-add (take at buffer ++ text) (drop end buffer) (length more)
       ∙ drop-drop (length more) end buffer
       in
@@ -54,7 +54,7 @@ module _ {buffer : List ℕ} {at : ℕ} {text after : List ℕ} {place : ℕ} (w
       }
 
 pub wrote-none : (buffer : List ℕ) (at : ℕ) → at ≤ length buffer → TextPut buffer at [] buffer at
-unfolding written
+unfolding withText
 wrote-none buffer at h =
     record {
       bytes = rw (add-zero, append-nil) (sym (take-append-drop at buffer));
@@ -63,7 +63,7 @@ wrote-none buffer at h =
     }
 
 pub wrote-byte : (buffer : List ℕ) (at b : ℕ) → at < length buffer → TextPut buffer at (b ∷ []) (set buffer at b) (at + 1)
-unfolding written
+unfolding withText
 wrote-byte buffer at b h =
     record {
       bytes = rw (add-one at, append-snoc) (set-split buffer at b h);

@@ -6,7 +6,7 @@ ghost use Prim.Native.Nat.{_+_, _≤_, _<_};
 ghost use lib.ListN.{length};
 ghost use Rattle.listing.specs.Digits.{digits};
 ghost use Rattle.listing.specs.Lines.{wordLine, typeLine, cyclesLine, refusedLine, leafText, leafTexts, cycleLine};
-ghost use Rattle.listing.specs.Wrote.{TextPut};
+ghost use Rattle.listing.specs.Wrote.{TextPut, lineBytes};
 ghost use Rattle.listing.specs.Fills.{FillingLines, FilledLines};
 
 // The room that a line is given.
@@ -58,7 +58,7 @@ fn put_word_line(buffer: &mut [u8], at: usize, word: &[u8], n: u64) -> usize
 
 // The first line: the output type's record.
 pub fn put_type(buffer: &mut [u8], at: usize, t: u64) -> usize
-    requires { ⌜ at + 280 ≤ length (now buffer) ⌝ }
+    requires { ⌜ at + lineBytes ≤ length (now buffer) ⌝ }
     ensures { λ r. ⌜ TextPut (now (buffer .entry)) at (typeLine t) (now (buffer .exit)) r ⌝ }
 {
     put_word_line(buffer, at, b"type ", t)
@@ -66,7 +66,7 @@ pub fn put_type(buffer: &mut [u8], at: usize, t: u64) -> usize
 
 // The last line: how many cycles were done.
 pub fn put_cycles(buffer: &mut [u8], at: usize, count: usize) -> usize
-    requires { ⌜ at + 280 ≤ length (now buffer) ⌝ }
+    requires { ⌜ at + lineBytes ≤ length (now buffer) ⌝ }
     ensures { λ r. ⌜ TextPut (now (buffer .entry)) at (cyclesLine count) (now (buffer .exit)) r ⌝ }
 {
     put_word_line(buffer, at, b"cycles ", count as u64)
@@ -74,7 +74,7 @@ pub fn put_cycles(buffer: &mut [u8], at: usize, count: usize) -> usize
 
 // The line of a refusal.
 pub fn put_refused(buffer: &mut [u8], at: usize, code: u64, place: u64) -> usize
-    requires { ⌜ at + 280 ≤ length (now buffer) ⌝ }
+    requires { ⌜ at + lineBytes ≤ length (now buffer) ⌝ }
     ensures { λ r. ⌜ TextPut (now (buffer .entry)) at (refusedLine code place) (now (buffer .exit)) r ⌝ }
 {
     let number = put_text(buffer, at, b"refused ");
@@ -105,7 +105,7 @@ fn put_leaves(buffer: &mut [u8], at: usize, leaves: &[u8]) -> usize
 
 // The line of cycle k.
 pub fn put_cycle(buffer: &mut [u8], at: usize, k: usize, leaves: &[u8]) -> usize
-    requires { ⌜ (at + 280 ≤ length (now buffer)) × (length (now leaves) ≤ 64) ⌝ }
+    requires { ⌜ (at + lineBytes ≤ length (now buffer)) × (length (now leaves) ≤ 64) ⌝ }
     ensures { λ r. ⌜ TextPut (now (buffer .entry)) at (cycleLine k (now (leaves .entry))) (now (buffer .exit)) r ⌝ }
 {
     let colon = put_number(buffer, at, k as u64);

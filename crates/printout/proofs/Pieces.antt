@@ -12,7 +12,7 @@ use lib.Seq.{take-at, drop-drop, length-take-le}
 use native.Mathlib.Decide.{decLe}
 use Rattle.listing.specs.Digits.{digits}
 use Rattle.listing.specs.Lines.{ascii, wordLine, typeLine, cyclesLine, refusedLine, cycleLines, listing}
-use Rattle.listing.specs.Wrote.{written, TextPut}
+use Rattle.listing.specs.Wrote.{withText, TextPut}
 use Rattle.listing.specs.Fills.{FillingLines, FilledLines}
 use Rattle.listing.proofs.Lengths.{number-few}
 use Rattle.listing.proofs.Filling.{lines-join}
@@ -42,7 +42,7 @@ type-short t h =
 
 -- a text written at the front
 at-front : {buffer text after : List ℕ} {end : ℕ} → TextPut buffer 0 text after end → take end after ≡ text
-unfolding written
+unfolding withText
 at-front {buffer} {text} {end = end} v =
     rw (v .bytes) (take-at text (drop (0 + length text) buffer) end (let p = v .place in omega arith))
 

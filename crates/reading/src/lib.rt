@@ -12,6 +12,7 @@ ghost use Rattle.grammar.specs.Walk.{Told};
 ghost use Rattle.grammar.specs.Machine.{back, onByte};
 ghost use Rattle.reading.specs.Coded.{illegal, stateOf, stackOf, wordOf, letterTable, follows, afterLead, followed, lettered};
 ghost use Rattle.reading.specs.Coded.{spelledOut, conclusion, Stepping, Stepped, Worded, Tables};
+ghost use Rattle.grammar.specs.Legal.{limit};
 use numbers::BACK;
 use numbers::BLANK;
 use numbers::ContextStack;
@@ -237,7 +238,7 @@ pub fn step(
 
 // How many bytes of a text are read.
 fn reach(all: usize) -> usize
-    ensures { λ r. ⌜ r ≡ min 65535 all ⌝ }
+    ensures { λ r. ⌜ r ≡ min limit all ⌝ }
 {
     if LIMIT < all {
         return LIMIT;

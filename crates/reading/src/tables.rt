@@ -5,6 +5,7 @@ use crate::numbers::ContextStack;
 ghost use mathlib.Core.Path.{_≡_};
 ghost use lib.ListN.{length};
 ghost use Rattle.reading.specs.Coded.{nextTable, waitsTable, wordTable, letterTable};
+ghost use Rattle.grammar.specs.Sizes.{textTable};
 
 // The next state and one, 48 to go back to the one that waits, 0 for no step.
 pub fn next_table() -> [[u8; 18]; 47]
@@ -181,7 +182,7 @@ pub fn letter_table() -> [u8; 60]
 
 // An empty stack: no text has more open contexts than bytes.
 pub fn no_stack() -> ContextStack
-    ensures { λ r. ⌜ length r ≡ 65536 ⌝ }
+    ensures { λ r. ⌜ length r ≡ textTable ⌝ }
 {
     [0; CONTEXTS]
 }

@@ -2,7 +2,7 @@
 ghost use mathlib.Core.Path.{_≡_};
 ghost use mathlib.Core.Bool.{true, false};
 ghost use mathlib.Core.List.{List};
-ghost use Prim.Native.Nat.{ℕ, _+_, _≤_, _<_};
+ghost use Prim.Native.Nat.{ℕ, _+_, _≤_, _<_, _-_};
 ghost use lib.ListN.{length, getD};
 ghost use Rattle.grammar.specs.Tokens.{Token};
 ghost use Rattle.reading.specs.Coded.{stateOf, stackOf, Tables};
@@ -11,6 +11,8 @@ ghost use Rattle.symbols.specs.Names.{Inside};
 ghost use Rattle.instructions.specs.TokenOrder.{inConstant};
 ghost use Rattle.resolving.specs.Said.{spanBetween, NamesDeclared, sayingTable};
 ghost use Rattle.resolving.specs.Walked.{TokenNoted, FoundWith, TakingToken, TokenTaken};
+ghost use Rattle.grammar.specs.Legal.{limit};
+ghost use Rattle.grammar.specs.Sizes.{textTable};
 use crate::numbering::number_names;
 use crate::sayings::say_token;
 use crate::tables::Sayings;
@@ -56,7 +58,7 @@ pub struct Taken {
 
 // The span of a token from its place to its end; one without letters where it has too many for a name.
 fn span_of(start: usize, end: usize) -> u32
-    requires { ⌜ (start < end) × (end ≤ 65535) ⌝ }
+    requires { ⌜ (start < end) × (end ≤ limit) ⌝ }
     ensures { λ r. ⌜ r ≡ spanBetween start end ⌝ }
 {
     let letters = end - start;
@@ -68,7 +70,7 @@ fn span_of(start: usize, end: usize) -> u32
 
 // Whether a state of a DELAY's constant waits.
 fn in_constant(depth: usize, stack: &ContextStack) -> bool
-    requires { ⌜ (length (now stack) ≡ 65536) × (depth ≤ 65536) × ((k : ℕ) → k < depth → getD (now stack) k 0 < 47) ⌝ }
+    requires { ⌜ (length (now stack) ≡ textTable) × (depth ≤ textTable) × ((k : ℕ) → k < depth → getD (now stack) k 0 < 47) ⌝ }
     ensures { λ r. ⌜ r ≡ inConstant (stackOf depth (now (stack .entry))) ⌝ }
 {
     if depth == 0 {
@@ -98,7 +100,7 @@ fn note(
     pendings: &mut Spans,
     admissions: &Admissions,
 ) -> ScopeCounts
-    requires { ⌜ Scoping (now text) 65534 base n m (now spans) (now links) (now heads) (now roles) (now pendings) × Inside (now text) span × (state < 47) × (now admissions ≡ admissionTable) ⌝ }
+    requires { ⌜ Scoping (now text) (limit - 1) base n m (now spans) (now links) (now heads) (now roles) (now pendings) × Inside (now text) span × (state < 47) × (now admissions ≡ admissionTable) ⌝ }
     ensures { λ r. ⌜ (r .ok ≡ true → Scoping (now (text .entry)) (n + m + 1) (r .base) (r .all) (r .waiting) (now (spans .exit)) (now (links .exit)) (now (heads .exit)) (now (roles .exit)) (now (pendings .exit)) × NamesDeclared (now (text .entry)) (now (spans .entry)) (now (roles .entry)) base (now (spans .exit)) (now (roles .exit)) (r .base)) × ((start end : ℕ) (t : Token) (others : List Token) → FoundWith (now (text .entry)) start end class span effect (stateOf state) t others → TokenNoted (stateOf state) t (heldScope (now (text .entry)) base n m (now (spans .entry)) (now (roles .entry)) (now (pendings .entry))) (r .ok) (heldScope (now (text .entry)) (r .base) (r .all) (r .waiting) (now (spans .exit)) (now (roles .exit)) (now (pendings .exit)))) ⌝ }
 {
     if class == SMALL_LETTER {

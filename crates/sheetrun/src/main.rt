@@ -3,6 +3,7 @@ ghost use Prim.Native.Nat.{_≤_, _<_};
 ghost use mathlib.Core.Path.{_≡_};
 ghost use lib.ListN.{length, take};
 ghost use Rattle.printout.specs.Printout.{runSheet};
+ghost use Rattle.printout.specs.OutputsLong.{mostOutput, sheetRoom};
 use files::read_named;
 use files::replace;
 use libc::STDOUT_FILENO;
@@ -19,13 +20,13 @@ const OUTPUT_ROOM: usize = 4194240;
 
 // A longer file is refused for its length and not cut.
 fn sheet_room() -> [u8; SHEET_ROOM]
-    ensures { λ r. ⌜ 49153 ≡ length r ⌝ }
+    ensures { λ r. ⌜ sheetRoom ≡ length r ⌝ }
 {
     [0; SHEET_ROOM]
 }
 
 fn output_room() -> [u8; OUTPUT_ROOM]
-    ensures { λ r. ⌜ 4194240 ≡ length r ⌝ }
+    ensures { λ r. ⌜ mostOutput ≡ length r ⌝ }
 {
     [0; OUTPUT_ROOM]
 }
@@ -67,7 +68,7 @@ fn keep_next(sheet: &[u8], stim: &[u8], room: &[u8])
 }
 
 fn run_files(sheet: &[u8], stim: &[u8])
-    requires { ⌜ length (now sheet) ≤ 49153 ⌝ }
+    requires { ⌜ length (now sheet) ≤ sheetRoom ⌝ }
 {
     let mut output = output_room();
     let mut next = sheet_room();

@@ -8,6 +8,7 @@ ghost use Rattle.records.specs.Says.{kindAt, sortAt};
 ghost use Rattle.records.specs.Trees.{chain};
 ghost use Rattle.behaviour.specs.Copies.{copied, leavesOf, delayChains};
 ghost use Rattle.stepper.specs.Cycling.{Copying, Cycling, Looked, Cycled};
+ghost use Rattle.records.specs.Limits.{mostRecords};
 use evaluator::eval;
 use records::KIND_DELAY;
 use records::RECORDS;
@@ -24,7 +25,7 @@ use values::enter_value;
 
 // The names' bytes: room for 64 values of 64 leaves. It also makes the table of delay values.
 pub fn no_names() -> [u8; RECORDS]
-    ensures { λ r. ⌜ length r ≡ 4096 ⌝ }
+    ensures { λ r. ⌜ length r ≡ mostRecords ⌝ }
 {
     [0; RECORDS]
 }

@@ -13,6 +13,10 @@ use Rattle.records.specs.Kinds.{isPair}
 use Rattle.records.specs.Says.{kindAt}
 use Rattle.records.specs.Trees.{isPairOf, pairBelow}
 
+-- the slots: one for each first part and two for each pair type
+abbrev pub pairSlots : ℕ
+pairSlots = 12288
+
 -- a slot holds a pair type of other parts
 abbrev pub another : (s index : List ℕ) (a b slot : ℕ) → Bool
 another s index a b slot = not (eqb (getD index slot 0) 0) && not (isPairOf s a b (getD index slot 0))

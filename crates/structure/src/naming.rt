@@ -12,6 +12,7 @@ ghost use Rattle.answers.specs.Answers.{lowest};
 ghost use Rattle.answers.specs.Searches.{found};
 ghost use Rattle.structure.specs.Rules.{wrongNaming};
 ghost use Rattle.structure.specs.NamerTable.{summary, ByWords, NamingsAdded, NamingsHeld};
+ghost use Rattle.records.specs.Limits.{mostRecords};
 use answers::Found;
 use records::NAMED_SEVERAL;
 use records::NAMES;
@@ -39,7 +40,7 @@ pub fn no_namings() -> Namers
 
 // A record's entry where word k of record q names it too: several words d share a pattern and leave the first one's entry.
 fn with_naming(entry: u16, q: usize, k: usize) -> u16
-    requires { ⌜ (q < 4096) × (k < 6) ⌝ }
+    requires { ⌜ (q < mostRecords) × (k < 6) ⌝ }
     ensures { λ r. ⌜ ((ns : List Naming) → ByWords ns → entry ≡ summary ns → r ≡ summary (ns ++ (record { by = q; at = k } ∷ []))) ⌝ }
 {
     if entry == 0 {
@@ -56,7 +57,7 @@ fn with_naming(entry: u16, q: usize, k: usize) -> u16
 
 // Adds to the table what word k of record q names, where `asks` is what the words of its kind ask.
 fn note_word(sheet: &[u8], n: usize, q: usize, asks: &[usize; WORDS], k: usize, namers: &mut Namers)
-    requires { ⌜ Sized (now sheet) n × (q < n) × (now asks ≡ askNumbers (rowOf (kindWord (now sheet) q))) × (0 < k) × (k < 6) × (length (now namers) ≡ 4096) ⌝ }
+    requires { ⌜ Sized (now sheet) n × (q < n) × (now asks ≡ askNumbers (rowOf (kindWord (now sheet) q))) × (0 < k) × (k < 6) × (length (now namers) ≡ mostRecords) ⌝ }
     ensures { λ _. ⌜ NamingsAdded (λ r. ifNamed (namesAt (now (sheet .entry)) r q k) q k) (now (namers .entry)) (now (namers .exit)) ⌝ }
 {
     if NAMES <= asks[k] {
@@ -69,7 +70,7 @@ fn note_word(sheet: &[u8], n: usize, q: usize, asks: &[usize; WORDS], k: usize, 
 
 // Adds to the table what the words of record q name.
 fn note_record(sheet: &[u8], n: usize, q: usize, namers: &mut Namers)
-    requires { ⌜ Sized (now sheet) n × (q < n) × (length (now namers) ≡ 4096) ⌝ }
+    requires { ⌜ Sized (now sheet) n × (q < n) × (length (now namers) ≡ mostRecords) ⌝ }
     ensures { λ _. ⌜ NamingsAdded (λ r. namingsIn (now (sheet .entry)) r q 5) (now (namers .entry)) (now (namers .exit)) ⌝ }
 {
     let asks = asks(word(sheet, n, q, WORD_KIND));
@@ -94,7 +95,7 @@ pub fn note_all(sheet: &[u8], n: usize, namers: &mut Namers)
 
 // The lowest record that is not well named: code 4.
 pub fn first_wrong_naming(n: usize, namers: &Namers) -> Found
-    requires { ⌜ (n ≤ 4096) × (length (now namers) ≡ 4096) ⌝ }
+    requires { ⌜ (n ≤ mostRecords) × (length (now namers) ≡ mostRecords) ⌝ }
     ensures { λ r. ⌜ ((s : List ℕ) → NamingsHeld (namings s) (now (namers .entry)) → found r ≡ lowest (wrongNaming s) n) ⌝ }
 {
     let mut rec = 1;

@@ -36,8 +36,8 @@ pub none-of-both : (s : List ℕ) (js ks : List Judgement) → firstFailing s js
     → firstFailing s (js ++ ks) ≡ none
 none-of-both s js ks e f = rw (first-of-both s js ks, e, f)
 
-pub judged : (s : List ℕ) (r : ℕ) (rule : Rule) → firstFailing s (judge r rule) ≡ none → holds s rule ≡ true
-judged s r rule e = go (holds s rule) e
+pub failing-judged : (s : List ℕ) (r : ℕ) (rule : Rule) → firstFailing s (judge r rule) ≡ none → holds s rule ≡ true
+failing-judged s r rule e = go (holds s rule) e
   where
     go : (b : Bool) → cond b none (some r) ≡ none → b ≡ true
     go true e = refl

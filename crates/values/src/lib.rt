@@ -15,6 +15,7 @@ ghost use Rattle.values.specs.Slots.{slot, entered};
 ghost use Rattle.meaning.specs.Evaluation.{choose};
 ghost use Rattle.meaning.specs.Undecided.{undecidedRule};
 ghost use Rattle.behaviour.specs.Firing.{orAfter};
+ghost use Rattle.records.specs.Limits.{mostRecords};
 use records::KIND_CONSTRUCTOR_PATTERN;
 use records::KIND_WHOLE_PATTERN;
 use records::RECORDS;
@@ -34,7 +35,7 @@ pub type Fired = [u16; RECORDS];
 
 // The table in which none has fired.
 pub fn none_fired() -> Fired
-    ensures { λ r. ⌜ r ≡ replicate 4096 0 ⌝ }
+    ensures { λ r. ⌜ r ≡ replicate mostRecords 0 ⌝ }
 {
     [0; 4096]
 }
@@ -71,7 +72,7 @@ pub fn hold_leaves(sheet: &[u8], n: usize, first: usize, value: &[u8], held: &mu
 
 // The value of the name at this level, in the lent environment: w bytes from the start of its slot.
 pub fn look_up(env: &[u8], level: usize, w: usize) -> &[u8]
-    requires { ⌜ (64 * level + w ≤ length (now env)) × (length (now env) ≤ 4096) ⌝ }
+    requires { ⌜ (64 * level + w ≤ length (now env)) × (length (now env) ≤ mostRecords) ⌝ }
     ensures { λ r. ⌜ now r ≡ take w (drop (64 * level) (now (env .entry))) ⌝ }
 {
     let at = 64 * level;
@@ -109,7 +110,7 @@ pub fn stands(value: &[u8], slot: &[u8]) -> bool
 
 // Enters a value into the slot of the name at this level.
 pub fn enter_value(env: &mut [u8], level: usize, value: &[u8])
-    requires { ⌜ (64 * level + length (now value) ≤ length (now env)) × (length (now env) ≤ 4096) ⌝ }
+    requires { ⌜ (64 * level + length (now value) ≤ length (now env)) × (length (now env) ≤ mostRecords) ⌝ }
     ensures { λ _. ⌜ now (env .exit) ≡ entered level (now (value .entry)) (now (env .entry)) ⌝ }
 {
     let at = 64 * level;
@@ -118,7 +119,7 @@ pub fn enter_value(env: &mut [u8], level: usize, value: &[u8])
 
 // Whether a value stands in the slot of the name at this level.
 pub fn stands_at(env: &[u8], level: usize, value: &[u8]) -> bool
-    requires { ⌜ (64 * level + length (now value) ≤ length (now env)) × (length (now env) ≤ 4096) ⌝ }
+    requires { ⌜ (64 * level + length (now value) ≤ length (now env)) × (length (now env) ≤ mostRecords) ⌝ }
     ensures { λ r. ⌜ Compared (now (value .entry)) (slot level (length (now (value .entry))) (now (env .entry))) r ⌝ }
 {
     stands(value, look_up(env, level, value.len()))
@@ -126,7 +127,7 @@ pub fn stands_at(env: &[u8], level: usize, value: &[u8]) -> bool
 
 // Copies the value of the name at this level.
 pub fn copy_value(env: &[u8], level: usize, out: &mut [u8])
-    requires { ⌜ (64 * level + length (now out) ≤ length (now env)) × (length (now env) ≤ 4096) ⌝ }
+    requires { ⌜ (64 * level + length (now out) ≤ length (now env)) × (length (now env) ≤ mostRecords) ⌝ }
     ensures { λ _. ⌜ now (out .exit) ≡ slot level (length (now (out .entry))) (now (env .entry)) ⌝ }
 {
     put(look_up(env, level, out.len()), out);

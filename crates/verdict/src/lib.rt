@@ -14,6 +14,8 @@ ghost use Rattle.verdict.specs.Stages.{RulesChecked, StagesChecked, Chec
 ghost use Rattle.answers.specs.Answers.{place, packed};
 ghost use Rattle.verdict.specs.Widths.{PatternsFrom, Widths, Checked, accepts};
 ghost use Rattle.verdict.specs.declared.Verdict.the-variants.{WrongHeader};
+ghost use Rattle.answers.specs.Searches.{placeBound};
+ghost use Rattle.records.specs.Limits.{mostRecords};
 use answers::Found;
 use answers::ILL_TYPED;
 use answers::TOO_DEEP;
@@ -68,7 +70,7 @@ pub enum Verdict {
 
 // By the type rules: code 7.
 fn check_rules(sheet: &[u8], n: usize, table: &WidthTable, widths: &mut WidthTable) -> Verdict
-    requires { ⌜ Ground (now sheet) n (now table) × (length (now widths) ≡ 4096) ⌝ }
+    requires { ⌜ Ground (now sheet) n (now table) × (length (now widths) ≡ mostRecords) ⌝ }
     ensures { λ r. ⌜ RulesChecked (now (sheet .entry)) (byTypes (now (sheet .entry))) r (now (widths .entry)) (now (widths .exit)) ⌝ }
 {
     let scope = input_scope(word(sheet, n, 0, WORD_A));
@@ -95,7 +97,7 @@ fn check_depths(
     table: &WidthTable,
     widths: &mut WidthTable,
 ) -> Verdict
-    requires { ⌜ CheckingDepths (now sheet) n × NamingsHeld (namings (now sheet)) (now namers) × Counts (now sheet) n (now table) × (length (now widths) ≡ 4096) ⌝ }
+    requires { ⌜ CheckingDepths (now sheet) n × NamingsHeld (namings (now sheet)) (now namers) × Counts (now sheet) n (now table) × (length (now widths) ≡ mostRecords) ⌝ }
     ensures { λ r. ⌜ RulesChecked (now (sheet .entry)) (byDepths (now (sheet .entry))) r (now (widths .entry)) (now (widths .exit)) ⌝ }
 {
     let mut depths = no_depths();
@@ -203,7 +205,7 @@ fn is_accepted(v: Verdict) -> bool
 
 // Room for a table of widths.
 pub fn no_widths() -> WidthTable
-    ensures { λ r. ⌜ length r ≡ 4096 ⌝ }
+    ensures { λ r. ⌜ length r ≡ mostRecords ⌝ }
 {
     [0; RECORDS]
 }
@@ -235,7 +237,7 @@ pub fn check_into(sheet: &[u8], n: usize, table: &mut WidthTable) -> Verdict
 
 // The code and the place of a verdict in one number.
 pub fn packed_verdict(v: Verdict) -> u64
-    requires { ⌜ place (verdictAnswer v) < 4294967296 ⌝ }
+    requires { ⌜ place (verdictAnswer v) < placeBound ⌝ }
     ensures { λ r. ⌜ r ≡ packed (verdictAnswer v) ⌝ }
 {
     match v {
