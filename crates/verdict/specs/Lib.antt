@@ -3,6 +3,6 @@
 pub mod Verdict
 pub mod Scopes
 pub mod Promises
--- What functions ask and give, and their proofs need:
+-- What functions ask and give, and their proofs need; `Widths` is to be believed for `TableFixed`:
 pub mod Stages
 pub mod Widths
