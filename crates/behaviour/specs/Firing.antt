@@ -1,6 +1,6 @@
--- Which alternative fired (docs/SHEETS.md, "Which alternative fired"): "Matching now also tells the record number of the first
--- alternative in the chain that says yes, or 0 when none does." The chain is the IF's own, that its word d begins; a chain inside a pair
--- pattern is not told of. Each IF's number is "taken from the evaluation with every enclosing feedback at its settled value".
+-- Which alternative fired (docs/SHEETS.md, "Which alternative fired"): "A match also tells the record of the first alternative of its
+-- chain that says yes, or 0 if none does." The chain is the IF's own, that its word d begins; a chain inside a pair pattern is not told
+-- of. Each IF's number is "taken from the evaluation in which every feedback that encloses the IF has its settled value".
 use Prim.Native.Nat.{ℕ}
 use mathlib.Core.List.{List, [], _∷_, _++_}
 use lib.ListN.{replicate}

@@ -1,8 +1,8 @@
--- The run (docs/SHEETS.md, "The run"): over a list of inputs from a sheet, and for every call. "The first cycle begins from the
--- sheet handed in, each later one from the sheet after the cycle before." On the empty list a run gives no outputs and leaves the
--- sheet as it is. The answer is the lowest number that applies, with its place; "a refusal leaves every lent slice unaltered".
--- What an undecided IF gives is a parameter of the run over a list; the call takes the rule in force. At the end stands a well-formed
--- call as a run of 000's rules.
+-- The run (docs/SHEETS.md, "The run" and "Codes"): over a list of inputs from a sheet, and for every call. "Cycle 0 works on the sheet
+-- that was lent, cycle 1 on the sheet after cycle 0, and so on." On the empty list a run gives no outputs and leaves the sheet as it
+-- is. The answer is that of the first check that applies, with its place; "On a refusal every lent slice is as it was." What an
+-- undecided IF gives is a parameter of the run over a list; the call takes the rule in force. At the end stands a well-formed call as a
+-- run of 000's rules.
 use Prim.Native.Nat.{ℕ, _*_}
 use mathlib.Core.Path.{_≡_}
 use mathlib.Core.Bool.{not}
@@ -35,7 +35,7 @@ module _ (undecided : List ℕ → List ℕ → List ℕ) where
   sheetAfter s [] = s
   sheetAfter s (i ∷ is) = sheetAfter (afterBy undecided s i) is
 
--- "cycles × output leaves", where the output type is t
+-- the cycles times the output type's leaves, where that type is t
 abbrev pub outputNeeded : (sheet : List ℕ) (t : ℕ) (stimulus : List ℕ) → ℕ
 outputNeeded s t stim = cycleCount s stim * leaves (typeAt s t)
 

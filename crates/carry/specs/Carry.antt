@@ -1,7 +1,6 @@
--- The call (docs/SHEETS.md, "Carrying"): its checks in their order, "the old sheet by 1 to 7; then 18 (new sheet refused, place: its
--- code); then 19 (a nonzero label twice in one sheet, old first, place: the lowest delay whose label a lower-numbered delay of that
--- sheet bears); then 11 for the new sheet"; its answer, "0 at place 0" where nothing refuses; and what the next slice holds at the
--- end.
+-- The call (docs/SHEETS.md, "Carrying"): its checks in their order, "the old sheet by 1 to 7; 18 for the new sheet; 19 for the old
+-- sheet and then for the new one; 11 for the next slice, which is to be as long as the new sheet"; its answer, "0 at place 0" where
+-- nothing refuses; and what the next slice holds at the end.
 use Prim.Native.Nat.{ℕ}
 use mathlib.Core.Path.{_≡_}
 use mathlib.Core.Bool.{not}

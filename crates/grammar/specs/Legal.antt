@@ -1,5 +1,5 @@
--- Where a text leaves the grammar (request (a), code 13): "text outside the grammar, place: first byte at which no continuation is legal,
--- 65,535 at the latest, the length if it ends early".
+-- Where a text leaves the grammar (docs/SHEETS.md, "Codes", 13): "first byte of the text, from 0, with which no legal text goes on,
+-- 65,535 at the latest; the text's length if it ends too soon".
 use Prim.Native.Nat.{ℕ, suc, _≤_, _<_}
 use mathlib.Core.List.{List, _++_}
 use lib.ListN.{length, take}

@@ -1,5 +1,5 @@
--- The preview (docs/SHEETS.md, "The preview"): "The preview takes a sheet and one cycle of input and writes the outputs."
--- "Checks: 1 to 10, with 10 for one cycle's outputs." Where nothing refuses, it gives 0 at place 0.
+-- The preview (docs/SHEETS.md, "The preview"): it "writes the value of the root for that input and for the sheet as it is". Its checks
+-- are 1 to 10, with 10 for the outputs of one cycle. Where nothing refuses, it gives 0 at place 0.
 use Prim.Native.Nat.{ℕ}
 use mathlib.Core.Path.{_≡_}
 use mathlib.Core.Bool.{not}
@@ -19,7 +19,7 @@ use Rattle.behaviour.specs.Cycle.{output}
 abbrev pub outputLeaves : (sheet : List ℕ) → ℕ
 outputLeaves s = leaves (typeAt s (outputType s))
 
--- the checks after those of the sheet: 8 and 9 for one cycle, and 10 "for one cycle's outputs"
+-- the checks after those of the sheet: 8 and 9 for one cycle, and 10 for its outputs
 abbrev pub shownChecks : (sheet stimulus out : List ℕ) → List Check
 shownChecks s stim out =
     oneCycleChecks s stim ++ (check 10 (when (not (eqb (length out) (outputLeaves s))) (outputLeaves s)) ∷ [])

@@ -43,7 +43,7 @@ unfoldable pub printed : (sheet stimulus : List ℕ) → List ℕ
 printed s stim =
     answerText (runAnswer s stim) (outputRecord s) (leaves (typeAt s (outputRecord s))) (runOutputs s stim)
 
--- "12: a file that the program cannot open; the sheet's is tried first"
+-- 12: "a file that the program cannot open; the sheet's is tried first"
 abbrev pub noFileLine : (sheetOpened : Bool) → List ℕ
 noFileLine false = refusedLine 12 1
 noFileLine true = refusedLine 12 2

@@ -4,6 +4,6 @@ pub mod Scopes
 pub mod Promises
 -- What the promises pin down, so that it need not be believed:
 pub mod Verdict
--- What functions ask and give, and their proofs need:
+-- What functions ask and give, and their proofs need; `Widths` is to be believed for `TableFixed`:
 pub mod Stages
 pub mod Widths

@@ -51,9 +51,9 @@ verdictAnswer (WrongType r) = Refused 5 r
 verdictAnswer (TooDeep r) = Refused 6 r
 verdictAnswer (IllTyped r) = Refused 7 r
 
--- Which names are in scope at an expression of the circuit (docs/SHEETS.md, "Type rules": "The input is the outermost name. A LET
--- adds a name for its body; a feedback adds one of its type for both parts"). A scope lists the names' type records, the innermost
--- first.
+-- Which names are in scope at an expression of the circuit (docs/SHEETS.md, "Type rules": "The input is the outermost, with the
+-- header's input type. In the body of a LET there is one name more, of the defining part's type. In both parts of a feedback there is
+-- one more, of the type in its word `a`."). A scope lists the names' type records, the innermost first.
 
 -- the context of the whole circuit: the input alone, of the type in the header's word a
 abbrev pub inputs : List ℕ → List ℕ
@@ -78,8 +78,9 @@ pub data Scope (s : List ℕ) : ℕ → List ℕ → Type 0 where
   if-else : {q : ℕ} {Γ : List ℕ} → kindAt s q ≡ expression ifMatches → Scope s q Γ → Scope s (wordC s q) Γ
   of-delay : {q : ℕ} {Γ : List ℕ} → kindAt s q ≡ expression delay → Scope s q Γ → Scope s (wordC s q) Γ
 
--- Where code 7 is reported, in the terms of the typing relation alone (docs/SHEETS.md, "Codes": "first such record, parts before
--- whole" and "parts go in the order a, b, c; an IF's pattern is judged after a and reported at the IF").
+-- Where code 7 is reported, in the terms of the typing relation alone (docs/SHEETS.md, "Codes": "first such record, parts before the
+-- whole"; code 7 "goes through the expressions from the root, parts `a`, `b`, `c` first and then the whole. In an IF the pattern is
+-- judged after part `a` and before the branches, and is reported at the IF").
 
 -- the expression at record q has the type τ by the rules of picoELLA, where the names of Γ are in scope
 abbrev pub TypedAt : List ℕ → List ℕ → ℕ → Ty → Type 0
