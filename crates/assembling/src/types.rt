@@ -8,9 +8,10 @@ ghost use Rattle.assembling.specs.Held.{leavesOver, TypesHeld, TypesGath
 ghost use Rattle.instructions.specs.Assembly.{typeHeld, heldTypes};
 use instructions::Operands;
 use instructions::Ops;
+use records::MOST_LEAVES;
 
 // The most leaves that are counted.
-const LEAVES: usize = 64;
+const LEAVES: usize = MOST_LEAVES as usize;
 
 const FLAT: u8 = 0;
 
