@@ -16,6 +16,7 @@ use crate::constants::top_number;
 use crate::types::byte_number;
 use crate::types::leaf_count;
 use crate::types::note_type;
+use instructions::INSTRUCTION_NUMBERS;
 use instructions::Operands;
 use instructions::Ops;
 
@@ -49,41 +50,41 @@ pub struct Progress {
     pub bad: u16,
 }
 
-// The records that an instruction adds, but for leaves, a number an op.
-fn record_table() -> [u8; 30]
+// The records that an instruction adds, but for leaves: a line an instruction.
+fn record_table() -> [u8; INSTRUCTION_NUMBERS]
     ensures { λ r. ⌜ r ≡ recordCounts ⌝ }
 {
     [
-        0,
-        0,
-        0,
-        0,
-        0,
-        1,
-        2,
-        1,
-        1,
-        1,
-        1,
-        1,
-        1,
-        1,
-        1,
-        0,
-        0,
-        0,
-        1,
-        1,
-        1,
-        0,
-        0,
-        0,
-        1,
-        0,
-        0,
-        0,
-        0,
-        0,
+        0, // DECLARE_TYPE
+        0, // COUNT_CONSTRUCTOR
+        0, // FIRST_TYPE
+        0, // SECOND_TYPE
+        0, // INPUT_HAS
+        1, // USE_NAME
+        2, // USE_CONSTANT
+        1, // USE_UNDEFINED
+        1, // OPEN_PAIR
+        1, // OPEN_LET
+        1, // OPEN_REC
+        1, // OPEN_IF
+        1, // OPEN_DELAY
+        1, // TAKE_FIRST
+        1, // TAKE_SECOND
+        0, // CLOSE
+        0, // CLOSE_IF
+        0, // BEGIN_PATTERN
+        1, // MATCH_TYPE
+        1, // MATCH_ONE
+        1, // OPEN_PARTS
+        0, // NEXT_PART
+        0, // CLOSE_PARTS
+        0, // NEXT_ALTERNATIVE
+        1, // USE_LEAF
+        0, // USE_ZEROS
+        0, // OPEN_CONSTANT
+        0, // CLOSE_CONSTANT
+        0, // END_CONSTANT
+        0, // CONSTANT_HAS
     ]
 }
 

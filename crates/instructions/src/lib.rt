@@ -6,6 +6,9 @@ ghost use lib.ListN.{length};
 // One more than the bytes of a text, and so than its instructions.
 pub const INSTRUCTIONS: usize = 65536;
 
+// How many numbers instructions have.
+pub const INSTRUCTION_NUMBERS: usize = 30;
+
 pub type Ops = [u8; INSTRUCTIONS];
 
 pub type Operands = [u16; INSTRUCTIONS];

@@ -1,6 +1,9 @@
 // The numbers that the machine's states and classes have in the code.
 ghost use mathlib.Core.Path.{_≡_};
 
+// How many states there are.
+pub const STATES: usize = 47;
+
 // The state in which the text's expression is complete.
 pub const DONE: u8 = 16;
 
@@ -9,6 +12,9 @@ pub const BACK: u8 = 48;
 
 // The classes below this one are of bytes that a token begins with.
 pub const LEADS: u8 = 18;
+
+// How many they are.
+pub const LEAD_CLASSES: usize = LEADS as usize;
 
 // The class of small letters; those of capitals follow it, up to 18.
 pub const SMALL_LETTER: u8 = 10;
@@ -19,11 +25,20 @@ pub const BLANK: u8 = 19;
 // The most letters of a name.
 pub const LETTERS: u8 = 16;
 
+// How many numbers the word has that is being read; tables.rt says what they stand for.
+pub const WORD_STATES: usize = 60;
+
 // The most bytes of a text.
 pub const LIMIT: usize = 65535;
 
 // One more than the bytes of a text, and so than the brackets that are open in it.
 pub const CONTEXTS: usize = 65536;
+
+// A row a state, an entry a class of bytes that a token begins with.
+pub type StateTable = [[u8; LEAD_CLASSES]; STATES];
+
+// By a word's number the letter that it awaits.
+pub type LetterTable = [u8; WORD_STATES];
 
 // The states that wait, by their numbers, the last on top.
 pub type ContextStack = [u8; CONTEXTS];

@@ -1,8 +1,9 @@
 // What a token says in a state of the grammar's machine: a line a state.
 ghost use mathlib.Core.Path.{_≡_};
 ghost use Rattle.resolving.specs.Said.{sayingTable};
+use reading::numbers::StateTable;
 
-pub type Sayings = [[u8; 18]; 47];
+pub type Sayings = StateTable;
 
 // Nothing is said.
 const N: u8 = 30;
