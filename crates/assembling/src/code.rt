@@ -5,12 +5,10 @@ ghost use Prim.Native.Nat.{ℕ, _+_, _-_, _≤_, _<_};
 ghost use Rattle.instructions.specs.Instruction.{Instruction, instructionOf, close, heldCode};
 ghost use Rattle.instructions.specs.Assembly.{patternOnto, patternsBelow};
 ghost use Rattle.assembling.specs.Held.{Threefold, heldOnto};
+use instructions::BEGIN_PATTERN;
+use instructions::CLOSE;
 use instructions::Operands;
 use instructions::Ops;
-
-const CLOSE: u8 = 15;
-
-const BEGIN_PATTERN: u8 = 17;
 
 // How many instructions stand in record order, and how many wait.
 pub struct Shifted {

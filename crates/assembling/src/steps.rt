@@ -16,25 +16,17 @@ use crate::constants::top_number;
 use crate::types::byte_number;
 use crate::types::leaf_count;
 use crate::types::note_type;
+use instructions::CLOSE_IF;
+use instructions::CONSTANT_HAS;
+use instructions::END_CONSTANT;
+use instructions::INPUT_HAS;
 use instructions::INSTRUCTION_NUMBERS;
+use instructions::OPEN_CONSTANT;
 use instructions::Operands;
 use instructions::Ops;
-
-const INPUT_HAS: u8 = 4;
-
-const USE_UNDEFINED: u8 = 7;
-
-const CLOSE_IF: u8 = 16;
-
-const USE_LEAF: u8 = 24;
-
-const USE_ZEROS: u8 = 25;
-
-const OPEN_CONSTANT: u8 = 26;
-
-const END_CONSTANT: u8 = 28;
-
-const CONSTANT_HAS: u8 = 29;
+use instructions::USE_LEAF;
+use instructions::USE_UNDEFINED;
+use instructions::USE_ZEROS;
 
 // The number of declared types, the input's type, how many instructions stand in record order and how many wait, how many constants are open
 // and the place of the outermost, the records, and whether all constants have a type, or the place of the first that has none.

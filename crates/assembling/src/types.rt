@@ -6,6 +6,9 @@ ghost use lib.ListN.{length};
 ghost use Rattle.instructions.specs.Assembly.{leavesNumbered, pairNumbered, constantPairNumbered, oneMore, withFirst, withSecond};
 ghost use Rattle.assembling.specs.Held.{leavesOver, TypesHeld, TypesGathered, typesAfter};
 ghost use Rattle.instructions.specs.Assembly.{typeHeld, heldTypes};
+use instructions::COUNT_CONSTRUCTOR;
+use instructions::DECLARE_TYPE;
+use instructions::FIRST_TYPE;
 use instructions::Operands;
 use instructions::Ops;
 use records::MOST_LEAVES;
@@ -16,12 +19,6 @@ const LEAVES: usize = MOST_LEAVES as usize;
 const FLAT: u8 = 0;
 
 const PAIR: u8 = 1;
-
-const DECLARE_TYPE: u8 = 0;
-
-const COUNT_CONSTRUCTOR: u8 = 1;
-
-const FIRST_TYPE: u8 = 2;
 
 // A number as an index.
 pub fn number(x: u16) -> usize

@@ -9,6 +9,10 @@ use crate::stack::NUMBER;
 use crate::stack::below;
 use crate::stack::push_slot;
 use crate::stack::top_below;
+use instructions::CLOSE_PARTS;
+use instructions::MATCH_ONE;
+use instructions::MATCH_TYPE;
+use instructions::NEXT_PART;
 use instructions::Operands;
 use instructions::Ops;
 
@@ -17,15 +21,6 @@ const WHOLE_PATTERN: u16 = 48;
 const CONSTRUCTOR_PATTERN: u16 = 49;
 
 const PAIR_PATTERN: u16 = 50;
-
-// The instructions, by their numbers.
-pub const MATCH_TYPE: u8 = 18;
-
-const MATCH_CONSTRUCTOR: u8 = 19;
-
-pub const NEXT_PART: u8 = 21;
-
-const CLOSE_PARTS: u8 = 22;
 
 // A pattern's record.
 pub fn step_alternative(
@@ -50,7 +45,7 @@ pub fn step_alternative(
             next: 0,
         };
     }
-    if op == MATCH_CONSTRUCTOR {
+    if op == MATCH_ONE {
         let at = put_record(
             sheet,
             cursor,
