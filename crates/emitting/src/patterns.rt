@@ -15,12 +15,15 @@ use instructions::MATCH_TYPE;
 use instructions::NEXT_PART;
 use instructions::Operands;
 use instructions::Ops;
+use records::KIND_CONSTRUCTOR_PATTERN;
+use records::KIND_PAIR_PATTERN;
+use records::KIND_WHOLE_PATTERN;
 
-const WHOLE_PATTERN: u16 = 48;
+const WHOLE_PATTERN: u16 = KIND_WHOLE_PATTERN as u16;
 
-const CONSTRUCTOR_PATTERN: u16 = 49;
+const CONSTRUCTOR_PATTERN: u16 = KIND_CONSTRUCTOR_PATTERN as u16;
 
-const PAIR_PATTERN: u16 = 50;
+const PAIR_PATTERN: u16 = KIND_PAIR_PATTERN as u16;
 
 // A pattern's record.
 pub fn step_alternative(

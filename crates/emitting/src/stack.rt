@@ -9,6 +9,8 @@ ghost use Rattle.emitting.specs.Emitting.{Stacking, Stacked};
 use instructions::INSTRUCTIONS;
 use instructions::Operands;
 use instructions::Ops;
+use records::KIND_FIRST;
+use records::KIND_SECOND;
 
 pub const NUMBER: u8 = 0;
 
@@ -18,9 +20,9 @@ pub const FIRST_WAITS: u8 = 2;
 
 pub const SECOND_WAITS: u8 = 3;
 
-const FIRST: u16 = 35;
+const FIRST: u16 = KIND_FIRST as u16;
 
-const SECOND: u16 = 36;
+const SECOND: u16 = KIND_SECOND as u16;
 
 pub fn no_kinds() -> Ops
     ensures { λ r. ⌜ length r ≡ 65536 ⌝ }

@@ -38,12 +38,15 @@ use instructions::USE_CONSTANT;
 use instructions::USE_LEAF;
 use instructions::USE_NAME;
 use instructions::USE_UNDEFINED;
+use records::KIND_LET;
+use records::KIND_NAME;
+use records::KIND_PAIR;
 
-const NAME: u16 = 33;
+const NAME: u16 = KIND_NAME as u16;
 
-const PAIR: u16 = 34;
+const PAIR: u16 = KIND_PAIR as u16;
 
-const LET: u16 = 37;
+const LET: u16 = KIND_LET as u16;
 
 // An expression.
 fn step_expression(
