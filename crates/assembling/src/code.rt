@@ -7,12 +7,10 @@ ghost use Rattle.instructions.specs.Assembly.{patternOnto, patternsBelow};
 ghost use Rattle.assembling.specs.Held.{Threefold, heldOnto};
 ghost use Rattle.grammar.specs.Legal.{limit};
 ghost use Rattle.grammar.specs.Sizes.{textTable};
+use instructions::BEGIN_PATTERN;
+use instructions::CLOSE;
 use instructions::Operands;
 use instructions::Ops;
-
-const CLOSE: u8 = 15;
-
-const BEGIN_PATTERN: u8 = 17;
 
 // How many instructions stand in record order, and how many wait.
 pub struct Shifted {

@@ -18,24 +18,17 @@ use crate::constants::top_number;
 use crate::types::byte_number;
 use crate::types::leaf_count;
 use crate::types::note_type;
+use instructions::CLOSE_IF;
+use instructions::CONSTANT_HAS;
+use instructions::END_CONSTANT;
+use instructions::INPUT_HAS;
+use instructions::INSTRUCTION_NUMBERS;
+use instructions::OPEN_CONSTANT;
 use instructions::Operands;
 use instructions::Ops;
-
-const INPUT_HAS: u8 = 4;
-
-const USE_UNDEFINED: u8 = 7;
-
-const CLOSE_IF: u8 = 16;
-
-const USE_LEAF: u8 = 24;
-
-const USE_ZEROS: u8 = 25;
-
-const OPEN_CONSTANT: u8 = 26;
-
-const END_CONSTANT: u8 = 28;
-
-const CONSTANT_HAS: u8 = 29;
+use instructions::USE_LEAF;
+use instructions::USE_UNDEFINED;
+use instructions::USE_ZEROS;
 
 // The number of declared types, the input's type, how many instructions stand in record order and how many wait, how many constants are open
 // and the place of the outermost, the records, and whether all constants have a type, or the place of the first that has none.
@@ -51,41 +44,41 @@ pub struct Progress {
     pub bad: u16,
 }
 
-// The records that an instruction adds, but for leaves, a number an op.
-fn record_table() -> [u8; 30]
+// The records that an instruction adds, but for leaves: a line an instruction.
+fn record_table() -> [u8; INSTRUCTION_NUMBERS]
     ensures { λ r. ⌜ r ≡ recordCounts ⌝ }
 {
     [
-        0,
-        0,
-        0,
-        0,
-        0,
-        1,
-        2,
-        1,
-        1,
-        1,
-        1,
-        1,
-        1,
-        1,
-        1,
-        0,
-        0,
-        0,
-        1,
-        1,
-        1,
-        0,
-        0,
-        0,
-        1,
-        0,
-        0,
-        0,
-        0,
-        0,
+        0, // DECLARE_TYPE
+        0, // COUNT_CONSTRUCTOR
+        0, // FIRST_TYPE
+        0, // SECOND_TYPE
+        0, // INPUT_HAS
+        1, // USE_NAME
+        2, // USE_CONSTANT
+        1, // USE_UNDEFINED
+        1, // OPEN_PAIR
+        1, // OPEN_LET
+        1, // OPEN_REC
+        1, // OPEN_IF
+        1, // OPEN_DELAY
+        1, // TAKE_FIRST
+        1, // TAKE_SECOND
+        0, // CLOSE
+        0, // CLOSE_IF
+        0, // BEGIN_PATTERN
+        1, // MATCH_TYPE
+        1, // MATCH_ONE
+        1, // OPEN_PARTS
+        0, // NEXT_PART
+        0, // CLOSE_PARTS
+        0, // NEXT_ALTERNATIVE
+        1, // USE_LEAF
+        0, // USE_ZEROS
+        0, // OPEN_CONSTANT
+        0, // CLOSE_CONSTANT
+        0, // END_CONSTANT
+        0, // CONSTANT_HAS
     ]
 }
 

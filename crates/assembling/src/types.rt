@@ -8,21 +8,19 @@ ghost use Rattle.assembling.specs.Held.{leavesOver, TypesHeld, TypesGath
 ghost use Rattle.instructions.specs.Assembly.{typeHeld, heldTypes};
 ghost use Rattle.grammar.specs.Legal.{limit};
 ghost use Rattle.grammar.specs.Sizes.{textTable};
+use instructions::COUNT_CONSTRUCTOR;
+use instructions::DECLARE_TYPE;
+use instructions::FIRST_TYPE;
 use instructions::Operands;
 use instructions::Ops;
+use records::MOST_LEAVES;
 
 // The most leaves that are counted.
-const LEAVES: usize = 64;
+const LEAVES: usize = MOST_LEAVES as usize;
 
 const FLAT: u8 = 0;
 
 const PAIR: u8 = 1;
-
-const DECLARE_TYPE: u8 = 0;
-
-const COUNT_CONSTRUCTOR: u8 = 1;
-
-const FIRST_TYPE: u8 = 2;
 
 // A number as an index.
 pub fn number(x: u16) -> usize

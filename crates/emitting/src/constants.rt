@@ -13,8 +13,7 @@ use crate::bytes::word_number;
 use crate::expressions::Place;
 use instructions::Operands;
 use instructions::Ops;
-
-pub const USE_LEAF: u8 = 24;
+use instructions::USE_LEAF;
 
 fn count(x: u8) -> usize
     ensures { λ r. ⌜ r ≡ x ⌝ }

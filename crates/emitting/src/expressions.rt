@@ -13,14 +13,18 @@ use crate::stack::top_below;
 use crate::stack::waiting_kind;
 use instructions::Operands;
 use instructions::Ops;
+use records::KIND_CONSTANT;
+use records::KIND_DELAY;
+use records::KIND_FEEDBACK;
+use records::KIND_IF;
 
-const CONSTANT: u16 = 32;
+const CONSTANT: u16 = KIND_CONSTANT as u16;
 
-const RECURSION: u16 = 38;
+const FEEDBACK: u16 = KIND_FEEDBACK as u16;
 
-const CHOICE: u16 = 39;
+const IF: u16 = KIND_IF as u16;
 
-const DELAY: u16 = 40;
+const DELAY: u16 = KIND_DELAY as u16;
 
 // The record at which the written ones begin, the height of the stack, and the word next of the leaf or the alternative that comes next.
 pub struct Place {
@@ -124,7 +128,7 @@ pub fn put_recursion(
         values,
         cursor,
         below(height, 3),
-        RECURSION,
+        FEEDBACK,
         declared,
         b,
         c,
@@ -153,7 +157,7 @@ pub fn put_choice(
         values,
         cursor,
         below(height, 5),
-        CHOICE,
+        IF,
         a,
         b,
         c,

@@ -14,6 +14,9 @@ use bytes::clear_from;
 use bytes::put_record;
 use instructions::Operands;
 use instructions::Ops;
+use records::KIND_FLAT_TYPE;
+use records::KIND_HEADER;
+use records::KIND_PAIR_TYPE;
 use records::RECORD_BYTES;
 use stack::no_kinds;
 use stack::no_values;
@@ -26,11 +29,11 @@ pub mod patterns;
 pub mod stack;
 pub mod steps;
 
-const HEADER: u16 = 1;
+const HEADER: u16 = KIND_HEADER as u16;
 
-const FLAT_TYPE: u16 = 16;
+const FLAT_TYPE: u16 = KIND_FLAT_TYPE as u16;
 
-const PAIR_TYPE: u16 = 17;
+const PAIR_TYPE: u16 = KIND_PAIR_TYPE as u16;
 
 // The records of the instructions.
 fn write_code(

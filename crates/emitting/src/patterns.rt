@@ -9,23 +9,21 @@ use crate::stack::NUMBER;
 use crate::stack::below;
 use crate::stack::push_slot;
 use crate::stack::top_below;
+use instructions::CLOSE_PARTS;
+use instructions::MATCH_ONE;
+use instructions::MATCH_TYPE;
+use instructions::NEXT_PART;
 use instructions::Operands;
 use instructions::Ops;
+use records::KIND_CONSTRUCTOR_PATTERN;
+use records::KIND_PAIR_PATTERN;
+use records::KIND_WHOLE_PATTERN;
 
-const WHOLE_PATTERN: u16 = 48;
+const WHOLE_PATTERN: u16 = KIND_WHOLE_PATTERN as u16;
 
-const CONSTRUCTOR_PATTERN: u16 = 49;
+const CONSTRUCTOR_PATTERN: u16 = KIND_CONSTRUCTOR_PATTERN as u16;
 
-const PAIR_PATTERN: u16 = 50;
-
-// The instructions, by their numbers.
-pub const MATCH_TYPE: u8 = 18;
-
-const MATCH_CONSTRUCTOR: u8 = 19;
-
-pub const NEXT_PART: u8 = 21;
-
-const CLOSE_PARTS: u8 = 22;
+const PAIR_PATTERN: u16 = KIND_PAIR_PATTERN as u16;
 
 // A pattern's record.
 pub fn step_alternative(
@@ -50,7 +48,7 @@ pub fn step_alternative(
             next: 0,
         };
     }
-    if op == MATCH_CONSTRUCTOR {
+    if op == MATCH_ONE {
         let at = put_record(
             sheet,
             cursor,

@@ -10,6 +10,8 @@ ghost use Rattle.grammar.specs.Sizes.{textTable};
 use instructions::INSTRUCTIONS;
 use instructions::Operands;
 use instructions::Ops;
+use records::KIND_FIRST;
+use records::KIND_SECOND;
 
 pub const NUMBER: u8 = 0;
 
@@ -19,9 +21,9 @@ pub const FIRST_WAITS: u8 = 2;
 
 pub const SECOND_WAITS: u8 = 3;
 
-const FIRST: u16 = 35;
+const FIRST: u16 = KIND_FIRST as u16;
 
-const SECOND: u16 = 36;
+const SECOND: u16 = KIND_SECOND as u16;
 
 pub fn no_kinds() -> Ops
     ensures { λ r. ⌜ length r ≡ textTable ⌝ }

@@ -14,6 +14,7 @@ use answers::WRONG_WORDS;
 use answers::in_one;
 use answers::packed;
 use records::RECORDS;
+use records::VALUE_BYTES;
 use records::WidthTable;
 use records::records_in;
 use stepper::look;
@@ -40,10 +41,10 @@ fn copy_words(table: &Fired, words: &mut [u16])
 }
 
 // Room for the output, which is not told.
-fn no_output() -> [u8; 64]
+fn no_output() -> [u8; VALUE_BYTES]
     ensures { λ r. ⌜ length r ≡ 64 ⌝ }
 {
-    [0; 64]
+    [0; VALUE_BYTES]
 }
 
 // The words of one cycle, with room of its own.

@@ -13,6 +13,7 @@ use listing::put_cycles;
 use listing::put_lines;
 use listing::put_refused;
 use listing::put_type;
+use records::MOST_LEAVES;
 use simulator::leaves_of;
 use simulator::run;
 use stimulus::STIMULUS_BYTES;
@@ -22,6 +23,9 @@ use verdict::check_sheet;
 const SHEET_FILE: u64 = 1;
 
 const STIMULUS_FILE: u64 = 2;
+
+// The most leaves of a line.
+const MOST_WIDTH: usize = MOST_LEAVES as usize;
 
 // What is to be printed: a code and its place, or where the code is 0 the listing of so many bytes of outputs, of w leaves each, whose
 // type is at record t.
@@ -40,8 +44,8 @@ fn width(leaves: usize) -> usize
     if leaves == 0 {
         return 1;
     }
-    if 64 < leaves {
-        return 64;
+    if MOST_WIDTH < leaves {
+        return MOST_WIDTH;
     }
     leaves
 }

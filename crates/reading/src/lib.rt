@@ -20,7 +20,9 @@ use numbers::DONE;
 use numbers::LEADS;
 use numbers::LETTERS;
 use numbers::LIMIT;
+use numbers::LetterTable;
 use numbers::SMALL_LETTER;
+use numbers::StateTable;
 use numbers::wide;
 
 // Where a text leaves the grammar.
@@ -148,9 +150,9 @@ pub fn begin(
     state: u8,
     depth: usize,
     stack: &mut ContextStack,
-    nexts: &[[u8; 18]; 47],
-    waits: &[[u8; 18]; 47],
-    words: &[[u8; 18]; 47],
+    nexts: &StateTable,
+    waits: &StateTable,
+    words: &StateTable,
 ) -> Moved
     requires { ⌜ Stepping state 0 depth (now stack) × (class < 18) × Tables (now nexts) (now waits) (now words) ⌝ }
     ensures { λ r. ⌜ Stepped (afterLead class (stateOf state) (stackOf depth (now (stack .entry)))) depth (r .ok) (r .state) (r .word) (r .depth) (now (stack .exit)) ⌝ }
@@ -174,9 +176,9 @@ fn follow(
     word: u8,
     depth: usize,
     stack: &mut ContextStack,
-    nexts: &[[u8; 18]; 47],
-    waits: &[[u8; 18]; 47],
-    words: &[[u8; 18]; 47],
+    nexts: &StateTable,
+    waits: &StateTable,
+    words: &StateTable,
 ) -> Moved
     requires { ⌜ Stepping state word depth (now stack) × (class < 21) × Tables (now nexts) (now waits) (now words) ⌝ }
     ensures { λ r. ⌜ Stepped (followed class (stateOf state) (stackOf depth (now (stack .entry))) word) depth (r .ok) (r .state) (r .word) (r .depth) (now (stack .exit)) ⌝ }
@@ -212,10 +214,10 @@ pub fn step(
     word: u8,
     depth: usize,
     stack: &mut ContextStack,
-    nexts: &[[u8; 18]; 47],
-    waits: &[[u8; 18]; 47],
-    words: &[[u8; 18]; 47],
-    letters: &[u8; 60],
+    nexts: &StateTable,
+    waits: &StateTable,
+    words: &StateTable,
+    letters: &LetterTable,
 ) -> Moved
     requires { ⌜ Stepping state word depth (now stack) × Tables (now nexts) (now waits) (now words) × (now letters ≡ letterTable) ⌝ }
     ensures { λ r. ⌜ Stepped (onByte b (stateOf state) (stackOf depth (now (stack .entry))) (wordOf word)) depth (r .ok) (r .state) (r .word) (r .depth) (now (stack .exit)) ⌝ }

@@ -10,8 +10,16 @@ ghost use Rattle.grammar.specs.Legal.{limit};
 use crate::code::say;
 use crate::numbering::entry;
 use crate::numbering::has_role;
+use instructions::MATCH_ONE;
+use instructions::MATCH_TYPE;
+use instructions::OPEN_PAIR;
 use instructions::Operands;
 use instructions::Ops;
+use instructions::SILENT;
+use instructions::USE_CONSTANT;
+use instructions::USE_NAME;
+use instructions::USE_UNDEFINED;
+use instructions::USE_ZEROS;
 use reading::numbers::SMALL_LETTER;
 use symbols::Heads;
 use symbols::Links;
@@ -21,22 +29,6 @@ use symbols::ROLE_TYPE;
 use symbols::Spans;
 use symbols::find_declared;
 use symbols::find_name;
-
-const USE_NAME: u8 = 5;
-
-const USE_CONSTANT: u8 = 6;
-
-const USE_UNDEFINED: u8 = 7;
-
-const OPEN_PAIR: u8 = 8;
-
-const MATCH_TYPE: u8 = 18;
-
-const MATCH_CONSTRUCTOR: u8 = 19;
-
-const USE_ZEROS: u8 = 25;
-
-const SILENT: u8 = 30;
 
 // The state after the bracket of an expression.
 const BRACKET: u8 = 15;
@@ -49,7 +41,7 @@ fn declared_op(op: u8, delayed: bool, typed: bool) -> u8
         if typed {
             return MATCH_TYPE;
         }
-        return MATCH_CONSTRUCTOR;
+        return MATCH_ONE;
     }
     if op == USE_UNDEFINED {
         if delayed {

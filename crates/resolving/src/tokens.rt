@@ -22,7 +22,9 @@ use reading::begin;
 use reading::classes::class_of;
 use reading::numbers::ContextStack;
 use reading::numbers::LEADS;
+use reading::numbers::LETTERS;
 use reading::numbers::SMALL_LETTER;
+use reading::numbers::StateTable;
 use reading::numbers::wide;
 use scanning::token_end;
 use scoping::notes::note_name;
@@ -37,7 +39,7 @@ use symbols::SPAN;
 use symbols::Spans;
 
 // The most letters of a name.
-const MOST_LETTERS: usize = 16;
+const MOST_LETTERS: usize = LETTERS as usize;
 
 // The states of a DELAY's constant that wait, from the first to the last.
 const CONSTANT_WAITS: u8 = 39;
@@ -177,9 +179,9 @@ pub fn take_token(
     ops: &mut Ops,
     firsts: &mut Operands,
     seconds: &mut Operands,
-    nexts: &[[u8; 18]; 47],
-    waits: &[[u8; 18]; 47],
-    words: &[[u8; 18]; 47],
+    nexts: &StateTable,
+    waits: &StateTable,
+    words: &StateTable,
     effects: &Effects,
     admissions: &Admissions,
     sayings: &Sayings,

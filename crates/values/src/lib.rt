@@ -19,6 +19,7 @@ ghost use Rattle.records.specs.Limits.{mostRecords};
 use records::KIND_CONSTRUCTOR_PATTERN;
 use records::KIND_WHOLE_PATTERN;
 use records::RECORDS;
+use records::VALUE_BYTES;
 use records::WORD_A;
 use records::WORD_B;
 use records::WORD_KIND;
@@ -37,7 +38,7 @@ pub type Fired = [u16; RECORDS];
 pub fn none_fired() -> Fired
     ensures { λ r. ⌜ r ≡ replicate mostRecords 0 ⌝ }
 {
-    [0; 4096]
+    [0; RECORDS]
 }
 
 // Reads the leaves from `first`.
@@ -75,7 +76,7 @@ pub fn look_up(env: &[u8], level: usize, w: usize) -> &[u8]
     requires { ⌜ (64 * level + w ≤ length (now env)) × (length (now env) ≤ mostRecords) ⌝ }
     ensures { λ r. ⌜ now r ≡ take w (drop (64 * level) (now (env .entry))) ⌝ }
 {
-    let at = 64 * level;
+    let at = VALUE_BYTES * level;
     &env[at..at + w]
 }
 
@@ -113,7 +114,7 @@ pub fn enter_value(env: &mut [u8], level: usize, value: &[u8])
     requires { ⌜ (64 * level + length (now value) ≤ length (now env)) × (length (now env) ≤ mostRecords) ⌝ }
     ensures { λ _. ⌜ now (env .exit) ≡ entered level (now (value .entry)) (now (env .entry)) ⌝ }
 {
-    let at = 64 * level;
+    let at = VALUE_BYTES * level;
     put(value, &mut env[at..]);
 }
 
@@ -134,10 +135,10 @@ pub fn copy_value(env: &[u8], level: usize, out: &mut [u8])
 }
 
 // Room for a value, undefined in every leaf.
-pub fn room() -> [u8; 64]
+pub fn room() -> [u8; VALUE_BYTES]
     ensures { λ r. ⌜ r ≡ replicate 64 0 ⌝ }
 {
-    [0; 64]
+    [0; VALUE_BYTES]
 }
 
 // The leaf of an undecided IF, from those of its branches: the one that both give, or 0.
