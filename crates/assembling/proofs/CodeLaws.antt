@@ -90,7 +90,7 @@ module _ (O F S : List ℕ) where
       ∙ ap (λ x. heldOnto O F S (suc m) (n - suc m) (cond x (codeAt m ∷ C) (codeAt m ∷ patternOnto (heldCode O F S m) C))) b
       ∙ onto-step n m C (patternOnto (heldCode O F S m) C) l
 
-  module _ (n k : ℕ) (below : BelowFrom n k) (onto : OntoFrom n k) (l : k ≤ n) (z : k ≡ 0 → ⊥) where
+  module _ {n k : ℕ} (below : BelowFrom n k) (onto : OntoFrom n k) (l : k ≤ n) (z : k ≡ 0 → ⊥) where
     k-is : k ≡ suc (k - 1)
     k-is = omega (arith, z)
 
