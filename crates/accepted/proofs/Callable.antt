@@ -19,7 +19,7 @@ use Rattle.records.specs.Written.{Written}
 use Rattle.records.proofs.Asked.{past-header}
 use Rattle.structure.specs.Rules.{Passes, depth}
 use Rattle.structure.specs.NamerTable.{NamingsHeld}
-use Rattle.structure.specs.LeafTable.{Counts}
+use Rattle.structure.specs.LeafTable.{LeavesCounted}
 use Rattle.structure.specs.PairIndex.{Linked, Indexed}
 use Rattle.structure.specs.DepthTable.{Placed, Placing}
 use Rattle.structure.proofs.Passes.{written, well-named}
@@ -62,18 +62,18 @@ module _ {s : List ℕ} (p : Passes s) (full : length s ≡ 12 * count s) where
   note-all-callable = (replicate 4096 0, size, none-held)
 
   -- structure: types
-  pub count-type-callable : (r : ℕ) → r < count s → (table : List ℕ) × Sized s (count s) × (r < count s) × Written s × Counts s r table
+  pub count-type-callable : (r : ℕ) → r < count s → (table : List ℕ) × Sized s (count s) × (r < count s) × Written s × LeavesCounted s r table
   count-type-callable r h = let f = few in let c = counts-below p full r (omega arith) in (c .0, size, h, w, c .1)
 
-  pub count-types-callable : (table : List ℕ) × Sized s (count s) × Written s × Counts s 0 table
+  pub count-types-callable : (table : List ℕ) × Sized s (count s) × Written s × LeavesCounted s 0 table
   count-types-callable = let c = counts-below p full 0 (omega arith) in (c .0, size, w, c .1)
 
   pub wrong-type-callable : (r : ℕ) → r < count s
-      → (table : List ℕ) × (index : List ℕ) × Sized s (count s) × (r < count s) × Counts s (count s) table × Indexed s r index
+      → (table : List ℕ) × (index : List ℕ) × Sized s (count s) × (r < count s) × LeavesCounted s (count s) table × Indexed s r index
   wrong-type-callable r h =
       let c = counts p full in let x = pairs-below s p full r (omega arith) in (c .0, x .0, size, h, c .1, x .1)
 
-  pub first-wrong-type-callable : (table : List ℕ) × Sized s (count s) × Counts s (count s) table
+  pub first-wrong-type-callable : (table : List ℕ) × Sized s (count s) × LeavesCounted s (count s) table
   first-wrong-type-callable = let c = counts p full in (c .0, size, c .1)
 
   -- structure: the index of pair types
@@ -223,7 +223,7 @@ module _ {s : List ℕ} (p : Passes s) (full : length s ≡ 12 * count s) where
   check-rules-callable = (at-root .ground, at-root .long)
 
   pub check-depths-callable : (namers : List ℕ) × (counted : List ℕ) × CheckingDepths s (count s) × NamingsHeld (namings s) namers
-      × Counts s (count s) counted × (length widthsNoted ≡ 4096)
+      × LeavesCounted s (count s) counted × (length widthsNoted ≡ 4096)
   check-depths-callable =
       let n = namers-held p full in let c = counts p full in (n .0, c .0, fitted p full, n .1, c .1, at-root .long)
 

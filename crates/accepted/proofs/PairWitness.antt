@@ -43,7 +43,7 @@ use Rattle.structure.specs.Rules.{
   tooDeep,
   Passes,
 }
-use Rattle.structure.specs.LeafTable.{Counts}
+use Rattle.structure.specs.LeafTable.{LeavesCounted}
 use Rattle.structure.specs.PairIndex.{SlotFound, Linked, Indexed}
 use Rattle.typing.specs.Judgements.{patternFits}
 use Rattle.typing.specs.Judging.{Judging, Closing, Fitting, PartAt, at-first, at-second}
@@ -115,7 +115,7 @@ note-pair-there : (lower : List ℕ) × Sized sheet (count sheet) × (3 < count 
 note-pair-there = Callable.note-pair-callable passes full 3 (below 3 (omega arith))
 
 wrong-type-there
-    : (counted : List ℕ) × (lower : List ℕ) × Sized sheet (count sheet) × (3 < count sheet) × Counts sheet (count sheet) counted
+    : (counted : List ℕ) × (lower : List ℕ) × Sized sheet (count sheet) × (3 < count sheet) × LeavesCounted sheet (count sheet) counted
     × Indexed sheet 3 lower
 wrong-type-there = Callable.wrong-type-callable passes full 3 (below 3 (omega arith))
 

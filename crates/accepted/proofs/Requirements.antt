@@ -17,7 +17,7 @@ use Rattle.records.specs.Says.{sortAt, namings}
 use Rattle.records.specs.Sized.{Sized}
 use Rattle.structure.specs.Rules.{Passes, depth, nesting}
 use Rattle.structure.specs.NamerTable.{summary, NamingsHeld}
-use Rattle.structure.specs.LeafTable.{typeLeaves, Counts}
+use Rattle.structure.specs.LeafTable.{typeLeaves, LeavesCounted}
 use Rattle.structure.specs.DepthTable.{Capped, Placed, Placing}
 use Rattle.structure.proofs.Passes.{written, well-named, length-fits}
 use Rattle.typing.specs.Judging.{Ground, Judging, Closing}
@@ -64,7 +64,7 @@ module _ {s : List ℕ} (p : Passes s) (whole : length s ≡ 12 * count s) where
     types = p .types;
   }
 
-  pub counts-below : (m : ℕ) → m ≤ 4096 → (table : List ℕ) × Counts s m table
+  pub counts-below : (m : ℕ) → m ≤ 4096 → (table : List ℕ) × LeavesCounted s m table
   counts-below m l =
       let t = tabulated (λ r. cond (ltb r m) (typeLeaves s r) 0) 4096 in (
         t .0,
@@ -75,7 +75,7 @@ module _ {s : List ℕ} (p : Passes s) (whole : length s ≡ 12 * count s) where
         },
       )
 
-  pub counts : (table : List ℕ) × Counts s (count s) table
+  pub counts : (table : List ℕ) × LeavesCounted s (count s) table
   counts = counts-below (count s) few
 
   pub namers-held : (namers : List ℕ) × NamingsHeld (namings s) namers

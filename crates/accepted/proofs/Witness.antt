@@ -46,7 +46,7 @@ use Rattle.records.specs.Sized.{Sized}
 use Rattle.records.specs.Written.{Written}
 use Rattle.picoella.specs.Language.{leaves}
 use Rattle.structure.specs.NamerTable.{NamingsHeld}
-use Rattle.structure.specs.LeafTable.{Counts}
+use Rattle.structure.specs.LeafTable.{LeavesCounted}
 use Rattle.structure.specs.PairIndex.{Indexed}
 use Rattle.structure.specs.DepthTable.{Placed, Placing}
 use Rattle.typing.specs.Judging.{Ground, Judging, Closing, Fitting}
@@ -186,13 +186,13 @@ note-word-there = Callable.note-word-callable (passes .0) full 2 3 (below 2 (ome
 note-all-there : (namers : List ℕ) × Sized sheet (count sheet) × NamingsHeld (λ _. []) namers
 note-all-there = Callable.note-all-callable (passes .0) full
 
-count-type-there : (counted : List ℕ) × Sized sheet (count sheet) × (1 < count sheet) × Written sheet × Counts sheet 1 counted
+count-type-there : (counted : List ℕ) × Sized sheet (count sheet) × (1 < count sheet) × Written sheet × LeavesCounted sheet 1 counted
 count-type-there = Callable.count-type-callable (passes .0) full 1 (below 1 (omega arith))
 
-count-types-there : (counted : List ℕ) × Sized sheet (count sheet) × Written sheet × Counts sheet 0 counted
+count-types-there : (counted : List ℕ) × Sized sheet (count sheet) × Written sheet × LeavesCounted sheet 0 counted
 count-types-there = Callable.count-types-callable (passes .0) full
 
-first-wrong-type-there : (counted : List ℕ) × Sized sheet (count sheet) × Counts sheet (count sheet) counted
+first-wrong-type-there : (counted : List ℕ) × Sized sheet (count sheet) × LeavesCounted sheet (count sheet) counted
 first-wrong-type-there = Callable.first-wrong-type-callable (passes .0) full
 
 place-there
@@ -258,7 +258,7 @@ check-rules-there = Callable.check-rules-callable (passes .0) full
 
 check-depths-there
     : (namers : List ℕ) × (counted : List ℕ) × CheckingDepths sheet (count sheet) × NamingsHeld (namings sheet) namers
-    × Counts sheet (count sheet) counted
+    × LeavesCounted sheet (count sheet) counted
     × (length noted ≡ 4096)
 check-depths-there = Callable.check-depths-callable (passes .0) full
 

@@ -7,7 +7,7 @@ use mathlib.Core.Bool.{Bool}
 use mathlib.Core.List.{List, [], _∷_}
 use lib.ListN.{length}
 use Rattle.instructions.specs.Instruction.{Instruction, instructionOf, close, constantHas, heldCode}
-use Rattle.instructions.specs.Assembly.{patternOnto, patternsBelow, outermost, pairClosed, topConstant, firstUntyped, Assembly, assembly, assemble}
+use Rattle.instructions.specs.Assembly.{patternOnto, patternsBelow, outermost, pairClosed, topConstant, firstUntyped, Assembly, assembly, assembleOne}
 use Rattle.assembling.specs.Held.{heldNumbers, untypedAt, Threefold, TypesGathered, typesAfter, recordsAdded, heldAssembly, Assembling}
 use Rattle.instructions.specs.Assembly.{heldTypes}
 use Rattle.assembling.proofs.TypeLaws.{types-kept}
@@ -32,7 +32,7 @@ module _ {i : ℕ} {P F S L CO CF CS N : List ℕ} {types code waiting constants
     pub types-step : {k : ℕ} {P′ F′ S′ L′ : List ℕ} → op < 4 → TypesGathered (i + 1) k P′ F′ S′ L′
         → heldTypes P′ F′ S′ k ≡ typesAfter op a (heldTypes P F S types)
         → Assembling (i + 1) P′ F′ S′ L′ CO CF CS N k code waiting constants records
-        × (heldAssembly P′ F′ S′ k input CO CF CS code W N constants place records ok bad ≡ assemble (held A input place bad ok W) (instructionOf op a b))
+        × (heldAssembly P′ F′ S′ k input CO CF CS code W N constants place records ok bad ≡ assembleOne (held A input place bad ok W) (instructionOf op a b))
     types-step l g e = (
       record {
         gathered = g;
@@ -48,7 +48,7 @@ module _ {i : ℕ} {P F S L CO CF CS N : List ℕ} {types code waiting constants
 
     pub nothing-step : op ≡ 29
         → Assembling (i + 1) P F S L CO CF CS N types code waiting constants records
-        × (held A input place bad ok W ≡ assemble (held A input place bad ok W) (instructionOf op a b))
+        × (held A input place bad ok W ≡ assembleOne (held A input place bad ok W) (instructionOf op a b))
     nothing-step e = (
       record {
         gathered = types-stay A;
@@ -58,13 +58,13 @@ module _ {i : ℕ} {P F S L CO CF CS N : List ℕ} {types code waiting constants
         few-constants = (let h = A .few-constants in omega arith);
         few-records = (let h = A .few-records in omega arith);
       },
-      ap (λ o. assemble (held A input place bad ok W) (instructionOf o a b)) (sym e),
+      ap (λ o. assembleOne (held A input place bad ok W) (instructionOf o a b)) (sym e),
     )
 
     pub code-step : {CO′ CF′ CS′ : List ℕ} (added : ℕ) → 5 ≤ op → op < 16 → Threefold CO′ CF′ CS′
         → heldCode CO′ CF′ CS′ (code + 1) ≡ instructionOf op a b ∷ heldCode CO CF CS code → added ≡ recordsAdded (heldTypes P F S types) op a
         → Assembling (i + 1) P F S L CO′ CF′ CS′ N types (code + 1) waiting constants (records + added)
-        × (heldAssembly P F S types input CO′ CF′ CS′ (code + 1) W N constants place (records + added) ok bad ≡ assemble (held A input place bad ok W) (instructionOf op a b))
+        × (heldAssembly P F S types input CO′ CF′ CS′ (code + 1) W N constants place (records + added) ok bad ≡ assembleOne (held A input place bad ok W) (instructionOf op a b))
     code-step added l m t e f =
         let c = code-read (heldTypes P F S types) input (heldCode CO CF CS code) W (heldNumbers N constants) place records (untypedAt ok bad) a b op l m in (
           record {
@@ -81,7 +81,7 @@ module _ {i : ℕ} {P F S L CO CF CS N : List ℕ} {types code waiting constants
     pub wait-step : (X : List Instruction) (added : ℕ) → 17 ≤ op → op < 24 → X ≡ instructionOf op a b ∷ W
         → added ≡ recordsAdded (heldTypes P F S types) op a
         → Assembling (i + 1) P F S L CO CF CS N types code (waiting + 1) constants (records + added)
-        × (heldAssembly P F S types input CO CF CS code X N constants place (records + added) ok bad ≡ assemble (held A input place bad ok W) (instructionOf op a b))
+        × (heldAssembly P F S types input CO CF CS code X N constants place (records + added) ok bad ≡ assembleOne (held A input place bad ok W) (instructionOf op a b))
     wait-step X added l m e f =
         let c = wait-read (heldTypes P F S types) input (heldCode CO CF CS code) W (heldNumbers N constants) place records (untypedAt ok bad) a b op l m in (
           record {
@@ -100,7 +100,7 @@ module _ {i : ℕ} {P F S L CO CF CS N : List ℕ} {types code waiting constants
         → heldCode CO′ CF′ CS′ (code + 1) ≡ instructionOf op a b ∷ heldCode CO CF CS code → added ≡ recordsAdded (heldTypes P F S types) op a
         → length N′ ≡ 65536 → heldNumbers N′ (constants + 1) ≡ a ∷ heldNumbers N constants
         → Assembling (i + 1) P F S L CO′ CF′ CS′ N′ types (code + 1) waiting (constants + 1) (records + added)
-        × (heldAssembly P F S types input CO′ CF′ CS′ (code + 1) W N′ (constants + 1) place (records + added) ok bad ≡ assemble (held A input place bad ok W) (instructionOf op a b))
+        × (heldAssembly P F S types input CO′ CF′ CS′ (code + 1) W N′ (constants + 1) place (records + added) ok bad ≡ assembleOne (held A input place bad ok W) (instructionOf op a b))
     leaf-step {N′ = N′} added l m t e f n g =
         let c = leaf-read (heldTypes P F S types) input (heldCode CO CF CS code) W (heldNumbers N constants) place records (untypedAt ok bad) a b op l m in (
           record {
@@ -121,7 +121,7 @@ module _ {i : ℕ} {P F S L CO CF CS N : List ℕ} {types code waiting constants
         → heldCode CO′ CF′ CS′ (code + 1) ≡ constantHas t ∷ heldCode CO CF CS code
         → untypedAt fine worse ≡ firstUntyped (untypedAt ok bad) t place
         → Assembling (i + 1) P F S L CO′ CF′ CS′ N types (code + 1) waiting 0 records
-        × (heldAssembly P F S types input CO′ CF′ CS′ (code + 1) W N 0 place records fine worse ≡ assemble (held A input place bad ok W) (instructionOf op a b))
+        × (heldAssembly P F S types input CO′ CF′ CS′ (code + 1) W N 0 place records fine worse ≡ assembleOne (held A input place bad ok W) (instructionOf op a b))
     end-step t worse fine o f h e g = (
       record {
         gathered = types-stay A;
@@ -134,13 +134,13 @@ module _ {i : ℕ} {P F S L CO CF CS N : List ℕ} {types code waiting constants
       ap₂ (λ C x. assembly (heldTypes P F S types) input C W [] place records x) e g
           ∙ ap
           (λ x. assembly (heldTypes P F S types) input (constantHas x ∷ heldCode CO CF CS code) W [] place records (firstUntyped (untypedAt ok bad) x place)) f
-          ∙ ap (λ x. assemble (held A input place bad ok W) (instructionOf x a b)) (sym o),
+          ∙ ap (λ x. assembleOne (held A input place bad ok W) (instructionOf x a b)) (sym o),
     )
 
     pub close-step : {N′ : List ℕ} (k : ℕ) → 27 ≤ op → (op ≡ 28 → ⊥) → (op ≡ 29 → ⊥) → length N′ ≡ 65536 → k ≤ constants
         → heldNumbers N′ k ≡ pairClosed (heldTypes P F S types) (heldNumbers N constants)
         → Assembling (i + 1) P F S L CO CF CS N′ types code waiting k records
-        × (heldAssembly P F S types input CO CF CS code W N′ k place records ok bad ≡ assemble (held A input place bad ok W) (instructionOf op a b))
+        × (heldAssembly P F S types input CO CF CS code W N′ k place records ok bad ≡ assembleOne (held A input place bad ok W) (instructionOf op a b))
     close-step k l x y n m g = (
       record {
         gathered = types-stay A;
@@ -160,7 +160,7 @@ module _ {i : ℕ} {P F S L CO CF CS N : List ℕ} {types code waiting constants
   where
     pub input-step : op ≡ 4
         → Assembling (i + 1) P F S L CO CF CS N types code waiting constants records
-        × (heldAssembly P F S types a CO CF CS code W N constants place records ok bad ≡ assemble (held A input place bad ok W) (instructionOf op a b))
+        × (heldAssembly P F S types a CO CF CS code W N constants place records ok bad ≡ assembleOne (held A input place bad ok W) (instructionOf op a b))
     input-step e = (
       record {
         gathered = types-stay A;
@@ -170,7 +170,7 @@ module _ {i : ℕ} {P F S L CO CF CS N : List ℕ} {types code waiting constants
         few-constants = (let h = A .few-constants in omega arith);
         few-records = (let h = A .few-records in omega arith);
       },
-      ap (λ o. assemble (held A input place bad ok W) (instructionOf o a b)) (sym e),
+      ap (λ o. assembleOne (held A input place bad ok W) (instructionOf o a b)) (sym e),
     )
 
 -- no signature here determines the instructions that wait
@@ -180,7 +180,7 @@ module _ {i : ℕ} {P F S L CO CF CS N : List ℕ} {types code waiting constants
     pub if-step : {CO′ CF′ CS′ : List ℕ} (X : List Instruction) (k m : ℕ) → op ≡ 16 → Threefold CO′ CF′ CS′ → k + m ≡ code + waiting + 1
         → heldCode CO′ CF′ CS′ k ≡ close ∷ patternOnto W (heldCode CO CF CS code) → X ≡ patternsBelow W
         → Assembling (i + 1) P F S L CO′ CF′ CS′ N types k m constants records
-        × (heldAssembly P F S types input CO′ CF′ CS′ k X N constants place records ok bad ≡ assemble (held A input place bad ok W) (instructionOf op a b))
+        × (heldAssembly P F S types input CO′ CF′ CS′ k X N constants place records ok bad ≡ assembleOne (held A input place bad ok W) (instructionOf op a b))
     if-step X k m o t s e f = (
       record {
         gathered = types-stay A;
@@ -191,7 +191,7 @@ module _ {i : ℕ} {P F S L CO CF CS N : List ℕ} {types code waiting constants
         few-records = (let h = A .few-records in omega arith);
       },
       ap₂ (λ C X. assembly (heldTypes P F S types) input C X (heldNumbers N constants) place records (untypedAt ok bad)) e f
-          ∙ ap (λ n. assemble (held A input place bad ok W) (instructionOf n a b)) (sym o),
+          ∙ ap (λ n. assembleOne (held A input place bad ok W) (instructionOf n a b)) (sym o),
     )
 
 -- no signature here determines the place
@@ -201,7 +201,7 @@ module _ {i : ℕ} {P F S L CO CF CS N : List ℕ} {types code waiting constants
     pub open-step : {N′ : List ℕ} (q : ℕ) → op ≡ 26 → q ≡ outermost (heldNumbers N constants) place a → length N′ ≡ 65536
         → heldNumbers N′ (constants + 1) ≡ 0 ∷ heldNumbers N constants
         → Assembling (i + 1) P F S L CO CF CS N′ types code waiting (constants + 1) records
-        × (heldAssembly P F S types input CO CF CS code W N′ (constants + 1) q records ok bad ≡ assemble (held A input place bad ok W) (instructionOf op a b))
+        × (heldAssembly P F S types input CO CF CS code W N′ (constants + 1) q records ok bad ≡ assembleOne (held A input place bad ok W) (instructionOf op a b))
     open-step q o f n g = (
       record {
         gathered = types-stay A;
@@ -212,5 +212,5 @@ module _ {i : ℕ} {P F S L CO CF CS N : List ℕ} {types code waiting constants
         few-records = (let h = A .few-records in omega arith);
       },
       ap₂ (λ Y x. assembly (heldTypes P F S types) input (heldCode CO CF CS code) W Y x records (untypedAt ok bad)) g f
-          ∙ ap (λ x. assemble (held A input place bad ok W) (instructionOf x a b)) (sym o),
+          ∙ ap (λ x. assembleOne (held A input place bad ok W) (instructionOf x a b)) (sym o),
     )

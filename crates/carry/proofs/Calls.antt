@@ -30,7 +30,7 @@ use Rattle.answers.proofs.First.{first-both, first-then}
 use Rattle.carry.specs.Labels.{labelTwice}
 use Rattle.carry.specs.Bearers.{AllLabelled}
 use Rattle.carry.specs.Carried.{takenBelow, carried}
-use Rattle.carry.specs.Carrying.{IsAccepted, Carrying, CarryingAll}
+use Rattle.carry.specs.Carrying.{SheetAccepted, Carrying, CarryingAll}
 use Rattle.carry.specs.Carry.{newChecks, carryAnswer, finalCarried, CarryGiven}
 use Rattle.carry.proofs.Delays.{is-written}
 
@@ -119,11 +119,11 @@ new-refused {old} {new} {next} {w} {x} {c} {d} {result} ew ec z ex ed f er =
     let a : carryAnswer old new next ≡ Refused 18 (r .0) = after-old old new next (v .0) (v .1) ∙ rw n refl in
     rw (er, e) (gives-refused old new next 18 (r .0) a)
 
-accepted-of : {s : List ℕ} {n : ℕ} (t : ℕ) → n ≡ length s / 12 → verdict s ≡ Verdicts.Accepted t → IsAccepted s n
+accepted-of : {s : List ℕ} {n : ℕ} (t : ℕ) → n ≡ length s / 12 → verdict s ≡ Verdicts.Accepted t → SheetAccepted s n
 accepted-of t e v = record { sized = rw e (accepted-sized v); type = t; accepted = v }
 
 pub both-accepted : {old new : List ℕ} {n m : ℕ} {w x : Verdict} {c d : ℕ} → n ≡ length old / 12 → w ≡ verdict old → c ≡ code (verdictAnswer w)
-    → c ≡ 0 → m ≡ length new / 12 → x ≡ verdict new → d ≡ code (verdictAnswer x) → d ≡ 0 → IsAccepted old n × IsAccepted new m
+    → c ≡ 0 → m ≡ length new / 12 → x ≡ verdict new → d ≡ code (verdictAnswer x) → d ≡ 0 → SheetAccepted old n × SheetAccepted new m
 both-accepted {old} {new} en ew ec z em ex ed y =
     let v = accepted-old old ew ec z in let u = accepted-old new ex ed y in (accepted-of (v .0) en (v .1), accepted-of (u .0) em (u .1))
 
@@ -132,18 +132,18 @@ put-over : (new next next′ : List ℕ) → length next ≡ length new → next
 put-over new next next′ l p = p ∙ rw (← l, drop-length next) (append-nil new)
 
 -- the searches
-pub searching : {s : List ℕ} {n : ℕ} → IsAccepted s n → Sized s n × Written s
+pub searching : {s : List ℕ} {n : ℕ} → SheetAccepted s n → Sized s n × Written s
 searching g = (g .sized, is-written (g .accepted))
 
-at-count : {s : List ℕ} {n : ℕ} → IsAccepted s n → (o : Found) → found o ≡ lowest (labelTwice s) n → (x : Option ℕ) → found o ≡ x
+at-count : {s : List ℕ} {n : ℕ} → SheetAccepted s n → (o : Found) → found o ≡ lowest (labelTwice s) n → (x : Option ℕ) → found o ≡ x
     → lowest (labelTwice s) (count s) ≡ x
 at-count {s} {n} g o e x q = let c = g .sized .counted in rw (← c) (sym e ∙ q)
 
-pub twice-place : {s : List ℕ} {n : ℕ} → IsAccepted s n → {o : Found} → found o ≡ lowest (labelTwice s) n → {r : ℕ} → o ≡ At r → r < 4096
+pub twice-place : {s : List ℕ} {n : ℕ} → SheetAccepted s n → {o : Found} → found o ≡ lowest (labelTwice s) n → {r : ℕ} → o ≡ At r → r < 4096
 twice-place {s} {n} g {o} e {r} q =
     let h = lowest-some-passes (labelTwice s) n r (sym e ∙ ap found q) .0 in let f = g .sized .few in omega arith
 
-module _ {old new : List ℕ} {n m : ℕ} (g : IsAccepted old n) (k : IsAccepted new m) where
+module _ {old new : List ℕ} {n m : ℕ} (g : SheetAccepted old n) (k : SheetAccepted new m) where
   -- both accepted
   from-labels : (next : List ℕ) → carryAnswer old new next ≡ firstApplying (newChecks old new next) (Done 0)
   from-labels next = after-old old new next (g .type) (g .accepted)

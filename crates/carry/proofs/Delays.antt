@@ -22,7 +22,7 @@ use Rattle.accepted.proofs.Scopes.{scope-checked, delay-fits, as-many-leaves}
 use Rattle.behaviour.proofs.Scoped.{every-expression}
 use Rattle.carry.specs.Labels.{delayType}
 use Rattle.carry.specs.Carried.{leavesAt, heldAt}
-use Rattle.carry.specs.Carrying.{OfTypes, OfLeaves, IsAccepted}
+use Rattle.carry.specs.Carrying.{OfTypes, OfLeaves, SheetAccepted}
 
 module _ {s : List ℕ} {t : ℕ} (v : verdict s ≡ Accepted t) where
   pub is-written : Written s
@@ -43,7 +43,7 @@ module _ (s : List ℕ) {t : ℕ} (v : verdict s ≡ Accepted t) where
     pub delay-many : length (leavesAt s r) ≡ leaves (delayType s r)
     delay-many = as-many-leaves s (delayType s r) (leavesAt s r) delay-holds
 
-module _ {s : List ℕ} {n : ℕ} (g : IsAccepted s n) (r : ℕ) (h : r < n) (e : kindAt s r ≡ expression delay) where
+module _ {s : List ℕ} {n : ℕ} (g : SheetAccepted s n) (r : ℕ) (h : r < n) (e : kindAt s r ≡ expression delay) where
   pub delay-in : r < count s
   delay-in = let c = g .sized .counted in omega arith
 

@@ -16,7 +16,7 @@ ghost use Rattle.behaviour.specs.Delays.{assigned, putAll};
 ghost use Rattle.behaviour.specs.Sheets.{putWord};
 ghost use Rattle.carry.specs.Labels.{label, labelTwice, sameShape};
 ghost use Rattle.carry.specs.Bearers.{Bearers, Labelling, Labelled, AllLabelled};
-ghost use Rattle.carry.specs.Carrying.{Comparing, Taking, IsAccepted, Carrying, CarryingAll};
+ghost use Rattle.carry.specs.Carrying.{Comparing, Taking, SheetAccepted, Carrying, CarryingAll};
 ghost use Rattle.carry.specs.Carried.{giver, takenFrom, takenBelow};
 ghost use Rattle.carry.specs.Carry.{CarryGiven};
 ghost use Rattle.records.specs.Limits.{wordBound};
@@ -217,7 +217,7 @@ fn carry_values(old: &[u8], n: usize, new: &[u8], m: usize, next: &mut [u8])
 
 // An accepted sheet carried into another: codes 19 and 11, and then the values.
 fn carry_accepted(old: &[u8], n: usize, new: &[u8], m: usize, next: &mut [u8]) -> u64
-    requires { ⌜ IsAccepted (now old) n × IsAccepted (now new) m ⌝ }
+    requires { ⌜ SheetAccepted (now old) n × SheetAccepted (now new) m ⌝ }
     ensures { λ r. ⌜ CarryGiven (now (old .entry)) (now (new .entry)) (now (next .entry)) r (now (next .exit)) ⌝ }
 {
     let before = first_repeated(old, n);

@@ -25,7 +25,7 @@ use Rattle.behaviour.specs.Midway.{storedAt}
 use Rattle.behaviour.proofs.Evaluated.{stored-again}
 use Rattle.behaviour.specs.Midway.{firedAt}
 use Rattle.behaviour.proofs.Firings.{fired-again}
-use Rattle.values.specs.Answers.{Compared}
+use Rattle.values.specs.Answers.{ValuesCompared}
 use Rattle.values.specs.Slots.{slot, entered, frames}
 use Rattle.evaluator.specs.Evaluating.{EvaluatingIn, EvaluatedIn, Evaluated, SettlingIn, SettledIn, Settled, approximation, leadsTo}
 use Rattle.evaluator.proofs.Frames.{front-kept, slot-kept, frames-kept, entered-kept, entered-slot, entered-long}
@@ -118,7 +118,7 @@ module _ {s : List ℕ} {n : ℕ} {W env : List ℕ} {names d : ℕ} {value : Li
     fired-is : fired₁ ≡ firedAt undecidedRule s (t ∷ Γ) (v ∷ ρ) d fired
     fired-is = rw framed at (d₁ .noted)
 
-    module _ {answer : Bool} (a : Compared o (slot names (length o) env₁) answer) where
+    module _ {answer : Bool} (a : ValuesCompared o (slot names (length o) env₁) answer) where
       standing : slot names (length o) env₁ ≡ v
       standing = rw given-long same-slot
 

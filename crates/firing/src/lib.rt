@@ -19,6 +19,7 @@ use records::WidthTable;
 use records::records_in;
 use stepper::look;
 use stepper::no_names;
+use stepper::no_next_values;
 use stimulus::check_one_cycle;
 use values::Fired;
 use values::none_fired;
@@ -53,7 +54,7 @@ fn tell(sheet: &[u8], n: usize, widths: &WidthTable, t: usize, input: &[u8], wor
     ensures { λ _. ⌜ now (words .exit) ≡ fired (now (sheet .entry)) (now (input .entry)) ⌝ }
 {
     let mut env = no_names();
-    let mut held = no_names();
+    let mut held = no_next_values();
     let mut table = none_fired();
     let mut out = no_output();
     let wo = widths[t] as usize;

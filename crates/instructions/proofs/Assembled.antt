@@ -57,7 +57,7 @@ use Rattle.instructions.specs.TextOrder.{
   expressionInstructions,
   textInstructions,
 }
-use Rattle.instructions.specs.Assembly.{assembly, nothingAssembled, firstUntyped, assemble, assembleAll}
+use Rattle.instructions.specs.Assembly.{assembly, nothingAssembled, firstUntyped, assembleOne, assembleAll}
 use Rattle.instructions.specs.RecordOrder.{declaredTypes, constantOnto, patternInOrder, expressionOnto, textCode}
 use Rattle.instructions.proofs.LeavesNumbered.{leaves-numbered}
 use Rattle.instructions.proofs.TypeNumbers.{constructor-typed, constant-has}
@@ -76,12 +76,12 @@ module _ (ds : List Declaration) (good : AllPass (declarationsChecks atFirst ds)
   finished C W p e f = ap₂ (assembly (declaredTypes ds) i C W [] p) e f
 
   name-run : (bound : List (List ℕ)) (w : List ℕ) (C W : List Instruction) (p r : ℕ) (u : Option ℕ)
-      → assemble (assembly (declaredTypes ds) i C W [] p r u) (valueInstruction ds bound w)
+      → assembleOne (assembly (declaredTypes ds) i C W [] p r u) (valueInstruction ds bound w)
       ≡ assembly (declaredTypes ds) i (valueInstruction ds bound w ∷ C) W [] p (cond (isAmong w bound) 1 (cond (isDeclared constructorRole w (afterAll atFirst ds)) 2 1) + r) u
   name-run bound w C W p r u = go (isAmong w bound) (isDeclared constructorRole w (afterAll atFirst ds)) (distance w bound) (constructorIn ds w .type) (constructorIn ds w .number)
     where
       go : (b c : Bool) (k t n : ℕ)
-          → assemble (assembly (declaredTypes ds) i C W [] p r u) (cond b (useName k) (cond c (useConstant t n) (useName k)))
+          → assembleOne (assembly (declaredTypes ds) i C W [] p r u) (cond b (useName k) (cond c (useConstant t n) (useName k)))
           ≡ assembly (declaredTypes ds) i (cond b (useName k) (cond c (useConstant t n) (useName k)) ∷ C) W [] p (cond b 1 (cond c 2 1) + r) u
       go true c k t n = refl
       go false true k t n = refl

@@ -17,7 +17,7 @@ use Rattle.naming.specs.Checks.{checkPlaces}
 use Rattle.naming.specs.Constants.{constantPlace, constantChecks, constantsOfText}
 use Rattle.naming.specs.Promises.{DelayPhase, beforeDelay, bracketNext, constantNext, afterKeyword, isQuery, constantPlaces, Increasing}
 use Rattle.naming.proofs.EachOnce.{places-both}
-use Rattle.naming.proofs.TextOrder.{From, from-none, from-one, from-lower, increasing, run-long}
+use Rattle.naming.proofs.TextOrder.{PlacesFrom, from-none, from-one, from-lower, increasing, run-long}
 
 abbrev places : List Token → List ℕ
 places ts = constantPlaces beforeDelay ts
@@ -74,11 +74,11 @@ pub each-constant-once : {ts : List Token} {t : Text} → ReadsText ts t → che
 each-constant-once (reads-text {d} {ds} {e} h k l) =
     sym (append-nil (checkPlaces (constantChecks (d ∷ ds) e))) ∙ expression-constants (d ∷ ds) l ∙ list-none k ∙ declaration-none h
 
-either-from : {i : ℕ} {x y : List ℕ} (b : Bool) → From i x → From i y → From i (cond b x y)
+either-from : {i : ℕ} {x y : List ℕ} (b : Bool) → PlacesFrom i x → PlacesFrom i y → PlacesFrom i (cond b x y)
 either-from true f g = f
 either-from false f g = g
 
-constants-from : {i : ℕ} {bs : List ℕ} {ts : List Token} (q : DelayPhase) → Tokens i bs ts → From i (constantPlaces q ts)
+constants-from : {i : ℕ} {bs : List ℕ} {ts : List Token} (q : DelayPhase) → Tokens i bs ts → PlacesFrom i (constantPlaces q ts)
 constants-from beforeDelay no-token = from-none
 constants-from bracketNext no-token = from-none
 constants-from constantNext no-token = from-none

@@ -26,7 +26,7 @@ use Rattle.records.specs.Kinds.{
   kindRows,
   numberIn,
   asksIn,
-  lookUp,
+  rowIn,
   rowOf,
   kindOf,
   askOf,
@@ -47,7 +47,7 @@ Others U [] n = U
 Others U (x ∷ xs) n = Others (U × (n ≡ numberIn x → ⊥)) xs n
 
 not-listed : (U : Type 0) (xs : List Row) (n : ℕ) → Others U xs n
-    → U × (lookUp xs n ≡ row n unknown never never never never never)
+    → U × (rowIn xs n ≡ row n unknown never never never never never)
 not-listed U [] n u = (u, refl)
 not-listed U (x ∷ xs) n u =
     let v = not-listed (U × (n ≡ numberIn x → ⊥)) xs n u in

@@ -8,3 +8,7 @@ mostRecords = 4096
 -- one more than the highest word
 abbrev pub wordBound : ℕ
 wordBound = 65536
+
+-- the bytes of 64 names, 64 leaves each
+abbrev pub environmentBytes : ℕ
+environmentBytes = 4096

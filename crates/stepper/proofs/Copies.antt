@@ -39,7 +39,7 @@ use Rattle.records.proofs.Table.{askOfKind}
 use Rattle.records.proofs.Asked.{past-header, part-of-kind}
 use Rattle.values.proofs.Gathering.{left, left-falls}
 use Rattle.behaviour.specs.Sheets.{putWord}
-use Rattle.behaviour.specs.Copies.{copied, leavesOf, delayChains}
+use Rattle.behaviour.specs.Copies.{copied, leavesByKind, delayChains}
 use Rattle.stepper.specs.Cycling.{Copying}
 
 numbered-delay : (k : ℕ) → kindOf k ≡ expression delay → k ≡ 40
@@ -118,10 +118,10 @@ module _ {s : List ℕ} {n : ℕ} {before : List ℕ} (h : List ℕ) (g : Copyin
   none-left r e = rw e at (r .rest)
 
   -- a record that is no delay has no leaves to copy to
-  pub no-delay : (r : ℕ) {k : ℕ} → k ≡ word s r 0 → (k ≡ 40 → ⊥) → before ≡ copied h (leavesOf (kindAt s r) (chain s (wordB s r))) before
+  pub no-delay : (r : ℕ) {k : ℕ} → k ≡ word s r 0 → (k ≡ 40 → ⊥) → before ≡ copied h (leavesByKind (kindAt s r) (chain s (wordB s r))) before
   no-delay r ek f = ap (λ ls. copied h ls before) (sym (none (kindAt s r) refl))
     where
-      none : (q : Kind) → kindAt s r ≡ q → leavesOf q (chain s (wordB s r)) ≡ []
+      none : (q : Kind) → kindAt s r ≡ q → leavesByKind q (chain s (wordB s r)) ≡ []
       none header e = refl
       none (typeOf q) e = refl
       none (expression constant) e = refl
@@ -139,7 +139,7 @@ module _ {s : List ℕ} {n : ℕ} {before : List ℕ} (h : List ℕ) (g : Copyin
 
   -- and a delay's are those of its chain
   pub delay-copied : (r : ℕ) → kindAt s r ≡ expression delay → {x : ℕ} → x ≡ word s r 3 → {now : List ℕ} → now ≡ copied h (chain s x) before
-      → now ≡ copied h (leavesOf (kindAt s r) (chain s (wordB s r))) before
+      → now ≡ copied h (leavesByKind (kindAt s r) (chain s (wordB s r))) before
   delay-copied r e ex c = c ∙ rw (e, ex) refl
 
 module _ {s : List ℕ} {n : ℕ} {before : List ℕ} (g : Copying s n before) where
@@ -174,7 +174,7 @@ module _ {s h before : List ℕ} {n : ℕ} where
     pub below-copying : Copying s n before → Copying s n now
     below-copying g = record { sized = g .sized; written = g .written; long = below-long ∙ g .long }
 
-    pub below-next : r < n → {now′ : List ℕ} → now′ ≡ copied h (leavesOf (kindAt s r) (chain s (wordB s r))) now
+    pub below-next : r < n → {now′ : List ℕ} → now′ ≡ copied h (leavesByKind (kindAt s r) (chain s (wordB s r))) now
         → Below s h before n (r + 1) now′
     below-next k e =
         record {
@@ -182,7 +182,7 @@ module _ {s h before : List ℕ} {n : ℕ} where
           so-far =
               e
               ∙ rw (b .so-far, add-one r)
-              (sym (copied-both h (delayChains s r) (leavesOf (kindAt s r) (chain s (wordB s r))) before));
+              (sym (copied-both h (delayChains s r) (leavesByKind (kindAt s r) (chain s (wordB s r))) before));
         }
 
     pub all-below : n ≤ r → now ≡ copied h (delayChains s n) before

@@ -29,7 +29,7 @@ use Rattle.meaning.proofs.Order.{value-length}
 use Rattle.meaning.proofs.UndecidedRule.{rule-lawful}
 use Rattle.behaviour.specs.Terms.{circuitTerm}
 use Rattle.behaviour.specs.Delays.{store}
-use Rattle.behaviour.specs.Copies.{copied, leavesOf, delayChains}
+use Rattle.behaviour.specs.Copies.{copied, leavesByKind, delayChains}
 use Rattle.behaviour.specs.Cycle.{output, sheetAfterCycle, afterBy}
 use Rattle.behaviour.specs.Evaluated.{valueAt}
 use Rattle.behaviour.specs.Midway.{firedAt}
@@ -128,15 +128,15 @@ module _ {s : List ℕ} {n : ℕ} {W env held input current out : List ℕ} (g :
         }
 
   -- the chains are where they were
-  same-leaves : (r : ℕ) (k : Kind) → kindAt s r ≡ k → leavesOf k (chain s (wordB s r)) ≡ leavesOf k (chain current (wordB current r))
+  same-leaves : (r : ℕ) (k : Kind) → kindAt s r ≡ k → leavesByKind k (chain s (wordB s r)) ≡ leavesByKind k (chain current (wordB current r))
   same-leaves r k ek =
-      ap (leavesOf k) (sym (same-chain o (wordB s r)) ∙ ap (chain current) (sym (o .leaves r 3 (omega arith) (λ z. omega arith))))
+      ap (leavesByKind k) (sym (same-chain o (wordB s r)) ∙ ap (chain current) (sym (o .leaves r 3 (omega arith) (λ z. omega arith))))
 
   same-chains : (m : ℕ) → delayChains s m ≡ delayChains current m
   same-chains zero = refl
   same-chains (suc r) =
       ap₂ _++_ (same-chains r)
-      (same-leaves r (kindAt s r) refl ∙ ap (λ k. leavesOf k (chain current (wordB current r))) (sym (same-kind o r)))
+      (same-leaves r (kindAt s r) refl ∙ ap (λ k. leavesByKind k (chain current (wordB current r))) (sym (same-kind o r)))
 
   room : (l : ℕ) → List·Memᴰ l (delayLeaves (circuit current)) → l < length held
   room l m = let h = leaves-in-table current (g .type) (g .again) l m in let w = g .long in omega arith

@@ -57,7 +57,7 @@ use Rattle.translation.specs.Distances.{asConstant, nameMeant, byDistances, unp
 use Rattle.translation.proofs.ConstructorTables.{pass-both, passes, pass-rest, after-new}
 use Rattle.text_meaning.specs.Circuits.{Circuit, Uses, circuitOf}
 use Rattle.text_meaning.proofs.Naming.{KnownType}
-use Rattle.text_meaning.proofs.Related.{At, at-input, at-here, at-there, NotIn, not-input, not-here, Related, related-name, related-constructor, related-always, related-pair, related-first, related-second, related-let, related-feedback, related-if, related-delay}
+use Rattle.text_meaning.proofs.Related.{BoundAt, at-input, at-here, at-there, NotIn, not-input, not-here, Related, related-name, related-constructor, related-always, related-pair, related-first, related-second, related-let, related-feedback, related-if, related-delay}
 use Rattle.text_meaning.proofs.NamesStand.{all-differ, constructor-has-number, type-known, unknown-is}
 use Rattle.text_meaning.proofs.TakenNames.{new-name}
 use Rattle.text_meaning.proofs.ConstantsStand.{constructor-stands, constructor-known, unknown-stands, held-stands}
@@ -133,21 +133,21 @@ not-the-input D h w c = go (sameName w input) (same-equal w input)
         absurd (let no : _≡_ {A = ℕ} 0 1 = cc in omega arith)
 
 -- where a name is in scope
-at-distance : (w : List ℕ) (bound : List (List ℕ)) → isAmong w bound ≡ true → At bound w (distance w bound)
+at-distance : (w : List ℕ) (bound : List (List ℕ)) → isAmong w bound ≡ true → BoundAt bound w (distance w bound)
 at-distance w [] h = absurd (let no : _≡_ {A = ℕ} 0 1 = cc in omega arith)
 at-distance w (v ∷ bound) h = go (sameName w v) refl (at-distance w bound) h
   where
-    go : (b : Bool) → sameName w v ≡ b → (isAmong w bound ≡ true → At bound w (distance w bound)) → cond b true (isAmong w bound) ≡ true
-        → At (v ∷ bound) w (cond b 0 (suc (distance w bound)))
+    go : (b : Bool) → sameName w v ≡ b → (isAmong w bound ≡ true → BoundAt bound w (distance w bound)) → cond b true (isAmong w bound) ≡ true
+        → BoundAt (v ∷ bound) w (cond b 0 (suc (distance w bound)))
     go true e f h = at-here e
     go false e f h = at-there e (f h)
 
-input-at : (w : List ℕ) (bound : List (List ℕ)) → isAmong w bound ≡ false → sameName w input ≡ true → At bound w (distance w bound)
+input-at : (w : List ℕ) (bound : List (List ℕ)) → isAmong w bound ≡ false → sameName w input ≡ true → BoundAt bound w (distance w bound)
 input-at w [] h i = at-input i
 input-at w (v ∷ bound) h i = go (sameName w v) refl (λ n. input-at w bound n i) h
   where
-    go : (b : Bool) → sameName w v ≡ b → (isAmong w bound ≡ false → At bound w (distance w bound)) → cond b true (isAmong w bound) ≡ false
-        → At (v ∷ bound) w (cond b 0 (suc (distance w bound)))
+    go : (b : Bool) → sameName w v ≡ b → (isAmong w bound ≡ false → BoundAt bound w (distance w bound)) → cond b true (isAmong w bound) ≡ false
+        → BoundAt (v ∷ bound) w (cond b 0 (suc (distance w bound)))
     go true e f h = absurd (let no : _≡_ {A = ℕ} 0 1 = cc in omega arith)
     go false e f h = at-there e (f h)
 

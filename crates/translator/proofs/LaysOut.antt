@@ -30,7 +30,7 @@ use Rattle.instructions.specs.Emission.{Emission, emission, ofNumber, writtenOf
 use Rattle.instructions.proofs.Assembled.{assembled}
 use Rattle.instructions.proofs.Written.{declared-many, emitted, laid-many, records-written}
 use Rattle.assembling.specs.Held.{untypedAt}
-use Rattle.assembling.specs.Assembled.{typesIn, inputIn, codeIn, recordsIn, untypedIn, Assembled}
+use Rattle.assembling.specs.Assembled.{typesIn, inputIn, codeIn, recordsAssembled, untypedIn, Assembled}
 use Rattle.reading.specs.Coded.{illegal}
 use Rattle.reading.specs.declared.Illegal.{Illegal}
 use Rattle.reading.specs.declared.Illegal.the-variants.{At, Nowhere}
@@ -58,7 +58,7 @@ module _ {bytes : List ℕ} (ops firsts seconds : List ℕ) {pairs parts others 
       let q = ap (assembleAll nothingAssembled) h ∙ assembled d ds (identifier w p) e (none-bad (nameChecks t) g) in
       let T : heldTypes pairs parts others types ≡ declaredTypes (d ∷ ds) = a .types-given ∙ ap typesIn q in
       let many : types ≡ length (d ∷ ds) = sym (types-held pairs parts others types) ∙ ap length T ∙ declared-many (d ∷ ds) in
-      let R : records ≡ roomOf (d ∷ ds) [] e = a .records-given ∙ ap recordsIn q in
+      let R : records ≡ roomOf (d ∷ ds) [] e = a .records-given ∙ ap recordsAssembled q in
       let U : untypedAt ok place ≡ firstBadPlace (constantsOfText t) = a .untyped-given ∙ ap untypedIn q in
       let s = k .short in
       let u = a .types-bounded in

@@ -21,13 +21,13 @@ use Rattle.records.proofs.Types.{leaves-of-bounds, flat-type, pair-type, few-le
 use Rattle.records.proofs.TypeRecords.{first-part, second-part}
 use Rattle.records.proofs.Types.{pair-parts}
 use Rattle.structure.specs.Rules.{Passes}
-use Rattle.structure.specs.LeafTable.{Counts}
+use Rattle.structure.specs.LeafTable.{LeavesCounted}
 use Rattle.structure.proofs.Passes.{written, types-fit}
 use Rattle.structure.proofs.LeafCounts.{pair-kind}
 use Rattle.typing.specs.Judging.{Ground}
 
 -- a table of leaf counts has the leaves of each type of a sheet that passes
-pub counts-leaves : (s : List ℕ) (n : ℕ) (table : List ℕ) → n ≡ count s → Passes s → Counts s n table
+pub counts-leaves : (s : List ℕ) (n : ℕ) (table : List ℕ) → n ≡ count s → Passes s → LeavesCounted s n table
     → (t : ℕ) → TypeRecord s t → getD table t 0 ≡ leaves (typeAt s t)
 counts-leaves s n table e p c t r =
     let few = few-leaves (types-fit p) t (r .there) (r .sort) in

@@ -15,7 +15,7 @@ use Rattle.records.proofs.Tests.{never-both}
 use Rattle.meaning.specs.Matching.{Yes, No, constructorDecision, pairDecision}
 use Rattle.meaning.specs.Evaluation.{choose}
 use Rattle.meaning.specs.Undecided.{undecidedRule}
-use Rattle.values.specs.Answers.{decisionOf, told, Own, Compared}
+use Rattle.values.specs.Answers.{decisionOf, told, Own, ValuesCompared}
 use Rattle.values.specs.declared.Match.{Match}
 use Rattle.values.specs.declared.Match.the-variants as Matches
 
@@ -60,13 +60,13 @@ module _ (value slot : List ℕ) (room : length value ≤ length slot) where
         so-far = rw (add-one i, take-suc value i 0 h, take-suc slot i 0 (omega arith), c .so-far, e) refl;
       }
 
-  pub all-same : (i : ℕ) → length value ≤ i → Same i → Compared value (take (length value) slot) true
+  pub all-same : (i : ℕ) → length value ≤ i → Same i → ValuesCompared value (take (length value) slot) true
   all-same i h c =
       let f = c .few in
       let e : i ≡ length value = omega arith in
       record { same = λ _. rw (e, take-length value) at (c .so-far); other = λ e. absurd (never-both true refl e) }
 
-  pub slot-differs : (i : ℕ) → i < length value → getD slot i 0 ≢ getD value i 0 → Compared value (take (length value) slot) false
+  pub slot-differs : (i : ℕ) → i < length value → getD slot i 0 ≢ getD value i 0 → ValuesCompared value (take (length value) slot) false
   slot-differs i h d =
       record {
         same = λ e. absurd (never-both false e refl);
@@ -113,7 +113,7 @@ module _ (n a : ℕ) (env r : List ℕ) (e : r ≡ take n (drop a env)) where
   pub looked-up-long : a + n ≤ length env → length r ≡ n
   looked-up-long h = let l = length-drop a env in rw e (length-take-le n (drop a env) (omega arith))
 
-  pub looked-up-stands : (v : List ℕ) (b : Bool) → length v ≡ n → Compared v (take (length v) r) b → Compared v (take n (drop a env)) b
+  pub looked-up-stands : (v : List ℕ) (b : Bool) → length v ≡ n → ValuesCompared v (take (length v) r) b → ValuesCompared v (take n (drop a env)) b
   looked-up-stands v b k g = rw (e, k, take-take n n (drop a env) (omega arith)) at g
 
   pub looked-up-copied : (out out′ : List ℕ) → length out ≡ n → a + n ≤ length env → out′ ≡ r ++ drop (length r) out

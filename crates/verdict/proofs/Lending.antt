@@ -12,7 +12,7 @@ use Rattle.records.specs.Words.{count}
 use Rattle.records.specs.Sized.{Sized}
 use Rattle.records.specs.Trees.{circuit}
 use Rattle.structure.specs.Rules.{Passes, wrongLength, wrongHeader}
-use Rattle.structure.specs.LeafTable.{Counts}
+use Rattle.structure.specs.LeafTable.{LeavesCounted}
 use Rattle.typing.specs.Judging.{noted}
 use Rattle.verdict.specs.Stages.{CheckingRecords, StagesChecked}
 use Rattle.verdict.specs.Verdict.{verdict, unless, byRecords}

@@ -17,7 +17,7 @@ use Rattle.answers.specs.Answers.{lowest, code}
 use Rattle.answers.specs.Searches.{found}
 use Rattle.structure.specs.Rules.{Passes, wrongHeader, wrongRecord, wrongNaming, wrongType, tooDeep, depth, nesting}
 use Rattle.structure.specs.NamerTable.{NamingsHeld}
-use Rattle.structure.specs.LeafTable.{Counts}
+use Rattle.structure.specs.LeafTable.{LeavesCounted}
 use Rattle.structure.specs.DepthTable.{Capped, Placed, Placing}
 use Rattle.answers.specs.declared.Found.{Found}
 use Rattle.answers.specs.declared.Found.the-variants.{At, Nothing}
@@ -108,7 +108,7 @@ module _ {s : List ℕ} {n : ℕ} (f : CheckingDepths s n) where
     placed = record { deep = d 65 (depth s) (depth-of-header s); nested = m 4 (nesting s) (nesting-of-header s) };
   }
 
-  pub ground-of : (table : List ℕ) → lowest (tooDeep s) (count s) ≡ none → Counts s n table → Ground s n table
+  pub ground-of : (table : List ℕ) → lowest (tooDeep s) (count s) ≡ none → LeavesCounted s n table → Ground s n table
   ground-of table e c =
       let z = recorded .measured .sized in
       let p : Passes s =
@@ -143,7 +143,7 @@ module _ {s : List ℕ} (n : ℕ) where
       → StagesChecked s n (refusing o g v) answer after
   tabled-on o g v answer after e c = rw e c
 
-  pub tabled-by : (table : List ℕ) (v answer : Verdict) (after : List ℕ) → Counts s n table → RulesChecked s v answer table after → StagesChecked s n v answer after
+  pub tabled-by : (table : List ℕ) (v answer : Verdict) (after : List ℕ) → LeavesCounted s n table → RulesChecked s v answer table after → StagesChecked s n v answer after
   tabled-by table v answer after counts c = record { answered = c .answered; notes = λ t q. (table, counts, c .notes t q) }
 
 not-accepted : (v : Verdict) → 0 < code (verdictAnswer v) → (t : ℕ) → v ≡ Accepted t → ⊥

@@ -39,7 +39,7 @@ use Rattle.records.proofs.Asked.{part-of-kind}
 use Rattle.records.proofs.Trees.{alternatives-of}
 use Rattle.records.proofs.Types.{few-leaves}
 use Rattle.records.proofs.TypeRecords.{type-word}
-use Rattle.structure.specs.LeafTable.{Counts}
+use Rattle.structure.specs.LeafTable.{LeavesCounted}
 use Rattle.structure.specs.Rules.{Passes}
 use Rattle.structure.proofs.Passes.{written, well-named, types-fit}
 use Rattle.typing.specs.Judging.{width, noted}
@@ -69,7 +69,7 @@ few-of : {s : List ℕ} → Passes s → (t : ℕ) → TypeRecord s t → leaves
 few-of p t r = few-leaves (types-fit p) t (r .there) (r .sort)
 
 -- after judging
-module _ {s : List ℕ} {n : ℕ} {w : List ℕ} (p : Passes s) (counted : n ≡ count s) (c : Counts s n w) where
+module _ {s : List ℕ} {n : ℕ} {w : List ℕ} (p : Passes s) (counted : n ≡ count s) (c : LeavesCounted s n w) where
   stored : Stored (expressionRecords (circuit s)) (notes s (inputs s) (circuit s)) w (noted s (inputs s) (circuit s) w)
   stored = circuit-stored (written p) (well-named p) w (c .long)
 

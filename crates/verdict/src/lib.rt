@@ -6,7 +6,7 @@ ghost use Rattle.records.specs.Sized.{Sized};
 ghost use Rattle.records.specs.Says.{namings};
 ghost use Rattle.structure.specs.Rules.{wrongHeader, Passes};
 ghost use Rattle.structure.specs.NamerTable.{NamingsHeld};
-ghost use Rattle.structure.specs.LeafTable.{Counts};
+ghost use Rattle.structure.specs.LeafTable.{LeavesCounted};
 ghost use Rattle.typing.specs.Judging.{Ground};
 ghost use Rattle.verdict.specs.Verdict.{verdict, byTypes, byDepths, byTypeRecords, byNamings, byRecords, unless};
 ghost use Rattle.verdict.specs.Scopes.{verdictAnswer};
@@ -97,7 +97,7 @@ fn check_depths(
     table: &WidthTable,
     widths: &mut WidthTable,
 ) -> Verdict
-    requires { ⌜ CheckingDepths (now sheet) n × NamingsHeld (namings (now sheet)) (now namers) × Counts (now sheet) n (now table) × (length (now widths) ≡ mostRecords) ⌝ }
+    requires { ⌜ CheckingDepths (now sheet) n × NamingsHeld (namings (now sheet)) (now namers) × LeavesCounted (now sheet) n (now table) × (length (now widths) ≡ mostRecords) ⌝ }
     ensures { λ r. ⌜ RulesChecked (now (sheet .entry)) (byDepths (now (sheet .entry))) r (now (widths .entry)) (now (widths .exit)) ⌝ }
 {
     let mut depths = no_depths();
