@@ -83,7 +83,7 @@ module _ {text : List ℕ} {i state word depth : ℕ} {stack : List ℕ} (left :
       subst (Told text)
       (ap (concluded (length text)) (left .same-walk ∙ ap (λ k. walk k i (live (stateOf state) (stackOf depth stack) (wordOf word))) none-left)
       ∙ ap (λ x. cond (ltb limit (length text)) (some limit) (cond x none (some (length text))))
-      (ends-number word (r .few-words) state (stackOf depth stack) (r .few-states)
+      (ends-number (r .few-words) state (stackOf depth stack) (r .few-states)
       ∙ ap (λ n. cond (eqb n 0) (eqb state 16) false) l)
       ∙ sym e)
       (first-illegal-exact text)

@@ -241,11 +241,11 @@ read-below b class e = subst (λ x. x < 21) (sym e) (class-below b)
 module _ {state word depth : ℕ} {stack : List ℕ} (r : Stepping state word depth stack) (b : ℕ) where
   pub spelled-byte : (c : ℕ) → getD letterTable word 0 ≡ c → (c ≡ 0 → ⊥)
       → onByte b (stateOf state) (stackOf depth stack) (wordOf word) ≡ spelledOut b c word (stateOf state) (stackOf depth stack)
-  spelled-byte c e n = spelled word (r .few-words) b c (stateOf state) (stackOf depth stack) e n
+  spelled-byte c e n = spelled (r .few-words) b c (stateOf state) (stackOf depth stack) e n
 
   pub followed-byte : getD letterTable word 0 ≡ 0
       → onByte b (stateOf state) (stackOf depth stack) (wordOf word) ≡ followed (classOf b) (stateOf state) (stackOf depth stack) word
-  followed-byte e = follows-byte word (r .few-words) b (stateOf state) (stackOf depth stack) e
+  followed-byte e = follows-byte (r .few-words) b (stateOf state) (stackOf depth stack) e
 
   pub read-followed : (class : ℕ) → class ≡ classOf b → getD letterTable word 0 ≡ 0
       → onByte b (stateOf state) (stackOf depth stack) (wordOf word) ≡ followed class (stateOf state) (stackOf depth stack) word

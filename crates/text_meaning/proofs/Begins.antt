@@ -173,14 +173,14 @@ module _ {ds : List Declaration} (good : AllPass (declarationsChecks atFirst ds)
           let m = constructorMeant (constructorEntries ds) w in
           related-constructor
           (not-in w bound e (not-the-input (afterAll atFirst ds) (input-taken atFirst ds good taken-at-first) w f)) f
-          (constructor-stands ds good w m (constructor-has-number ds w f) (constructor-known ds good w f))
+          (constructor-stands good w m (constructor-has-number ds w f) (constructor-known good w f))
       go false false e f h = related-name (input-at w bound e (only-input atFirst ds only-at-first .only w h f))
 
   pub circuit-related : (bound : List (List ℕ)) (e : Expression) → AllPass (expressionChecks (afterAll atFirst ds) bound e)
       → AllPass (constantChecks ds e) → Related ds bound (byDistances ds bound e) (circuitOf ds e)
   circuit-related bound (NameUse (identifier w p)) h k = name-related bound w (passes h)
   circuit-related bound (UndefinedOf (identifier w p)) h k =
-      related-always (unknown-stands ds good w (min 64 (leaves (typeMeant (typeEntries ds) w))))
+      related-always (unknown-stands good w (min 64 (leaves (typeMeant (typeEntries ds) w))))
   circuit-related bound (PairExpression e f) h k =
       let D = afterAll atFirst ds in
       let x = pass-both (expressionChecks D bound e) (expressionChecks D bound f) h in
@@ -211,7 +211,7 @@ module _ {ds : List Declaration} (good : AllPass (declarationsChecks atFirst ds)
   circuit-related bound (DelayExpression c e) h k =
       let D = afterAll atFirst ds in
       let x = pass-both (constantNames D c) (expressionChecks D bound e) h in
-      related-delay (held-stands ds good c (x .0) (passes k)) (circuit-related bound e (x .1) (pass-rest k))
+      related-delay (held-stands good c (x .0) (passes k)) (circuit-related bound e (x .1) (pass-rest k))
 
 -- the places that delays carry do not matter
 pub unplaced-related : {ds : List Declaration} {bound : List (List ℕ)} {c : Circuit} (e : Expr) → Related ds bound (unplaced e) c → Related ds bound e c
