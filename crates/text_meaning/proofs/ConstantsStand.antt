@@ -155,9 +155,6 @@ one-leaf (TyTuple σ τ) = let h = one-leaf σ in omega arith
 
 -- no signature here determines the declarations
 module _ (ds : List Declaration) where
-  T : List TypeEntry
-  T = typeEntries ds
-
   -- a typed constant: its type's name, that it stands for its value, and that it has no more leaves than its type
   record TypedConstant (c : SourceConstant) : Type 0 where
     type : List ℕ
