@@ -1,4 +1,4 @@
-//! The answer of every call: a code of the document's table and its place.
+//! The answer of every call: a code of docs/SHEETS.md, "Codes", and its place.
 
 #[derive(Clone, Copy, PartialEq, Eq, Debug)]
 pub struct Answer {

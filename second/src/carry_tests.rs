@@ -1,4 +1,4 @@
-//! Carrying into a new sheet, worked out by hand from the document.
+//! Carrying into a new sheet, worked out by hand from docs/SHEETS.md, "Carrying".
 
 use crate::carry::{carry, Call};
 use crate::carry_mistakes::{named, CarryMistake, MISTAKES};

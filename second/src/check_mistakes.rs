@@ -67,7 +67,7 @@ pub fn named(name: &str) -> Option<CheckMistake> {
     MISTAKES.iter().find(|(n, _)| *n == name).map(|(_, m)| *m)
 }
 
-/// The limits of the document, or those of a mistake.
+/// The limits of docs/SHEETS.md, "Limits", or those of a mistake.
 pub struct Limits {
     pub leaves: u64,
     pub depth: usize,

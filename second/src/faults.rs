@@ -4,7 +4,7 @@
 pub mod category;
 mod header;
 mod limits;
-mod naming;
+mod named_once;
 mod order;
 mod patterns;
 mod picks;
@@ -18,7 +18,7 @@ use category::Category;
 pub fn categories() -> Vec<Category> {
     let mut all = header::categories();
     all.extend(words::categories());
-    all.extend(naming::categories());
+    all.extend(named_once::categories());
     all.extend(sharing::categories());
     all.extend(limits::categories());
     all.extend(typing::categories());

@@ -1,4 +1,5 @@
-//! Fired alternatives worked out by hand from the document.
+//! Fired alternatives worked out by hand from docs/SHEETS.md, "Which alternative
+//! fired".
 
 use crate::firing::{firing, Call};
 use crate::firing_mistakes::MISTAKES;

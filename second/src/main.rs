@@ -4,8 +4,8 @@
 
 mod carries;
 mod checks;
+mod commands;
 mod external;
-mod files;
 mod firings;
 mod memory;
 mod one_cycle;
@@ -29,7 +29,7 @@ const COMMANDS: &[(Command, &str)] = &[
     (carries::command, carries::USAGE),
     #[cfg(feature = "translate")]
     (texts::command, texts::USAGE),
-    (files::command, files::USAGE),
+    (commands::command, commands::USAGE),
     (firings::command, firings::USAGE),
 ];
 

@@ -1,4 +1,4 @@
-//! Previews worked out by hand from the document.
+//! Previews worked out by hand from docs/SHEETS.md, "The preview".
 
 use crate::generate::small::small;
 use crate::layout::sheet;

@@ -35,7 +35,7 @@ pub fn t() -> Vec<u8> {
     ]))
 }
 
-/// The stimulus on which the document runs T.
+/// The stimulus on which docs/SHEETS.md, "Sheet T", runs T.
 pub fn stimulus() -> Vec<u8> {
     vec![1, 2, 1]
 }

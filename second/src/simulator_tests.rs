@@ -1,9 +1,9 @@
-//! Runs worked out by hand from the document.
+//! Runs worked out by hand from docs/SHEETS.md.
 
 use crate::accepted::Circuit;
 use crate::evaluator::Evaluator;
-use crate::listing::{listing, refusal};
 use crate::matching::{chain, Match};
+use crate::printout::{listing, refusal};
 use crate::records::{bytes, read, A, D, FEEDBACK, IF, KIND};
 use crate::rule::IN_FORCE;
 use crate::run_mistakes::MISTAKES;

@@ -1,8 +1,8 @@
-//! Texts: answers, records and outputs worked out by hand from the document.
+//! Texts: answers, records and outputs worked out by hand from docs/SHEETS.md.
 
 mod expected;
 mod generate;
 mod grammar;
-mod layout;
-mod meaning;
-mod names;
+mod naming;
+mod text_meaning;
+mod translation;

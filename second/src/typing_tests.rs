@@ -1,4 +1,4 @@
-//! Type rules: verdicts worked out by hand from the document.
+//! Type rules: verdicts worked out by hand from docs/SHEETS.md, "Type rules".
 
 use crate::records::{A, B, KIND};
 use crate::samples;

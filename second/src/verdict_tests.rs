@@ -1,4 +1,4 @@
-//! Verdicts worked out by hand from the document.
+//! Verdicts worked out by hand from docs/SHEETS.md.
 
 use crate::answers::Answer;
 use crate::records::{bytes, read, Record, A, B, C, D, KIND, NEXT};

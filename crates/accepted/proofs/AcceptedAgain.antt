@@ -41,7 +41,8 @@ use Rattle.records.proofs.Table.{is-pair}
 use Rattle.records.proofs.Rewritten.{SameWords, same-kind, same-pair-of, same-circuit, leaf-or-same}
 use Rattle.typing.specs.Judgements.{patternFits}
 use Rattle.structure.specs.Rules.{Passes}
-use Rattle.verdict.specs.Verdict.{inputs, verdict}
+use Rattle.verdict.specs.Verdict.{verdict}
+use Rattle.verdict.specs.Scopes.{inputs}
 use Rattle.verdict.specs.declared.Verdict.the-variants.{Accepted}
 use Rattle.structure.proofs.Passes.{written}
 use Rattle.verdict.proofs.Places.{accepted-by-types}
@@ -51,20 +52,20 @@ use Rattle.verdict.proofs.Exact.{types-accept, accepted-judged}
 use Rattle.accepted.proofs.PassesAgain.{passes-again}
 
 -- the leaves of each constant and each delay fit its type
-abbrev pub Fitting : List ℕ → Tree → Type 0
-Fitting s noExpression = Unit {0}
-Fitting s (constantOf r t ls) = OfType (typeAt s t) (leafValues s ls)
-Fitting s (nameOf r k) = Unit {0}
-Fitting s (tupleOf r a b) = Fitting s a × Fitting s b
-Fitting s (firstOf r a) = Fitting s a
-Fitting s (secondOf r a) = Fitting s a
-Fitting s (letOf r a b) = Fitting s a × Fitting s b
-Fitting s (feedbackOf r t a b) = Fitting s a × Fitting s b
-Fitting s (ifOf r a p b c) = Fitting s a × Fitting s b × Fitting s c
-Fitting s (delayOf r t ls a) = OfType (typeAt s t) (leafValues s ls) × Fitting s a
+abbrev pub ValuesFit : List ℕ → Tree → Type 0
+ValuesFit s noExpression = Unit {0}
+ValuesFit s (constantOf r t ls) = OfType (typeAt s t) (leafValues s ls)
+ValuesFit s (nameOf r k) = Unit {0}
+ValuesFit s (tupleOf r a b) = ValuesFit s a × ValuesFit s b
+ValuesFit s (firstOf r a) = ValuesFit s a
+ValuesFit s (secondOf r a) = ValuesFit s a
+ValuesFit s (letOf r a b) = ValuesFit s a × ValuesFit s b
+ValuesFit s (feedbackOf r t a b) = ValuesFit s a × ValuesFit s b
+ValuesFit s (ifOf r a p b c) = ValuesFit s a × ValuesFit s b × ValuesFit s c
+ValuesFit s (delayOf r t ls a) = OfType (typeAt s t) (leafValues s ls) × ValuesFit s a
 
 -- so they do where the rules hold
-pub judged-fitting : (s Γ : List ℕ) (e : Tree) → RulesHold s Γ e → Fitting s e
+pub judged-fitting : (s Γ : List ℕ) (e : Tree) → RulesHold s Γ e → ValuesFit s e
 judged-fitting s Γ noExpression j = tt
 judged-fitting s Γ (constantOf r t ls) j = within-fits (bounds (typeAt s t)) (leafValues s ls) j
 judged-fitting s Γ (nameOf r k) j = tt
@@ -95,7 +96,7 @@ module _ {s s′ : List ℕ} (o : Rewritten s s′) where
   pair-words : (t : ℕ) → isPair (kindAt s t) ≡ true → (k : ℕ) → k < 5 → word s′ t k ≡ word s t k
   pair-words t e k h = o .others t (λ f. let g = is-pair (kindAt s t) e in let z : _≡_ {A = ℕ} 0 1 = cc in omega arith) k h
 
-  judged-again : (Γ : List ℕ) (e : Tree) → RulesHold s Γ e → Fitting s′ e → RulesHold s′ Γ e × (typeRecordOf s′ Γ e ≡ typeRecordOf s Γ e)
+  judged-again : (Γ : List ℕ) (e : Tree) → RulesHold s Γ e → ValuesFit s′ e → RulesHold s′ Γ e × (typeRecordOf s′ Γ e ≡ typeRecordOf s Γ e)
   judged-again Γ noExpression j f = (j, refl)
   judged-again Γ (constantOf r t ls) j f = (fits-within (bounds (typeAt s′ t)) (leafValues s′ ls) f, refl)
   judged-again Γ (nameOf r k) j f = (j, refl)
@@ -130,7 +131,7 @@ module _ {s s′ : List ℕ} (o : Rewritten s s′) where
 
   -- the sheet is accepted again, with the same type
   pub accepted-again : (t : ℕ) → verdict s ≡ Accepted t → ((r : ℕ) → r < count s → kindAt s r ≡ leaf → wordA s′ r ≤ 255)
-      → Fitting s′ (circuit s) → verdict s′ ≡ Accepted t
+      → ValuesFit s′ (circuit s) → verdict s′ ≡ Accepted t
   accepted-again t v small f =
       let p = accepted-by-types s t .0 v .0 in
       let j = accepted-judged t p v in

@@ -18,8 +18,8 @@ use Rattle.records.specs.Trees.{typeAt, TypeRecord}
 use Rattle.records.specs.Written.{Written}
 use Rattle.records.proofs.Asked.{past-header}
 use Rattle.structure.specs.Rules.{Passes, depth}
-use Rattle.structure.specs.NamerTable.{Holds}
-use Rattle.structure.specs.LeafTable.{Counts}
+use Rattle.structure.specs.NamerTable.{NamingsHeld}
+use Rattle.structure.specs.LeafTable.{LeavesCounted}
 use Rattle.structure.specs.PairIndex.{Linked, Indexed}
 use Rattle.structure.specs.DepthTable.{Placed, Placing}
 use Rattle.structure.proofs.Passes.{written, well-named}
@@ -32,8 +32,8 @@ use Rattle.verdict.specs.Widths.{PatternsFrom}
 use Rattle.verdict.specs.Verdict.{verdict}
 use Rattle.verdict.specs.declared.Verdict.the-variants.{Accepted}
 use Rattle.accepted.specs.Accepting.{Accepting}
-use Rattle.accepted.proofs.Requirements.{sized, fitted, counts, counts-below, none-held, held, placed, placing, placing-at, ready, patterns-from, widths}
-use Rattle.accepted.proofs.TypeTables.{pairs-below, pairs, types-from, typing-pattern, type-tables}
+use Rattle.accepted.proofs.Requirements.{sized, fitted, counts, counts-below, none-held, namers-held, depths-placed, placing-begun, placing-at, ready, patterns-from, widths}
+use Rattle.accepted.proofs.TypeTables.{pairs-below, pairs-indexed, types-from, typing-pattern, type-tables}
 
 module _ {s : List ℕ} (p : Passes s) (full : length s ≡ 12 * count s) where
   size : Sized s (count s)
@@ -58,36 +58,36 @@ module _ {s : List ℕ} (p : Passes s) (full : length s ≡ 12 * count s) where
   note-word-callable q k h low high =
       (askNumbers (rowOf (kindWord s q)), replicate 4096 0, size, h, refl, low, high, none-held .long)
 
-  pub note-all-callable : (namers : List ℕ) × Sized s (count s) × Holds (λ _. []) namers
+  pub note-all-callable : (namers : List ℕ) × Sized s (count s) × NamingsHeld (λ _. []) namers
   note-all-callable = (replicate 4096 0, size, none-held)
 
   -- structure: types
-  pub count-type-callable : (r : ℕ) → r < count s → (table : List ℕ) × Sized s (count s) × (r < count s) × Written s × Counts s r table
+  pub count-type-callable : (r : ℕ) → r < count s → (table : List ℕ) × Sized s (count s) × (r < count s) × Written s × LeavesCounted s r table
   count-type-callable r h = let f = few in let c = counts-below p full r (omega arith) in (c .0, size, h, w, c .1)
 
-  pub count-types-callable : (table : List ℕ) × Sized s (count s) × Written s × Counts s 0 table
+  pub count-types-callable : (table : List ℕ) × Sized s (count s) × Written s × LeavesCounted s 0 table
   count-types-callable = let c = counts-below p full 0 (omega arith) in (c .0, size, w, c .1)
 
   pub wrong-type-callable : (r : ℕ) → r < count s
-      → (table : List ℕ) × (index : List ℕ) × Sized s (count s) × (r < count s) × Counts s (count s) table × Indexed s r index
+      → (table : List ℕ) × (index : List ℕ) × Sized s (count s) × (r < count s) × LeavesCounted s (count s) table × Indexed s r index
   wrong-type-callable r h =
       let c = counts p full in let x = pairs-below s p full r (omega arith) in (c .0, x .0, size, h, c .1, x .1)
 
-  pub first-wrong-type-callable : (table : List ℕ) × Sized s (count s) × Counts s (count s) table
+  pub first-wrong-type-callable : (table : List ℕ) × Sized s (count s) × LeavesCounted s (count s) table
   first-wrong-type-callable = let c = counts p full in (c .0, size, c .1)
 
   -- structure: the index of pair types
   abbrev pub index : List ℕ
-  index = pairs s p full .0
+  index = pairs-indexed s p full .0
 
   pub holds-another-callable : (slot : ℕ) → slot < 12288 → Sized s (count s) × Linked (count s) index × (slot < 12288)
-  holds-another-callable slot h = (size, pairs s p full .1 .linked, h)
+  holds-another-callable slot h = (size, pairs-indexed s p full .1 .linked, h)
 
   pub slot-of-callable : Sized s (count s) × Linked (count s) index
-  slot-of-callable = (size, pairs s p full .1 .linked)
+  slot-of-callable = (size, pairs-indexed s p full .1 .linked)
 
   pub pair-of-callable : Sized s (count s) × Indexed s (count s) index
-  pair-of-callable = (size, pairs s p full .1)
+  pair-of-callable = (size, pairs-indexed s p full .1)
 
   pub note-pair-callable : (r : ℕ) → r < count s → (below : List ℕ) × Sized s (count s) × (r < count s) × Indexed s r below
   note-pair-callable r h = let x = pairs-below s p full r (omega arith) in (x .0, size, h, x .1)
@@ -102,33 +102,33 @@ module _ {s : List ℕ} (p : Passes s) (full : length s ≡ 12 * count s) where
       let f = few in let x = placing-at p full r low (omega arith) in (x .0, x .1, x .2, x .3, h)
 
   pub place-all-callable : (namers : List ℕ) × (depths : List ℕ) × (nestings : List ℕ) × Placing s (count s) 1 namers depths nestings
-  place-all-callable = placing p full
+  place-all-callable = placing-begun p full
 
   pub too-deep-callable : (r : ℕ) → r < count s
       → (depths : List ℕ) × (nestings : List ℕ) × Sized s (count s) × (r < count s) × Placed s (count s) depths nestings
-  too-deep-callable r h = let x = placed p full in (x .0, x .1, size, h, x .2)
+  too-deep-callable r h = let x = depths-placed p full in (x .0, x .1, size, h, x .2)
 
   pub first-too-deep-callable : (depths : List ℕ) × (nestings : List ℕ) × Sized s (count s) × Placed s (count s) depths nestings
-  first-too-deep-callable = let x = placed p full in (x .0, x .1, size, x .2)
+  first-too-deep-callable = let x = depths-placed p full in (x .0, x .1, size, x .2)
 
   -- typing: an expression, with a table of leaf counts, the input in scope, a table of widths, and the type tables
   abbrev pub table : List ℕ
   table = ready p full .0
 
-  abbrev pub scope : List ℕ
-  scope = ready p full .1
+  abbrev pub scopeStack : List ℕ
+  scopeStack = ready p full .1
 
-  abbrev pub noted : List ℕ
-  noted = ready p full .2
+  abbrev pub widthsNoted : List ℕ
+  widthsNoted = ready p full .2
 
-  abbrev pub types : List ℕ
-  types = type-tables s p full .0
+  abbrev pub typesNoted : List ℕ
+  typesNoted = type-tables s p full .0
 
-  at-root : Judging s (count s) table scope 1 (wordB s 0) noted
+  at-root : Judging s (count s) table scopeStack 1 (wordB s 0) widthsNoted
   at-root = ready p full .3
 
-  pub tables : TypeTables s (count s) index types
-  tables = type-tables s p full .1
+  pub tables-right : TypeTables s (count s) index typesNoted
+  tables-right = type-tables s p full .1
 
   some-depth : (r : ℕ) → 0 < r → r < count s → 1 ≤ depth s r
   some-depth r low h = go (namings s r) refl (well-named p r low h)
@@ -137,7 +137,7 @@ module _ {s : List ℕ} (p : Passes s) (full : length s ≡ 12 * count s) where
       go [] e t = absurd (false≢true t)
       go (x ∷ ns) e t = let d = depth-of w r x ns low e in omega arith
 
-  pub judge-callable : (r : ℕ) → r < count s → sortAt s r ≡ expressions → Judging s (count s) table scope 1 r noted
+  pub judge-callable : (r : ℕ) → r < count s → sortAt s r ≡ expressions → Judging s (count s) table scopeStack 1 r widthsNoted
   judge-callable r h e = record {
     ground = at-root .ground;
     wide = at-root .wide;
@@ -149,43 +149,43 @@ module _ {s : List ℕ} (p : Passes s) (full : length s ≡ 12 * count s) where
   }
 
   pub judge-expression-callable : (r : ℕ) → r < count s → sortAt s r ≡ expressions
-      → Judging s (count s) table scope 1 r noted × TypeTables s (count s) index types
-  judge-expression-callable r h e = (judge-callable r h e, tables)
+      → Judging s (count s) table scopeStack 1 r widthsNoted × TypeTables s (count s) index typesNoted
+  judge-expression-callable r h e = (judge-callable r h e, tables-right)
 
   -- `of_pair`, `of_let`, `of_feedback`, `of_if` and `of_delay`
   pub of-kind-callable : (k : ExpressionKind) (r : ℕ) → r < count s → kindAt s r ≡ expression k
-      → Judging s (count s) table scope 1 r noted × (kindAt s r ≡ expression k) × TypeTables s (count s) index types
-  of-kind-callable k r h e = (judge-callable r h (rw e), e, tables)
+      → Judging s (count s) table scopeStack 1 r widthsNoted × (kindAt s r ≡ expression k) × TypeTables s (count s) index typesNoted
+  of-kind-callable k r h e = (judge-callable r h (rw e), e, tables-right)
 
   pub of-part-callable : (k r : ℕ) → r < count s → PartAt s r k
-      → Judging s (count s) table scope 1 r noted × PartAt s r k × TypeTables s (count s) index types
-  of-part-callable k r h q = (judge-callable r h (sort q), q, tables)
+      → Judging s (count s) table scopeStack 1 r widthsNoted × PartAt s r k × TypeTables s (count s) index typesNoted
+  of-part-callable k r h q = (judge-callable r h (sort q), q, tables-right)
     where
       sort : {k : ℕ} → PartAt s r k → sortAt s r ≡ expressions
       sort (at-first e) = rw e
       sort (at-second e) = rw e
 
   pub of-name-callable : (r : ℕ) → r < count s → kindAt s r ≡ expression name
-      → Judging s (count s) table scope 1 r noted × (kindAt s r ≡ expression name)
+      → Judging s (count s) table scopeStack 1 r widthsNoted × (kindAt s r ≡ expression name)
   of-name-callable r h e = (judge-callable r h (rw e), e)
 
   -- typing: a last judgement
-  closing-at : (r : ℕ) → r < count s → Closing s (count s) table r noted
+  closing-at : (r : ℕ) → r < count s → Closing s (count s) table r widthsNoted
   closing-at r h = record { ground = at-root .ground; there = h; long = at-root .long }
 
   pub of-constant-callable : (r : ℕ) → r < count s → kindAt s r ≡ expression constant
-      → Closing s (count s) table r noted × (kindAt s r ≡ expression constant)
+      → Closing s (count s) table r widthsNoted × (kindAt s r ≡ expression constant)
   of-constant-callable r h e = (closing-at r h, e)
 
   -- `note` and `same_type`
-  pub note-callable : (r t : ℕ) → r < count s → TypeRecord s t → Closing s (count s) table r noted × TypeRecord s t
+  pub note-callable : (r t : ℕ) → r < count s → TypeRecord s t → Closing s (count s) table r widthsNoted × TypeRecord s t
   note-callable r t h u = (closing-at r h, u)
 
-  pub pair-type-callable : (r : ℕ) → r < count s → Closing s (count s) table r noted × Indexed s (count s) index
-  pair-type-callable r h = (closing-at r h, pairs s p full .1)
+  pub pair-type-callable : (r : ℕ) → r < count s → Closing s (count s) table r widthsNoted × Indexed s (count s) index
+  pair-type-callable r h = (closing-at r h, pairs-indexed s p full .1)
 
   pub part-type-callable : (r t k : ℕ) → r < count s → TypeRecord s t → 1 < k → k < 4
-      → Closing s (count s) table r noted × TypeRecord s t × (1 < k) × (k < 4)
+      → Closing s (count s) table r widthsNoted × TypeRecord s t × (1 < k) × (k < 4)
   part-type-callable r t k h u low high = (closing-at r h, u, low, high)
 
   -- typing: leaves
@@ -212,23 +212,23 @@ module _ {s : List ℕ} (p : Passes s) (full : length s ≡ 12 * count s) where
   one-type-callable r h e = let x = typing-pattern s p full r h in (x .0, x .1, e)
 
   pub note-types-callable : (none : List ℕ) × Sized s (count s) × Passes s × Indexed s (count s) index × PatternsTyped s (count s) none
-  note-types-callable = let x = types-from s p full (count s) (omega arith) in (x .0, size, p, pairs s p full .1, x .1)
+  note-types-callable = let x = types-from s p full (count s) (omega arith) in (x .0, size, p, pairs-indexed s p full .1, x .1)
 
   pub pattern-type-callable : (r t : ℕ) → r < count s → sortAt s r ≡ patterns → TypeRecord s t
-      → Fitting s (count s) r t × PatternsTyped s 0 types
-  pattern-type-callable r t h e u = (record { sized = size; passes = p; there = h; sort = e; typed = u }, tables .typed)
+      → Fitting s (count s) r t × PatternsTyped s 0 typesNoted
+  pattern-type-callable r t h e u = (record { sized = size; passes = p; there = h; sort = e; typed = u }, tables-right .typed)
 
   -- verdict
-  pub check-rules-callable : Ground s (count s) table × (length noted ≡ 4096)
+  pub check-rules-callable : Ground s (count s) table × (length widthsNoted ≡ 4096)
   check-rules-callable = (at-root .ground, at-root .long)
 
-  pub check-depths-callable : (namers : List ℕ) × (counted : List ℕ) × CheckingDepths s (count s) × Holds (namings s) namers
-      × Counts s (count s) counted × (length noted ≡ 4096)
+  pub check-depths-callable : (namers : List ℕ) × (counted : List ℕ) × CheckingDepths s (count s) × NamingsHeld (namings s) namers
+      × LeavesCounted s (count s) counted × (length widthsNoted ≡ 4096)
   check-depths-callable =
-      let n = held p full in let c = counts p full in (n .0, c .0, fitted p full, n .1, c .1, at-root .long)
+      let n = namers-held p full in let c = counts p full in (n .0, c .0, fitted p full, n .1, c .1, at-root .long)
 
-  pub check-types-callable : (namers : List ℕ) × CheckingTypes s (count s) × Holds (namings s) namers
-  check-types-callable = let n = held p full in (n .0, fitted p full .named, n .1)
+  pub check-types-callable : (namers : List ℕ) × CheckingTypes s (count s) × NamingsHeld (namings s) namers
+  check-types-callable = let n = namers-held p full in (n .0, fitted p full .named, n .1)
 
   pub check-names-callable : CheckingNamings s (count s)
   check-names-callable = fitted p full .named .recorded

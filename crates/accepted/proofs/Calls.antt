@@ -10,7 +10,8 @@ use Rattle.answers.specs.Answers.{place, onDone, Check, firstApplying, SaysOf}
 use Rattle.answers.specs.declared.Answer.{Answer}
 use Rattle.answers.specs.declared.Answer.the-variants.{Done, Refused}
 use Rattle.answers.proofs.First.{first-says, first-both, first-then}
-use Rattle.verdict.specs.Verdict.{verdictAnswer, sheetChecks, outputType, verdict}
+use Rattle.verdict.specs.Verdict.{sheetChecks, outputType, verdict}
+use Rattle.verdict.specs.Scopes.{verdictAnswer}
 use Rattle.verdict.specs.Widths.{Checked}
 use Rattle.verdict.specs.declared.Verdict.{Verdict}
 use Rattle.verdict.specs.declared.Verdict.the-variants.{Accepted}
@@ -63,4 +64,4 @@ pub accepting-checked : (s : List ℕ) (n : ℕ) → n ≡ length s / 12 → (w 
     → w ≡ Accepted t → Accepting s n table × (verdict s ≡ Accepted t)
 accepting-checked s n c w before table t l e =
     let v : verdict s ≡ Accepted t = sym (l .answered) ∙ e in
-    (record { sized = rw c (accepted-sized s v); type = t; accepted = v; table = l .accepted (rw e refl) }, v)
+    (record { sized = rw c (accepted-sized v); type = t; accepted = v; table = l .accepted (rw e refl) }, v)

@@ -43,7 +43,8 @@ use Rattle.typing.specs.Judgements.{
   judgements,
   firstFailing,
 }
-use Rattle.verdict.specs.Verdict.{inputs, byTypes, byRecords, verdict}
+use Rattle.verdict.specs.Verdict.{byTypes, byRecords, verdict}
+use Rattle.verdict.specs.Scopes.{inputs}
 use Rattle.accepted.proofs.PassesAgain.{same-length, same-naming-rule, same-type-rule, same-depth-rule}
 use Rattle.accepted.proofs.AcceptedAgain.{pattern-again}
 

@@ -72,17 +72,17 @@ pub accepting-ground : {s : List ℕ} {n : ℕ} {widths : List ℕ} → Acceptin
 accepting-ground {s} g = record { sized = g .sized; passes = exact s (g .type) .0 (g .accepted) .0; leaves = g .table .types }
 
 -- the counts before leaf i are filled in
-pub record Filled (bs : List ℕ) (i : ℕ) (out : List ℕ) : Type 0 where
+pub record BoundsFilled (bs : List ℕ) (i : ℕ) (out : List ℕ) : Type 0 where
   pub few : i ≤ length bs
   pub long : length out ≡ length bs
   pub so-far : take i out ≡ take i bs
 
 module _ {bs : List ℕ} where
-  pub none-filled : (out : List ℕ) → length out ≡ length bs → Filled bs 0 out
+  pub none-filled : (out : List ℕ) → length out ≡ length bs → BoundsFilled bs 0 out
   none-filled out e = record { few = omega arith; long = e; so-far = refl }
 
-  module _ (i : ℕ) (out : List ℕ) (f : Filled bs i out) where
-    pub fill-next : i < length bs → (v : ℕ) → v ≡ getD bs i 0 → Filled bs (i + 1) (set out i v)
+  module _ (i : ℕ) (out : List ℕ) (f : BoundsFilled bs i out) where
+    pub fill-next : i < length bs → (v : ℕ) → v ≡ getD bs i 0 → BoundsFilled bs (i + 1) (set out i v)
     fill-next h v e =
         let l = f .long in
         record {

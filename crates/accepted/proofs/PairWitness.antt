@@ -43,8 +43,8 @@ use Rattle.structure.specs.Rules.{
   tooDeep,
   Passes,
 }
-use Rattle.structure.specs.LeafTable.{Counts}
-use Rattle.structure.specs.PairIndex.{EndsAt, Linked, Indexed}
+use Rattle.structure.specs.LeafTable.{LeavesCounted}
+use Rattle.structure.specs.PairIndex.{SlotFound, Linked, Indexed}
 use Rattle.typing.specs.Judgements.{patternFits}
 use Rattle.typing.specs.Judging.{Judging, Closing, Fitting, PartAt, at-first, at-second}
 use Rattle.typing.specs.PatternTable.{PatternsTyped, TypingPattern, TypeTables}
@@ -96,16 +96,16 @@ abbrev table : List ℕ
 table = Callable.table passes full
 
 abbrev scope : List ℕ
-scope = Callable.scope passes full
+scope = Callable.scopeStack passes full
 
 abbrev noted : List ℕ
-noted = Callable.noted passes full
+noted = Callable.widthsNoted passes full
 
 abbrev index : List ℕ
 index = Callable.index passes full
 
 abbrev types : List ℕ
-types = Callable.types passes full
+types = Callable.typesNoted passes full
 
 -- the index of pair types, before record 3 and whole
 note-pairs-there : (none : List ℕ) × Sized sheet (count sheet) × Indexed sheet 0 none
@@ -115,7 +115,7 @@ note-pair-there : (lower : List ℕ) × Sized sheet (count sheet) × (3 < count 
 note-pair-there = Callable.note-pair-callable passes full 3 (below 3 (omega arith))
 
 wrong-type-there
-    : (counted : List ℕ) × (lower : List ℕ) × Sized sheet (count sheet) × (3 < count sheet) × Counts sheet (count sheet) counted
+    : (counted : List ℕ) × (lower : List ℕ) × Sized sheet (count sheet) × (3 < count sheet) × LeavesCounted sheet (count sheet) counted
     × Indexed sheet 3 lower
 wrong-type-there = Callable.wrong-type-callable passes full 3 (below 3 (omega arith))
 
@@ -132,7 +132,7 @@ declared : pairBelow sheet 1 2 (count sheet) ≡ 3
 unfolding count kindOf rowOf word
 declared = refl
 
-pair-found : (end : ℕ) × EndsAt sheet index 1 2 end × (getD index end 0 ≡ 3)
+pair-found : (end : ℕ) × SlotFound sheet index 1 2 end × (getD index end 0 ≡ 3)
 pair-found =
     let e = search-ends sheet index 1 2 (slot-of-there .1) (slot-of-there .0 .few) in
     (e .0, e .1, pair-of-there .1 .finds 1 2 (e .0) (e .1) ∙ declared)

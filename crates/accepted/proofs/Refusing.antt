@@ -6,7 +6,7 @@ use mathlib.Core.Path.{_≡_, refl}
 use denote.Enum.Declared.{tagOf}
 use types.Run.{OneOf, miss}
 use Rattle.answers.specs.declared.Answer.the-variants.{Refused}
-use Rattle.verdict.specs.Verdict.{verdictAnswer}
+use Rattle.verdict.specs.Scopes.{verdictAnswer}
 use Rattle.verdict.specs.declared.Verdict.{Verdict}
 use Rattle.verdict.specs.declared.Verdict.the-variants as Verdicts
 use Rattle.verdict.proofs.Verdict as Verdict-type

@@ -16,8 +16,8 @@ use Rattle.records.specs.Kinds as Kinds
 use Rattle.records.specs.Says.{sortAt, namings}
 use Rattle.records.specs.Sized.{Sized}
 use Rattle.structure.specs.Rules.{Passes, depth, nesting}
-use Rattle.structure.specs.NamerTable.{summary, Holds}
-use Rattle.structure.specs.LeafTable.{typeLeaves, Counts}
+use Rattle.structure.specs.NamerTable.{summary, NamingsHeld}
+use Rattle.structure.specs.LeafTable.{typeLeaves, LeavesCounted}
 use Rattle.structure.specs.DepthTable.{Capped, Placed, Placing}
 use Rattle.structure.proofs.Passes.{written, well-named, length-fits}
 use Rattle.typing.specs.Judging.{Ground, Judging, Closing}
@@ -41,7 +41,7 @@ tabulated f (suc n) = go (tabulated f n)
         at r h (no d) = List·getD-append (t .0) (f n ∷ []) 0 r (omega (arith, t .1)) ∙ t .2 r (omega arith)
 
 -- a table of no namings
-pub none-held : Holds (λ _. []) (replicate 4096 0)
+pub none-held : NamingsHeld (λ _. []) (replicate 4096 0)
 none-held = record { long = length-replicate {A = ℕ} 4096 0; entries = λ r h. getD-replicate {A = ℕ} 4096 r 0 0 h }
 
 module _ {s : List ℕ} (p : Passes s) (whole : length s ≡ 12 * count s) where
@@ -64,7 +64,7 @@ module _ {s : List ℕ} (p : Passes s) (whole : length s ≡ 12 * count s) where
     types = p .types;
   }
 
-  pub counts-below : (m : ℕ) → m ≤ 4096 → (table : List ℕ) × Counts s m table
+  pub counts-below : (m : ℕ) → m ≤ 4096 → (table : List ℕ) × LeavesCounted s m table
   counts-below m l =
       let t = tabulated (λ r. cond (ltb r m) (typeLeaves s r) 0) 4096 in (
         t .0,
@@ -75,11 +75,11 @@ module _ {s : List ℕ} (p : Passes s) (whole : length s ≡ 12 * count s) where
         },
       )
 
-  pub counts : (table : List ℕ) × Counts s (count s) table
+  pub counts : (table : List ℕ) × LeavesCounted s (count s) table
   counts = counts-below (count s) few
 
-  pub held : (namers : List ℕ) × Holds (namings s) namers
-  held = let t = tabulated (λ r. summary (namings s r)) 4096 in (t .0, record { long = t .1; entries = t .2 })
+  pub namers-held : (namers : List ℕ) × NamingsHeld (namings s) namers
+  namers-held = let t = tabulated (λ r. summary (namings s r)) 4096 in (t .0, record { long = t .1; entries = t .2 })
 
   capped : (cap : ℕ) (f : ℕ → ℕ) (m : ℕ) → m ≤ 4096 → (table : List ℕ) × Capped cap f m table
   capped cap f m h =
@@ -92,13 +92,13 @@ module _ {s : List ℕ} (p : Passes s) (whole : length s ≡ 12 * count s) where
       let n = capped 4 (nesting s) m h in
       (d .0, n .0, record { deep = d .1; nested = n .1 })
 
-  pub placed : (depths : List ℕ) × (nestings : List ℕ) × Placed s (count s) depths nestings
-  placed = placed-at (count s) few
+  pub depths-placed : (depths : List ℕ) × (nestings : List ℕ) × Placed s (count s) depths nestings
+  depths-placed = placed-at (count s) few
 
   pub placing-at : (m : ℕ) → 0 < m → m ≤ 4096
       → (namers : List ℕ) × (depths : List ℕ) × (nestings : List ℕ) × Placing s (count s) m namers depths nestings
   placing-at m some h =
-      let n = held in
+      let n = namers-held in
       let d = placed-at m h in (
         n .0,
         d .0,
@@ -113,8 +113,8 @@ module _ {s : List ℕ} (p : Passes s) (whole : length s ≡ 12 * count s) where
         },
       )
 
-  pub placing : (namers : List ℕ) × (depths : List ℕ) × (nestings : List ℕ) × Placing s (count s) 1 namers depths nestings
-  placing = placing-at 1 (omega arith) (omega arith)
+  pub placing-begun : (namers : List ℕ) × (depths : List ℕ) × (nestings : List ℕ) × Placing s (count s) 1 namers depths nestings
+  placing-begun = placing-at 1 (omega arith) (omega arith)
 
   pub ground : (table : List ℕ) × Ground s (count s) table
   ground = let c = counts in (c .0, record { sized = sized; passes = p; leaves = counts-leaves s (count s) (c .0) refl p (c .1) })
@@ -134,8 +134,8 @@ module _ {s : List ℕ} (p : Passes s) (whole : length s ≡ 12 * count s) where
   pub closing : (table : List ℕ) × (widths : List ℕ) × Closing s (count s) table (wordB s 0) widths
   closing = let r = ready in (r .0, r .2, record { ground = r .3 .ground; there = r .3 .there; long = r .3 .long })
 
-  pub patterns : (table : List ℕ) × PatternsFrom s (count s) table
-  patterns = let c = counts in (_, judged-widths p refl (c .1))
+  pub patterns-judged : (table : List ℕ) × PatternsFrom s (count s) table
+  patterns-judged = let c = counts in (_, judged-widths p refl (c .1))
 
   -- the patterns' entries added one by one, the last record first
   one-lower : (m : ℕ) → m < count s → (table : List ℕ) → PatternsFrom s (m + 1) table → (lower : List ℕ) × PatternsFrom s m lower
@@ -154,7 +154,7 @@ module _ {s : List ℕ} (p : Passes s) (whole : length s ≡ 12 * count s) where
 
   patterns-above : (k m : ℕ) → m + k ≡ count s → (table : List ℕ) × PatternsFrom s m table
   patterns-above zero m e =
-      let q = patterns in
+      let q = patterns-judged in
       let c : count s ≡ m = omega arith in
       (q .0, subst (λ (k : ℕ). PatternsFrom s k (q .0)) c (q .1))
   patterns-above (suc k) m e = let x = patterns-above k (m + 1) (omega arith) in one-lower m (omega arith) (x .0) (x .1)

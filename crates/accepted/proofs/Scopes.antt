@@ -63,7 +63,7 @@ use Rattle.typing.proofs.Typings.{within-fits, judged-typed}
 use Rattle.verdict.proofs.Exact.{input-context, accepted-judged}
 
 -- what holds at an expression of an accepted circuit
-pub record Checked (s : List ℕ) (q : ℕ) (Γ : List ℕ) : Type 0 where
+pub record CheckedAt (s : List ℕ) (q : ℕ) (Γ : List ℕ) : Type 0 where
   pub past : 0 < q
   pub there : q < count s
   pub sort : sortAt s q ≡ expressions
@@ -72,15 +72,15 @@ pub record Checked (s : List ℕ) (q : ℕ) (Γ : List ℕ) : Type 0 where
   pub names : length Γ ≤ depth s q
 
 -- the rules of a record's tree, by its kind
-pub judged-by-kind : {s : List ℕ} {q : ℕ} {Γ : List ℕ} → Passes s → Checked s q Γ → (k : ExpressionKind)
+pub judged-by-kind : {s : List ℕ} {q : ℕ} {Γ : List ℕ} → Passes s → CheckedAt s q Γ → (k : ExpressionKind)
     → kindAt s q ≡ expression k
     → RulesHold s Γ (treeStep s (treeAt s) (expression k) q (wordA s q) (wordB s q) (wordC s q) (wordD s q))
 judged-by-kind {s} {q} p o k e = rw (tree-of (written p) q (o .there) (expression k) e) at (o .judged)
 
 -- a part, where its rules hold with at most one name more
-part-checked : {s : List ℕ} {q : ℕ} {Γ : List ℕ} → Passes s → Checked s q Γ → (k : ExpressionKind) → kindAt s q ≡ expression k
+part-checked : {s : List ℕ} {q : ℕ} {Γ : List ℕ} → Passes s → CheckedAt s q Γ → (k : ExpressionKind) → kindAt s q ≡ expression k
     → (j : ℕ) → (ltb 0 j && ltb j 6) ≡ true → askOfKind (expression k) j ≡ part expressions → (Δ : List ℕ)
-    → RulesHold s Δ (treeAt s (word s q j)) → Context s Δ → length Δ ≤ suc (length Γ) → Checked s (word s q j) Δ
+    → RulesHold s Δ (treeAt s (word s q j)) → Context s Δ → length Δ ≤ suc (length Γ) → CheckedAt s (word s q j) Δ
 part-checked {s} {q} {Γ} p o k e j t a Δ judged context few =
     let w = written p in
     let f = part-of-kind w q (expression k) expressions (o .there) e j t a in
@@ -89,12 +89,12 @@ part-checked {s} {q} {Γ} p o k e j t a Δ judged context few =
     record { past = omega arith; there = f .1; sort = f .2; judged = judged; context = context; names = omega arith }
 
 -- a part with the same names in scope
-same-names : {s : List ℕ} {q : ℕ} {Γ : List ℕ} → Passes s → Checked s q Γ → (k : ExpressionKind) → kindAt s q ≡ expression k
+same-names : {s : List ℕ} {q : ℕ} {Γ : List ℕ} → Passes s → CheckedAt s q Γ → (k : ExpressionKind) → kindAt s q ≡ expression k
     → (j : ℕ) → (ltb 0 j && ltb j 6) ≡ true → askOfKind (expression k) j ≡ part expressions → RulesHold s Γ (treeAt s (word s q j))
-    → Checked s (word s q j) Γ
+    → CheckedAt s (word s q j) Γ
 same-names {Γ = Γ} p o k e j t a judged = part-checked p o k e j t a Γ judged (o .context) (omega arith)
 
-pub scope-checked : {s : List ℕ} {q : ℕ} {Γ : List ℕ} (t : ℕ) → Passes s → verdict s ≡ Accepted t → Scope s q Γ → Checked s q Γ
+pub scope-checked : {s : List ℕ} {q : ℕ} {Γ : List ℕ} (t : ℕ) → Passes s → verdict s ≡ Accepted t → Scope s q Γ → CheckedAt s q Γ
 unfolding circuit
 scope-checked {s} t p v root =
     let w = written p in
@@ -146,31 +146,31 @@ scope-checked {s} t p v (of-delay e c) =
     let o = scope-checked t p v c in same-names p o delay e 4 refl (unfold askOfKind in refl) (judged-by-kind p o delay e .0)
 
 -- at most 64 names, each of at most 64 leaves
-pub few-names : {s : List ℕ} {q : ℕ} {Γ : List ℕ} → Passes s → Checked s q Γ → length Γ ≤ 64
+pub few-names : {s : List ℕ} {q : ℕ} {Γ : List ℕ} → Passes s → CheckedAt s q Γ → length Γ ≤ 64
 few-names {s} {q} p o = let d = not-deep p q (o .there) (o .sort) .0 in let n = o .names in omega arith
 
-pub small-names : {s : List ℕ} {q : ℕ} {Γ : List ℕ} → Passes s → Checked s q Γ → (k : ℕ) → k < length Γ
+pub small-names : {s : List ℕ} {q : ℕ} {Γ : List ℕ} → Passes s → CheckedAt s q Γ → (k : ℕ) → k < length Γ
     → leaves (typeAt s (getD Γ k 0)) ≤ 64
 small-names {s} {q} {Γ} p o k h =
     let u = in-context s Γ k (o .context) h in few-leaves (types-fit p) (getD Γ k 0) (u .there) (u .sort)
 
 -- the expression has a type record, and its expression that type
-pub checked-type : {s : List ℕ} {q : ℕ} {Γ : List ℕ} → Passes s → Checked s q Γ → TypeRecord s (typeRecordOf s Γ (treeAt s q))
+pub checked-type : {s : List ℕ} {q : ℕ} {Γ : List ℕ} → Passes s → CheckedAt s q Γ → TypeRecord s (typeRecordOf s Γ (treeAt s q))
 checked-type {s} {q} {Γ} p o =
     type-of-record (written p) Γ (treeAt s q) (grown-tree (written p) q (o .there) (o .sort)) (o .context) (o .judged)
 
-pub checked-typed : {s : List ℕ} {q : ℕ} {Γ : List ℕ} → Passes s → Checked s q Γ
+pub checked-typed : {s : List ℕ} {q : ℕ} {Γ : List ℕ} → Passes s → CheckedAt s q Γ
     → Typed (Declared s) (map (typeAt s) Γ) (expressionOf s (treeAt s q)) (typeAt s (typeRecordOf s Γ (treeAt s q)))
 checked-typed {s} {q} {Γ} p o =
     judged-typed (written p) Γ (treeAt s q) (grown-tree (written p) q (o .there) (o .sort)) (o .context) (o .judged)
 
 -- the leaves of a constant and of a delay fit their type
-pub constant-fits : {s : List ℕ} {q : ℕ} {Γ : List ℕ} → Passes s → Checked s q Γ → kindAt s q ≡ expression constant
+pub constant-fits : {s : List ℕ} {q : ℕ} {Γ : List ℕ} → Passes s → CheckedAt s q Γ → kindAt s q ≡ expression constant
     → OfType (typeAt s (wordA s q)) (leafValues s (chain s (wordB s q)))
 constant-fits {s} {q} p o e =
     within-fits (bounds (typeAt s (wordA s q))) (leafValues s (chain s (wordB s q))) (judged-by-kind p o constant e)
 
-pub delay-fits : {s : List ℕ} {q : ℕ} {Γ : List ℕ} → Passes s → Checked s q Γ → kindAt s q ≡ expression delay
+pub delay-fits : {s : List ℕ} {q : ℕ} {Γ : List ℕ} → Passes s → CheckedAt s q Γ → kindAt s q ≡ expression delay
     → OfType (typeAt s (wordA s q)) (leafValues s (chain s (wordB s q)))
 delay-fits {s} {q} p o e =
     within-fits (bounds (typeAt s (wordA s q))) (leafValues s (chain s (wordB s q))) (judged-by-kind p o delay e .1)

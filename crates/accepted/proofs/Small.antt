@@ -22,35 +22,38 @@ use Rattle.verdict.specs.declared.Verdict.the-variants.{Accepted}
 use Rattle.verdict.proofs.Exact.{exact}
 use Rattle.accepted.proofs.Requirements.{sized}
 
-module _ (s : List ℕ) {t : ℕ} (v : verdict s ≡ Accepted t) where
+module _ {s : List ℕ} {t : ℕ} (v : verdict s ≡ Accepted t) where
   pub accepted-passes : Passes s
   accepted-passes = exact s t .0 v .0
 
   pub output-typed : TypeRecord s t
   output-typed = exact s t .0 v .1 .0
 
+  pub type-few : (r : ℕ) → TypeRecord s r → leaves (typeAt s r) ≤ 64
+  type-few r u = few-leaves (types-fit accepted-passes) r (u .there) (u .sort)
+
+-- no signature here determines the sheet
+module _ (s : List ℕ) {t : ℕ} (v : verdict s ≡ Accepted t) where
   pub accepted-length : length s ≤ 49152
   unfolding wrongLength
   accepted-length =
-      let f = neither-right (ltb (length s) 12) (ltb 49152 (length s) || not (eqb (length s % 12) 0)) (accepted-passes .length) in
+      let f = neither-right (ltb (length s) 12) (ltb 49152 (length s) || not (eqb (length s % 12) 0)) (accepted-passes v .length) in
       ltb-false 49152 (length s) (neither-left (ltb 49152 (length s)) (not (eqb (length s % 12) 0)) f)
 
   pub accepted-records : length s ≡ 12 * count s
   unfolding wrongLength count
   accepted-records =
-      let f = neither-right (ltb (length s) 12) (ltb 49152 (length s) || not (eqb (length s % 12) 0)) (accepted-passes .length) in
+      let f = neither-right (ltb (length s) 12) (ltb 49152 (length s) || not (eqb (length s % 12) 0)) (accepted-passes v .length) in
       let r : length s % 12 ≡ 0 =
       eqb-true (length s % 12) 0
       (not-false (eqb (length s % 12) 0) (neither-right (ltb 49152 (length s)) (not (eqb (length s % 12) 0)) f)) in
       let d = div-add-mod' (length s) 12 in
       omega arith
 
+  pub accepted-few : leaves (typeAt s t) ≤ 64
+  accepted-few = type-few v t (output-typed v)
+
+module _ {s : List ℕ} {t : ℕ} (v : verdict s ≡ Accepted t) where
   pub accepted-sized : Sized s (length s / 12)
   unfolding count
-  accepted-sized = sized accepted-passes accepted-records
-
-  pub type-few : (r : ℕ) → TypeRecord s r → leaves (typeAt s r) ≤ 64
-  type-few r u = few-leaves (types-fit accepted-passes) r (u .there) (u .sort)
-
-  pub accepted-few : leaves (typeAt s t) ≤ 64
-  accepted-few = type-few t output-typed
+  accepted-sized = sized (accepted-passes v) (accepted-records s v)

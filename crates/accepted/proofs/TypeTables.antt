@@ -19,10 +19,10 @@ use Rattle.records.specs.Written.{Written}
 use Rattle.records.proofs.Table.{askOfKind, kind-of-sort}
 use Rattle.records.proofs.Asked.{as-kind-asks, part-of-kind}
 use Rattle.structure.specs.Rules.{Passes}
-use Rattle.structure.specs.PairIndex.{another, onwards, Ends, EndsAt, Linked, Indexed}
+use Rattle.structure.specs.PairIndex.{another, onwards, Ends, SlotFound, Linked, Indexed}
 use Rattle.structure.proofs.Passes.{written}
 use Rattle.structure.proofs.PairSearch.{no-pairs-indexed, goes-on, no-pair-noted, lower-noted, pair-noted}
-use Rattle.typing.specs.PatternTable.{TypeOfOne, TypeOfAll, PatternsTyped, TypingPattern, TypeTables}
+use Rattle.typing.specs.PatternTable.{TypedOne, TypedAll, PatternsTyped, TypingPattern, TypeTables}
 use Rattle.typing.proofs.PatternNumbers.{no-pattern}
 use Rattle.typing.proofs.TypedPatterns.{
   no-types-typed,
@@ -53,7 +53,7 @@ module _ (s index : List ℕ) (a b : ℕ) {m : ℕ} (links : Linked m index) (fe
           let r = later (onwards index slot bits) (bits / 2) (omega (arith, g .0)) (g .1) in
           (suc (r .0), r .1, (g .2, r .2))
 
-  pub search-ends : (end : ℕ) × EndsAt s index a b end
+  pub search-ends : (end : ℕ) × SlotFound s index a b end
   search-ends =
       let low : a % 4096 < 4096 = omega arith in
       let r = ends-within 12288 (a % 4096) b (omega arith) (omega arith) in
@@ -63,7 +63,7 @@ module _ (s index : List ℕ) (a b : ℕ) {m : ℕ} (links : Linked m index) (fe
 one-more-indexed : (s : List ℕ) (r : ℕ) → r < 4096 → (index : List ℕ) → Indexed s r index → (more : List ℕ) × Indexed s (r + 1) more
 one-more-indexed s r few index ix = go (ℕ-discrete (word s r 0) 17)
   where
-    paired : word s r 0 ≡ 17 → ((end : ℕ) × EndsAt s index (word s r 2) (word s r 3) end) → (more : List ℕ) × Indexed s (r + 1) more
+    paired : word s r 0 ≡ 17 → ((end : ℕ) × SlotFound s index (word s r 2) (word s r 3) end) → (more : List ℕ) × Indexed s (r + 1) more
     paired e q = by (ℕ-discrete (getD index (q .0) 0) 0)
       where
         by : Dec (getD index (q .0) 0 ≡ 0) → (more : List ℕ) × Indexed s (r + 1) more
@@ -104,10 +104,10 @@ module _ {s : List ℕ} {n : ℕ} {index types : List ℕ} {r : ℕ} (q : Typing
           let f = w .few in
           omega (arith, h .1)
 
-  one-type-found : (x : ℕ) × TypeOfOne s r x × (x < 65536)
+  one-type-found : (x : ℕ) × TypedOne s r x × (x < 65536)
   one-type-found = go (ℕ-discrete (word s r 0) 50)
     where
-      go : Dec (word s r 0 ≡ 50) → (x : ℕ) × TypeOfOne s r x × (x < 65536)
+      go : Dec (word s r 0 ≡ 50) → (x : ℕ) × TypedOne s r x × (x < 65536)
       go (yes e) = (
         pairBelow s (getD types (word s r 2) 0) (getD types (word s r 3) 0) n,
         pair-type-of-parts q sort refl e refl refl refl,
@@ -115,15 +115,15 @@ module _ {s : List ℕ} {n : ℕ} {index types : List ℕ} {r : ℕ} (q : Typing
       )
       go (no f) = (word s r 2, word-type q sort refl f refl, first-word-small)
 
-  common-type-found : (x : ℕ) × TypeOfAll s r x × (x < 65536)
+  common-type-found : (x : ℕ) × TypedAll s r x × (x < 65536)
   common-type-found = go one-type-found (ℕ-discrete (word s r 1) 0)
     where
-      following : (one : (x : ℕ) × TypeOfOne s r x × (x < 65536)) → (word s r 1 ≡ 0 → ⊥) → Dec (getD types (word s r 1) 0 ≡ one .0)
-          → (x : ℕ) × TypeOfAll s r x × (x < 65536)
+      following : (one : (x : ℕ) × TypedOne s r x × (x < 65536)) → (word s r 1 ≡ 0 → ⊥) → Dec (getD types (word s r 1) 0 ≡ one .0)
+          → (x : ℕ) × TypedAll s r x × (x < 65536)
       following one f (yes e) = (one .0, all-the-same q sort refl f (one .0) (one .1) e, one .2)
       following one f (no d) = (0, no-common-type q sort refl f (one .0) (one .1) d, omega arith)
 
-      go : ((x : ℕ) × TypeOfOne s r x × (x < 65536)) → Dec (word s r 1 ≡ 0) → (x : ℕ) × TypeOfAll s r x × (x < 65536)
+      go : ((x : ℕ) × TypedOne s r x × (x < 65536)) → Dec (word s r 1 ≡ 0) → (x : ℕ) × TypedAll s r x × (x < 65536)
       go one (yes z) = (one .0, last-alternative q sort refl (one .0) (one .1) z, one .2)
       go one (no f) = following one f (ℕ-discrete (getD types (word s r 1) 0) (one .0))
 
@@ -155,8 +155,8 @@ module _ (s : List ℕ) (p : Passes s) (full : length s ≡ 12 * count s) where
       let y = one-more-indexed s m (omega arith) (x .0) (x .1) in
       (y .0, subst (λ (k : ℕ). Indexed s k (y .0)) (add-one m) (y .1))
 
-  pub pairs : (index : List ℕ) × Indexed s (count s) index
-  pairs = pairs-below (count s) (omega arith)
+  pub pairs-indexed : (index : List ℕ) × Indexed s (count s) index
+  pairs-indexed = pairs-below (count s) (omega arith)
 
   -- the types of the patterns from record m on, where k records are left
   types-above : (k m : ℕ) → m + k ≡ count s → (types : List ℕ) × PatternsTyped s m types
@@ -165,19 +165,19 @@ module _ (s : List ℕ) (p : Passes s) (full : length s ≡ 12 * count s) where
       (replicate 4096 0, subst (λ (k : ℕ). PatternsTyped s k (replicate 4096 0)) c (no-types-typed s))
   types-above (suc k) m e =
       let x = types-above k (m + 1) (omega arith) in
-      let q : TypingPattern s (count s) (pairs .0) (x .0) m =
-      record { sized = sized p full; passes = p; indexed = pairs .1; there = omega arith; above = x .1 } in
+      let q : TypingPattern s (count s) (pairs-indexed .0) (x .0) m =
+      record { sized = sized p full; passes = p; indexed = pairs-indexed .1; there = omega arith; above = x .1 } in
       one-more-typed q
 
   pub types-from : (m : ℕ) → m ≤ count s → (types : List ℕ) × PatternsTyped s m types
   types-from m h = types-above (count s - m) m (omega arith)
 
-  pub typing-pattern : (r : ℕ) → r < count s → (types : List ℕ) × TypingPattern s (count s) (pairs .0) types r
+  pub typing-pattern : (r : ℕ) → r < count s → (types : List ℕ) × TypingPattern s (count s) (pairs-indexed .0) types r
   typing-pattern r h =
       let x = types-from (r + 1) (omega arith) in (
         x .0,
-        record { sized = sized p full; passes = p; indexed = pairs .1; there = h; above = x .1 },
+        record { sized = sized p full; passes = p; indexed = pairs-indexed .1; there = h; above = x .1 },
       )
 
-  pub type-tables : (types : List ℕ) × TypeTables s (count s) (pairs .0) types
-  type-tables = let x = types-from 0 (omega arith) in (x .0, record { indexed = pairs .1; typed = x .1 })
+  pub type-tables : (types : List ℕ) × TypeTables s (count s) (pairs-indexed .0) types
+  type-tables = let x = types-from 0 (omega arith) in (x .0, record { indexed = pairs-indexed .1; typed = x .1 })

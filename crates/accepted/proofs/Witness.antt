@@ -35,7 +35,8 @@ use Rattle.structure.specs.Rules.{
   tooDeep,
   Passes,
 }
-use Rattle.verdict.specs.Verdict.{inputs, byTypes, byRecords, verdict}
+use Rattle.verdict.specs.Verdict.{byTypes, byRecords, verdict}
+use Rattle.verdict.specs.Scopes.{inputs}
 use Rattle.verdict.specs.Promises.{WellTyped}
 use Rattle.verdict.specs.Scopes.{root}
 use Rattle.verdict.specs.declared.Verdict.the-variants.{Accepted}
@@ -44,8 +45,8 @@ use lib.ListN.{length}
 use Rattle.records.specs.Sized.{Sized}
 use Rattle.records.specs.Written.{Written}
 use Rattle.picoella.specs.Language.{leaves}
-use Rattle.structure.specs.NamerTable.{Holds}
-use Rattle.structure.specs.LeafTable.{Counts}
+use Rattle.structure.specs.NamerTable.{NamingsHeld}
+use Rattle.structure.specs.LeafTable.{LeavesCounted}
 use Rattle.structure.specs.PairIndex.{Indexed}
 use Rattle.structure.specs.DepthTable.{Placed, Placing}
 use Rattle.typing.specs.Judging.{Ground, Judging, Closing, Fitting}
@@ -54,10 +55,10 @@ use Rattle.typing.specs.PatternTable.{PatternsTyped, TypingPattern, TypeTables}
 use Rattle.verdict.specs.Stages.{CheckingRecords, CheckingNamings, CheckingTypes, CheckingDepths}
 use Rattle.verdict.specs.Widths.{PatternsFrom}
 use Rattle.accepted.specs.Accepting.{Accepting}
-use Rattle.accepted.proofs.Requirements.{sized, fitted, placing, placed, ready, closing, patterns, widths}
+use Rattle.accepted.proofs.Requirements.{sized, fitted, placing-begun, depths-placed, ready, closing, patterns-judged, widths}
 use Rattle.accepted.proofs.Callable as Callable
 use Rattle.verdict.proofs.Exact.{exact}
-use Rattle.accepted.proofs.Scopes.{Checked, scope-checked}
+use Rattle.accepted.proofs.Scopes.{CheckedAt, scope-checked}
 
 -- the bytes of words, low byte first
 abbrev bytes : List ℕ → List ℕ
@@ -94,7 +95,7 @@ accepted = refl
 passes : Passes sheet × WellTyped sheet 1
 passes = exact sheet 1 .0 accepted
 
-root-checked : Checked sheet (wordB sheet 0) (inputs sheet)
+root-checked : CheckedAt sheet (wordB sheet 0) (inputs sheet)
 root-checked = scope-checked 1 (passes .0) accepted root
 
 -- so each record that a `requires` names has an instance at the sheet
@@ -109,10 +110,10 @@ fitted-there : CheckingDepths sheet (count sheet)
 fitted-there = fitted (passes .0) full
 
 placing-there : (namers : List ℕ) × (depths : List ℕ) × (nestings : List ℕ) × Placing sheet (count sheet) 1 namers depths nestings
-placing-there = placing (passes .0) full
+placing-there = placing-begun (passes .0) full
 
 placed-there : (depths : List ℕ) × (nestings : List ℕ) × Placed sheet (count sheet) depths nestings
-placed-there = placed (passes .0) full
+placed-there = depths-placed (passes .0) full
 
 ready-there : (table : List ℕ) × (stack : List ℕ) × (widths : List ℕ) × Judging sheet (count sheet) table stack 1 (wordB sheet 0) widths
 ready-there = ready (passes .0) full
@@ -121,7 +122,7 @@ closing-there : (table : List ℕ) × (widths : List ℕ) × Closing sheet (coun
 closing-there = closing (passes .0) full
 
 patterns-there : (table : List ℕ) × PatternsFrom sheet (count sheet) table
-patterns-there = patterns (passes .0) full
+patterns-there = patterns-judged (passes .0) full
 
 -- the pattern of record 7 is held against the type of record 1
 matching-there : Fitting sheet (count sheet) 7 1
@@ -139,16 +140,16 @@ abbrev table : List ℕ
 table = Callable.table (passes .0) full
 
 abbrev scope : List ℕ
-scope = Callable.scope (passes .0) full
+scope = Callable.scopeStack (passes .0) full
 
 abbrev noted : List ℕ
-noted = Callable.noted (passes .0) full
+noted = Callable.widthsNoted (passes .0) full
 
 abbrev index : List ℕ
 index = Callable.index (passes .0) full
 
 abbrev types : List ℕ
-types = Callable.types (passes .0) full
+types = Callable.typesNoted (passes .0) full
 
 below : (r : ℕ) → r < 17 → r < count sheet
 unfolding count
@@ -182,16 +183,16 @@ note-word-there
     × (length namers ≡ 4096)
 note-word-there = Callable.note-word-callable (passes .0) full 2 3 (below 2 (omega arith)) (omega arith) (omega arith)
 
-note-all-there : (namers : List ℕ) × Sized sheet (count sheet) × Holds (λ _. []) namers
+note-all-there : (namers : List ℕ) × Sized sheet (count sheet) × NamingsHeld (λ _. []) namers
 note-all-there = Callable.note-all-callable (passes .0) full
 
-count-type-there : (counted : List ℕ) × Sized sheet (count sheet) × (1 < count sheet) × Written sheet × Counts sheet 1 counted
+count-type-there : (counted : List ℕ) × Sized sheet (count sheet) × (1 < count sheet) × Written sheet × LeavesCounted sheet 1 counted
 count-type-there = Callable.count-type-callable (passes .0) full 1 (below 1 (omega arith))
 
-count-types-there : (counted : List ℕ) × Sized sheet (count sheet) × Written sheet × Counts sheet 0 counted
+count-types-there : (counted : List ℕ) × Sized sheet (count sheet) × Written sheet × LeavesCounted sheet 0 counted
 count-types-there = Callable.count-types-callable (passes .0) full
 
-first-wrong-type-there : (counted : List ℕ) × Sized sheet (count sheet) × Counts sheet (count sheet) counted
+first-wrong-type-there : (counted : List ℕ) × Sized sheet (count sheet) × LeavesCounted sheet (count sheet) counted
 first-wrong-type-there = Callable.first-wrong-type-callable (passes .0) full
 
 place-there
@@ -256,12 +257,12 @@ check-rules-there : Ground sheet (count sheet) table × (length noted ≡ 4096)
 check-rules-there = Callable.check-rules-callable (passes .0) full
 
 check-depths-there
-    : (namers : List ℕ) × (counted : List ℕ) × CheckingDepths sheet (count sheet) × Holds (namings sheet) namers
-    × Counts sheet (count sheet) counted
+    : (namers : List ℕ) × (counted : List ℕ) × CheckingDepths sheet (count sheet) × NamingsHeld (namings sheet) namers
+    × LeavesCounted sheet (count sheet) counted
     × (length noted ≡ 4096)
 check-depths-there = Callable.check-depths-callable (passes .0) full
 
-check-types-there : (namers : List ℕ) × CheckingTypes sheet (count sheet) × Holds (namings sheet) namers
+check-types-there : (namers : List ℕ) × CheckingTypes sheet (count sheet) × NamingsHeld (namings sheet) namers
 check-types-there = Callable.check-types-callable (passes .0) full
 
 check-names-there : CheckingNamings sheet (count sheet)

@@ -48,9 +48,8 @@ abbrev pub lowest : (ℕ → Bool) → ℕ → Option ℕ
 lowest p zero = none
 lowest p (suc n) = orHere (lowest p n) (p n) n
 
--- The checks of a call as a list, in the order in which they are made ("The lowest number that applies is returned"; "each new call
--- makes the checks that its request names, in that order"). A check has a code, and a place where it applies. The answer is that
--- of the first that applies.
+-- The checks of a call as a list, in the order in which they are made (docs/SHEETS.md, "Codes": "Of all codes that apply the first in a
+-- call's order is returned"). A check has a code, and a place where it applies. The answer is that of the first that applies.
 
 pub record Check : Type 0 where
   pub number : ℕ

@@ -2,6 +2,7 @@
 ghost use mathlib.Core.Path.{_≡_};
 ghost use Prim.Native.Nat.{_<_};
 ghost use Rattle.answers.specs.Answers.{inOne, code, place, packed};
+ghost use Rattle.answers.specs.Searches.{placeBound};
 
 // The places that a code has: a result is code * PLACES + place.
 pub const PLACES: u64 = 4294967296;
@@ -57,7 +58,7 @@ pub enum Answer {
 
 // A code and a place in one number.
 pub fn in_one(code: u64, place: u64) -> u64
-    requires { ⌜ (code < 256) × (place < 4294967296) ⌝ }
+    requires { ⌜ (code < 256) × (place < placeBound) ⌝ }
     ensures { λ r. ⌜ r ≡ inOne code place ⌝ }
 {
     code * PLACES + place
@@ -65,7 +66,7 @@ pub fn in_one(code: u64, place: u64) -> u64
 
 // The code and the place of an answer in one number.
 pub fn packed(a: Answer) -> u64
-    requires { ⌜ (code a < 256) × (place a < 4294967296) ⌝ }
+    requires { ⌜ (code a < 256) × (place a < placeBound) ⌝ }
     ensures { λ r. ⌜ r ≡ packed a ⌝ }
 {
     match a {

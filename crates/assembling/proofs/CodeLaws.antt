@@ -90,7 +90,7 @@ module _ (O F S : List ℕ) where
       ∙ ap (λ x. heldOnto O F S (suc m) (n - suc m) (cond x (codeAt m ∷ C) (codeAt m ∷ patternOnto (heldCode O F S m) C))) b
       ∙ onto-step n m C (patternOnto (heldCode O F S m) C) l
 
-  module _ (n k : ℕ) (below : BelowFrom n k) (onto : OntoFrom n k) (l : k ≤ n) (z : k ≡ 0 → ⊥) where
+  module _ {n k : ℕ} (below : BelowFrom n k) (onto : OntoFrom n k) (l : k ≤ n) (z : k ≡ 0 → ⊥) where
     k-is : k ≡ suc (k - 1)
     k-is = omega (arith, z)
 
@@ -110,9 +110,9 @@ module _ (O F S : List ℕ) where
           (λ C. onto C ∙ ap (λ x. heldOnto O F S x (n - x) (patternOnto (heldCode O F S x) C)) k-is),
     )
 
-  pub no-pattern : (n k : ℕ) → k ≡ 0 → BelowFrom n k → OntoFrom n k
+  pub no-pattern-below : (n k : ℕ) → k ≡ 0 → BelowFrom n k → OntoFrom n k
       → (patternsBelow (heldCode O F S n) ≡ heldCode O F S 0) × ((C : List Instruction) → patternOnto (heldCode O F S n) C ≡ heldOnto O F S 0 (n - 0) C)
-  no-pattern n k z b o = (
+  no-pattern-below n k z b o = (
     b ∙ ap (λ x. patternsBelow (heldCode O F S x)) z,
     λ C. o C ∙ ap (λ x. heldOnto O F S x (n - x) (patternOnto (heldCode O F S x) C)) z,
   )

@@ -5,4 +5,3 @@ pub mod CodeLaws
 pub mod OpLaws
 pub mod StepLaws
 pub mod LoopLaws
-pub mod TextAssembled

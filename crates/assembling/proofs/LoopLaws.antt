@@ -8,30 +8,30 @@ use mathlib.Core.Bool.{Bool}
 use mathlib.Core.List.{List}
 use lib.ListN.{length}
 use Rattle.instructions.specs.Instruction.{Instruction, heldFrom}
-use Rattle.instructions.specs.Assembly.{leavesNumbered, Assembly, assemble, assembleAll}
+use Rattle.instructions.specs.Assembly.{leavesNumbered, Assembly, assembleOne, assembleAll}
 use Rattle.assembling.specs.Held.{Threefold, untypedAt, heldAssembly, Assembling}
-use Rattle.assembling.specs.Assembled.{Assembled, typesIn, inputIn, codeIn, recordsIn, untypedIn}
+use Rattle.assembling.specs.Assembled.{Assembled, typesIn, inputIn, codeIn, recordsAssembled, untypedIn}
 use Rattle.assembling.proofs.TypeLaws.{leaves-read}
 use Rattle.assembling.proofs.CodeLaws.{codeAt}
 
 one-more-from : (O F S : List ℕ) (A : Assembly) (k c : ℕ)
-    → assembleAll A (heldFrom O F S k (suc c)) ≡ assemble (assembleAll A (heldFrom O F S k c)) (codeAt O F S (k + c))
-one-more-from O F S A k zero = let e : k ≡ k + 0 = omega arith in ap (λ n. assemble A (codeAt O F S n)) e
+    → assembleAll A (heldFrom O F S k (suc c)) ≡ assembleOne (assembleAll A (heldFrom O F S k c)) (codeAt O F S (k + c))
+one-more-from O F S A k zero = let e : k ≡ k + 0 = omega arith in ap (λ n. assembleOne A (codeAt O F S n)) e
 one-more-from O F S A k (suc c) =
     let e : suc k + c ≡ k + suc c = omega arith in
-    one-more-from O F S (assemble A (codeAt O F S k)) (suc k) c
-    ∙ ap (λ n. assemble (assembleAll A (heldFrom O F S k (suc c))) (codeAt O F S n)) e
+    one-more-from O F S (assembleOne A (codeAt O F S k)) (suc k) c
+    ∙ ap (λ n. assembleOne (assembleAll A (heldFrom O F S k (suc c))) (codeAt O F S n)) e
 
-pub one-more-instruction : (O F S : List ℕ) (A B C : Assembly) (i : ℕ) → B ≡ assembleAll A (heldFrom O F S 0 i) → C ≡ assemble B (codeAt O F S i)
+pub one-more-instruction : (O F S : List ℕ) (A B C : Assembly) (i : ℕ) → B ≡ assembleAll A (heldFrom O F S 0 i) → C ≡ assembleOne B (codeAt O F S i)
     → C ≡ assembleAll A (heldFrom O F S 0 (i + 1))
 one-more-instruction O F S A B C i e f =
     let z : 0 + i ≡ i = omega arith in
     f
-    ∙ ap (λ X. assemble X (codeAt O F S i)) e
+    ∙ ap (λ X. assembleOne X (codeAt O F S i)) e
     ∙ sym
     (ap (λ n. assembleAll A (heldFrom O F S 0 n)) (add-one i)
     ∙ one-more-from O F S A 0 i
-    ∙ ap (λ n. assemble (assembleAll A (heldFrom O F S 0 i)) (codeAt O F S n)) z)
+    ∙ ap (λ n. assembleOne (assembleAll A (heldFrom O F S 0 i)) (codeAt O F S n)) z)
 
 pub all-instructions : (O F S : List ℕ) (A B : Assembly) (i n : ℕ) → i ≡ n → B ≡ assembleAll A (heldFrom O F S 0 i) → B ≡ assembleAll A (heldFrom O F S 0 n)
 all-instructions O F S A B i n z e = e ∙ ap (λ k. assembleAll A (heldFrom O F S 0 k)) z
@@ -64,7 +64,7 @@ parts-given {P = P} {F = F} {S = S} {types = types} input place bad q ok W a e z
       leaves-given = λ j l. leaves-read P F S types (a .gathered .held) j l ∙ ap (λ X. leavesNumbered (typesIn X) (suc j)) e;
       input-given = ap inputIn e;
       code-given = ap codeIn e;
-      records-given = ap recordsIn e;
+      records-given = ap recordsAssembled e;
       untyped-given = ap (untypedAt ok) z ∙ ap untypedIn e;
       types-bounded = a .gathered .few-types;
       code-bounded = (let h = a .few-instructions in omega arith);

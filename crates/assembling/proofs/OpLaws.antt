@@ -10,15 +10,15 @@ use lib.ListN.{getD}
 use lib.Dec.{eqb}
 use borrow.Author.Tests.{eq-eqb, ne-eqb}
 use Rattle.instructions.specs.Instruction.{Instruction, instructionOf}
-use Rattle.instructions.specs.Assembly.{DeclaredType, leavesNumbered, beginsPattern, pairClosed, firstUntyped, Assembly, assembly, assemble}
+use Rattle.instructions.specs.Assembly.{DeclaredType, leavesNumbered, beginsPattern, pairClosed, firstUntyped, Assembly, assembly, assembleOne}
 use Rattle.assembling.specs.Held.{untypedAt, typesAfter, recordCounts, recordsAdded}
-use Rattle.assembling.proofs.TypeLaws.{few-leaves}
+use Rattle.assembling.proofs.TypeLaws.{few-leaves-numbered}
 
 module _ (T : List DeclaredType) (i : ℕ) (C W : List Instruction) (Y : List ℕ) (p r : ℕ) (u : Option ℕ) (a b : ℕ) where
   abbrev before : Assembly
   before = assembly T i C W Y p r u
 
-  pub types-read : (op : ℕ) → op < 4 → assembly (typesAfter op a T) i C W Y p r u ≡ assemble before (instructionOf op a b)
+  pub types-read : (op : ℕ) → op < 4 → assembly (typesAfter op a T) i C W Y p r u ≡ assembleOne before (instructionOf op a b)
   types-read zero l = refl
   types-read (suc zero) l = refl
   types-read (suc (suc zero)) l = refl
@@ -27,21 +27,21 @@ module _ (T : List DeclaredType) (i : ℕ) (C W : List Instruction) (Y : List �
 
   abbrev CodeRead : ℕ → Type 0
   CodeRead op =
-      (assembly T i (instructionOf op a b ∷ C) W Y p (r + recordsAdded T op a) u ≡ assemble before (instructionOf op a b)) × (recordsAdded T op a ≤ 65)
+      (assembly T i (instructionOf op a b ∷ C) W Y p (r + recordsAdded T op a) u ≡ assembleOne before (instructionOf op a b)) × (recordsAdded T op a ≤ 65)
 
   code-at : (k : ℕ) → k < 11 → CodeRead (5 + k)
   unfolding recordCounts
-  code-at zero l = (let f = few-leaves T a in (ap (λ n. assembly T i (instructionOf 5 a b ∷ C) W Y p n u) (omega arith), omega arith))
-  code-at (suc zero) l = (let f = few-leaves T a in (ap (λ n. assembly T i (instructionOf 6 a b ∷ C) W Y p n u) (omega arith), omega arith))
-  code-at (suc (suc zero)) l = (let f = few-leaves T a in (ap (λ n. assembly T i (instructionOf 7 a b ∷ C) W Y p n u) (omega arith), omega arith))
-  code-at (suc (suc (suc zero))) l = (let f = few-leaves T a in (ap (λ n. assembly T i (instructionOf 8 a b ∷ C) W Y p n u) (omega arith), omega arith))
-  code-at (suc (suc (suc (suc zero)))) l = (let f = few-leaves T a in (ap (λ n. assembly T i (instructionOf 9 a b ∷ C) W Y p n u) (omega arith), omega arith))
-  code-at (suc (suc (suc (suc (suc zero))))) l = (let f = few-leaves T a in (ap (λ n. assembly T i (instructionOf 10 a b ∷ C) W Y p n u) (omega arith), omega arith))
-  code-at (suc (suc (suc (suc (suc (suc zero)))))) l = (let f = few-leaves T a in (ap (λ n. assembly T i (instructionOf 11 a b ∷ C) W Y p n u) (omega arith), omega arith))
-  code-at (suc (suc (suc (suc (suc (suc (suc zero))))))) l = (let f = few-leaves T a in (ap (λ n. assembly T i (instructionOf 12 a b ∷ C) W Y p n u) (omega arith), omega arith))
-  code-at (suc (suc (suc (suc (suc (suc (suc (suc zero)))))))) l = (let f = few-leaves T a in (ap (λ n. assembly T i (instructionOf 13 a b ∷ C) W Y p n u) (omega arith), omega arith))
-  code-at (suc (suc (suc (suc (suc (suc (suc (suc (suc zero))))))))) l = (let f = few-leaves T a in (ap (λ n. assembly T i (instructionOf 14 a b ∷ C) W Y p n u) (omega arith), omega arith))
-  code-at (suc (suc (suc (suc (suc (suc (suc (suc (suc (suc zero)))))))))) l = (let f = few-leaves T a in (ap (λ n. assembly T i (instructionOf 15 a b ∷ C) W Y p n u) (omega arith), omega arith))
+  code-at zero l = (let f = few-leaves-numbered T a in (ap (λ n. assembly T i (instructionOf 5 a b ∷ C) W Y p n u) (omega arith), omega arith))
+  code-at (suc zero) l = (let f = few-leaves-numbered T a in (ap (λ n. assembly T i (instructionOf 6 a b ∷ C) W Y p n u) (omega arith), omega arith))
+  code-at (suc (suc zero)) l = (let f = few-leaves-numbered T a in (ap (λ n. assembly T i (instructionOf 7 a b ∷ C) W Y p n u) (omega arith), omega arith))
+  code-at (suc (suc (suc zero))) l = (let f = few-leaves-numbered T a in (ap (λ n. assembly T i (instructionOf 8 a b ∷ C) W Y p n u) (omega arith), omega arith))
+  code-at (suc (suc (suc (suc zero)))) l = (let f = few-leaves-numbered T a in (ap (λ n. assembly T i (instructionOf 9 a b ∷ C) W Y p n u) (omega arith), omega arith))
+  code-at (suc (suc (suc (suc (suc zero))))) l = (let f = few-leaves-numbered T a in (ap (λ n. assembly T i (instructionOf 10 a b ∷ C) W Y p n u) (omega arith), omega arith))
+  code-at (suc (suc (suc (suc (suc (suc zero)))))) l = (let f = few-leaves-numbered T a in (ap (λ n. assembly T i (instructionOf 11 a b ∷ C) W Y p n u) (omega arith), omega arith))
+  code-at (suc (suc (suc (suc (suc (suc (suc zero))))))) l = (let f = few-leaves-numbered T a in (ap (λ n. assembly T i (instructionOf 12 a b ∷ C) W Y p n u) (omega arith), omega arith))
+  code-at (suc (suc (suc (suc (suc (suc (suc (suc zero)))))))) l = (let f = few-leaves-numbered T a in (ap (λ n. assembly T i (instructionOf 13 a b ∷ C) W Y p n u) (omega arith), omega arith))
+  code-at (suc (suc (suc (suc (suc (suc (suc (suc (suc zero))))))))) l = (let f = few-leaves-numbered T a in (ap (λ n. assembly T i (instructionOf 14 a b ∷ C) W Y p n u) (omega arith), omega arith))
+  code-at (suc (suc (suc (suc (suc (suc (suc (suc (suc (suc zero)))))))))) l = (let f = few-leaves-numbered T a in (ap (λ n. assembly T i (instructionOf 15 a b ∷ C) W Y p n u) (omega arith), omega arith))
   code-at (suc (suc (suc (suc (suc (suc (suc (suc (suc (suc (suc k))))))))))) l = absurd (omega arith)
 
   pub code-read : (op : ℕ) → 5 ≤ op → op < 16 → CodeRead op
@@ -49,7 +49,7 @@ module _ (T : List DeclaredType) (i : ℕ) (C W : List Instruction) (Y : List �
 
   abbrev WaitRead : ℕ → Type 0
   WaitRead op =
-      (assembly T i C (instructionOf op a b ∷ W) Y p (r + recordsAdded T op a) u ≡ assemble before (instructionOf op a b)) × (recordsAdded T op a ≤ 65)
+      (assembly T i C (instructionOf op a b ∷ W) Y p (r + recordsAdded T op a) u ≡ assembleOne before (instructionOf op a b)) × (recordsAdded T op a ≤ 65)
 
   wait-at : (k : ℕ) → k < 7 → WaitRead (17 + k)
   unfolding recordCounts
@@ -67,31 +67,31 @@ module _ (T : List DeclaredType) (i : ℕ) (C W : List Instruction) (Y : List �
 
   abbrev LeafRead : ℕ → Type 0
   LeafRead op =
-      (assembly T i (instructionOf op a b ∷ C) W (a ∷ Y) p (r + recordsAdded T op a) u ≡ assemble before (instructionOf op a b))
+      (assembly T i (instructionOf op a b ∷ C) W (a ∷ Y) p (r + recordsAdded T op a) u ≡ assembleOne before (instructionOf op a b))
       × (recordsAdded T op a ≤ 65)
 
   leaf-at : (k : ℕ) → k < 2 → LeafRead (24 + k)
   unfolding recordCounts
-  leaf-at zero l = (let f = few-leaves T a in (ap (λ n. assembly T i (instructionOf 24 a b ∷ C) W (a ∷ Y) p n u) (omega arith), omega arith))
-  leaf-at (suc zero) l = (let f = few-leaves T a in (ap (λ n. assembly T i (instructionOf 25 a b ∷ C) W (a ∷ Y) p n u) (omega arith), omega arith))
+  leaf-at zero l = (let f = few-leaves-numbered T a in (ap (λ n. assembly T i (instructionOf 24 a b ∷ C) W (a ∷ Y) p n u) (omega arith), omega arith))
+  leaf-at (suc zero) l = (let f = few-leaves-numbered T a in (ap (λ n. assembly T i (instructionOf 25 a b ∷ C) W (a ∷ Y) p n u) (omega arith), omega arith))
   leaf-at (suc (suc k)) l = absurd (omega arith)
 
   pub leaf-read : (op : ℕ) → 24 ≤ op → op ≤ 25 → LeafRead op
   leaf-read op l m = let e : 24 + (op - 24) ≡ op = omega arith in subst LeafRead e (leaf-at (op - 24) (omega arith))
 
-  closed-at : (k : ℕ) → (k ≡ 1 → ⊥) → (k ≡ 2 → ⊥) → assembly T i C W (pairClosed T Y) p r u ≡ assemble before (instructionOf (27 + k) a b)
+  closed-at : (k : ℕ) → (k ≡ 1 → ⊥) → (k ≡ 2 → ⊥) → assembly T i C W (pairClosed T Y) p r u ≡ assembleOne before (instructionOf (27 + k) a b)
   closed-at zero n m = refl
   closed-at (suc zero) n m = absurd (n refl)
   closed-at (suc (suc zero)) n m = absurd (m refl)
   closed-at (suc (suc (suc k))) n m =
       let e : 27 + suc (suc (suc k)) ≡ (suc (suc (suc (suc (suc (suc (suc (suc (suc (suc (suc (suc (suc (suc (suc (suc (suc (suc (suc (suc (suc (suc (suc (suc (suc (suc (suc (suc (suc (suc k)))))))))))))))))))))))))))))) = omega arith in
-      sym (ap (λ o. assemble before (instructionOf o a b)) e)
+      sym (ap (λ o. assembleOne before (instructionOf o a b)) e)
 
   pub closed-read : (op : ℕ) → 27 ≤ op → (op ≡ 28 → ⊥) → (op ≡ 29 → ⊥)
-      → assembly T i C W (pairClosed T Y) p r u ≡ assemble before (instructionOf op a b)
+      → assembly T i C W (pairClosed T Y) p r u ≡ assembleOne before (instructionOf op a b)
   closed-read op l n m =
       let e : 27 + (op - 27) ≡ op = omega arith in
-      closed-at (op - 27) (λ f. n (omega arith)) (λ f. m (omega arith)) ∙ ap (λ o. assemble before (instructionOf o a b)) e
+      closed-at (op - 27) (λ f. n (omega arith)) (λ f. m (omega arith)) ∙ ap (λ o. assembleOne before (instructionOf o a b)) e
 
 -- whether an instruction begins a pattern shows in its op
 pub begins-read : (op a b : ℕ) → beginsPattern (instructionOf op a b) ≡ eqb op 17

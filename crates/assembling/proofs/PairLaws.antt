@@ -12,7 +12,8 @@ use lib.Dec.{eqb}
 use borrow.Author.Tests.{eq-eqb, ne-eqb}
 use Rattle.instructions.specs.Assembly.{DeclaredType, isPairTypeOf, numberOrElse, pairNumbered, constantPairNumbered}
 use Rattle.instructions.specs.Assembly.{typeHeld, heldTypes}
-use Rattle.assembling.proofs.TypeLaws.{heldTypeAt, types-counted}
+use Rattle.instructions.proofs.LeavesNumbered.{types-counted}
+use Rattle.assembling.proofs.TypeLaws.{heldTypeAt}
 
 is-pair : (p c d a b : ℕ) → (p ≡ 0 → ⊥) → c ≡ a → d ≡ b → isPairTypeOf (typeHeld p c d) a b ≡ true
 is-pair zero c d a b n e f = absurd (n refl)

@@ -14,6 +14,7 @@ use borrow.Author.Tests.{eq-eqb, ne-eqb}
 use Rattle.instructions.specs.Assembly.{DeclaredType, flatType, pairedType, leavesNumbered, oneMore, withSecond}
 use Rattle.assembling.specs.Held.{leavesOver, lastConstructors, TypesHeld, TypesGathered, typesAfter}
 use Rattle.instructions.specs.Assembly.{typeHeld, heldTypes}
+use Rattle.instructions.proofs.LeavesNumbered.{types-counted}
 
 pub ap₃ : {A : Type 0} (f : ℕ → ℕ → ℕ → A) {a b c x y z : ℕ} → a ≡ x → b ≡ y → c ≡ z → f a b c ≡ f x y z
 ap₃ f {c = c} {x = x} {y = y} p q r = ap₂ (λ u v. f u v c) p q ∙ ap (f x y) r
@@ -38,14 +39,14 @@ undeclared-leaves (x ∷ T) d l =
     ∙ ap (λ b. cond b (leavesOver T x) (leavesNumbered T d)) (ne-eqb d (suc (length T)) (λ e. omega arith))
     ∙ undeclared-leaves T d (omega arith)
 
-pub few-leaves : (T : List DeclaredType) (d : ℕ) → leavesNumbered T d ≤ 64
-few-leaves [] d = omega arith
-few-leaves (flatType n ∷ T) d = go (eqb d (suc (length T))) (few-leaves T d)
+pub few-leaves-numbered : (T : List DeclaredType) (d : ℕ) → leavesNumbered T d ≤ 64
+few-leaves-numbered [] d = omega arith
+few-leaves-numbered (flatType n ∷ T) d = go (eqb d (suc (length T))) (few-leaves-numbered T d)
   where
     go : (b : Bool) → leavesNumbered T d ≤ 64 → cond b 1 (leavesNumbered T d) ≤ 64
     go true l = omega arith
     go false l = l
-few-leaves (pairedType x y ∷ T) d = go (eqb d (suc (length T))) (few-leaves T d)
+few-leaves-numbered (pairedType x y ∷ T) d = go (eqb d (suc (length T))) (few-leaves-numbered T d)
   where
     go : (b : Bool) → leavesNumbered T d ≤ 64 → cond b (min 64 (leavesNumbered T x + leavesNumbered T y)) (leavesNumbered T d) ≤ 64
     go true l = omega arith
@@ -54,10 +55,6 @@ few-leaves (pairedType x y ∷ T) d = go (eqb d (suc (length T))) (few-leaves T 
 module _ (P F S : List ℕ) where
   abbrev pub heldTypeAt : ℕ → DeclaredType
   heldTypeAt j = typeHeld (getD P j 0) (getD F j 0) (getD S j 0)
-
-  pub types-counted : (k : ℕ) → length (heldTypes P F S k) ≡ k
-  types-counted zero = refl
-  types-counted (suc k) = ap suc (types-counted k)
 
   types-apart : (k n x y z : ℕ) → n ≤ k → heldTypes (set P k x) (set F k y) (set S k z) n ≡ heldTypes P F S n
   types-apart k zero x y z l = refl
@@ -82,13 +79,13 @@ module _ (P F S : List ℕ) where
           ∙ ap (λ n. leavesOver (heldTypes P F S n) (heldTypeAt n)) e
           ∙ sym
           (leaves-over (heldTypeAt k) (heldTypes P F S k) (suc j)
-          ∙ ap (λ b. cond b (leavesOver (heldTypes P F S k) (heldTypeAt k)) (leavesNumbered (heldTypes P F S k) (suc j))) (eq-eqb (suc j) (suc (length (heldTypes P F S k))) (ap suc (e ∙ sym (types-counted k)))))
+          ∙ ap (λ b. cond b (leavesOver (heldTypes P F S k) (heldTypeAt k)) (leavesNumbered (heldTypes P F S k) (suc j))) (eq-eqb (suc j) (suc (length (heldTypes P F S k))) (ap suc (e ∙ sym (types-counted P F S k)))))
       go (no n) again =
           again (omega (arith, n))
           ∙ sym
           (leaves-over (heldTypeAt k) (heldTypes P F S k) (suc j)
           ∙ ap (λ b. cond b (leavesOver (heldTypes P F S k) (heldTypeAt k)) (leavesNumbered (heldTypes P F S k) (suc j)))
-          (ne-eqb (suc j) (suc (length (heldTypes P F S k))) (λ e. n (let f : j ≡ length (heldTypes P F S k) = omega arith in f ∙ types-counted k))))
+          (ne-eqb (suc j) (suc (length (heldTypes P F S k))) (λ e. n (let f : j ≡ length (heldTypes P F S k) = omega arith in f ∙ types-counted P F S k))))
 
   -- the leaves of type number d
   pub leaves-at : {k : ℕ} {L : List ℕ} (d n : ℕ) → n ≡ d → (n ≡ 0 → ⊥) → n ≤ k → TypesHeld k P F S L
@@ -101,7 +98,7 @@ module _ (P F S : List ℕ) where
   leaves-none k d n e z = let f : 0 ≡ d = omega arith in sym (no-leaves (heldTypes P F S k)) ∙ ap (leavesNumbered (heldTypes P F S k)) f
 
   pub leaves-beyond : (k d n : ℕ) → n ≡ d → k < n → 0 ≡ leavesNumbered (heldTypes P F S k) d
-  leaves-beyond k d n e l = sym (undeclared-leaves (heldTypes P F S k) d (let f = types-counted k in omega arith))
+  leaves-beyond k d n e l = sym (undeclared-leaves (heldTypes P F S k) d (let f = types-counted P F S k in omega arith))
 
   -- a type that is set
   pub type-set : {k : ℕ} {L : List ℕ} (x y z v : ℕ) → TypesHeld k P F S L → k < 65536 → v ≡ leavesOver (heldTypes P F S k) (typeHeld x y z)

@@ -19,8 +19,8 @@ inputIn (assembly T i C W Y p r u) = i
 abbrev pub codeIn : Assembly → List Instruction
 codeIn (assembly T i C W Y p r u) = C
 
-abbrev pub recordsIn : Assembly → ℕ
-recordsIn (assembly T i C W Y p r u) = r
+abbrev pub recordsAssembled : Assembly → ℕ
+recordsAssembled (assembly T i C W Y p r u) = r
 
 abbrev pub untypedIn : Assembly → Option ℕ
 untypedIn (assembly T i C W Y p r u) = u
@@ -32,7 +32,7 @@ pub record Assembled (A : Assembly) (n : ℕ) (pairs firsts seconds leaves codeO
   pub leaves-given : (j : ℕ) → j < types → getD leaves j 0 ≡ leavesNumbered (typesIn A) (suc j)
   pub input-given : input ≡ inputIn A
   pub code-given : heldCode codeOps codeFirsts codeSeconds code ≡ codeIn A
-  pub records-given : records ≡ recordsIn A
+  pub records-given : records ≡ recordsAssembled A
   pub untyped-given : untypedAt ok place ≡ untypedIn A
   pub types-bounded : types ≤ n
   pub code-bounded : code ≤ n

@@ -10,6 +10,10 @@ use Rattle.instructions.specs.Instruction.{Instruction, instructionOf, heldCode
 use Rattle.instructions.specs.Assembly.{typeHeld, heldTypes}
 use Rattle.instructions.specs.Assembly.{DeclaredType, flatType, pairedType, leavesNumbered, oneMore, withFirst, withSecond, Assembly, assembly}
 
+-- one instruction adds fewer records
+abbrev pub addedBound : ℕ
+addedBound = 512
+
 abbrev pub heldNumbers : List ℕ → ℕ → List ℕ
 heldNumbers table zero = []
 heldNumbers table (suc k) = getD table k 0 ∷ heldNumbers table k

@@ -5,12 +5,12 @@ ghost use Prim.Native.Nat.{ℕ, _+_, _-_, _≤_, _<_};
 ghost use Rattle.instructions.specs.Instruction.{Instruction, instructionOf, close, heldCode};
 ghost use Rattle.instructions.specs.Assembly.{patternOnto, patternsBelow};
 ghost use Rattle.assembling.specs.Held.{Threefold, heldOnto};
+ghost use Rattle.grammar.specs.Legal.{limit};
+ghost use Rattle.grammar.specs.Sizes.{textTable};
+use instructions::BEGIN_PATTERN;
+use instructions::CLOSE;
 use instructions::Operands;
 use instructions::Ops;
-
-const CLOSE: u8 = 15;
-
-const BEGIN_PATTERN: u8 = 17;
 
 // How many instructions stand in record order, and how many wait.
 pub struct Shifted {
@@ -28,7 +28,7 @@ pub fn push_instruction(
     firsts: &mut Operands,
     seconds: &mut Operands,
 )
-    requires { ⌜ Threefold (now ops) (now firsts) (now seconds) × (n < 65536) ⌝ }
+    requires { ⌜ Threefold (now ops) (now firsts) (now seconds) × (n < textTable) ⌝ }
     ensures { λ _. ⌜ Threefold (now (ops .exit)) (now (firsts .exit)) (now (seconds .exit)) × (heldCode (now (ops .exit)) (now (firsts .exit)) (now (seconds .exit)) (n + 1) ≡ instructionOf op a b ∷ heldCode (now (ops .entry)) (now (firsts .entry)) (now (seconds .entry)) n) ⌝ }
 {
     ops[n] = op;
@@ -38,7 +38,7 @@ pub fn push_instruction(
 
 // Where the last of the patterns that wait begins.
 fn pattern_start(n: usize, ops: &Ops) -> usize
-    requires { ⌜ n ≤ 65536 ⌝ }
+    requires { ⌜ n ≤ textTable ⌝ }
     ensures { λ r. ⌜ (r ≤ n) × ((firsts seconds : List ℕ) → patternsBelow (heldCode (now (ops .entry)) firsts seconds n) ≡ heldCode (now (ops .entry)) firsts seconds r) × ((firsts seconds : List ℕ) (C : List Instruction) → patternOnto (heldCode (now (ops .entry)) firsts seconds n) C ≡ heldOnto (now (ops .entry)) firsts seconds r (n - r) C) ⌝ }
 {
     let mut k = n;
@@ -63,7 +63,7 @@ fn move_onto(
     wait_firsts: &Operands,
     wait_seconds: &Operands,
 ) -> usize
-    requires { ⌜ Threefold (now ops) (now firsts) (now seconds) × (from ≤ to) × (code + to ≤ 65535) ⌝ }
+    requires { ⌜ Threefold (now ops) (now firsts) (now seconds) × (from ≤ to) × (code + to ≤ limit) ⌝ }
     ensures { λ r. ⌜ Threefold (now (ops .exit)) (now (firsts .exit)) (now (seconds .exit)) × (r ≡ code + (to - from)) × (heldCode (now (ops .exit)) (now (firsts .exit)) (now (seconds .exit)) r ≡ heldOnto (now («wait_ops» .entry)) (now («wait_firsts» .entry)) (now («wait_seconds» .entry)) from (to - from) (heldCode (now (ops .entry)) (now (firsts .entry)) (now (seconds .entry)) code)) ⌝ }
 {
     let mut n = code;
@@ -95,7 +95,7 @@ pub fn close_if(
     wait_firsts: &Operands,
     wait_seconds: &Operands,
 ) -> Shifted
-    requires { ⌜ Threefold (now ops) (now firsts) (now seconds) × (code + waiting ≤ 65535) ⌝ }
+    requires { ⌜ Threefold (now ops) (now firsts) (now seconds) × (code + waiting ≤ limit) ⌝ }
     ensures { λ r. ⌜ Threefold (now (ops .exit)) (now (firsts .exit)) (now (seconds .exit)) × (r .code + r .waiting ≡ code + waiting + 1) × (heldCode (now (ops .exit)) (now (firsts .exit)) (now (seconds .exit)) (r .code) ≡ close ∷ patternOnto (heldCode (now («wait_ops» .entry)) (now («wait_firsts» .entry)) (now («wait_seconds» .entry)) waiting) (heldCode (now (ops .entry)) (now (firsts .entry)) (now (seconds .entry)) code)) × (heldCode (now («wait_ops» .entry)) (now («wait_firsts» .entry)) (now («wait_seconds» .entry)) (r .waiting) ≡ patternsBelow (heldCode (now («wait_ops» .entry)) (now («wait_firsts» .entry)) (now («wait_seconds» .entry)) waiting)) ⌝ }
 {
     let start = pattern_start(waiting, wait_ops);

@@ -6,21 +6,23 @@ ghost use lib.ListN.{length};
 ghost use Rattle.instructions.specs.Assembly.{outermost, pairClosed, topConstant};
 ghost use Rattle.assembling.specs.Held.{heldNumbers};
 ghost use Rattle.instructions.specs.Assembly.{heldTypes};
+ghost use Rattle.grammar.specs.Legal.{limit};
+ghost use Rattle.grammar.specs.Sizes.{textTable};
 use crate::types::constant_pair;
 use instructions::Operands;
 use instructions::Ops;
 
 // One number more.
 pub fn push_number(x: u16, n: usize, numbers: &mut Operands)
-    requires { ⌜ (length (now numbers) ≡ 65536) × (n < 65536) ⌝ }
-    ensures { λ _. ⌜ (length (now (numbers .exit)) ≡ 65536) × (heldNumbers (now (numbers .exit)) (n + 1) ≡ x ∷ heldNumbers (now (numbers .entry)) n) ⌝ }
+    requires { ⌜ (length (now numbers) ≡ textTable) × (n < textTable) ⌝ }
+    ensures { λ _. ⌜ (length (now (numbers .exit)) ≡ textTable) × (heldNumbers (now (numbers .exit)) (n + 1) ≡ x ∷ heldNumbers (now (numbers .entry)) n) ⌝ }
 {
     numbers[n] = x;
 }
 
 // The last number, or 0.
 pub fn top_number(n: usize, numbers: &Operands) -> u16
-    requires { ⌜ n ≤ 65536 ⌝ }
+    requires { ⌜ n ≤ textTable ⌝ }
     ensures { λ r. ⌜ r ≡ topConstant (heldNumbers (now (numbers .entry)) n) ⌝ }
 {
     if n == 0 {
@@ -48,8 +50,8 @@ pub fn close_pair(
     firsts: &Operands,
     seconds: &Operands,
 ) -> usize
-    requires { ⌜ (length (now numbers) ≡ 65536) × (n ≤ 65536) × (length (now pairs) ≡ 65536) × (length (now firsts) ≡ 65536) × (length (now seconds) ≡ 65536) × (k ≤ 65535) ⌝ }
-    ensures { λ r. ⌜ (length (now (numbers .exit)) ≡ 65536) × (r ≤ n) × (heldNumbers (now (numbers .exit)) r ≡ pairClosed (heldTypes (now (pairs .entry)) (now (firsts .entry)) (now (seconds .entry)) k) (heldNumbers (now (numbers .entry)) n)) ⌝ }
+    requires { ⌜ (length (now numbers) ≡ textTable) × (n ≤ textTable) × (length (now pairs) ≡ textTable) × (length (now firsts) ≡ textTable) × (length (now seconds) ≡ textTable) × (k ≤ limit) ⌝ }
+    ensures { λ r. ⌜ (length (now (numbers .exit)) ≡ textTable) × (r ≤ n) × (heldNumbers (now (numbers .exit)) r ≡ pairClosed (heldTypes (now (pairs .entry)) (now (firsts .entry)) (now (seconds .entry)) k) (heldNumbers (now (numbers .entry)) n)) ⌝ }
 {
     if n < 3 {
         return 0;

@@ -4,9 +4,11 @@ ghost use mathlib.Core.List.{List};
 ghost use Prim.Native.Nat.{ℕ, _+_, _≤_, _<_};
 ghost use lib.ListN.{length, getD};
 ghost use Rattle.instructions.specs.Instruction.{Instruction, instructionOf, heldCode};
-ghost use Rattle.instructions.specs.Assembly.{assemble, firstUntyped};
-ghost use Rattle.assembling.specs.Held.{TypesHeld, Threefold, recordCounts, recordsAdded, untypedAt, heldAssembly, Assembling};
+ghost use Rattle.instructions.specs.Assembly.{assembleOne, firstUntyped};
+ghost use Rattle.assembling.specs.Held.{TypesHeld, Threefold, recordCounts, recordsAdded, untypedAt, heldAssembly, Assembling, addedBound};
 ghost use Rattle.instructions.specs.Assembly.{heldTypes};
+ghost use Rattle.grammar.specs.Legal.{limit};
+ghost use Rattle.grammar.specs.Sizes.{textTable};
 use crate::code::close_if;
 use crate::code::push_instruction;
 use crate::constants::close_pair;
@@ -16,24 +18,17 @@ use crate::constants::top_number;
 use crate::types::byte_number;
 use crate::types::leaf_count;
 use crate::types::note_type;
+use instructions::CLOSE_IF;
+use instructions::CONSTANT_HAS;
+use instructions::END_CONSTANT;
+use instructions::INPUT_HAS;
+use instructions::INSTRUCTION_NUMBERS;
+use instructions::OPEN_CONSTANT;
 use instructions::Operands;
 use instructions::Ops;
-
-const INPUT_HAS: u8 = 4;
-
-const USE_UNDEFINED: u8 = 7;
-
-const CLOSE_IF: u8 = 16;
-
-const USE_LEAF: u8 = 24;
-
-const USE_ZEROS: u8 = 25;
-
-const OPEN_CONSTANT: u8 = 26;
-
-const END_CONSTANT: u8 = 28;
-
-const CONSTANT_HAS: u8 = 29;
+use instructions::USE_LEAF;
+use instructions::USE_UNDEFINED;
+use instructions::USE_ZEROS;
 
 // The number of declared types, the input's type, how many instructions stand in record order and how many wait, how many constants are open
 // and the place of the outermost, the records, and whether all constants have a type, or the place of the first that has none.
@@ -49,48 +44,48 @@ pub struct Progress {
     pub bad: u16,
 }
 
-// The records that an instruction adds, but for leaves, a number an op.
-fn record_table() -> [u8; 30]
+// The records that an instruction adds, but for leaves: a line an instruction.
+fn record_table() -> [u8; INSTRUCTION_NUMBERS]
     ensures { λ r. ⌜ r ≡ recordCounts ⌝ }
 {
     [
-        0,
-        0,
-        0,
-        0,
-        0,
-        1,
-        2,
-        1,
-        1,
-        1,
-        1,
-        1,
-        1,
-        1,
-        1,
-        0,
-        0,
-        0,
-        1,
-        1,
-        1,
-        0,
-        0,
-        0,
-        1,
-        0,
-        0,
-        0,
-        0,
-        0,
+        0, // DECLARE_TYPE
+        0, // COUNT_CONSTRUCTOR
+        0, // FIRST_TYPE
+        0, // SECOND_TYPE
+        0, // INPUT_HAS
+        1, // USE_NAME
+        2, // USE_CONSTANT
+        1, // USE_UNDEFINED
+        1, // OPEN_PAIR
+        1, // OPEN_LET
+        1, // OPEN_REC
+        1, // OPEN_IF
+        1, // OPEN_DELAY
+        1, // TAKE_FIRST
+        1, // TAKE_SECOND
+        0, // CLOSE
+        0, // CLOSE_IF
+        0, // BEGIN_PATTERN
+        1, // MATCH_TYPE
+        1, // MATCH_ONE
+        1, // OPEN_PARTS
+        0, // NEXT_PART
+        0, // CLOSE_PARTS
+        0, // NEXT_ALTERNATIVE
+        1, // USE_LEAF
+        0, // USE_ZEROS
+        0, // OPEN_CONSTANT
+        0, // CLOSE_CONSTANT
+        0, // END_CONSTANT
+        0, // CONSTANT_HAS
     ]
 }
 
 // The records that an instruction adds.
 fn records_added(op: u8, a: u16, types: usize, leaves: &Ops) -> usize
-    requires { ⌜ (op < 30) × (length (now leaves) ≡ 65536) × (types ≤ 65536) ⌝ }
-    ensures { λ r. ⌜ (r < 512) × ((pairs firsts seconds : List ℕ) → TypesHeld types pairs firsts seconds (now (leaves .entry)) → r ≡ recordsAdded (heldTypes pairs firsts seconds types) op a) ⌝ }
+    requires { ⌜ (op < 30) × (length (now leaves) ≡ textTable) × (types ≤ textTable) ⌝ }
+    ensures { λ r. ⌜ (r < addedBound) × ((pairs firsts seconds : List ℕ) → TypesHeld types pairs firsts seconds (now (leaves .entry)) → r ≡ recordsAdded (heldTypes pairs firsts seconds types) op a) ⌝ }
 {
     let table = record_table();
     let at = byte_number(op);
@@ -142,8 +137,8 @@ fn step_constant(
     code_seconds: &mut Operands,
     numbers: &mut Operands,
 ) -> Progress
-    requires { ⌜ Assembling i (now pairs) (now firsts) (now seconds) (now leaves) (now «code_ops») (now «code_firsts») (now «code_seconds») (now numbers) (s .types) (s .code) (s .waiting) (s .constants) (s .records) × (i < 65535) × (24 ≤ op) ⌝ }
-    ensures { λ r. ⌜ Assembling (i + 1) (now (pairs .entry)) (now (firsts .entry)) (now (seconds .entry)) (now (leaves .entry)) (now («code_ops» .exit)) (now («code_firsts» .exit)) (now («code_seconds» .exit)) (now (numbers .exit)) (r .types) (r .code) (r .waiting) (r .constants) (r .records) × ((waits : ℕ → List Instruction) → heldAssembly (now (pairs .entry)) (now (firsts .entry)) (now (seconds .entry)) (r .types) (r .input) (now («code_ops» .exit)) (now («code_firsts» .exit)) (now («code_seconds» .exit)) (r .code) (waits (r .waiting)) (now (numbers .exit)) (r .constants) (r .place) (r .records) (r .ok) (r .bad) ≡ assemble (heldAssembly (now (pairs .entry)) (now (firsts .entry)) (now (seconds .entry)) (s .types) (s .input) (now («code_ops» .entry)) (now («code_firsts» .entry)) (now («code_seconds» .entry)) (s .code) (waits (s .waiting)) (now (numbers .entry)) (s .constants) (s .place) (s .records) (s .ok) (s .bad)) (instructionOf op a b)) ⌝ }
+    requires { ⌜ Assembling i (now pairs) (now firsts) (now seconds) (now leaves) (now «code_ops») (now «code_firsts») (now «code_seconds») (now numbers) (s .types) (s .code) (s .waiting) (s .constants) (s .records) × (i < limit) × (24 ≤ op) ⌝ }
+    ensures { λ r. ⌜ Assembling (i + 1) (now (pairs .entry)) (now (firsts .entry)) (now (seconds .entry)) (now (leaves .entry)) (now («code_ops» .exit)) (now («code_firsts» .exit)) (now («code_seconds» .exit)) (now (numbers .exit)) (r .types) (r .code) (r .waiting) (r .constants) (r .records) × ((waits : ℕ → List Instruction) → heldAssembly (now (pairs .entry)) (now (firsts .entry)) (now (seconds .entry)) (r .types) (r .input) (now («code_ops» .exit)) (now («code_firsts» .exit)) (now («code_seconds» .exit)) (r .code) (waits (r .waiting)) (now (numbers .exit)) (r .constants) (r .place) (r .records) (r .ok) (r .bad) ≡ assembleOne (heldAssembly (now (pairs .entry)) (now (firsts .entry)) (now (seconds .entry)) (s .types) (s .input) (now («code_ops» .entry)) (now («code_firsts» .entry)) (now («code_seconds» .entry)) (s .code) (waits (s .waiting)) (now (numbers .entry)) (s .constants) (s .place) (s .records) (s .ok) (s .bad)) (instructionOf op a b)) ⌝ }
 {
     let mut r = s;
     if op <= USE_ZEROS {
@@ -204,8 +199,8 @@ pub fn assembly_step(
     wait_seconds: &mut Operands,
     numbers: &mut Operands,
 ) -> Progress
-    requires { ⌜ Assembling i (now pairs) (now firsts) (now seconds) (now leaves) (now «code_ops») (now «code_firsts») (now «code_seconds») (now numbers) (s .types) (s .code) (s .waiting) (s .constants) (s .records) × (i < 65535) × Threefold (now «wait_ops») (now «wait_firsts») (now «wait_seconds») ⌝ }
-    ensures { λ r. ⌜ Assembling (i + 1) (now (pairs .exit)) (now (firsts .exit)) (now (seconds .exit)) (now (leaves .exit)) (now («code_ops» .exit)) (now («code_firsts» .exit)) (now («code_seconds» .exit)) (now (numbers .exit)) (r .types) (r .code) (r .waiting) (r .constants) (r .records) × Threefold (now («wait_ops» .exit)) (now («wait_firsts» .exit)) (now («wait_seconds» .exit)) × (heldAssembly (now (pairs .exit)) (now (firsts .exit)) (now (seconds .exit)) (r .types) (r .input) (now («code_ops» .exit)) (now («code_firsts» .exit)) (now («code_seconds» .exit)) (r .code) (heldCode (now («wait_ops» .exit)) (now («wait_firsts» .exit)) (now («wait_seconds» .exit)) (r .waiting)) (now (numbers .exit)) (r .constants) (r .place) (r .records) (r .ok) (r .bad) ≡ assemble (heldAssembly (now (pairs .entry)) (now (firsts .entry)) (now (seconds .entry)) (s .types) (s .input) (now («code_ops» .entry)) (now («code_firsts» .entry)) (now («code_seconds» .entry)) (s .code) (heldCode (now («wait_ops» .entry)) (now («wait_firsts» .entry)) (now («wait_seconds» .entry)) (s .waiting)) (now (numbers .entry)) (s .constants) (s .place) (s .records) (s .ok) (s .bad)) (instructionOf op a b)) ⌝ }
+    requires { ⌜ Assembling i (now pairs) (now firsts) (now seconds) (now leaves) (now «code_ops») (now «code_firsts») (now «code_seconds») (now numbers) (s .types) (s .code) (s .waiting) (s .constants) (s .records) × (i < limit) × Threefold (now «wait_ops») (now «wait_firsts») (now «wait_seconds») ⌝ }
+    ensures { λ r. ⌜ Assembling (i + 1) (now (pairs .exit)) (now (firsts .exit)) (now (seconds .exit)) (now (leaves .exit)) (now («code_ops» .exit)) (now («code_firsts» .exit)) (now («code_seconds» .exit)) (now (numbers .exit)) (r .types) (r .code) (r .waiting) (r .constants) (r .records) × Threefold (now («wait_ops» .exit)) (now («wait_firsts» .exit)) (now («wait_seconds» .exit)) × (heldAssembly (now (pairs .exit)) (now (firsts .exit)) (now (seconds .exit)) (r .types) (r .input) (now («code_ops» .exit)) (now («code_firsts» .exit)) (now («code_seconds» .exit)) (r .code) (heldCode (now («wait_ops» .exit)) (now («wait_firsts» .exit)) (now («wait_seconds» .exit)) (r .waiting)) (now (numbers .exit)) (r .constants) (r .place) (r .records) (r .ok) (r .bad) ≡ assembleOne (heldAssembly (now (pairs .entry)) (now (firsts .entry)) (now (seconds .entry)) (s .types) (s .input) (now («code_ops» .entry)) (now («code_firsts» .entry)) (now («code_seconds» .entry)) (s .code) (heldCode (now («wait_ops» .entry)) (now («wait_firsts» .entry)) (now («wait_seconds» .entry)) (s .waiting)) (now (numbers .entry)) (s .constants) (s .place) (s .records) (s .ok) (s .bad)) (instructionOf op a b)) ⌝ }
 {
     let mut r = s;
     if op < INPUT_HAS {

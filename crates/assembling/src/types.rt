@@ -6,21 +6,21 @@ ghost use lib.ListN.{length};
 ghost use Rattle.instructions.specs.Assembly.{leavesNumbered, pairNumbered, constantPairNumbered, oneMore, withFirst, withSecond};
 ghost use Rattle.assembling.specs.Held.{leavesOver, TypesHeld, TypesGathered, typesAfter};
 ghost use Rattle.instructions.specs.Assembly.{typeHeld, heldTypes};
+ghost use Rattle.grammar.specs.Legal.{limit};
+ghost use Rattle.grammar.specs.Sizes.{textTable};
+use instructions::COUNT_CONSTRUCTOR;
+use instructions::DECLARE_TYPE;
+use instructions::FIRST_TYPE;
 use instructions::Operands;
 use instructions::Ops;
+use records::MOST_LEAVES;
 
 // The most leaves that are counted.
-const LEAVES: usize = 64;
+const LEAVES: usize = MOST_LEAVES as usize;
 
 const FLAT: u8 = 0;
 
 const PAIR: u8 = 1;
-
-const DECLARE_TYPE: u8 = 0;
-
-const COUNT_CONSTRUCTOR: u8 = 1;
-
-const FIRST_TYPE: u8 = 2;
 
 // A number as an index.
 pub fn number(x: u16) -> usize
@@ -37,7 +37,7 @@ pub fn byte_number(x: u8) -> usize
 
 // The leaves of type number d of k types.
 pub fn leaf_count(d: u16, k: usize, leaves: &Ops) -> usize
-    requires { ⌜ (length (now leaves) ≡ 65536) × (k ≤ 65536) ⌝ }
+    requires { ⌜ (length (now leaves) ≡ textTable) × (k ≤ textTable) ⌝ }
     ensures { λ r. ⌜ (r < 256) × ((pairs firsts seconds : List ℕ) → TypesHeld k pairs firsts seconds (now (leaves .entry)) → r ≡ leavesNumbered (heldTypes pairs firsts seconds k) d) ⌝ }
 {
     let at = number(d);
@@ -52,7 +52,7 @@ pub fn leaf_count(d: u16, k: usize, leaves: &Ops) -> usize
 
 // The leaves of a pair type over k types.
 fn pair_leaves(a: u16, b: u16, k: usize, leaves: &Ops) -> u8
-    requires { ⌜ (length (now leaves) ≡ 65536) × (k ≤ 65536) ⌝ }
+    requires { ⌜ (length (now leaves) ≡ textTable) × (k ≤ textTable) ⌝ }
     ensures { λ r. ⌜ ((pairs firsts seconds : List ℕ) → TypesHeld k pairs firsts seconds (now (leaves .entry)) → r ≡ min 64 (leavesNumbered (heldTypes pairs firsts seconds k) a + leavesNumbered (heldTypes pairs firsts seconds k) b)) ⌝ }
 {
     let sum = leaf_count(a, k, leaves) + leaf_count(b, k, leaves);
@@ -74,7 +74,7 @@ fn set_type(
     seconds: &mut Operands,
     leaves: &mut Ops,
 )
-    requires { ⌜ TypesHeld k (now pairs) (now firsts) (now seconds) (now leaves) × (k < 65536) × (leaf ≡ leavesOver (heldTypes (now pairs) (now firsts) (now seconds) k) (typeHeld pair first second)) ⌝ }
+    requires { ⌜ TypesHeld k (now pairs) (now firsts) (now seconds) (now leaves) × (k < textTable) × (leaf ≡ leavesOver (heldTypes (now pairs) (now firsts) (now seconds) k) (typeHeld pair first second)) ⌝ }
     ensures { λ _. ⌜ TypesHeld (k + 1) (now (pairs .exit)) (now (firsts .exit)) (now (seconds .exit)) (now (leaves .exit)) × (heldTypes (now (pairs .exit)) (now (firsts .exit)) (now (seconds .exit)) (k + 1) ≡ typeHeld pair first second ∷ heldTypes (now (pairs .entry)) (now (firsts .entry)) (now (seconds .entry)) k) ⌝ }
 {
     pairs[k] = pair;
@@ -85,7 +85,7 @@ fn set_type(
 
 // The first declared pair type of two among k types, or 0.
 fn pair_number(a: u16, b: u16, k: usize, pairs: &Ops, firsts: &Operands, seconds: &Operands) -> u16
-    requires { ⌜ (length (now pairs) ≡ 65536) × (length (now firsts) ≡ 65536) × (length (now seconds) ≡ 65536) × (k ≤ 65535) ⌝ }
+    requires { ⌜ (length (now pairs) ≡ textTable) × (length (now firsts) ≡ textTable) × (length (now seconds) ≡ textTable) × (k ≤ limit) ⌝ }
     ensures { λ r. ⌜ r ≡ pairNumbered (heldTypes (now (pairs .entry)) (now (firsts .entry)) (now (seconds .entry)) k) a b ⌝ }
 {
     let mut j = 0;
@@ -111,7 +111,7 @@ pub fn constant_pair(
     firsts: &Operands,
     seconds: &Operands,
 ) -> u16
-    requires { ⌜ (length (now pairs) ≡ 65536) × (length (now firsts) ≡ 65536) × (length (now seconds) ≡ 65536) × (k ≤ 65535) ⌝ }
+    requires { ⌜ (length (now pairs) ≡ textTable) × (length (now firsts) ≡ textTable) × (length (now seconds) ≡ textTable) × (k ≤ limit) ⌝ }
     ensures { λ r. ⌜ r ≡ constantPairNumbered (heldTypes (now (pairs .entry)) (now (firsts .entry)) (now (seconds .entry)) k) a b ⌝ }
 {
     if a == 0 {
@@ -132,7 +132,7 @@ fn count_constructor(
     seconds: &mut Operands,
     leaves: &mut Ops,
 )
-    requires { ⌜ TypesGathered i k (now pairs) (now firsts) (now seconds) (now leaves) × (i < 65535) ⌝ }
+    requires { ⌜ TypesGathered i k (now pairs) (now firsts) (now seconds) (now leaves) × (i < limit) ⌝ }
     ensures { λ _. ⌜ TypesGathered (i + 1) k (now (pairs .exit)) (now (firsts .exit)) (now (seconds .exit)) (now (leaves .exit)) × (heldTypes (now (pairs .exit)) (now (firsts .exit)) (now (seconds .exit)) k ≡ oneMore (heldTypes (now (pairs .entry)) (now (firsts .entry)) (now (seconds .entry)) k)) ⌝ }
 {
     if k == 0 {
@@ -156,7 +156,7 @@ fn first_type(
     seconds: &mut Operands,
     leaves: &mut Ops,
 )
-    requires { ⌜ TypesGathered i k (now pairs) (now firsts) (now seconds) (now leaves) × (i < 65535) ⌝ }
+    requires { ⌜ TypesGathered i k (now pairs) (now firsts) (now seconds) (now leaves) × (i < limit) ⌝ }
     ensures { λ _. ⌜ TypesGathered (i + 1) k (now (pairs .exit)) (now (firsts .exit)) (now (seconds .exit)) (now (leaves .exit)) × (heldTypes (now (pairs .exit)) (now (firsts .exit)) (now (seconds .exit)) k ≡ withFirst a (heldTypes (now (pairs .entry)) (now (firsts .entry)) (now (seconds .entry)) k)) ⌝ }
 {
     if k == 0 {
@@ -177,7 +177,7 @@ fn second_type(
     seconds: &mut Operands,
     leaves: &mut Ops,
 )
-    requires { ⌜ TypesGathered i k (now pairs) (now firsts) (now seconds) (now leaves) × (i < 65535) ⌝ }
+    requires { ⌜ TypesGathered i k (now pairs) (now firsts) (now seconds) (now leaves) × (i < limit) ⌝ }
     ensures { λ _. ⌜ TypesGathered (i + 1) k (now (pairs .exit)) (now (firsts .exit)) (now (seconds .exit)) (now (leaves .exit)) × (heldTypes (now (pairs .exit)) (now (firsts .exit)) (now (seconds .exit)) k ≡ withSecond b (heldTypes (now (pairs .entry)) (now (firsts .entry)) (now (seconds .entry)) k)) ⌝ }
 {
     if k == 0 {
@@ -203,7 +203,7 @@ pub fn note_type(
     seconds: &mut Operands,
     leaves: &mut Ops,
 ) -> usize
-    requires { ⌜ TypesGathered i k (now pairs) (now firsts) (now seconds) (now leaves) × (i < 65535) × (op < 4) ⌝ }
+    requires { ⌜ TypesGathered i k (now pairs) (now firsts) (now seconds) (now leaves) × (i < limit) × (op < 4) ⌝ }
     ensures { λ r. ⌜ TypesGathered (i + 1) r (now (pairs .exit)) (now (firsts .exit)) (now (seconds .exit)) (now (leaves .exit)) × (heldTypes (now (pairs .exit)) (now (firsts .exit)) (now (seconds .exit)) r ≡ typesAfter op a (heldTypes (now (pairs .entry)) (now (firsts .entry)) (now (seconds .entry)) k)) ⌝ }
 {
     if op == DECLARE_TYPE {

@@ -4,7 +4,6 @@
 use Prim.Native.Nat.{ℕ}
 use mathlib.Core.List.{List, []}
 use mathlib.Core.Path.{_≡_}
-use Rattle.records.specs.Trees.{Declared}
 use Rattle.verdict.specs.Verdict.{verdict}
 use Rattle.verdict.specs.declared.Verdict.the-variants.{Accepted}
 use Rattle.meaning.specs.Values.{no-values, AllOf}
@@ -23,7 +22,7 @@ use Rattle.behaviour.proofs.Run.{run-sheet}
 module _
     {undecided : List ℕ → List ℕ → List ℕ}
     (law : Lawful undecided)
-    (s : List ℕ)
+    {s : List ℕ}
     {t : ℕ}
     (v : verdict s ≡ Accepted t)
     {is : List (List ℕ)}
@@ -32,7 +31,7 @@ module _
     run-writable : Writable s t (after undecided [] (circuitTerm s) is)
     run-writable = record {
       frame = after-frame undecided [] (circuitTerm s) is;
-      typed = after-typed undecided law (Declared s) (circuit-typed s t v) no-values given;
+      typed = after-typed law (circuit-typed s t v) no-values given;
     }
 
     pub run-only-delays : OnlyDelays s (sheetAfter undecided s is)
@@ -40,10 +39,20 @@ module _
         rw (run-sheet law s v given)
         (write-only-delays s (after undecided [] (circuitTerm s) is) (run-writable .frame))
 
+-- no signature here determines the sheet
+module _
+    {undecided : List ℕ → List ℕ → List ℕ}
+    (law : Lawful undecided)
+    (s : List ℕ)
+    {t : ℕ}
+    (v : verdict s ≡ Accepted t)
+    {is : List (List ℕ)}
+    (given : AllOf (inputType s) is)
+  where
     pub run-read : circuitTerm (sheetAfter undecided s is) ≡ after undecided [] (circuitTerm s) is
     run-read =
-        rw (run-sheet law s v given) (write-read s v run-writable)
+        rw (run-sheet law s v given) (write-read s v (run-writable law v given))
 
     pub run-accepted : verdict (sheetAfter undecided s is) ≡ verdict s
     run-accepted =
-        rw (run-sheet law s v given) (write-accepted s v run-writable)
+        rw (run-sheet law s v given) (write-accepted s v (run-writable law v given))

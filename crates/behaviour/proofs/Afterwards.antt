@@ -20,16 +20,8 @@ use Rattle.behaviour.proofs.Cycle.{after-only-delays}
 use Rattle.stimulus.specs.Stimulus.{inputType, cycleCount, endToEnd, cycles}
 use Rattle.answers.specs.Answers.{packed}
 use Rattle.answers.specs.declared.Answer.the-variants.{Done}
-use Rattle.behaviour.specs.Run.{
-  outputsBy,
-  sheetBefore,
-  sheetAfter,
-  outputNeeded,
-  bySlices,
-  answer,
-  finalOut,
-  finalNext,
-}
+use Rattle.behaviour.specs.Run.{outputsBy, sheetAfter, outputNeeded, bySlices, answer, finalOut, finalNext}
+use Rattle.behaviour.specs.Midway.{sheetBefore}
 use Rattle.stimulus.proofs.Pieces.{joined-length, joined-at, typed-wide}
 use Rattle.stimulus.proofs.Stimulus.{cycles-typed, cycles-counted, cycle-at}
 use Rattle.behaviour.proofs.Run.{
@@ -39,7 +31,7 @@ use Rattle.behaviour.proofs.Run.{
   output-at,
   outputs-counted,
   outputs-typed,
-  sheet-accepted,
+  accepted-before,
   sheet-only-delays,
   input-at,
   sheet-bytes,
@@ -87,7 +79,7 @@ module _ {s stim out next : List ℕ} {t : ℕ} (h : WellFormed s stim out next 
   in-list k b = rw (cycles-counted s stim) b
 
   accepted : (k : ℕ) → verdict (sheet k) ≡ verdict s
-  accepted k = sheet-accepted rule-lawful s (h .accepted) inputs-typed k
+  accepted k = accepted-before rule-lawful s (h .accepted) inputs-typed k
 
   each-after : (k : ℕ) → k < cycleCount s stim → sheet (suc k) ≡ sheetAfterCycle (sheet k) (inputOf s stim k)
   each-after k b = rw (← cycle-at s stim k b) (sheet-next undecidedRule s (cycles s stim) k (in-list k b))
@@ -95,7 +87,7 @@ module _ {s stim out next : List ℕ} {t : ℕ} (h : WellFormed s stim out next 
   only-delays : (k : ℕ) → k < cycleCount s stim → OnlyDelays (sheet k) (sheet (suc k))
   only-delays k b =
       rw (sheet-next undecidedRule s (cycles s stim) k (in-list k b))
-      (after-only-delays undecidedRule rule-lawful (sheet k) (accepted k ∙ h .accepted) (getD (cycles s stim) k [])
+      (after-only-delays rule-lawful (sheet k) (accepted k ∙ h .accepted)
       (input-at rule-lawful s (h .accepted) inputs-typed k (in-list k b)))
 
   among-outputs : (k : ℕ) → k < cycleCount s stim → k < length outs

@@ -37,7 +37,7 @@ read-agreed (x ∷ es) h l n room m agree =
         ∙ rw p (getD-set-same h (x .place) (x .value) 0 (rw p at room))
         ∙ agree x (List·Memᴰ·head refl) (sym p)
 
-pub zeros : (n i : ℕ) → getD {A = ℕ} (replicate n 0) i 0 ≡ 0
-zeros zero i = refl
-zeros (suc n) zero = refl
-zeros (suc n) (suc i) = zeros n i
+pub zero-everywhere : (n i : ℕ) → getD {A = ℕ} (replicate n 0) i 0 ≡ 0
+zero-everywhere zero i = refl
+zero-everywhere (suc n) zero = refl
+zero-everywhere (suc n) (suc i) = zero-everywhere n i

@@ -44,7 +44,8 @@ use Rattle.answers.proofs.First.{
   place-or,
   kept-bytes,
 }
-use Rattle.verdict.specs.Verdict.{verdictAnswer, sheetChecks, outputType, verdict}
+use Rattle.verdict.specs.Verdict.{sheetChecks, outputType, verdict}
+use Rattle.verdict.specs.Scopes.{verdictAnswer}
 use Rattle.verdict.specs.declared.Verdict.{Verdict}
 use Rattle.verdict.specs.declared.Verdict.the-variants.{Accepted}
 use Rattle.verdict.specs.declared.Verdict.the-variants as Verdicts
@@ -68,7 +69,7 @@ use Rattle.behaviour.specs.Run.{
   answer,
   finalOut,
   finalNext,
-  Gives,
+  RunGiven,
 }
 use Rattle.behaviour.specs.Afterwards.{WellFormed, Afterwards}
 use Rattle.behaviour.specs.Promises.{SaysOfCall, LowestFirst, PlacesSmall, RefusalUnaltered}
@@ -161,20 +162,20 @@ refusal-unaltered s stim out next f = (
 )
 
 -- what a call gives where it refuses
-pub gives-refusal : {s stim out next : List ℕ} {c p : ℕ} → answer s stim out next ≡ Refused c p → Gives s stim out next (inOne c p) out next
+pub gives-refusal : {s stim out next : List ℕ} {c p : ℕ} → answer s stim out next ≡ Refused c p → RunGiven s stim out next (inOne c p) out next
 unfolding finalOut finalNext
 gives-refusal e = record { result-is = rw e refl; out-is = rw e refl; next-is = rw e refl }
 
 -- and where it does not
 pub gives-done : {s stim out next : List ℕ} {t : ℕ} → WellFormed s stim out next t
-    → Gives s stim out next (cycleCount s stim) (endToEnd (outputsBy undecidedRule s (cycles s stim)))
+    → RunGiven s stim out next (cycleCount s stim) (endToEnd (outputsBy undecidedRule s (cycles s stim)))
     (sheetAfter undecidedRule s (cycles s stim))
 unfolding finalOut finalNext
 gives-done h =
     let e = answer-done h in record { result-is = rw e (omega arith); out-is = rw e; next-is = rw e }
 
 -- so that what a call gives is what demand 3 speaks of
-pub gives-afterwards : {s stim out next : List ℕ} {t result : ℕ} {out′ next′ : List ℕ} → Gives s stim out next result out′ next′
+pub gives-afterwards : {s stim out next : List ℕ} {t result : ℕ} {out′ next′ : List ℕ} → RunGiven s stim out next result out′ next′
     → WellFormed s stim out next t → Afterwards s stim t result out′ next′
 gives-afterwards g h =
     rw (g .result-is, g .out-is, g .next-is) (afterwards h)

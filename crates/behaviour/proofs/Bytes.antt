@@ -14,7 +14,7 @@ use Rattle.behaviour.specs.Delays.{Entry, entries, putAll}
 use Rattle.records.specs.Words.{lowByte, highByte}
 use Rattle.behaviour.specs.Sheets.{putWord, write, Writable}
 use Rattle.behaviour.specs.Afterwards.{Bytes}
-use Rattle.behaviour.proofs.Frames.{Small}
+use Rattle.behaviour.proofs.Frames.{ByteEntries}
 use Rattle.behaviour.proofs.Stores.{written-small}
 
 set-bytes : (s : List ℕ) (i v : ℕ) → v ≤ 255 → Bytes s → Bytes (set s i v)
@@ -25,7 +25,7 @@ set-bytes s i v small b j = go (ℕ-discrete j i) (decLt i (length s))
     go (yes e) (yes h) = rw (e, getD-set-same s i v 0 h) small
     go (yes e) (no f) = rw (set-out s i v (omega arith)) (b j)
 
-put-bytes : (es : List Entry) (s : List ℕ) → Small es → Bytes s → Bytes (putAll putWord es s)
+put-bytes : (es : List Entry) (s : List ℕ) → ByteEntries es → Bytes s → Bytes (putAll putWord es s)
 put-bytes [] s small b = b
 put-bytes (e ∷ es) s small b =
     put-bytes es (putWord (e .place) (e .value) s) (λ f m. small f (List·Memᴰ·tail m))

@@ -26,23 +26,23 @@ use Rattle.behaviour.proofs.Sheets.{write-only-delays, only-leaves, hea
 use Rattle.behaviour.proofs.Bytes.{write-bytes}
 
 module _
-    (undecided : List ℕ → List ℕ → List ℕ)
+    {undecided : List ℕ → List ℕ → List ℕ}
     (law : Lawful undecided)
     (s : List ℕ)
     {t : ℕ}
     (v : verdict s ≡ Accepted t)
-    (i : List ℕ)
+    {i : List ℕ}
     (given : OfType (typeAt s (wordA s 0)) i)
   where
     pub cycle-writable : Writable s t (next undecided (i ∷ []) (circuitTerm s))
     cycle-writable = record {
       frame = next-frame undecided (i ∷ []) (circuitTerm s);
-      typed = next-typed undecided law (Declared s) (circuit-typed s t v) (more-values given no-values);
+      typed = next-typed law (circuit-typed s t v) (more-values given no-values);
     }
 
-    pub output-typed : OfType (typeAt s t) (outputBy undecided s i)
+    pub output-of-type : OfType (typeAt s t) (outputBy undecided s i)
     unfolding outputBy
-    output-typed = eval-typed undecided law (Declared s) (circuit-typed s t v) (more-values given no-values)
+    output-of-type = eval-typed undecided law (Declared s) (circuit-typed s t v) (more-values given no-values)
 
     pub after-only-delays : OnlyDelays s (afterBy undecided s i)
     unfolding afterBy

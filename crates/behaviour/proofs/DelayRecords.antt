@@ -72,7 +72,7 @@ use Rattle.accepted.proofs.Scopes.{scope-checked}
 use Rattle.meaning.specs.Elaboration.{Term}
 use Rattle.behaviour.specs.Delays.{store}
 use Rattle.behaviour.specs.Sheets.{write, Writable}
-use Rattle.behaviour.specs.Copies.{copied, leavesOf, delayChains}
+use Rattle.behaviour.specs.Copies.{copied, leavesByKind, delayChains}
 use Rattle.behaviour.proofs.Members.{either, Among}
 use Rattle.behaviour.proofs.Scoped.{every-expression}
 use Rattle.behaviour.proofs.Stores.{write-copied}
@@ -178,10 +178,10 @@ module _ {s : List ℕ} {t : ℕ} (v : verdict s ≡ Accepted t) where
   chains-leaf : (n l : ℕ) → List·Memᴰ l (delayChains s n) → n < suc (count s) → DelayLeaf s l
   chains-leaf zero l m h = elim m [ ]
   chains-leaf (suc r) l m h =
-      either (delayChains s r) (leavesOf (kindAt s r) (chain s (wordB s r))) (λ n. chains-leaf r l n (omega arith))
+      either (delayChains s r) (leavesByKind (kindAt s r) (chain s (wordB s r))) (λ n. chains-leaf r l n (omega arith))
       (λ n. at (kindAt s r) refl n) m
     where
-      at : (k : Kind) → kindAt s r ≡ k → List·Memᴰ l (leavesOf k (chain s (wordB s r))) → DelayLeaf s l
+      at : (k : Kind) → kindAt s r ≡ k → List·Memᴰ l (leavesByKind k (chain s (wordB s r))) → DelayLeaf s l
       at header e n = elim n [ ]
       at (typeOf k) e n = elim n [ ]
       at (expression constant) e n = elim n [ ]
@@ -204,8 +204,8 @@ module _ {s : List ℕ} {t : ℕ} (v : verdict s ≡ Accepted t) where
       go : Dec (d .of ≡ r) → (d .of < r → List·Memᴰ l (delayChains s r)) → List·Memᴰ l (delayChains s (suc r))
       go (yes e) rest =
           Memᴰ·append-right (delayChains s r)
-          (subst (λ q. List·Memᴰ l (leavesOf (kindAt s q) (chain s (wordB s q)))) e (rw (d .kind) (d .leaf)))
-      go (no f) rest = Memᴰ·append-left (leavesOf (kindAt s r) (chain s (wordB s r))) (rest (omega arith))
+          (subst (λ q. List·Memᴰ l (leavesByKind (kindAt s q) (chain s (wordB s q)))) e (rw (d .kind) (d .leaf)))
+      go (no f) rest = Memᴰ·append-left (leavesByKind (kindAt s r) (chain s (wordB s r))) (rest (omega arith))
 
   -- what is written is the table copied along the chains of the sheet's delay records
   pub write-copied-chains : (e : Term) → Writable s t e → (table : List ℕ)

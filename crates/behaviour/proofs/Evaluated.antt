@@ -26,7 +26,7 @@ use Rattle.records.specs.Trees.{typeAt, chain, alternatives, treeAt, circuit, t
 use Rattle.records.specs.Decoding.{leafValues, patternOf}
 use Rattle.records.specs.Written.{Written}
 use Rattle.records.proofs.Trees.{tree-of}
-use Rattle.verdict.specs.Verdict.{inputs}
+use Rattle.verdict.specs.Scopes.{inputs}
 use Rattle.meaning.specs.Values.{undefined}
 use Rattle.meaning.specs.Matching.{matches}
 use Rattle.meaning.specs.Elaboration.{Term}
@@ -35,7 +35,8 @@ use Rattle.meaning.proofs.FixedPoint.{iter-stays}
 use Rattle.behaviour.specs.Terms.{term, circuitTerm}
 use Rattle.behaviour.specs.Delays.{assigned, entries, putAll, enter, store}
 use Rattle.behaviour.specs.Cycle.{outputBy}
-use Rattle.behaviour.specs.Evaluated.{valueAt, storedAt}
+use Rattle.behaviour.specs.Evaluated.{valueAt}
+use Rattle.behaviour.specs.Midway.{storedAt}
 use Rattle.behaviour.proofs.Entries.{put-append}
 use Rattle.behaviour.proofs.Stores.{store-both, store-delay, store-next-again}
 
@@ -51,10 +52,10 @@ module _ (undecided : List ℕ → List ℕ → List ℕ) where
   root-stored s i h = refl
 
   -- the value of a feedback's name: any in the chain from undefined that an application gives back unchanged
-  pub unchanged-settled : (ρ : List (List ℕ)) (σ : Ty) (t : Term) (k : ℕ) → k ≤ leaves σ
+  pub stopped-settled : (ρ : List (List ℕ)) (σ : Ty) (t : Term) (k : ℕ) → k ≤ leaves σ
       → application undecided ρ t (iter (application undecided ρ t) k (undefined σ)) ≡ iter (application undecided ρ t) k (undefined σ)
       → settled undecided ρ σ t ≡ iter (application undecided ρ t) k (undefined σ)
-  unchanged-settled ρ σ t k h e = iter-stays (application undecided ρ t) k (undefined σ) e (leaves σ) h
+  stopped-settled ρ σ t k h e = iter-stays (application undecided ρ t) k (undefined σ) e (leaves σ) h
 
   module _ (s : List ℕ) (w : Written s) (Γ : List ℕ) (ρ : List (List ℕ)) (r : ℕ) (b : r < count s) where
     pub constant-value : kindAt s r ≡ expression constant → valueAt undecided s Γ ρ r ≡ leafValues s (chain s (wordB s r))

@@ -22,7 +22,7 @@ use Rattle.verdict.specs.Verdict.{verdict}
 use Rattle.verdict.specs.Scopes.{Scope}
 use Rattle.verdict.specs.declared.Verdict.the-variants.{Accepted}
 use Rattle.accepted.proofs.Laws.{accepted-by-types}
-use Rattle.accepted.proofs.Scopes.{Checked, scope-checked}
+use Rattle.accepted.proofs.Scopes.{CheckedAt, scope-checked}
 use Rattle.meaning.specs.Values.{ValuesOf, no-values, more-values}
 use Rattle.meaning.specs.Elaboration.{Term, Feedback, erase, Elaborated, e-name, e-feedback}
 use Rattle.meaning.specs.Constants.{ConstantTree, ConstantsOf, of-none, of-more, flatten, bottomOfType}
@@ -45,7 +45,7 @@ use Rattle.behaviour.specs.Terms.{term}
 use Rattle.behaviour.specs.Afterwards.{OnlyDelays, IteratesTo, FeedbackSettles, decodedAt, FeedbackAt}
 use Rattle.behaviour.proofs.Terms.{erase-term, checked-term}
 use Rattle.behaviour.proofs.Sheets.{only-leaves}
-use Rattle.behaviour.proofs.Scoped.{Scoped, every-expression}
+use Rattle.behaviour.proofs.Scoped.{HasScope, every-expression}
 use Rattle.behaviour.proofs.ScopesAgain.{scope-again}
 
 pub feedback-kind : (s : List ℕ) (q : ℕ) → kindWord s q ≡ 38 → kindAt s q ≡ expression feedback
@@ -95,13 +95,13 @@ settles D Γ ρ σ whole part body typed env e = record {
   value = settled undecidedRule ρ σ part;
   given = refl;
   evaluates = rw e;
-  of-type = feedback-typed undecidedRule rule-lawful D typed env;
-  unchanged = feedback-fixed undecidedRule rule-lawful D typed env;
-  least = λ w h p. both-below (feedback-least undecidedRule rule-lawful D typed env h p);
+  of-type = feedback-typed rule-lawful typed env;
+  unchanged = feedback-fixed rule-lawful typed env;
+  least = λ w h p. both-below (feedback-least rule-lawful typed env h p);
   count = applications undecidedRule ρ σ part;
-  at-most = applications-most undecidedRule rule-lawful D typed env;
-  reached = applications-reach undecidedRule rule-lawful D typed env;
-  none-fewer = applications-fewest undecidedRule rule-lawful D typed env;
+  at-most = applications-most rule-lawful typed env;
+  reached = applications-reach rule-lawful typed env;
+  none-fewer = applications-fewest rule-lawful typed env;
   by-iteration = iteration D typed env;
 }
 
@@ -109,7 +109,7 @@ module _ (s : List ℕ) {t : ℕ} (v : verdict s ≡ Accepted t) {q : ℕ} (belo
   passes : Passes s
   passes = accepted-by-types s t .0 v .0
 
-  scoped : Scoped s q
+  scoped : HasScope s q
   scoped = every-expression (written passes) (well-named passes) q (past-header (written passes) q (rw kind)) below (rw kind)
 
   -- its defining part and body
@@ -141,7 +141,7 @@ module _ (s : List ℕ) {t : ℕ} (v : verdict s ≡ Accepted t) {q : ℕ} (belo
       passes-there : Passes s′
       passes-there = accepted-by-types s′ t .0 v′ .0
 
-      checked : Checked s′ q Γ
+      checked : CheckedAt s′ q Γ
       checked = scope-checked t passes-there v′ scope
 
       abbrev part-of : Tree → Term

@@ -42,14 +42,16 @@ use Rattle.records.proofs.Table.{askOfKind, kind-of-sort}
 use Rattle.records.proofs.Asked.{part-of-kind, root-is}
 use Rattle.records.proofs.Trees.{from-above, tree-of}
 use Rattle.structure.specs.Rules.{Passes}
-use Rattle.verdict.specs.Verdict.{inputs, verdict}
+use Rattle.verdict.specs.Verdict.{verdict}
+use Rattle.verdict.specs.Scopes.{inputs}
 use Rattle.verdict.specs.declared.Verdict.the-variants.{Accepted}
 use Rattle.accepted.proofs.Laws.{written, accepted-by-types}
 use Rattle.accepted.proofs.Scopes.{scope-checked}
 use Rattle.meaning.specs.Undecided.{undecidedRule}
 use Rattle.behaviour.specs.Delays.{Entry, putAll, enter}
 use Rattle.behaviour.specs.Evaluated.{valueAt}
-use Rattle.behaviour.specs.Firing.{firstYes, firings, firedAt, fired}
+use Rattle.behaviour.specs.Firing.{firstYes, firings, fired}
+use Rattle.behaviour.specs.Midway.{firedAt}
 use Rattle.behaviour.specs.Reaching.{
   settledIn,
   Evaluates,
@@ -72,7 +74,7 @@ use Rattle.behaviour.proofs.Members.{either}
 use Rattle.behaviour.proofs.Entries.{place-of-member, put-leaves, put-elsewhere}
 use Rattle.behaviour.proofs.Cells.{table-cells}
 use Rattle.behaviour.proofs.Reaching.{evaluates-scope, one-evaluation}
-use Rattle.behaviour.proofs.AgreedEntries.{entry-of-place, read-agreed, zeros}
+use Rattle.behaviour.proofs.AgreedEntries.{entry-of-place, read-agreed, zero-everywhere}
 
 -- the entry of an IF that is reached with these names and values
 abbrev ifEntry : (sheet : List ℕ) → ℕ → List ℕ → List (List ℕ) → Entry
@@ -244,7 +246,7 @@ fired-words s t v input = record { one-a-record = as-many; at-if = at-if; elsewh
         let o = circuit-fires s t v input (x .0) (x .1) in
         let at : o .at ≡ r = ap (λ (y : Entry). y .place) (sym (o .entry-is)) ∙ x .2 in
         f (rw at at (o .is-if)))
-        ∙ zeros (count s) r
+        ∙ zero-everywhere (count s) r
 
 -- the first entries of a table, after entries are put
 take-set : (n : ℕ) (h : List ℕ) (l v : ℕ) → take n (set h l v) ≡ set (take n h) l v

@@ -40,7 +40,8 @@ use Rattle.records.specs.Written.{Written}
 use Rattle.records.proofs.Trees.{tree-of}
 use Rattle.behaviour.specs.Delays.{enter}
 use Rattle.behaviour.specs.Evaluated.{valueAt}
-use Rattle.behaviour.specs.Firing.{firstYes, firings, firedAt}
+use Rattle.behaviour.specs.Firing.{firstYes, firings}
+use Rattle.behaviour.specs.Midway.{firedAt}
 use Rattle.behaviour.proofs.Entries.{placesOf, places-append, put-append, put-leaves}
 use Rattle.behaviour.proofs.Stores.{entered-again}
 use Rattle.behaviour.proofs.Evaluated.{settledAt}

@@ -108,18 +108,18 @@ pub same-filled : (f : List ℕ → List ℕ) (t u : Term) → frame t ≡ frame
 same-filled f t u e = sym (fill-framed f t) ∙ ap (fill f) e ∙ fill-framed f u
 
 -- what is asked of each delay's places and type
-abbrev pub Placed : (List ℕ → Ty → Type 0) → Term → Type 0
-Placed P (Constant τ v) = Unit {0}
-Placed P (Name n) = Unit {0}
-Placed P (Pair t u) = Placed P t × Placed P u
-Placed P (First σ t) = Placed P t
-Placed P (Second σ t) = Placed P t
-Placed P (LetIn t u) = Placed P t × Placed P u
-Placed P (Feedback τ t u) = Placed P t × Placed P u
-Placed P (IfThenElse t p u r) = Placed P t × Placed P u × Placed P r
-Placed P (Delayed ls τ v t) = P ls τ × Placed P t
+abbrev pub EachDelay : (List ℕ → Ty → Type 0) → Term → Type 0
+EachDelay P (Constant τ v) = Unit {0}
+EachDelay P (Name n) = Unit {0}
+EachDelay P (Pair t u) = EachDelay P t × EachDelay P u
+EachDelay P (First σ t) = EachDelay P t
+EachDelay P (Second σ t) = EachDelay P t
+EachDelay P (LetIn t u) = EachDelay P t × EachDelay P u
+EachDelay P (Feedback τ t u) = EachDelay P t × EachDelay P u
+EachDelay P (IfThenElse t p u r) = EachDelay P t × EachDelay P u × EachDelay P r
+EachDelay P (Delayed ls τ v t) = P ls τ × EachDelay P t
 
-placed-framed : (P : List ℕ → Ty → Type 0) (t : Term) → Placed P (frame t) ≡ Placed P t
+placed-framed : (P : List ℕ → Ty → Type 0) (t : Term) → EachDelay P (frame t) ≡ EachDelay P t
 placed-framed P (Constant τ v) = refl
 placed-framed P (Name n) = refl
 placed-framed P (Pair t u) = ap₂ (λ A B. A × B) (placed-framed P t) (placed-framed P u)
@@ -130,8 +130,8 @@ placed-framed P (Feedback τ t u) = ap₂ (λ A B. A × B) (placed-framed P t) (
 placed-framed P (IfThenElse t p u r) = λ i. placed-framed P t i × placed-framed P u i × placed-framed P r i
 placed-framed P (Delayed ls τ v t) = ap (λ A. P ls τ × A) (placed-framed P t)
 
-pub same-placed : (P : List ℕ → Ty → Type 0) (t u : Term) → frame t ≡ frame u → Placed P t → Placed P u
-same-placed P t u e h = subst (λ A. A) (sym (placed-framed P t) ∙ ap (Placed P) e ∙ placed-framed P u) h
+pub same-placed : (P : List ℕ → Ty → Type 0) (t u : Term) → frame t ≡ frame u → EachDelay P t → EachDelay P u
+same-placed P t u e h = subst (λ A. A) (sym (placed-framed P t) ∙ ap (EachDelay P) e ∙ placed-framed P u) h
 
 -- the values of constants and delays are of their types
 abbrev pub Valued : Term → Type 0
@@ -179,7 +179,7 @@ reads-left read es fs h = λ e m. h e (Memᴰ·append-left fs m)
 pub reads-right : (read : ℕ → ℕ) (es fs : List Entry) → Reads read (es ++ fs) → Reads read fs
 reads-right read es fs h = λ e m. h e (Memᴰ·append-right es m)
 
-pub fill-own : (read : ℕ → ℕ) (t : Term) → Placed HasPlaces t → Valued t → Reads read (entries t) → fill (map read) t ≡ t
+pub fill-own : (read : ℕ → ℕ) (t : Term) → EachDelay HasPlaces t → Valued t → Reads read (entries t) → fill (map read) t ≡ t
 fill-own read (Constant τ v) p w h = refl
 fill-own read (Name n) p w h = refl
 fill-own read (Pair t u) p w h =
@@ -206,25 +206,25 @@ fill-own read (Delayed ls τ v t) p w h =
     (fill-own read t (p .1) (w .1) (reads-left read (entries t) (assigned ls v) h))
 
 -- each value is a byte
-abbrev pub Small : List Entry → Type 0
-Small es = (e : Entry) → List·Memᴰ e es → e .value ≤ 255
+abbrev pub ByteEntries : List Entry → Type 0
+ByteEntries es = (e : Entry) → List·Memᴰ e es → e .value ≤ 255
 
-small-both : (es fs : List Entry) → Small es → Small fs → Small (es ++ fs)
+small-both : (es fs : List Entry) → ByteEntries es → ByteEntries fs → ByteEntries (es ++ fs)
 small-both es fs a b = λ e. either es fs (a e) (b e)
 
-small-cons : (l v : ℕ) (es : List Entry) → v ≤ 255 → Small es → Small (record { place = l; value = v } ∷ es)
+small-cons : (l v : ℕ) (es : List Entry) → v ≤ 255 → ByteEntries es → ByteEntries (record { place = l; value = v } ∷ es)
 small-cons l v es h rest e (List·Memᴰ·head p) = rw p h
 small-cons l v es h rest e (List·Memᴰ·tail m) = rest e m
 
 assigned-small : (ls : List ℕ) {ns vs : List ℕ} → Within ns vs → ((n : ℕ) → List·Memᴰ n ns → n ≤ 255)
-    → Small (assigned ls vs)
+    → ByteEntries (assigned ls vs)
 assigned-small [] w small = λ e m. elim m [ ]
 assigned-small (l ∷ ls) within-none small = small-cons l 0 (assigned ls []) (omega arith) (assigned-small ls within-none small)
 assigned-small (l ∷ ls) (within-leaf {n = n} {v = v} {vs = vs} h w) small =
     let k = small n (List·Memᴰ·head refl) in
     small-cons l v (assigned ls vs) (omega arith) (assigned-small ls w (λ n m. small n (List·Memᴰ·tail m)))
 
-pub values-small : (t : Term) → Placed HasPlaces t → Valued t → Small (entries t)
+pub values-small : (t : Term) → EachDelay HasPlaces t → Valued t → ByteEntries (entries t)
 values-small (Constant τ v) p w = λ e m. elim m [ ]
 values-small (Name n) p w = λ e m. elim m [ ]
 values-small (Pair t u) p w =

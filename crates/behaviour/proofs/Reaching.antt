@@ -26,7 +26,7 @@ use Rattle.records.specs.Trees.{treeAt, typeRecordOf}
 use Rattle.records.proofs.Table.{askOfKind}
 use Rattle.records.proofs.Asked.{past-header}
 use Rattle.structure.specs.Rules.{Passes}
-use Rattle.verdict.specs.Verdict.{inputs}
+use Rattle.verdict.specs.Scopes.{inputs}
 use Rattle.verdict.specs.Scopes.{
   Scope,
   root,

@@ -6,7 +6,6 @@ use mathlib.Core.List.{List, [], map}
 use mathlib.Core.Option.{some}
 use mathlib.Core.Path.{_≡_, sym, ap, _∙_}
 use Rattle.picoella.specs.Language.{Ty, Expr}
-use Rattle.records.specs.Trees.{Declared}
 use Rattle.records.specs.Decoding.{decode}
 use Rattle.records.proofs.Decoding.{decodes}
 use Rattle.verdict.specs.Verdict.{verdict}
@@ -14,7 +13,7 @@ use Rattle.verdict.specs.declared.Verdict.the-variants.{Accepted}
 use Rattle.meaning.specs.Elaboration.{erase}
 use Rattle.meaning.specs.Values.{AllOf, all-none, all-more}
 use Rattle.meaning.specs.Constants.{ConstantTree, AllConstantsOf, of-none, of-all-none, of-all-more, flatten}
-use Rattle.meaning.specs.Undecided.{undecidedRule, undecidedConstant}
+use Rattle.meaning.specs.Undecided.{undecidedRule}
 use Rattle.meaning.specs.Run.{after}
 use Rattle.meaning.proofs.FlattenOneToOne.{flatten-typed}
 use Rattle.meaning.proofs.UndecidedRule.{rule-lawful, rule-agreeing}
@@ -52,8 +51,7 @@ run-reduces s t v e f d inputs outs given =
     let same : e ≡ erase (circuitTerm s) = some-same e (erase (circuitTerm s)) (sym d ∙ decodes-to s t v) in
     let gives = run-outputs rule-lawful s v all in
     let leads = decodes-after s t v (map flatten inputs) all in
-    let adequate = run-adequate undecidedRule undecidedConstant rule-lawful rule-agreeing (Declared s)
-    {cs = outs} {f = f} (circuit-typed s t v) of-none given in (
+    let adequate = run-adequate rule-lawful rule-agreeing {cs = outs} {f = f} (circuit-typed s t v) of-none given in (
       λ r. let (j, q, z) = adequate .0 (rw same at r) in (j, q ∙ sym gives, leads ∙ ap some (sym z)),
       λ (j, q, z). rw same (adequate .1 (j, q ∙ gives, some-same f _ (sym z ∙ leads))),
     )

@@ -25,7 +25,7 @@ use Rattle.behaviour.proofs.Sheets.{write-own}
 use Rattle.behaviour.proofs.OnlyDelays.{only-delays-same, only-delays-chain}
 use Rattle.behaviour.proofs.Stores.{write-again}
 use Rattle.behaviour.proofs.Cycle.{
-  output-typed,
+  output-of-type,
   after-only-delays,
   after-term,
   after-accepted,
@@ -34,7 +34,8 @@ use Rattle.behaviour.proofs.Cycle.{
   after-bytes,
 }
 use Rattle.stimulus.specs.Stimulus.{inputType}
-use Rattle.behaviour.specs.Run.{outputsBy, sheetBefore, sheetAfter}
+use Rattle.behaviour.specs.Run.{outputsBy, sheetAfter}
+use Rattle.behaviour.specs.Midway.{sheetBefore}
 
 module _ (undecided : List ℕ → List ℕ → List ℕ) where
   -- the sheet before the cycle after the last is the sheet after the last
@@ -66,8 +67,8 @@ module _ {undecided : List ℕ → List ℕ → List ℕ} (law : Lawful undecide
   -- inputs of the sheet's type are of that of the sheet after a cycle
   given-again : (s : List ℕ) {t : ℕ} → verdict s ≡ Accepted t → {i : List ℕ} {is : List (List ℕ)}
       → OfType (inputType s) i → AllOf (inputType s) is → AllOf (inputType (afterBy undecided s i)) is
-  given-again s {t} v {i} h r =
-      rw (after-input undecided law s v i h, after-types undecided law s v i h (wordA s 0)) r
+  given-again s v h r =
+      rw (after-input law s v h, after-types law s v h (wordA s 0)) r
 
   -- the run of the meaning
   pub run-outputs : (s : List ℕ) {t : ℕ} → verdict s ≡ Accepted t → {is : List (List ℕ)} → AllOf (inputType s) is
@@ -76,8 +77,8 @@ module _ {undecided : List ℕ → List ℕ → List ℕ} (law : Lawful undecide
   run-outputs s v {is = []} all-none = refl
   run-outputs s {t} v {is = i ∷ is} (all-more h r) =
       ap (_∷_ (outputBy undecided s i))
-      (run-outputs (afterBy undecided s i) (after-accepted undecided law s v i h ∙ v) (given-again s v h r)
-      ∙ ap (λ e. outputs undecided [] e is) (after-term undecided law s v i h))
+      (run-outputs (afterBy undecided s i) (after-accepted law s v h ∙ v) (given-again s v h r)
+      ∙ ap (λ e. outputs undecided [] e is) (after-term law s v h))
 
   pub run-sheet : (s : List ℕ) {t : ℕ} → verdict s ≡ Accepted t → {is : List (List ℕ)} → AllOf (inputType s) is
       → sheetAfter undecided s is ≡ write s (after undecided [] (circuitTerm s) is)
@@ -85,33 +86,33 @@ module _ {undecided : List ℕ → List ℕ → List ℕ} (law : Lawful undecide
   run-sheet s v {is = []} all-none = sym (write-own s v)
   run-sheet s {t} v {is = i ∷ is} (all-more h r) =
       let e = next undecided (i ∷ []) (circuitTerm s) in
-      run-sheet (afterBy undecided s i) (after-accepted undecided law s v i h ∙ v) (given-again s v h r)
-      ∙ ap (λ u. write (afterBy undecided s i) (after undecided [] u is)) (after-term undecided law s v i h)
+      run-sheet (afterBy undecided s i) (after-accepted law s v h ∙ v) (given-again s v h r)
+      ∙ ap (λ u. write (afterBy undecided s i) (after undecided [] u is)) (after-term law s v h)
       ∙ write-again s (after undecided [] e is) e (after-frame undecided [] e is)
 
   pub outputs-typed : (s : List ℕ) {t : ℕ} → verdict s ≡ Accepted t → {is : List (List ℕ)} → AllOf (inputType s) is
       → AllOf (typeAt s t) (outputsBy undecided s is)
   outputs-typed s v {is = []} all-none = all-none
   outputs-typed s {t} v {is = i ∷ is} (all-more h r) =
-      all-more (output-typed undecided law s v i h)
-      (rw (after-types undecided law s v i h t) at
-      (outputs-typed (afterBy undecided s i) (after-accepted undecided law s v i h ∙ v) (given-again s v h r)))
+      all-more (output-of-type law s v h)
+      (rw (after-types law s v h t) at
+      (outputs-typed (afterBy undecided s i) (after-accepted law s v h ∙ v) (given-again s v h r)))
 
   -- each cycle's sheet is accepted with the same type
-  pub sheet-accepted : (s : List ℕ) {t : ℕ} → verdict s ≡ Accepted t → {is : List (List ℕ)} → AllOf (inputType s) is
+  pub accepted-before : (s : List ℕ) {t : ℕ} → verdict s ≡ Accepted t → {is : List (List ℕ)} → AllOf (inputType s) is
       → (k : ℕ) → verdict (sheetBefore undecided s is k) ≡ verdict s
-  sheet-accepted s v {is = []} all-none k = refl
-  sheet-accepted s v {is = i ∷ is} (all-more h r) zero = refl
-  sheet-accepted s {t} v {is = i ∷ is} (all-more h r) (suc k) =
-      sheet-accepted (afterBy undecided s i) (after-accepted undecided law s v i h ∙ v) (given-again s v h r) k
-      ∙ after-accepted undecided law s v i h
+  accepted-before s v {is = []} all-none k = refl
+  accepted-before s v {is = i ∷ is} (all-more h r) zero = refl
+  accepted-before s {t} v {is = i ∷ is} (all-more h r) (suc k) =
+      accepted-before (afterBy undecided s i) (after-accepted law s v h ∙ v) (given-again s v h r) k
+      ∙ after-accepted law s v h
 
   pub sheet-only-delays : (s : List ℕ) {t : ℕ} → verdict s ≡ Accepted t → {is : List (List ℕ)} → AllOf (inputType s) is
       → (k : ℕ) → OnlyDelays s (sheetBefore undecided s is k)
   sheet-only-delays s v {is = []} all-none k = only-delays-same s
   sheet-only-delays s v {is = i ∷ is} (all-more h r) zero = only-delays-same s
   sheet-only-delays s {t} v {is = i ∷ is} (all-more h r) (suc k) =
-      only-delays-chain v (after-only-delays undecided law s v i h) (sheet-only-delays (afterBy undecided s i) (after-accepted undecided law s v i h ∙ v) (given-again s v h r) k)
+      only-delays-chain v (after-only-delays law s v h) (sheet-only-delays (afterBy undecided s i) (after-accepted law s v h ∙ v) (given-again s v h r) k)
 
   -- each input is of the input type of the sheet that its cycle begins from
   pub input-at : (s : List ℕ) {t : ℕ} → verdict s ≡ Accepted t → {is : List (List ℕ)} → AllOf (inputType s) is
@@ -119,7 +120,7 @@ module _ {undecided : List ℕ → List ℕ → List ℕ} (law : Lawful undecide
   input-at s v {is = []} all-none k b = absurd (omega arith)
   input-at s {t} v {is = i ∷ is} (all-more h r) zero b = h
   input-at s {t} v {is = i ∷ is} (all-more h r) (suc k) b =
-      input-at (afterBy undecided s i) (after-accepted undecided law s v i h ∙ v) (given-again s v h r) k (omega arith)
+      input-at (afterBy undecided s i) (after-accepted law s v h ∙ v) (given-again s v h r) k (omega arith)
 
   -- a sheet of bytes stays one
   pub sheet-bytes : (s : List ℕ) {t : ℕ} → verdict s ≡ Accepted t → {is : List (List ℕ)} → AllOf (inputType s) is
@@ -127,5 +128,5 @@ module _ {undecided : List ℕ → List ℕ → List ℕ} (law : Lawful undecide
   sheet-bytes s v {is = []} all-none b k = b
   sheet-bytes s v {is = i ∷ is} (all-more h r) b zero = b
   sheet-bytes s {t} v {is = i ∷ is} (all-more h r) b (suc k) =
-      sheet-bytes (afterBy undecided s i) (after-accepted undecided law s v i h ∙ v) (given-again s v h r)
-      (after-bytes undecided law s v i h b) k
+      sheet-bytes (afterBy undecided s i) (after-accepted law s v h ∙ v) (given-again s v h r)
+      (after-bytes law s v h b) k

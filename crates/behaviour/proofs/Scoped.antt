@@ -55,7 +55,7 @@ use Rattle.records.specs.Says.{kindAt, sortAt, askAt, Naming, names, namings, w
 use Rattle.records.specs.Written.{Written, WellNamed}
 use Rattle.records.proofs.Tests.{never-both, both-left, both-right}
 use Rattle.records.proofs.Table.{askOfKind, ask-by-kind}
-use Rattle.records.proofs.Asked.{Means, as-asked}
+use Rattle.records.proofs.Asked.{AskMeans, as-asked}
 use Rattle.records.proofs.Namings.{in-namings-names, namer-lower}
 use Rattle.verdict.specs.Scopes.{
   Scope,
@@ -75,8 +75,8 @@ use Rattle.verdict.specs.Scopes.{
 }
 
 -- record q is an expression of the circuit
-abbrev pub Scoped : List ℕ → ℕ → Type 0
-Scoped s q = (Γ : List ℕ) × Scope s q Γ
+abbrev pub HasScope : List ℕ → ℕ → Type 0
+HasScope s q = (Γ : List ℕ) × Scope s q Γ
 
 -- a word that asks this names an expression
 abbrev namesExpression : Ask → Bool
@@ -105,13 +105,13 @@ by-word P a b c d e (suc (suc (suc (suc (suc (suc j)))))) low high = absurd (ome
 module _ (s : List ℕ) (q : ℕ) where
   -- what a word of a record of this kind leads to
   abbrev Leads : Kind → ℕ → Type 0
-  Leads k j = namesExpression (askOfKind k j) ≡ true → Scoped s (word s q j)
+  Leads k j = namesExpression (askOfKind k j) ≡ true → HasScope s (word s q j)
 
   abbrev not-named : {A : Type 0} → false ≡ true → A
   not-named e = absurd (never-both false e refl)
 
   -- an expression's parts
-  of-expression : (k : ExpressionKind) → kindAt s q ≡ expression k → Scoped s q → (j : ℕ) → 0 < j → j < 6 → Leads (expression k) j
+  of-expression : (k : ExpressionKind) → kindAt s q ≡ expression k → HasScope s q → (j : ℕ) → 0 < j → j < 6 → Leads (expression k) j
   unfolding askOfKind
   of-expression constant e (Γ, c) = by-word (Leads (expression constant)) not-named not-named not-named not-named not-named
   of-expression name e (Γ, c) = by-word (Leads (expression name)) not-named not-named not-named not-named not-named
@@ -131,7 +131,7 @@ module _ (s : List ℕ) (q : ℕ) where
       by-word (Leads (expression delay)) not-named not-named not-named (λ h. (Γ, of-delay e c)) not-named
 
   -- and no others but the root
-  of-kind : (k : Kind) → kindAt s q ≡ k → (k ≡ header → q ≡ 0) → ((k′ : ExpressionKind) → k ≡ expression k′ → Scoped s q)
+  of-kind : (k : Kind) → kindAt s q ≡ k → (k ≡ header → q ≡ 0) → ((k′ : ExpressionKind) → k ≡ expression k′ → HasScope s q)
       → (j : ℕ) → 0 < j → j < 6 → Leads k j
   unfolding askOfKind
   of-kind header e first-record scoped =
@@ -147,7 +147,7 @@ module _ (s : List ℕ) (q : ℕ) where
   of-kind unknown e first-record scoped = by-word (Leads unknown) not-named not-named not-named not-named not-named
 
 -- a word that names an expression asks for one
-asks-expression : (s : List ℕ) (r : ℕ) (a : Ask) (w : ℕ) → names a ≡ true → Means s r a w → 0 < w → sortAt s w ≡ expressions
+asks-expression : (s : List ℕ) (r : ℕ) (a : Ask) (w : ℕ) → names a ≡ true → AskMeans s r a w → 0 < w → sortAt s w ≡ expressions
     → namesExpression a ≡ true
 asks-expression s r (nextOf σ) w n m h e = rw (sym (m h .2) ∙ e)
 asks-expression s r (part σ) w n m h e = rw (sym (m .2) ∙ e)
@@ -166,7 +166,7 @@ a-naming : (ns : List Naming) → wellNamed ns ≡ true → (x : Naming) × List
 a-naming [] e = absurd (never-both false e refl)
 a-naming (x ∷ ns) e = (x, List·Memᴰ·head refl)
 
-pub every-expression : {s : List ℕ} → Written s → WellNamed s → (q : ℕ) → 0 < q → q < count s → sortAt s q ≡ expressions → Scoped s q
+pub every-expression : {s : List ℕ} → Written s → WellNamed s → (q : ℕ) → 0 < q → q < count s → sortAt s q ≡ expressions → HasScope s q
 every-expression {s} w well q low high e = go (suc q) q (omega arith) low high e
   where
     header-first : (r : ℕ) → r < count s → kindAt s r ≡ header → r ≡ 0
@@ -177,7 +177,7 @@ every-expression {s} w well q low high e = go (suc q) q (omega arith) low high e
     past k zero z = let g = w .headed in let y : _≡_ {A = ℕ} 0 1 = cc in omega arith
     past k (suc r) z = omega arith
 
-    go : (n q : ℕ) → q < n → 0 < q → q < count s → sortAt s q ≡ expressions → Scoped s q
+    go : (n q : ℕ) → q < n → 0 < q → q < count s → sortAt s q ≡ expressions → HasScope s q
     go zero q h low high e = absurd (omega arith)
     go (suc n) q h low high e =
         let f = a-naming (namings s q) (well q low high) in

@@ -13,7 +13,8 @@ use Rattle.records.specs.Rewritten.{Rewritten}
 use Rattle.records.proofs.Grown.{grown-tree}
 use Rattle.records.proofs.Rewritten.{same-kind, same-tree}
 use Rattle.accepted.proofs.Laws.{written}
-use Rattle.verdict.specs.Verdict.{inputs, verdict}
+use Rattle.verdict.specs.Verdict.{verdict}
+use Rattle.verdict.specs.Scopes.{inputs}
 use Rattle.verdict.specs.Scopes.{
   Scope,
   root,

@@ -104,14 +104,14 @@ module _
     next-below : SheetBelow (sheetAfter rule s is) (sheetAfter other s′ is′)
     next-below =
         let lower = all-lower given in
-        let mine = run-only-delays law s v lower in
+        let mine = run-only-delays law v lower in
         let w = run-accepted law s v lower ∙ v in
         let ordered : Ordered (Declared s) (typeAt s (wordA s 0) ∷ []) (circuitTerm (sheetAfter rule s is))
         (circuitTerm (sheetAfter other s′ is′)) (typeAt s t) =
         rw (run-read law s v lower, run-read law′ s′ v′ given′)
         (after-ordered rule other law under (Declared s) terms both-no-values given) in
         sheets-below w (run-accepted law′ s′ v′ given′ ∙ v′)
-        (only-delays-chain w (only-delays-back v mine) (only-delays-chain v (b .only-delays) (run-only-delays law′ s′ v′ given′)))
+        (only-delays-chain w (only-delays-back v mine) (only-delays-chain v (b .only-delays) (run-only-delays law′ v′ given′)))
         ordered
 
 pub sheet-run-ordered : SheetRunOrdered

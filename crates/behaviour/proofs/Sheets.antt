@@ -26,7 +26,8 @@ use Rattle.records.proofs.Grown.{grown-circuit}
 use Rattle.records.proofs.Rewritten.{same-circuit}
 use Rattle.structure.specs.Rules.{Passes}
 use Rattle.accepted.proofs.Laws.{written, well-named}
-use Rattle.verdict.specs.Verdict.{inputs, verdict}
+use Rattle.verdict.specs.Verdict.{verdict}
+use Rattle.verdict.specs.Scopes.{inputs}
 use Rattle.verdict.specs.declared.Verdict.the-variants.{Accepted}
 use Rattle.accepted.proofs.Laws.{accepted-by-types}
 use Rattle.accepted.proofs.Laws.{input-context, accepted-judged}
@@ -44,14 +45,14 @@ use Rattle.behaviour.proofs.Frames.{
   same-places,
   fill,
   same-filled,
-  Placed,
+  EachDelay,
   same-placed,
   Valued,
   typed-valued,
   HasPlaces,
   Reads,
   fill-own,
-  Small,
+  ByteEntries,
   values-small,
 }
 use Rattle.behaviour.proofs.Places.{tree-places, constants-apart}
@@ -125,7 +126,7 @@ entry-at l (e ∷ es) (List·Memᴰ·head p) = (e, List·Memᴰ·head refl, sym 
 entry-at l (e ∷ es) (List·Memᴰ·tail m) = let f = entry-at l es m in (f .0, List·Memᴰ·tail (f .1), f .2)
 
 -- entries that are held already
-pub put-held : (s : List ℕ) (es : List Entry) → Reads (wordA s) es → Small es → putAll putWord es s ≡ s
+pub put-held : (s : List ℕ) (es : List Entry) → Reads (wordA s) es → ByteEntries es → putAll putWord es s ≡ s
 put-held s [] reads small = refl
 put-held s (e ∷ es) reads small =
     let here = reads e (List·Memᴰ·head refl) in
@@ -143,7 +144,7 @@ module _ (s : List ℕ) {t : ℕ} (v : verdict s ≡ Accepted t) where
   pub circuit-valued : Valued (circuitTerm s)
   circuit-valued = typed-valued (circuit-typed s t v)
 
-  pub circuit-has-places : Placed HasPlaces (circuitTerm s)
+  pub circuit-has-places : EachDelay HasPlaces (circuitTerm s)
   unfolding circuitTerm
   circuit-has-places = tree-has-places accepted-written (inputs s) (circuit s) (grown-circuit accepted-written) circuit-valued
 
@@ -178,7 +179,7 @@ module _ (s : List ℕ) {t : ℕ} (v : verdict s ≡ Accepted t) where
     pub write-only-leaves : Rewritten s (write s e)
     write-only-leaves = only-leaves accepted-written (write-only-delays s e (h .frame))
 
-    has-places : Placed HasPlaces e
+    has-places : EachDelay HasPlaces e
     has-places = same-placed HasPlaces (circuitTerm s) e (sym (h .frame)) circuit-has-places
 
     -- each value is held at its place

@@ -28,7 +28,7 @@ use Rattle.behaviour.specs.Copies.{copied}
 use Rattle.behaviour.proofs.Entries.{placesOf, put-append, put-leaves, put-again, put-elsewhere, put-read}
 use Rattle.behaviour.proofs.Cells.{entryAt, InTable, table-cells, InSheet, sheet-cells}
 use Rattle.behaviour.proofs.Members.{member-or-not, Among, Rearranged}
-use Rattle.behaviour.proofs.Frames.{assigned-places, same-places, Reads, Small, values-small, same-placed, HasPlaces, typed-valued}
+use Rattle.behaviour.proofs.Frames.{assigned-places, same-places, Reads, ByteEntries, values-small, same-placed, HasPlaces, typed-valued}
 use Rattle.behaviour.proofs.Sheets.{
   framed-places,
   entry-at,
@@ -103,7 +103,7 @@ module _ {s : List ℕ} {t : ℕ} (v : verdict s ≡ Accepted t) {e : Term} (h :
       framed-places s e (h .frame) .distinct
       (circuit-distinct (accepted-written s v) (well-named (accepted-by-types s t .0 v .0)) false false true)
 
-  pub written-small : Small (entries e)
+  pub written-small : ByteEntries (entries e)
   written-small =
       values-small e (same-placed HasPlaces (circuitTerm s) e (sym (h .frame)) (circuit-has-places s v)) (typed-valued (h .typed))
 

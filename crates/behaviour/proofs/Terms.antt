@@ -39,7 +39,8 @@ use Rattle.records.proofs.Grown.{Grown, grown-tree, grown-circuit}
 use Rattle.structure.specs.Rules.{Passes}
 use Rattle.accepted.proofs.Laws.{written}
 use Rattle.typing.specs.Judging.{Context}
-use Rattle.verdict.specs.Verdict.{inputs, verdict}
+use Rattle.verdict.specs.Verdict.{verdict}
+use Rattle.verdict.specs.Scopes.{inputs}
 use Rattle.verdict.specs.declared.Verdict.the-variants.{Accepted}
 use Rattle.accepted.proofs.Laws.{RulesHold}
 use Rattle.accepted.proofs.Laws.{type-of-record}
@@ -47,7 +48,7 @@ use Rattle.accepted.proofs.Laws.{fits-typed}
 use Rattle.accepted.proofs.Laws.{within-fits}
 use Rattle.accepted.proofs.Laws.{accepted-by-types}
 use Rattle.accepted.proofs.Laws.{input-context, accepted-judged}
-use Rattle.accepted.proofs.Scopes.{Checked}
+use Rattle.accepted.proofs.Scopes.{CheckedAt}
 use Rattle.meaning.specs.Elaboration.{
   erase,
   Elaborated,
@@ -120,7 +121,7 @@ term-typed {s} w Γ (delayOf r t ls a) g c j =
     (rw (eqb-true (typeRecordOf s Γ a) t (j .2)) at (term-typed w Γ a (g .1) c (j .0)))
 
 -- at an expression of an accepted circuit
-pub checked-term : {s : List ℕ} {q : ℕ} {Γ : List ℕ} → Passes s → Checked s q Γ
+pub checked-term : {s : List ℕ} {q : ℕ} {Γ : List ℕ} → Passes s → CheckedAt s q Γ
     → Elaborated (Declared s) (map (typeAt s) Γ) (term s Γ (treeAt s q)) (typeAt s (typeRecordOf s Γ (treeAt s q)))
 checked-term {s} {q} {Γ} p o =
     term-typed (written p) Γ (treeAt s q) (grown-tree (written p) q (o .there) (o .sort)) (o .context) (o .judged)

@@ -46,14 +46,14 @@ use Rattle.records.proofs.Types.{pair-parts, flat-type, pair-type}
 use Rattle.records.proofs.TypeRecords.{first-part, second-part}
 use Rattle.records.proofs.Grown.{Grown}
 use Rattle.accepted.proofs.Scopes.{as-many-leaves}
-use Rattle.accepted.proofs.AcceptedAgain.{Fitting}
+use Rattle.accepted.proofs.AcceptedAgain.{ValuesFit}
 use Rattle.accepted.proofs.LeafBounds.{bounds-small}
 use Rattle.behaviour.specs.Terms.{term}
 use Rattle.behaviour.specs.Delays.{Entry, assigned, entries}
 use Rattle.behaviour.proofs.Members.{either}
-use Rattle.behaviour.proofs.Frames.{Placed, Valued, HasPlaces, Reads}
+use Rattle.behaviour.proofs.Frames.{EachDelay, Valued, HasPlaces, Reads}
 
-pub tree-has-places : {s : List ℕ} → Written s → (Γ : List ℕ) (e : Tree) → Grown s e → Valued (term s Γ e) → Placed HasPlaces (term s Γ e)
+pub tree-has-places : {s : List ℕ} → Written s → (Γ : List ℕ) (e : Tree) → Grown s e → Valued (term s Γ e) → EachDelay HasPlaces (term s Γ e)
 tree-has-places {s} w Γ noExpression g v = tt
 tree-has-places {s} w Γ (constantOf r t ls) g v = tt
 tree-has-places {s} w Γ (nameOf r k) g v = tt
@@ -98,7 +98,7 @@ tree-reads s Γ (delayOf r t ls a) =
     reads-both (wordA s) (entries (term s Γ a)) (assigned ls (leafValues s ls)) (tree-reads s Γ a) (reads-assigned (wordA s) ls)
 
 -- where values are of their types, leaves fit
-pub valued-fitting : (s Γ : List ℕ) (e : Tree) → Valued (term s Γ e) → Fitting s e
+pub valued-fitting : (s Γ : List ℕ) (e : Tree) → Valued (term s Γ e) → ValuesFit s e
 valued-fitting s Γ noExpression v = tt
 valued-fitting s Γ (constantOf r t ls) v = v
 valued-fitting s Γ (nameOf r k) v = tt

@@ -23,27 +23,27 @@ use Rattle.behaviour.proofs.ByRules.{call-by-rules}
 abbrev pub ones : List ℕ
 ones = 1 ∷ 2 ∷ 1 ∷ []
 
-abbrev pub room : List ℕ
-room = replicate 3 0
+abbrev pub roomOfT : List ℕ
+roomOfT = replicate 3 0
 
 abbrev pub lent : List ℕ
 lent = replicate 204 0
 
-pub toggle-formed : WellFormed toggle ones room lent 1
+pub toggle-formed : WellFormed toggle ones roomOfT lent 1
 unfolding verdict byRecords byTypes wrongLength wrongHeader wrongRecord wrongNaming wrongType tooDeep depth nesting ancestry ancestryWithin circuit treeAt treeWithin alternatives alternativesWithin chain chainWithin pairOf typeAt typeWithin namings wellSaid askOf kindOf rowOf word count wrongStimulus wrongByte
 toggle-formed = record { accepted = refl; whole = refl; fitting = refl; room = refl; long = refl }
 
 toggle-afterwards
-    : Afterwards toggle ones 1 (packed (answer toggle ones room lent)) (finalOut toggle ones room lent) (finalNext toggle ones room lent)
+    : Afterwards toggle ones 1 (packed (answer toggle ones roomOfT lent)) (finalOut toggle ones roomOfT lent) (finalNext toggle ones roomOfT lent)
 toggle-afterwards = afterwards toggle-formed
 
 toggle-feedback : FeedbackAt toggle (toggle-afterwards .sheets) (cycleCount toggle ones) 2
 unfolding word count
 toggle-feedback = toggle-afterwards .feedbacks 2 (omega arith) refl
 
-toggle-by-rules : RunsByRules toggle ones 1 (finalOut toggle ones room lent) (finalNext toggle ones room lent)
+toggle-by-rules : RunsByRules toggle ones 1 (finalOut toggle ones roomOfT lent) (finalNext toggle ones roomOfT lent)
 toggle-by-rules =
-    call-by-rules toggle ones room lent 1 _ _ _ (record { result-is = refl; out-is = refl; next-is = refl }) toggle-formed
+    call-by-rules toggle ones roomOfT lent 1 _ _ _ (record { result-is = refl; out-is = refl; next-is = refl }) toggle-formed
 
 -- and of a run of no cycles
 toggle-none : WellFormed toggle [] [] lent 1

@@ -27,8 +27,8 @@ use Rattle.behaviour.specs.Cycle.{output, sheetAfterCycle}
 use Rattle.stimulus.specs.Stimulus.{inputLeaves, cycleCount, wrongStimulus, wrongByte}
 use Rattle.behaviour.specs.Run.{outputNeeded}
 
--- "A sheet is accepted where none of 1 to 7 applies. A stimulus is well formed for it where neither 8 nor 9 applies; slices have
--- the right lengths where neither 10 nor 11 does."
+-- Accepted is "a sheet to which no code from 1 to 7 applies", well formed for it "a stimulus to which 8 and 9 do not", and slices of
+-- the right lengths are "those to which 10 and 11 do not".
 pub record WellFormed (sheet stimulus out next : List ℕ) (t : ℕ) : Type 0 where
   pub accepted : verdict sheet ≡ Accepted t
   pub whole : wrongStimulus sheet stimulus ≡ false
@@ -40,8 +40,8 @@ pub record WellFormed (sheet stimulus out next : List ℕ) (t : ℕ) : Type 0 wh
 abbrev pub Bytes : List ℕ → Type 0
 Bytes s = (i : ℕ) → getD s i 0 ≤ 255
 
--- "The values that delays hold are the words a of the leaf records in the chains that the delays' words b begin." One sheet equals
--- another but for these: it is as long, and each other byte is the same.
+-- The bytes of the values that delays hold "are the words `a` in the chains of leaves that start at the words `b` of the delays". One
+-- sheet equals another but for these: it is as long, and each other byte is the same.
 pub record OnlyDelays (s s′ : List ℕ) : Type 0 where
   pub length : length s′ ≡ length s
   pub bytes : (i : ℕ)
@@ -55,12 +55,13 @@ inputOf s stim k = take (inputLeaves s) (drop (k * inputLeaves s) stim)
 abbrev pub outputIn : (sheet : List ℕ) (t : ℕ) (out : List ℕ) → ℕ → List ℕ
 outputIn s t out k = take (leaves (typeAt s t)) (drop (k * leaves (typeAt s t)) out)
 
--- "One application of a feedback's defining part takes a value of the feedback's type, evaluates the part with the feedback's name
--- holding it, and gives back the part's value; the names around it and the delays stay as they are."
+-- An application "is one evaluation of a feedback's defining part: the feedback's name is given some value of the feedback's type, and
+-- what the part evaluates to is given back. It changes neither the delays nor what the names around hold."
 abbrev pub apply : List (List ℕ) → Term → List ℕ → List ℕ
 apply ρ part v = application undecidedRule ρ part v
 
--- so many applications from undefined: "the first takes undefined in every leaf, each later one what the one before gave back"
+-- so many applications from undefined: the first is "to undefined in every leaf, and every other one to what came out of the one
+-- before"
 abbrev pub applied : List (List ℕ) → Ty → Term → ℕ → List ℕ
 applied ρ σ part n = iter (apply ρ part) n (undefined σ)
 
@@ -104,7 +105,7 @@ pub record FeedbackIn (sheet current : List ℕ) (q : ℕ) (Γ : List ℕ) (defi
   pub decodes : decodedAt current q
       ≡ some (LetRec (typeAt sheet (wordA sheet q)) (erase (term current (wordA sheet q ∷ Γ) defining))
       (erase (term current (wordA sheet q ∷ Γ) body)))
-  -- "The names around it may hold any values of their types."
+  -- the names around it hold "any values of their types, also ones that no run gives them"
   pub settles : (ρ : List (List ℕ)) → ValuesOf (map (typeAt sheet) Γ) ρ
       → FeedbackSettles (map (typeAt sheet) Γ) ρ (typeAt sheet (wordA sheet q)) (term current Γ (treeAt current q))
       (term current (wordA sheet q ∷ Γ) defining) (term current (wordA sheet q ∷ Γ) body)

@@ -9,7 +9,8 @@ use lib.ListN.{length, replicate}
 use Rattle.records.specs.Words.{wordA, wordB}
 use Rattle.records.specs.Trees.{typeAt, alternatives, treeAt}
 use Rattle.records.specs.Decoding.{patternOf}
-use Rattle.verdict.specs.Verdict.{inputs, verdict}
+use Rattle.verdict.specs.Verdict.{verdict}
+use Rattle.verdict.specs.Scopes.{inputs}
 use Rattle.verdict.specs.declared.Verdict.the-variants.{Accepted}
 use Rattle.meaning.specs.Matching.{Decision, Yes, Undecided, matches}
 use Rattle.meaning.specs.Undecided.{undecidedRule}
@@ -32,7 +33,7 @@ pub data Case : Type 0 where
   -- the sheet has this output type, and on the stimulus it gives these outputs in so many cycles; next is this sheet
   runsTyped : (sheet : List ℕ) (type : ℕ) (stimulus outputs : List ℕ) (count : ℕ) (next : List ℕ) → Case
   -- the pattern at this record of the sheet gives this answer on the value
-  says : (sheet : List ℕ) (pattern : ℕ) (value : List ℕ) → Decision → Case
+  patternSays : (sheet : List ℕ) (pattern : ℕ) (value : List ℕ) → Decision → Case
   -- the feedback that is the sheet's root goes through these values, and to the last in as many applications
   goes : (sheet input : List ℕ) (chain : List (List ℕ)) (counted : ℕ) → Case
 
@@ -51,7 +52,7 @@ CaseHolds (runsTyped s t stim outs n next) =
     × (packed (answer s stim (replicate (length outs) 0) (replicate (length s) 0)) ≡ n)
     × (finalOut s stim (replicate (length outs) 0) (replicate (length s) 0) ≡ outs)
     × (finalNext s stim (replicate (length outs) 0) (replicate (length s) 0) ≡ next)
-CaseHolds (says s p v a) = matches (patternOf s (alternatives s p)) v ≡ a
+CaseHolds (patternSays s p v a) = matches (patternOf s (alternatives s p)) v ≡ a
 CaseHolds (goes s i chain n) =
     let q = wordB s 0 in
     let σ = typeAt s (wordA s q) in
@@ -238,16 +239,16 @@ benchCases =
     runs gateAnd (2 ∷ 0 ∷ []) (2 ∷ []) gateAnd
     ∷ runs gateAnd (1 ∷ 0 ∷ []) (0 ∷ []) gateAnd
     ∷ runs gateAnd (1 ∷ 1 ∷ []) (1 ∷ []) gateAnd
-    ∷ says eitherBit 8 (0 ∷ []) Undecided
+    ∷ patternSays eitherBit 8 (0 ∷ []) Undecided
     ∷ runs eitherBit (0 ∷ []) (0 ∷ []) eitherBit
-    ∷ says wholeBit 8 (0 ∷ []) Yes
+    ∷ patternSays wholeBit 8 (0 ∷ []) Yes
     ∷ runs wholeBit (0 ∷ []) (1 ∷ []) wholeBit
     ∷ runs notFedBack (1 ∷ []) (0 ∷ []) notFedBack
     ∷ goes ownFirst (0 ∷ []) ((0 ∷ 0 ∷ []) ∷ (1 ∷ 0 ∷ []) ∷ (1 ∷ 1 ∷ []) ∷ []) 2
     ∷ runs ownFirst (0 ∷ []) (1 ∷ 1 ∷ []) ownFirst
     ∷ runs itself (1 ∷ []) (0 ∷ []) itself
     ∷ runsTyped toggle 1 (1 ∷ 2 ∷ 1 ∷ []) (2 ∷ 1 ∷ 1 ∷ []) 3 toggle
-    ∷ says equalBits 9 (0 ∷ 0 ∷ []) Undecided
+    ∷ patternSays equalBits 9 (0 ∷ 0 ∷ []) Undecided
     ∷ runs equalBits (0 ∷ 0 ∷ []) (0 ∷ []) equalBits
     ∷ goes agreeing (0 ∷ []) ((0 ∷ 0 ∷ []) ∷ (1 ∷ 0 ∷ []) ∷ (1 ∷ 1 ∷ []) ∷ []) 2
     ∷ runs agreeing (0 ∷ 0 ∷ []) (0 ∷ 0 ∷ 1 ∷ 1 ∷ []) agreed

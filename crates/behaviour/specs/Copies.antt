@@ -32,23 +32,23 @@ copied h [] s = s
 copied h (l ∷ ls) s = copied h ls (putWord l (getD h l 0) s)
 
 -- the leaves of a record of this kind, if it is a delay
-abbrev pub leavesOf : Kind → List ℕ → List ℕ
-leavesOf header ls = []
-leavesOf (typeOf k) ls = []
-leavesOf (expression constant) ls = []
-leavesOf (expression name) ls = []
-leavesOf (expression tuple) ls = []
-leavesOf (expression first) ls = []
-leavesOf (expression second) ls = []
-leavesOf (expression letIn) ls = []
-leavesOf (expression feedback) ls = []
-leavesOf (expression ifMatches) ls = []
-leavesOf (expression delay) ls = ls
-leavesOf (pattern k) ls = []
-leavesOf leaf ls = []
-leavesOf unknown ls = []
+abbrev pub leavesByKind : Kind → List ℕ → List ℕ
+leavesByKind header ls = []
+leavesByKind (typeOf k) ls = []
+leavesByKind (expression constant) ls = []
+leavesByKind (expression name) ls = []
+leavesByKind (expression tuple) ls = []
+leavesByKind (expression first) ls = []
+leavesByKind (expression second) ls = []
+leavesByKind (expression letIn) ls = []
+leavesByKind (expression feedback) ls = []
+leavesByKind (expression ifMatches) ls = []
+leavesByKind (expression delay) ls = ls
+leavesByKind (pattern k) ls = []
+leavesByKind leaf ls = []
+leavesByKind unknown ls = []
 
 -- those of the records below n
 abbrev pub delayChains : List ℕ → ℕ → List ℕ
 delayChains s zero = []
-delayChains s (suc r) = delayChains s r ++ leavesOf (kindAt s r) (chain s (wordB s r))
+delayChains s (suc r) = delayChains s r ++ leavesByKind (kindAt s r) (chain s (wordB s r))

@@ -1,6 +1,6 @@
--- One cycle on bytes (docs/SHEETS.md, "One cycle", "After a run"): the value of a sheet's root for an input, and the sheet
--- after the cycle, "that cycle's sheet with every delay holding its next value". What an undecided IF gives is a parameter;
--- the rule in force is the instance.
+-- One cycle on bytes (docs/SHEETS.md, "One cycle", "After a run"): the value of a sheet's root for an input, and the sheet after the
+-- cycle, "the sheet with one change: each delay holds its next value". What an undecided IF gives is a parameter; the rule in force is
+-- the instance.
 use Prim.Native.Nat.{ℕ}
 use mathlib.Core.List.{List, [], _∷_}
 use Rattle.meaning.specs.Undecided.{undecidedRule}

@@ -3,13 +3,9 @@
 use Prim.Native.Nat.{ℕ}
 use mathlib.Core.List.{List}
 use Rattle.records.specs.Trees.{treeAt}
-use Rattle.meaning.specs.Evaluation.{eval, next}
+use Rattle.meaning.specs.Evaluation.{eval}
 use Rattle.behaviour.specs.Terms.{term}
-use Rattle.behaviour.specs.Delays.{store}
 
 module _ (undecided : List ℕ → List ℕ → List ℕ) where
   unfoldable pub valueAt : (sheet Γ : List ℕ) (ρ : List (List ℕ)) → ℕ → List ℕ
   valueAt s Γ ρ r = eval undecided ρ (term s Γ (treeAt s r))
-
-  unfoldable pub storedAt : (sheet Γ : List ℕ) (ρ : List (List ℕ)) → ℕ → (table : List ℕ) → List ℕ
-  storedAt s Γ ρ r h = store (next undecided ρ (term s Γ (treeAt s r))) h

@@ -1,36 +1,14 @@
--- Which alternative fired (docs/SHEETS.md, "Which alternative fired"): "Matching now also tells the record number of the first
--- alternative in the chain that says yes, or 0 when none does." The chain is the IF's own, that its word d begins; a chain inside a pair
--- pattern is not told of. Each IF's number is "taken from the evaluation with every enclosing feedback at its settled value".
+-- Which alternative fired (docs/SHEETS.md, "Which alternative fired"): "A match also tells the record of the first alternative of its
+-- chain that says yes, or 0 if none does." The chain is the IF's own, that its word d begins; a chain inside a pair pattern is not told
+-- of. Each IF's number is "taken from the evaluation in which every feedback that encloses the IF has its settled value".
 use Prim.Native.Nat.{ℕ}
 use mathlib.Core.List.{List, [], _∷_, _++_}
 use lib.ListN.{replicate}
 use Rattle.picoella.specs.Language.{Whole, Constructor, Parts}
 use Rattle.records.specs.Words.{count, wordA}
-use Rattle.records.specs.Trees.{
-  typeAt,
-  Alternatives,
-  end,
-  noPattern,
-  wholeType,
-  oneConstructor,
-  pairOfPatterns,
-  Tree,
-  noExpression,
-  constantOf,
-  nameOf,
-  tupleOf,
-  firstOf,
-  secondOf,
-  letOf,
-  feedbackOf,
-  ifOf,
-  delayOf,
-  treeAt,
-  circuit,
-  typeRecordOf,
-}
+use Rattle.records.specs.Trees.{typeAt, Alternatives, end, noPattern, wholeType, oneConstructor, pairOfPatterns, Tree, noExpression, constantOf, nameOf, tupleOf, firstOf, secondOf, letOf, feedbackOf, ifOf, delayOf, circuit, typeRecordOf}
 use Rattle.records.specs.Decoding.{patternOf}
-use Rattle.verdict.specs.Verdict.{inputs}
+use Rattle.verdict.specs.Scopes.{inputs}
 use Rattle.meaning.specs.Matching.{Decision, Yes, No, Undecided, matches}
 use Rattle.meaning.specs.Undecided.{undecidedRule}
 use Rattle.meaning.specs.Evaluation.{eval, settled}
@@ -72,10 +50,6 @@ module _ (undecided : List ℕ → List ℕ → List ℕ) where
       ++ (firings s Γ ρ b
       ++ (firings s Γ ρ c ++ (record { place = r; value = firstYes s p (eval undecided ρ (term s Γ a)) } ∷ [])))
   firings s Γ ρ (delayOf r t ls a) = firings s Γ ρ a
-
-  -- a table of one number a record, in which the numbers of the expression at record r are entered
-  unfoldable pub firedAt : (sheet Γ : List ℕ) (ρ : List (List ℕ)) → ℕ → (table : List ℕ) → List ℕ
-  firedAt s Γ ρ r f = putAll enter (firings s Γ ρ (treeAt s r)) f
 
 -- one number for each record of a sheet: at an IF its number for this input, and 0 elsewhere
 unfoldable pub fired : (sheet input : List ℕ) → List ℕ

@@ -7,7 +7,8 @@ pub mod Reaching
 pub mod Evaluated
 pub mod SheetOrder
 pub mod Promises
--- What the promises pin down, so that it need not be believed:
+-- What the promises pin down, so that it need not be believed, but of `Delays` and `Sheets` how values are put into their places, which
+-- the definitions of carrying and of what fired use, and for `WriteReads` what can be written:
 pub mod Terms
 pub mod Delays
 pub mod Sheets
@@ -17,3 +18,4 @@ pub mod Bench
 pub mod FiringBench
 -- What functions ask and give, and their proofs need:
 pub mod Copies
+pub mod Midway

@@ -27,7 +27,7 @@ use Rattle.behaviour.specs.Terms.{term, circuitTerm}
 use Rattle.behaviour.specs.Sheets.{write, Writable}
 use Rattle.behaviour.specs.Afterwards.{OnlyDelays, WellFormed, Afterwards}
 use Rattle.stimulus.specs.Stimulus.{inputType, endToEnd, cycles, cycleCount, wrongStimulus}
-use Rattle.behaviour.specs.Run.{outputsBy, sheetAfter, callChecks, answer, finalOut, finalNext, Gives, RunsByRules}
+use Rattle.behaviour.specs.Run.{outputsBy, sheetAfter, callChecks, answer, finalOut, finalNext, RunGiven, RunsByRules}
 use Rattle.behaviour.specs.SheetOrder.{SheetBelow, FormedCall, StrictlyBelow, holding}
 use Rattle.behaviour.specs.Bench.{toggle, agreeing, agreed}
 
@@ -105,13 +105,13 @@ RunReduces =
 abbrev pub CallByRules : Type 0
 CallByRules =
     (s stim out next : List ℕ) (t result : ℕ) (out′ next′ : List ℕ)
-    → Gives s stim out next result out′ next′ → WellFormed s stim out next t → RunsByRules s stim t out′ next′
+    → RunGiven s stim out next result out′ next′ → WellFormed s stim out next t → RunsByRules s stim t out′ next′
 
 -- Demand 3, of whatever a well-formed call gave by the contract.
 abbrev pub HoldsAfterwards : Type 0
 HoldsAfterwards =
     (s stim out next : List ℕ) (t result : ℕ) (out′ next′ : List ℕ)
-    → Gives s stim out next result out′ next′ → WellFormed s stim out next t → Afterwards s stim t result out′ next′
+    → RunGiven s stim out next result out′ next′ → WellFormed s stim out next t → Afterwards s stim t result out′ next′
 
 -- Two accepted sheets that are the same or differ only in delay leaves, each of the first at or below that of the second, run over
 -- two lists of inputs, cycle by cycle the first at or below the second, under two lawful rules for an undecided IF, the first at or

@@ -1,9 +1,9 @@
--- The run (docs/SHEETS.md, "The run"): over a list of inputs from a sheet, and for every call. "The first cycle begins from the
--- sheet handed in, each later one from the sheet after the cycle before." On the empty list a run gives no outputs and leaves the
--- sheet as it is. The answer is the lowest number that applies, with its place; "a refusal leaves every lent slice unaltered".
--- What an undecided IF gives is a parameter of the run over a list; the call takes the rule in force. At the end stands a well-formed
--- call as a run of 000's rules.
-use Prim.Native.Nat.{ℕ, zero, suc, _*_}
+-- The run (docs/SHEETS.md, "The run" and "Codes"): over a list of inputs from a sheet, and for every call. "Cycle 0 works on the sheet
+-- that was lent, cycle 1 on the sheet after cycle 0, and so on." On the empty list a run gives no outputs and leaves the sheet as it
+-- is. The answer is that of the first check that applies, with its place; "On a refusal every lent slice is as it was." What an
+-- undecided IF gives is a parameter of the run over a list; the call takes the rule in force. At the end stands a well-formed call as a
+-- run of 000's rules.
+use Prim.Native.Nat.{ℕ, _*_}
 use mathlib.Core.Path.{_≡_}
 use mathlib.Core.Bool.{not}
 use mathlib.Core.List.{List, [], _∷_, _++_, map}
@@ -14,7 +14,8 @@ use Rattle.records.specs.Trees.{typeAt}
 use Rattle.answers.specs.Answers.{packed, whenDone, onDone, Check, check, when, firstApplying}
 use Rattle.answers.specs.declared.Answer.{Answer}
 use Rattle.answers.specs.declared.Answer.the-variants.{Done}
-use Rattle.verdict.specs.Verdict.{verdictAnswer, sheetChecks, outputType, verdict}
+use Rattle.verdict.specs.Verdict.{sheetChecks, outputType, verdict}
+use Rattle.verdict.specs.Scopes.{verdictAnswer}
 use Rattle.meaning.specs.Undecided.{undecidedRule, undecidedConstant}
 use Rattle.behaviour.specs.Cycle.{outputBy, afterBy}
 use Rattle.stimulus.specs.Stimulus.{cycleCount, endToEnd, cycles, stimulusChecks, inputType}
@@ -29,18 +30,12 @@ module _ (undecided : List ℕ → List ℕ → List ℕ) where
   outputsBy s [] = []
   outputsBy s (i ∷ is) = outputBy undecided s i ∷ outputsBy (afterBy undecided s i) is
 
-  -- the sheet that cycle k begins from; after the last cycle, the sheet after it
-  abbrev pub sheetBefore : (sheet : List ℕ) (inputs : List (List ℕ)) → ℕ → List ℕ
-  sheetBefore s [] k = s
-  sheetBefore s (i ∷ is) zero = s
-  sheetBefore s (i ∷ is) (suc k) = sheetBefore (afterBy undecided s i) is k
-
   -- the sheet after the last cycle
   abbrev pub sheetAfter : (sheet : List ℕ) (inputs : List (List ℕ)) → List ℕ
   sheetAfter s [] = s
   sheetAfter s (i ∷ is) = sheetAfter (afterBy undecided s i) is
 
--- "cycles × output leaves", where the output type is t
+-- the cycles times the output type's leaves, where that type is t
 abbrev pub outputNeeded : (sheet : List ℕ) (t : ℕ) (stimulus : List ℕ) → ℕ
 outputNeeded s t stim = cycleCount s stim * leaves (typeAt s t)
 
@@ -78,7 +73,7 @@ finalNext s stim out next =
     let new = sheetAfter undecidedRule s (cycles s stim) in whenDone (answer s stim out next) new next
 
 -- what a call gives, for every content and length of the four slices: the number returned and the final bytes
-pub record Gives (sheet stimulus out next : List ℕ) (result : ℕ) (out′ next′ : List ℕ) : Type 0 where
+pub record RunGiven (sheet stimulus out next : List ℕ) (result : ℕ) (out′ next′ : List ℕ) : Type 0 where
   pub result-is : result ≡ packed (answer sheet stimulus out next)
   pub out-is : out′ ≡ finalOut sheet stimulus out next
   pub next-is : next′ ≡ finalNext sheet stimulus out next

@@ -10,7 +10,7 @@ use Rattle.records.specs.Trees.{circuit, delayLeaves}
 use Rattle.meaning.specs.Values.{LeafBelow, _⊑_}
 use Rattle.behaviour.specs.Sheets.{putWord}
 use Rattle.behaviour.specs.Afterwards.{OnlyDelays, WellFormed}
-use Rattle.behaviour.specs.Run.{Gives}
+use Rattle.behaviour.specs.Run.{RunGiven}
 use Rattle.behaviour.specs.Bench.{toggle}
 
 -- the second sheet differs from the first in delay leaves alone, and each of the first is at or below that of the second
@@ -25,7 +25,7 @@ pub record FormedCall (sheet stimulus outputs next : List ℕ) : Type 0 where
   pub type : ℕ
   pub result : ℕ
   pub formed : WellFormed sheet stimulus lentOut lentNext type
-  pub gives : Gives sheet stimulus lentOut lentNext result outputs next
+  pub gives : RunGiven sheet stimulus lentOut lentNext result outputs next
 
 -- two such calls in order, of which the first gives 0 in an output leaf and in a delay leaf where the second gives a constructor
 pub record StrictlyBelow (s s′ stimulus stimulus′ outputs outputs′ next next′ : List ℕ) : Type 0 where

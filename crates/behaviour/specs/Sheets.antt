@@ -1,7 +1,6 @@
--- The sheet with other values in its delays (docs/SHEETS.md, "The run": "The next slice receives the sheet with only delay leaves
--- rewritten"; "The values that delays hold are the words a of the leaf records in the chains that the delays' words b begin").
--- Any term of the circuit's frame can be written, not only what comes after a cycle. A value is at most 255, so the word's
--- second byte is 0.
+-- The sheet with other values in its delays (docs/SHEETS.md, "One cycle": "A delay's value is kept in its chain of leaves, the one that
+-- starts at its word `b`: leaf by leaf in their words `a`. No other word changes."). Any term of the circuit's frame can be written,
+-- not only what comes after a cycle. A value is at most 255, so the word's second byte is 0.
 use Prim.Native.Nat.{ℕ}
 use mathlib.Core.Path.{_≡_}
 use mathlib.Core.List.{List, [], _∷_}

@@ -22,7 +22,7 @@ use Rattle.records.specs.Trees.{
   typeRecordOf,
 }
 use Rattle.records.specs.Decoding.{leafValues, patternOf}
-use Rattle.verdict.specs.Verdict.{inputs}
+use Rattle.verdict.specs.Scopes.{inputs}
 use Rattle.meaning.specs.Elaboration.{
   Term,
   Constant,

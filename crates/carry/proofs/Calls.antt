@@ -18,7 +18,8 @@ use Rattle.answers.specs.declared.Answer.the-variants.{Done, Refused}
 use Rattle.answers.specs.declared.Found.{Found}
 use Rattle.answers.specs.declared.Found.the-variants.{At, Nothing}
 use Rattle.answers.proofs.Lowest.{lowest-some-passes}
-use Rattle.verdict.specs.Verdict.{sheetChecks, outputType, verdictAnswer, verdict}
+use Rattle.verdict.specs.Verdict.{sheetChecks, outputType, verdict}
+use Rattle.verdict.specs.Scopes.{verdictAnswer}
 use Rattle.verdict.specs.declared.Verdict.{Verdict}
 use Rattle.verdict.specs.declared.Verdict.the-variants as Verdicts
 use Rattle.accepted.proofs.Laws.{verdict-first, verdict-place}
@@ -29,8 +30,8 @@ use Rattle.answers.proofs.First.{first-both, first-then}
 use Rattle.carry.specs.Labels.{labelTwice}
 use Rattle.carry.specs.Bearers.{AllLabelled}
 use Rattle.carry.specs.Carried.{takenBelow, carried}
-use Rattle.carry.specs.Carrying.{IsAccepted, Carrying, CarryingAll}
-use Rattle.carry.specs.Carry.{newChecks, carryAnswer, finalCarried, CarryGives}
+use Rattle.carry.specs.Carrying.{SheetAccepted, Carrying, CarryingAll}
+use Rattle.carry.specs.Carry.{newChecks, carryAnswer, finalCarried, CarryGiven}
 use Rattle.carry.proofs.Delays.{is-written}
 
 -- the answer: by the old sheet's verdict, and then by the other checks
@@ -44,11 +45,11 @@ carry-answer old new next =
     ∙ sym (ap (λ (a : Answer). onDone a rest) (verdict-first old))
 
 -- what a call gives where it refuses, and where it does not
-gives-refused : (old new next : List ℕ) (c p : ℕ) → carryAnswer old new next ≡ Refused c p → CarryGives old new next (inOne c p) next
+gives-refused : (old new next : List ℕ) (c p : ℕ) → carryAnswer old new next ≡ Refused c p → CarryGiven old new next (inOne c p) next
 unfolding finalCarried
 gives-refused old new next c p e = record { result-is = rw e refl; next-is = rw e refl }
 
-gives-carried : (old new next : List ℕ) → carryAnswer old new next ≡ Done 0 → CarryGives old new next 0 (carried old new)
+gives-carried : (old new next : List ℕ) → carryAnswer old new next ≡ Done 0 → CarryGiven old new next 0 (carried old new)
 unfolding finalCarried
 gives-carried old new next e = record { result-is = rw e refl; next-is = rw e refl }
 
@@ -88,7 +89,7 @@ old-place s e = rw e (let h = verdict-place s in omega arith)
 
 -- the old sheet refused
 pub old-refused : {old new next : List ℕ} {w : Verdict} {c result : ℕ} → w ≡ verdict old → c ≡ code (verdictAnswer w) → (c ≡ 0 → ⊥)
-    → result ≡ packed (verdictAnswer w) → CarryGives old new next result next
+    → result ≡ packed (verdictAnswer w) → CarryGiven old new next result next
 old-refused {old} {new} {next} {w} {c} {result} ew ec f er =
     let r = refuses-by-code w (λ z. f (ec ∙ z)) in
     let a : carryAnswer old new next ≡ Refused (r .0) (r .1) =
@@ -109,7 +110,7 @@ accepted-old old {w} ew ec z = let a = accepts-by-code w (sym ec ∙ z) in (a .0
 
 -- the new sheet refused
 pub new-refused : {old new next : List ℕ} {w x : Verdict} {c d result : ℕ} → w ≡ verdict old → c ≡ code (verdictAnswer w) → c ≡ 0
-    → x ≡ verdict new → d ≡ code (verdictAnswer x) → (d ≡ 0 → ⊥) → result ≡ inOne 18 d → CarryGives old new next result next
+    → x ≡ verdict new → d ≡ code (verdictAnswer x) → (d ≡ 0 → ⊥) → result ≡ inOne 18 d → CarryGiven old new next result next
 new-refused {old} {new} {next} {w} {x} {c} {d} {result} ew ec z ex ed f er =
     let v = accepted-old old ew ec z in
     let r = refuses-by-code x (λ y. f (ed ∙ y)) in
@@ -118,11 +119,11 @@ new-refused {old} {new} {next} {w} {x} {c} {d} {result} ew ec z ex ed f er =
     let a : carryAnswer old new next ≡ Refused 18 (r .0) = after-old old new next (v .0) (v .1) ∙ rw n refl in
     rw (er, e) (gives-refused old new next 18 (r .0) a)
 
-accepted-of : {s : List ℕ} {n : ℕ} (t : ℕ) → n ≡ length s / 12 → verdict s ≡ Verdicts.Accepted t → IsAccepted s n
-accepted-of {s} {n} t e v = record { sized = rw e (accepted-sized s v); type = t; accepted = v }
+accepted-of : {s : List ℕ} {n : ℕ} (t : ℕ) → n ≡ length s / 12 → verdict s ≡ Verdicts.Accepted t → SheetAccepted s n
+accepted-of t e v = record { sized = rw e (accepted-sized v); type = t; accepted = v }
 
 pub both-accepted : {old new : List ℕ} {n m : ℕ} {w x : Verdict} {c d : ℕ} → n ≡ length old / 12 → w ≡ verdict old → c ≡ code (verdictAnswer w)
-    → c ≡ 0 → m ≡ length new / 12 → x ≡ verdict new → d ≡ code (verdictAnswer x) → d ≡ 0 → IsAccepted old n × IsAccepted new m
+    → c ≡ 0 → m ≡ length new / 12 → x ≡ verdict new → d ≡ code (verdictAnswer x) → d ≡ 0 → SheetAccepted old n × SheetAccepted new m
 both-accepted {old} {new} en ew ec z em ex ed y =
     let v = accepted-old old ew ec z in let u = accepted-old new ex ed y in (accepted-of (v .0) en (v .1), accepted-of (u .0) em (u .1))
 
@@ -131,24 +132,24 @@ put-over : (new next next′ : List ℕ) → length next ≡ length new → next
 put-over new next next′ l p = p ∙ rw (← l, drop-length next) (append-nil new)
 
 -- the searches
-pub searching : {s : List ℕ} {n : ℕ} → IsAccepted s n → Sized s n × Written s
-searching {s} g = (g .sized, is-written s (g .accepted))
+pub searching : {s : List ℕ} {n : ℕ} → SheetAccepted s n → Sized s n × Written s
+searching g = (g .sized, is-written (g .accepted))
 
-at-count : {s : List ℕ} {n : ℕ} → IsAccepted s n → (o : Found) → found o ≡ lowest (labelTwice s) n → (x : Option ℕ) → found o ≡ x
+at-count : {s : List ℕ} {n : ℕ} → SheetAccepted s n → (o : Found) → found o ≡ lowest (labelTwice s) n → (x : Option ℕ) → found o ≡ x
     → lowest (labelTwice s) (count s) ≡ x
 at-count {s} {n} g o e x q = let c = g .sized .counted in rw (← c) (sym e ∙ q)
 
-pub twice-place : {s : List ℕ} {n : ℕ} → IsAccepted s n → {o : Found} → found o ≡ lowest (labelTwice s) n → {r : ℕ} → o ≡ At r → r < 4096
+pub twice-place : {s : List ℕ} {n : ℕ} → SheetAccepted s n → {o : Found} → found o ≡ lowest (labelTwice s) n → {r : ℕ} → o ≡ At r → r < 4096
 twice-place {s} {n} g {o} e {r} q =
     let h = lowest-some-passes (labelTwice s) n r (sym e ∙ ap found q) .0 in let f = g .sized .few in omega arith
 
-module _ {old new : List ℕ} {n m : ℕ} (g : IsAccepted old n) (k : IsAccepted new m) where
+module _ {old new : List ℕ} {n m : ℕ} (g : SheetAccepted old n) (k : SheetAccepted new m) where
   -- both accepted
   from-labels : (next : List ℕ) → carryAnswer old new next ≡ firstApplying (newChecks old new next) (Done 0)
   from-labels next = after-old old new next (g .type) (g .accepted)
 
   module _ {o : Found} (e : found o ≡ lowest (labelTwice old) n) where
-    pub old-twice : {next : List ℕ} {r result : ℕ} → o ≡ At r → result ≡ inOne 19 r → CarryGives old new next result next
+    pub old-twice : {next : List ℕ} {r result : ℕ} → o ≡ At r → result ≡ inOne 19 r → CarryGiven old new next result next
     old-twice {next} {r} {result} q er =
         let l = at-count g o e (some r) (ap found q) in
         let a : carryAnswer old new next ≡ Refused 19 r = from-labels next ∙ rw (k .accepted, l) refl in
@@ -168,7 +169,7 @@ module _ {old new : List ℕ} {n m : ℕ} (g : IsAccepted old n) (k : IsAccepted
           }
 
       module _ {p : Found} (f : found p ≡ lowest (labelTwice new) m) where
-        pub new-twice : {next : List ℕ} {r result : ℕ} → p ≡ At r → result ≡ inOne 19 r → CarryGives old new next result next
+        pub new-twice : {next : List ℕ} {r result : ℕ} → p ≡ At r → result ≡ inOne 19 r → CarryGiven old new next result next
         new-twice {next} {r} {result} y er =
             let l = at-count k p f (some r) (ap found y) in
             let a : carryAnswer old new next ≡ Refused 19 r = from-labels next ∙ rw (k .accepted, old-once, l) refl in
@@ -178,14 +179,14 @@ module _ {old new : List ℕ} {n m : ℕ} (g : IsAccepted old n) (k : IsAccepted
           new-once : lowest (labelTwice new) (count new) ≡ none
           new-once = at-count k p f none (ap found y)
 
-          pub wrong-next : {next : List ℕ} {result : ℕ} → (length next ≡ length new → ⊥) → result ≡ inOne 11 (length new) → CarryGives old new next result next
+          pub wrong-next : {next : List ℕ} {result : ℕ} → (length next ≡ length new → ⊥) → result ≡ inOne 11 (length new) → CarryGiven old new next result next
           wrong-next {next} {result} d er =
               let a : carryAnswer old new next ≡ Refused 11 (length new) =
               from-labels next ∙ rw (k .accepted, old-once, new-once, ne-eqb (length next) (length new) d) refl in
               rw er (gives-refused old new next 11 (length new) a)
 
           pub carried-done : {next next′ next″ : List ℕ} → length next ≡ length new → next′ ≡ new ++ drop (length new) next
-              → next″ ≡ putAll putWord (takenBelow old new m) next′ → CarryGives old new next 0 next″
+              → next″ ≡ putAll putWord (takenBelow old new m) next′ → CarryGiven old new next 0 next″
           unfolding carried
           carried-done {next} {next′} {next″} l z t =
               let a : carryAnswer old new next ≡ Done 0 =
@@ -197,7 +198,7 @@ module _ {old new : List ℕ} {n m : ℕ} (g : IsAccepted old n) (k : IsAccepted
 -- the table of the old sheet's labels is whole
 module _ {old new next : List ℕ} {n m : ℕ} (g : CarryingAll old n new m next) where
   pub values-written : Written old
-  values-written = is-written old (g .before .accepted)
+  values-written = is-written (g .before .accepted)
 
   pub values-carrying : {o : Found} {table : List ℕ} → AllLabelled old n o table → Carrying old n new m table next
   values-carrying l =

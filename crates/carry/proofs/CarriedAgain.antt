@@ -39,7 +39,8 @@ use Rattle.records.proofs.Leaves.{chain-leaves}
 use Rattle.records.proofs.Rewritten.{same-type}
 use Rattle.verdict.specs.Verdict.{verdict}
 use Rattle.verdict.specs.declared.Verdict.the-variants.{Accepted}
-use Rattle.accepted.proofs.AcceptedAgain.{Fitting, accepted-again}
+use Rattle.accepted.proofs.Small.{accepted-passes}
+use Rattle.accepted.proofs.AcceptedAgain.{ValuesFit, accepted-again}
 use Rattle.accepted.proofs.Scopes.{scope-checked, constant-fits}
 use Rattle.behaviour.specs.Delays.{Entry, assigned}
 use Rattle.behaviour.specs.Sheets.{putWord}
@@ -52,7 +53,7 @@ use Rattle.carry.specs.Labels.{label, delayType}
 use Rattle.carry.specs.Carried.{leavesAt, heldAt, giver, takenFrom, takenBelow, carried}
 use Rattle.carry.proofs.ApartChains.{first-leaf}
 use Rattle.carry.proofs.Shapes.{shape-bounds}
-use Rattle.carry.proofs.Delays.{accepted-passes, is-written, is-well-named, delay-holds}
+use Rattle.carry.proofs.Delays.{is-written, is-well-named, delay-holds}
 use Rattle.carry.proofs.Takes.{bearer-delay}
 use Rattle.carry.proofs.Entered.{
   giver-some,
@@ -69,8 +70,8 @@ module _ (s s′ : List ℕ) (w : Written s)
     (constants : (r : ℕ) → r < count s → kindAt s r ≡ expression constant → OfType (typeAt s′ (wordA s r)) (leafValues s′ (chain s (wordB s r))))
     (delays : (r : ℕ) → r < count s → kindAt s r ≡ expression delay → OfType (typeAt s′ (wordA s r)) (leafValues s′ (chain s (wordB s r)))) where
   node-fitting : (k : ExpressionKind) (r : ℕ) → r < count s → kindAt s r ≡ expression k
-      → ((j : ℕ) → (ltb 0 j && ltb j 6) ≡ true → askOfKind (expression k) j ≡ part expressions → Fitting s′ (treeAt s (word s r j)))
-      → Fitting s′ (treeStep s (treeAt s) (expression k) r (wordA s r) (wordB s r) (wordC s r) (wordD s r))
+      → ((j : ℕ) → (ltb 0 j && ltb j 6) ≡ true → askOfKind (expression k) j ≡ part expressions → ValuesFit s′ (treeAt s (word s r j)))
+      → ValuesFit s′ (treeStep s (treeAt s) (expression k) r (wordA s r) (wordB s r) (wordC s r) (wordD s r))
   node-fitting constant r h e at = constants r h e
   node-fitting name r h e at = tt
   node-fitting tuple r h e at = (at 2 refl (unfold askOfKind in refl), at 3 refl (unfold askOfKind in refl))
@@ -82,18 +83,18 @@ module _ (s s′ : List ℕ) (w : Written s)
       (at 2 refl (unfold askOfKind in refl), at 3 refl (unfold askOfKind in refl), at 4 refl (unfold askOfKind in refl))
   node-fitting delay r h e at = (delays r h e, at 4 refl (unfold askOfKind in refl))
 
-  tree-fitting : (r : ℕ) → r < count s → sortAt s r ≡ expressions → Fitting s′ (treeAt s r)
-  tree-fitting = from-above (count s) (λ r. sortAt s r ≡ expressions → Fitting s′ (treeAt s r)) step
+  tree-fitting : (r : ℕ) → r < count s → sortAt s r ≡ expressions → ValuesFit s′ (treeAt s r)
+  tree-fitting = from-above (count s) (λ r. sortAt s r ≡ expressions → ValuesFit s′ (treeAt s r)) step
     where
-      step : (r : ℕ) → r < count s → ((q : ℕ) → r < q → q < count s → sortAt s q ≡ expressions → Fitting s′ (treeAt s q))
-          → sortAt s r ≡ expressions → Fitting s′ (treeAt s r)
+      step : (r : ℕ) → r < count s → ((q : ℕ) → r < q → q < count s → sortAt s q ≡ expressions → ValuesFit s′ (treeAt s q))
+          → sortAt s r ≡ expressions → ValuesFit s′ (treeAt s r)
       step r h above e =
           let k = kind-of-sort expressions (kindAt s r) e in
           rw (tree-of w r h (expression (k .0)) (k .1))
           (node-fitting (k .0) r h (k .1)
           (λ j t a. let p = part-of-kind w r (expression (k .0)) expressions h (k .1) j t a in above (word s r j) (p .0) (p .1) (p .2)))
 
-  circuit-fitting : Fitting s′ (circuit s)
+  circuit-fitting : ValuesFit s′ (circuit s)
   unfolding circuit
   circuit-fitting = let p = root-is w in tree-fitting (wordB s 0) (p .1) (p .2)
 
@@ -112,7 +113,7 @@ assigned-small (l ∷ ls) (v ∷ vs) small e (List·Memᴰ·tail m) = assigned-s
 
 module _ (old new : List ℕ) (t′ t : ℕ) (v′ : verdict old ≡ Accepted t′) (v : verdict new ≡ Accepted t) where
   w : Written new
-  w = is-written new v
+  w = is-written v
 
   -- what is taken is bytes
   taken-small : (r : ℕ) (e : Entry) → List·Memᴰ e (takenFrom old new r (giver old new r)) → e .value ≤ 255
@@ -122,7 +123,7 @@ module _ (old new : List ℕ) (t′ t : ℕ) (v′ : verdict old ≡ Accepted t�
       go none z m = elim m [ ]
       go (some q) z m =
           let d = bearer-delay old (label new r) q (giver-some old new q r z .bears) in
-          let wo = is-written old v′ in
+          let wo = is-written v′ in
           let f = first-leaf wo (is-well-named old v′) q (d .0) (expression delay) (d .3) delay-chain in
           assigned-small (leavesAt new r) (heldAt old q)
           (mapped-small (wordA old) (leavesAt old q)
@@ -155,7 +156,7 @@ module _ (old new : List ℕ) (t′ t : ℕ) (v′ : verdict old ≡ Accepted t�
   constants-fit : (r : ℕ) → r < count new → kindAt new r ≡ expression constant
       → OfType (typeAt (carried old new) (wordA new r)) (leafValues (carried old new) (leavesAt new r))
   constants-fit r h e =
-      let p = accepted-passes new v in
+      let p = accepted-passes v in
       let c = every-expression w (is-well-named new v) r (past-header w r (rw e refl)) h (rw e refl) in
       rw (
         same-type (carried-rewritten old new v) (wordA new r),

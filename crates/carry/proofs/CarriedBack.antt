@@ -180,8 +180,8 @@ module _ {s running : List ℕ} {t t′ : ℕ} (v : verdict s ≡ Accepted t) (v
         → (getD x (lowByte l) 0 ≡ getD y (lowByte l) 0) × (getD x (highByte l) 0 ≡ getD y (highByte l) 0)
     bytes-of x y l e h = let p = word-a x l in let q = word-a y l in (omega arith, omega arith)
 
-    pub back : carried running s ≡ running
-    back =
+    pub carried-returns : carried running s ≡ running
+    carried-returns =
         ext-getD 0 (carried running s) running
         (carried-only-delays running s v .length ∙ sym (o .length)) (λ i h. at i (member-or-not (i / 12) (delayLeaves (circuit s))))
       where

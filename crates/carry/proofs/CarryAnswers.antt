@@ -17,7 +17,8 @@ use Rattle.answers.specs.declared.Answer.{Answer}
 use Rattle.answers.specs.declared.Answer.the-variants.{Done, Refused}
 use Rattle.answers.proofs.Lowest.{lowest-some-passes}
 use Rattle.answers.proofs.First.{first-says, says-first}
-use Rattle.verdict.specs.Verdict.{sheetChecks, outputType, verdictAnswer, verdict}
+use Rattle.verdict.specs.Verdict.{sheetChecks, outputType, verdict}
+use Rattle.verdict.specs.Scopes.{verdictAnswer}
 use Rattle.verdict.specs.declared.Verdict.the-variants.{Accepted}
 use Rattle.accepted.proofs.Laws.{verdict-place, first-accepted}
 use Rattle.accepted.proofs.Small.{accepted-length}
@@ -86,7 +87,7 @@ module _ (old new next : List ℕ) {t : ℕ} (v : verdict old ≡ Accepted t) wh
 
   twice-small : (s : List ℕ) (t : ℕ) → verdict s ≡ Accepted t → (p : ℕ) → lowest (labelTwice s) (count s) ≡ some p → p < 2 ^ 32
   twice-small s t v p e =
-      let h = lowest-some-passes (labelTwice s) (count s) p e .0 in let f = is-written s v .few in omega arith
+      let h = lowest-some-passes (labelTwice s) (count s) p e .0 in let f = is-written v .few in omega arith
 
   rest-small : place (firstApplying (newChecks old new next) (Done 0)) < 2 ^ 32
   rest-small =

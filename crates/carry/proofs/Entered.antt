@@ -74,16 +74,16 @@ delay-chain = unfold askOfKind in refl
 
 module _ (old new : List ℕ) {t : ℕ} (v : verdict new ≡ Accepted t) where
   w : Written new
-  w = is-written new v
+  w = is-written v
 
   once : WellNamed new
   once = is-well-named new v
 
-  abbrev pub taken : ℕ → List Entry
-  taken r = takenFrom old new r (giver old new r)
+  abbrev pub takenAt : ℕ → List Entry
+  takenAt r = takenFrom old new r (giver old new r)
 
   -- the places that a record takes at are those of its chain, and it is a delay
-  taken-place : (r l : ℕ) → List·Memᴰ l (placesOf (taken r)) → (kindAt new r ≡ expression delay) × List·Memᴰ l (leavesAt new r)
+  taken-place : (r l : ℕ) → List·Memᴰ l (placesOf (takenAt r)) → (kindAt new r ≡ expression delay) × List·Memᴰ l (leavesAt new r)
   taken-place r l m = go (giver old new r) refl m
     where
       go : (o : Option ℕ) → giver old new r ≡ o → List·Memᴰ l (placesOf (takenFrom old new r o)) → (kindAt new r ≡ expression delay) × List·Memᴰ l (leavesAt new r)
@@ -94,26 +94,26 @@ module _ (old new : List ℕ) {t : ℕ} (v : verdict new ≡ Accepted t) where
   pub record Source (e : Entry) : Type 0 where
     pub at : ℕ
     pub there : at < count new
-    pub member : List·Memᴰ e (taken at)
+    pub member : List·Memᴰ e (takenAt at)
 
   pub source : (k : ℕ) → k ≤ count new → (e : Entry) → List·Memᴰ e (takenBelow old new k) → Source e
   unfolding takenBelow
   source zero h e m = elim m [ ]
   source (suc k) h e m =
-      either (takenBelow old new k) (taken k) (source k (omega arith) e) (λ n. record { at = k; there = omega arith; member = n }) m
+      either (takenBelow old new k) (takenAt k) (source k (omega arith) e) (λ n. record { at = k; there = omega arith; member = n }) m
 
   -- a leaf of another record's chain is not among them
   pub apart : (r : ℕ) → r < count new → (k : Kind) → kindAt new r ≡ k → leafChain k → (q : ℕ) → q < count new → (q ≡ r → ⊥)
-      → (l : ℕ) → List·Memᴰ l (leavesAt new r) → List·Memᴰ l (placesOf (taken q)) → ⊥
+      → (l : ℕ) → List·Memᴰ l (leavesAt new r) → List·Memᴰ l (placesOf (takenAt q)) → ⊥
   apart r hr k e a q hq f l m n =
       let p = taken-place q l n in
       f (one-chain w once q hq (expression delay) (p .0) delay-chain r hr k e a l (p .1) m)
 
   -- so a record that takes nothing keeps its leaves
-  pub stays : (r : ℕ) → r < count new → (k : Kind) → kindAt new r ≡ k → leafChain k → giver old new r ≡ none
+  pub leaf-stays : (r : ℕ) → r < count new → (k : Kind) → kindAt new r ≡ k → leafChain k → giver old new r ≡ none
       → (l : ℕ) → List·Memᴰ l (leavesAt new r) → wordA (carried old new) l ≡ wordA new l
   unfolding carried
-  stays r hr k e a z l m =
+  leaf-stays r hr k e a z l m =
       put-elsewhere sheet-cells (takenBelow old new (count new)) l new other
     where
       other : List·Memᴰ l (placesOf (takenBelow old new (count new))) → ⊥
@@ -123,23 +123,23 @@ module _ (old new : List ℕ) {t : ℕ} (v : verdict new ≡ Accepted t) where
           go f =
               let s = source (count new) (omega arith) (f .0) (f .1) in
               let p = f .2 in
-              at s (subst (λ x. List·Memᴰ x (placesOf (taken (s .at)))) p (place-of-member (f .0) (taken (s .at)) (s .member)))
+              at s (subst (λ x. List·Memᴰ x (placesOf (takenAt (s .at)))) p (place-of-member (f .0) (takenAt (s .at)) (s .member)))
               (ℕ-discrete (s .at) r)
             where
-              at : (s : Source (f .0)) → List·Memᴰ l (placesOf (taken (s .at))) → Dec (s .at ≡ r) → ⊥
+              at : (s : Source (f .0)) → List·Memᴰ l (placesOf (takenAt (s .at))) → Dec (s .at ≡ r) → ⊥
               at s n (no g) = apart r hr k e a (s .at) (s .there) g l m n
               at s n (yes g) =
-                  let none-there : taken r ≡ [] = rw z refl in
+                  let none-there : takenAt r ≡ [] = rw z refl in
                   elim (subst (λ es. List·Memᴰ l (placesOf es)) none-there (rw g at n)) [ ]
 
-  in-sheet : (a : List ℕ) → length a ≡ length new → (r l : ℕ) → List·Memᴰ l (placesOf (taken r)) → r < count new → InSheet l a
+  in-sheet : (a : List ℕ) → length a ≡ length new → (r l : ℕ) → List·Memᴰ l (placesOf (takenAt r)) → r < count new → InSheet l a
   in-sheet a long r l m h =
       let p = taken-place r l m in
       let f = first-leaf w once r h (expression delay) (p .0) delay-chain in
       let x = chain-leaves w (wordB new r) (f .0) (f .1) l (p .1) in
       rw (← long) at (leaf-in-sheet new l (x .there))
 
-  taken-distinct : (r : ℕ) → r < count new → Distinct (placesOf (taken r))
+  taken-distinct : (r : ℕ) → r < count new → Distinct (placesOf (takenAt r))
   taken-distinct r h = go (giver old new r) refl
     where
       go : (o : Option ℕ) → giver old new r ≡ o → Distinct (placesOf (takenFrom old new r o))
@@ -152,24 +152,24 @@ module _ (old new : List ℕ) {t : ℕ} (v : verdict new ≡ Accepted t) where
   below-long k = put-leaves putWord length (takenBelow old new k) (λ l m v a. put-length l v a) new
 
   -- and one that takes holds what it took
-  reads-below : (k : ℕ) → k ≤ count new → (r : ℕ) → r < k → Reads (wordA (putAll putWord (takenBelow old new k) new)) (taken r)
+  reads-below : (k : ℕ) → k ≤ count new → (r : ℕ) → r < k → Reads (wordA (putAll putWord (takenBelow old new k) new)) (takenAt r)
   unfolding takenBelow
   reads-below zero h r i e m = absurd (omega arith)
   reads-below (suc k) h r i e m =
-      rw (put-append putWord (takenBelow old new k) (taken k) new)
+      rw (put-append putWord (takenBelow old new k) (takenAt k) new)
       (go (ℕ-discrete r k) (λ j. reads-below k (omega arith) r j e m))
     where
       base : List ℕ
       base = putAll putWord (takenBelow old new k) new
 
       go : Dec (r ≡ k) → (r < k → wordA (putAll putWord (takenBelow old new k) new) (e .place) ≡ e .value)
-          → wordA (putAll putWord (taken k) (putAll putWord (takenBelow old new k) new)) (e .place) ≡ e .value
+          → wordA (putAll putWord (takenAt k) (putAll putWord (takenBelow old new k) new)) (e .place) ≡ e .value
       go (yes z) ih =
-          put-read sheet-cells (taken k) (putAll putWord (takenBelow old new k) new) (taken-distinct k (omega arith))
+          put-read sheet-cells (takenAt k) (putAll putWord (takenBelow old new k) new) (taken-distinct k (omega arith))
           (λ l n. in-sheet (putAll putWord (takenBelow old new k) new) (below-long k) k l n (omega arith)) e (rw z at m)
       go (no f) ih =
-          let p = taken-place r (e .place) (place-of-member e (taken r) m) in
-          put-elsewhere sheet-cells (taken k) (e .place) (putAll putWord (takenBelow old new k) new)
+          let p = taken-place r (e .place) (place-of-member e (takenAt r) m) in
+          put-elsewhere sheet-cells (takenAt k) (e .place) (putAll putWord (takenBelow old new k) new)
           (apart r (omega arith) (expression delay) (p .0) delay-chain k (omega arith) (λ z. f (sym z)) (e .place) (p .1))
           ∙ ih (omega arith)
 
@@ -191,7 +191,7 @@ module _ (old new : List ℕ) {t : ℕ} (v : verdict new ≡ Accepted t) where
           let f = entry-at l (takenBelow old new (count new)) m in
           let s = source (count new) (omega arith) (f .0) (f .1) in
           let z = f .2 in
-          let p = taken-place (s .at) (f .0 .place) (place-of-member (f .0) (taken (s .at)) (s .member)) in
+          let p = taken-place (s .at) (f .0 .place) (place-of-member (f .0) (takenAt (s .at)) (s .member)) in
           record-delay-leaf v l (record { of = s .at; there = s .there; kind = p .0; leaf = rw z at (p .1) })
 
   pub carried-rewritten : Rewritten new (carried old new)
@@ -205,7 +205,7 @@ module _ (old new : List ℕ) {t : ℕ} (v : verdict new ≡ Accepted t) where
 
   pub holds-same : (r : ℕ) → r < count new → (k : Kind) → kindAt new r ≡ k → leafChain k → giver old new r ≡ none
       → leafValues (carried old new) (leavesAt new r) ≡ heldAt new r
-  holds-same r h k e a z = same-values new (carried old new) (leavesAt new r) (stays r h k e a z)
+  holds-same r h k e a z = same-values new (carried old new) (leavesAt new r) (leaf-stays r h k e a z)
 
   module _ (t′ : ℕ) (v′ : verdict old ≡ Accepted t′) where
     pub holds-taken : (q r : ℕ) → r < count new → giver old new r ≡ some q → leafValues (carried old new) (leavesAt new r) ≡ heldAt old q

@@ -40,7 +40,7 @@ use Rattle.records.proofs.Labels.{labels-words, labels-rewritten}
 use Rattle.answers.specs.Answers.{lowest, whenDone, onDone, check, when, firstApplying}
 use Rattle.answers.specs.declared.Answer.{Answer}
 use Rattle.answers.specs.declared.Answer.the-variants.{Done, Refused}
-use Rattle.verdict.specs.Verdict.{inputs, verdictAnswer}
+use Rattle.verdict.specs.Scopes.{inputs, verdictAnswer}
 use Rattle.accepted.proofs.LabelsAgain.{leaf-values-same, type-record-same, verdict-same}
 use Rattle.meaning.specs.Undecided.{undecidedRule}
 use Rattle.meaning.specs.Evaluation.{eval, next}

@@ -104,14 +104,14 @@ module _ {old : List ℕ} {n t : ℕ} {new : List ℕ} {m u : ℕ} (g : Comparin
 
     -- two pairs
     module _ (f : k ≡ 16 → ⊥) where
-      pub firsts : Comparing old n a new m b × (a < t)
-      firsts =
+      pub first-shapes : Comparing old n a new m b × (a < t)
+      first-shapes =
           let p = first-of (g .before) k ek f a ea in
           let q = first-of (g .after) j ej (λ z. f (sym same ∙ z)) b eb in
           (record { before = p .0; after = q .0 }, p .1)
 
-      pub seconds : (c d : ℕ) → c ≡ word old t 3 → d ≡ word new u 3 → Comparing old n c new m d × (c < t)
-      seconds c d ec ed =
+      pub second-shapes : (c d : ℕ) → c ≡ word old t 3 → d ≡ word new u 3 → Comparing old n c new m d × (c < t)
+      second-shapes c d ec ed =
           let p = second-of (g .before) k ek f c ec in
           let q = second-of (g .after) j ej (λ z. f (sym same ∙ z)) d ed in
           (record { before = p .0; after = q .0 }, p .1)
@@ -130,8 +130,8 @@ module _ {old : List ℕ} {n t : ℕ} {new : List ℕ} {m u : ℕ} (g : Comparin
           let first : sameShape (typeAt old (wordA old t)) (typeAt new (wordA new u)) ≡ false = rw (← ea, ← eb) (sym ex ∙ not-true x z) in
           sym (both-shapes ∙ rw first refl)
 
-      pub pairs : (x : Bool) → x ≡ sameShape (typeAt old a) (typeAt new b) → not x ≡ false → (c d : ℕ) → c ≡ word old t 3 → d ≡ word new u 3
+      pub pair-shapes : (x : Bool) → x ≡ sameShape (typeAt old a) (typeAt new b) → not x ≡ false → (c d : ℕ) → c ≡ word old t 3 → d ≡ word new u 3
           → (y : Bool) → y ≡ sameShape (typeAt old c) (typeAt new d) → y ≡ sameShape (typeAt old t) (typeAt new u)
-      pairs x ex z c d ec ed y ey =
+      pair-shapes x ex z c d ec ed y ey =
           let first : sameShape (typeAt old (wordA old t)) (typeAt new (wordA new u)) ≡ true = rw (← ea, ← eb) (sym ex ∙ not-false x z) in
           ey ∙ rw (ec, ed) (sym (both-shapes ∙ rw first refl))

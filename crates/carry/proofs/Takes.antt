@@ -80,8 +80,8 @@ module _ {old : List ℕ} {n : ℕ} {new : List ℕ} {m : ℕ} {table next : Lis
     found : bearer old (label new rec) ≡ some (getD table l 0)
     found = sym by-table ∙ entry-bearer (getD table l 0) f
 
-    pub giving-in : getD table l 0 < n
-    giving-in =
+    pub bearer-in : getD table l 0 < n
+    bearer-in =
         let d = bearer-delay old (label new rec) (getD table l 0) found in let c = g .before .sized .counted in let i = d .0 in omega arith
 
     giving-kind : kindAt old (getD table l 0) ≡ expression delay
@@ -94,7 +94,7 @@ module _ {old : List ℕ} {n : ℕ} {new : List ℕ} {m : ℕ} {table next : Lis
       pub comparing : Comparing old n t new m u
       comparing =
           record {
-            before = delay-type (g .before) (getD table l 0) giving-in giving-kind t et;
+            before = delay-type (g .before) (getD table l 0) bearer-in giving-kind t et;
             after = delay-type (g .after) rec h taking-kind u eu;
           }
 
@@ -113,36 +113,36 @@ module _ {old : List ℕ} {n : ℕ} {new : List ℕ} {m : ℕ} {table next : Lis
           pub taking : Taking old n b new m d next
           taking =
               let many : length (chain old (wordB old (getD table l 0))) ≡ length (chain new (wordB new rec)) =
-              delay-many old (g .before .accepted) (getD table l 0) (delay-in (g .before) (getD table l 0) giving-in giving-kind) giving-kind
+              delay-many old (g .before .accepted) (getD table l 0) (delay-in (g .before) (getD table l 0) bearer-in giving-kind) giving-kind
               ∙ shape-leaves old new (getD table l 0) rec (shape-is ∙ not-false x nz)
               ∙ sym (delay-many new (g .after .accepted) rec (delay-in (g .after) rec h taking-kind) taking-kind) in
               record {
-                before = delay-leaves (g .before) (getD table l 0) giving-in giving-kind b eb;
+                before = delay-leaves (g .before) (getD table l 0) bearer-in giving-kind b eb;
                 after = delay-leaves (g .after) rec h taking-kind d ed;
                 many = rw (eb, ed) many;
                 long = g .long;
               }
 
-          pub takes : (next′ : List ℕ) → next′ ≡ putAll putWord (assigned (chain new d) (leafValues old (chain old b))) next
+          pub takes-from-giver : (next′ : List ℕ) → next′ ≡ putAll putWord (assigned (chain new d) (leafValues old (chain old b))) next
               → next′ ≡ putAll putWord (takenFrom old new rec (giver old new rec)) next
-          takes next′ e = e ∙ rw (giver-is, not-false x nz, eb, ed) refl
+          takes-from-giver next′ e = e ∙ rw (giver-is, not-false x nz, eb, ed) refl
 
 -- the records below rec have taken what they take
-pub record Taken (old new before : List ℕ) (m rec : ℕ) (now : List ℕ) : Type 0 where
+pub record RecordsTaken (old new before : List ℕ) (m rec : ℕ) (now : List ℕ) : Type 0 where
   pub so-far : rec ≤ m
   pub long : length now ≡ length before
   pub taken : now ≡ putAll putWord (takenBelow old new rec) before
 
 module _ {old : List ℕ} {n : ℕ} {new : List ℕ} {m : ℕ} {table before : List ℕ} (g : Carrying old n new m table before) where
-  pub none-taken : Taken old new before m 0 before
+  pub none-taken : RecordsTaken old new before m 0 before
   unfolding takenBelow
   none-taken = record { so-far = omega arith; long = refl; taken = refl }
 
-  pub still-carrying : {rec : ℕ} {now : List ℕ} → Taken old new before m rec now → Carrying old n new m table now
+  pub still-carrying : {rec : ℕ} {now : List ℕ} → RecordsTaken old new before m rec now → Carrying old n new m table now
   still-carrying t = record { before = g .before; after = g .after; labels = g .labels; long = t .long ∙ g .long }
 
-  pub taken-next : {rec : ℕ} {now now′ : List ℕ} → Taken old new before m rec now → rec < m
-      → now′ ≡ putAll putWord (takenFrom old new rec (giver old new rec)) now → Taken old new before m (rec + 1) now′
+  pub taken-next : {rec : ℕ} {now now′ : List ℕ} → RecordsTaken old new before m rec now → rec < m
+      → now′ ≡ putAll putWord (takenFrom old new rec (giver old new rec)) now → RecordsTaken old new before m (rec + 1) now′
   unfolding takenBelow
   taken-next {rec} {now} {now′} t h e =
       let es = takenFrom old new rec (giver old new rec) in
@@ -156,5 +156,5 @@ module _ {old : List ℕ} {n : ℕ} {new : List ℕ} {m : ℕ} {table before : L
             ∙ rw (add-one rec) refl;
       }
 
-  pub all-taken : {rec : ℕ} {now : List ℕ} → Taken old new before m rec now → m ≤ rec → now ≡ putAll putWord (takenBelow old new m) before
+  pub all-taken : {rec : ℕ} {now : List ℕ} → RecordsTaken old new before m rec now → m ≤ rec → now ≡ putAll putWord (takenBelow old new m) before
   all-taken {rec} {now} t f = let s = t .so-far in let e : rec ≡ m = omega arith in rw e at (t .taken)

@@ -21,7 +21,7 @@ use Rattle.behaviour.specs.Sheets.{putWord}
 use Rattle.carry.specs.Carrying.{OfLeaves, Taking}
 
 -- from here on a chain of leaves, or its end
-pub record From (s : List ℕ) (x : ℕ) : Type 0 where
+pub record GivingLeaf (s : List ℕ) (x : ℕ) : Type 0 where
   pub there : x < count s
   pub sort : (x ≡ 0 → ⊥) → sortAt s x ≡ leafs
 
@@ -36,10 +36,10 @@ positive : (x : ℕ) → (x ≡ 0 → ⊥) → 0 < x
 positive x f = omega arith
 
 -- the chain's first leaf and those after it
-rest-cons : {s : List ℕ} → Written s → (x : ℕ) → From s x → (x ≡ 0 → ⊥) → rest s x ≡ x ∷ rest s (nextWord s x)
+rest-cons : {s : List ℕ} → Written s → (x : ℕ) → GivingLeaf s x → (x ≡ 0 → ⊥) → rest s x ≡ x ∷ rest s (nextWord s x)
 rest-cons {s} w x o f = rest-of s x f ∙ chain-of w x (o .there) (o .sort f)
 
-next-from : {s : List ℕ} → Written s → (x : ℕ) → From s x → (x ≡ 0 → ⊥) → From s (nextWord s x)
+next-from : {s : List ℕ} → Written s → (x : ℕ) → GivingLeaf s x → (x ≡ 0 → ⊥) → GivingLeaf s (nextWord s x)
 next-from {s} w x o f = record { there = go (nextWord s x) refl .0; sort = go (nextWord s x) refl .1 }
   where
     go : (y : ℕ) → y ≡ nextWord s x → (nextWord s x < count s) × ((nextWord s x ≡ 0 → ⊥) → sortAt s (nextWord s x) ≡ leafs)
@@ -51,7 +51,7 @@ some-left : (s : List ℕ) (x : ℕ) → 0 < length (rest s x) → x ≡ 0 → �
 some-left s zero h e = omega arith
 some-left s (suc x) h e = omega arith
 
-begins : {s : List ℕ} {n x : ℕ} → OfLeaves s n x → From s x × (x ≡ 0 → ⊥)
+begins : {s : List ℕ} {n x : ℕ} → OfLeaves s n x → GivingLeaf s x × (x ≡ 0 → ⊥)
 begins {s} {n} {x} g =
     let c = g .sized .counted in
     let h = g .there in
@@ -59,10 +59,10 @@ begins {s} {n} {x} g =
     (record { there = omega arith; sort = λ _. g .sort }, λ z. omega arith)
 
 -- the leaves from `taking` are still to take those from `giving`
-pub record Remaining (old new : List ℕ) (all : List Entry) (before : List ℕ) (giving taking : ℕ) (now : List ℕ) : Type 0 where
+pub record LeavesRemaining (old new : List ℕ) (all : List Entry) (before : List ℕ) (giving taking : ℕ) (now : List ℕ) : Type 0 where
   pub long : length now ≡ length before
-  pub to : From new taking
-  pub by : From old giving
+  pub to : GivingLeaf new taking
+  pub by : GivingLeaf old giving
   pub many : length (rest old giving) ≡ length (rest new taking)
   pub left : putAll putWord (assigned (rest new taking) (leafValues old (rest old giving))) now ≡ putAll putWord all before
 
@@ -70,7 +70,7 @@ module _ {old : List ℕ} {n from : ℕ} {new : List ℕ} {m to : ℕ} {before :
   abbrev pub allTaken : List Entry
   allTaken = assigned (chain new to) (leafValues old (chain old from))
 
-  pub all-remain : Remaining old new allTaken before from to before
+  pub all-remain : LeavesRemaining old new allTaken before from to before
   all-remain =
       let p = begins (g .before) in
       let q = begins (g .after) in
@@ -84,7 +84,7 @@ module _ {old : List ℕ} {n from : ℕ} {new : List ℕ} {m to : ℕ} {before :
         left = rw (eo, en) refl;
       }
 
-  module _ {all : List Entry} {giving taking : ℕ} {now : List ℕ} (r : Remaining old new all before giving taking now) (f : taking ≡ 0 → ⊥) where
+  module _ {all : List Entry} {giving taking : ℕ} {now : List ℕ} (r : LeavesRemaining old new all before giving taking now) (f : taking ≡ 0 → ⊥) where
     giving-left : giving ≡ 0 → ⊥
     giving-left =
         let e = rest-cons (g .after .written) taking (r .to) f in
@@ -115,7 +115,7 @@ module _ {old : List ℕ} {n from : ℕ} {new : List ℕ} {m to : ℕ} {before :
     high-byte v = lt-length-set now (12 * taking + 4) v taking-bytes
 
     pub next-remain : (v : ℕ) → v ≡ wordA old giving → (x : ℕ) → x ≡ nextWord old giving → (y : ℕ) → y ≡ nextWord new taking
-        → Remaining old new all before x y (set (set now (12 * taking + 4) v) (12 * taking + 4 + 1) 0)
+        → LeavesRemaining old new all before x y (set (set now (12 * taking + 4) v) (12 * taking + 4 + 1) 0)
     next-remain v ev x ex y ey =
         let eo = rest-cons (g .before .written) giving (r .by) giving-left in
         let en = rest-cons (g .after .written) taking (r .to) f in
@@ -140,6 +140,6 @@ module _ {old : List ℕ} {n from : ℕ} {new : List ℕ} {m to : ℕ} {before :
             let c = g .after .sized .counted in
             (rw ey (p .0), omega (arith, p .1, ey))
 
-  pub none-remain : {all : List Entry} {giving taking : ℕ} {now : List ℕ} → Remaining old new all before giving taking now → taking ≡ 0
+  pub none-remain : {all : List Entry} {giving taking : ℕ} {now : List ℕ} → LeavesRemaining old new all before giving taking now → taking ≡ 0
       → now ≡ putAll putWord all before
   none-remain {all} {giving} {taking} {now} r e = rw e at (r .left)

@@ -26,7 +26,7 @@ use Rattle.verdict.specs.declared.Verdict.the-variants.{Accepted}
 use Rattle.accepted.proofs.Small.{accepted-sized}
 use Rattle.carry.specs.Labels.{label, labelTwice}
 use Rattle.carry.specs.Bearers.{Bearers, Labelling, Labelled}
-use Rattle.carry.specs.Carrying.{Comparing, Taking, IsAccepted, Carrying, CarryingAll}
+use Rattle.carry.specs.Carrying.{Comparing, Taking, SheetAccepted, Carrying, CarryingAll}
 use Rattle.carry.specs.Cases.{labelledToggle}
 use Rattle.carry.proofs.Bearing.{no-bearer, unlabelled-noted, twice-noted, newly-noted}
 use Rattle.carry.proofs.Delays.{is-written, delay-type, delay-leaves}
@@ -46,15 +46,15 @@ accepted-running : verdict running ≡ Accepted 1
 unfolding verdict byRecords byTypes wrongLength wrongHeader wrongRecord wrongNaming wrongType tooDeep depth nesting ancestry ancestryWithin circuit treeAt treeWithin alternatives alternativesWithin chain chainWithin pairOf typeAt typeWithin namings wellSaid askOf kindOf rowOf word count
 accepted-running = refl
 
-began-is : IsAccepted began 17
-began-is = record { sized = accepted-sized began accepted-began; type = 1; accepted = accepted-began }
+began-is : SheetAccepted began 17
+began-is = record { sized = accepted-sized accepted-began; type = 1; accepted = accepted-began }
 
-running-is : IsAccepted running 17
-running-is = record { sized = accepted-sized running accepted-running; type = 1; accepted = accepted-running }
+running-is : SheetAccepted running 17
+running-is = record { sized = accepted-sized accepted-running; type = 1; accepted = accepted-running }
 
 running-labelling : Labelling running 17 0 (replicate {A = ℕ} 65536 0)
 running-labelling =
-    record { sized = running-is .sized; written = is-written running accepted-running; there = omega arith; below = no-bearer running }
+    record { sized = running-is .sized; written = is-written accepted-running; there = omega arith; below = no-bearer running }
 
 carrying-all : CarryingAll running 17 began 17 began
 unfolding labelTwice kindOf rowOf word
@@ -119,7 +119,7 @@ running-small q h =
 running-table : (table : List ℕ) × Bearers running 17 table
 unfolding labelTwice kindOf rowOf word
 running-table =
-    table-of (running-is .sized) (is-written running accepted-running) running-small
+    table-of (running-is .sized) (is-written accepted-running) running-small
     (lowest-none-fails (labelTwice running) 17 refl) 17 (omega arith)
 
 carrying : Carrying running 17 began 17 (running-table .0) began

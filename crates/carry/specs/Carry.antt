@@ -1,7 +1,6 @@
--- The call (docs/SHEETS.md, "Carrying"): its checks in their order, "the old sheet by 1 to 7; then 18 (new sheet refused, place: its
--- code); then 19 (a nonzero label twice in one sheet, old first, place: the lowest delay whose label a lower-numbered delay of that
--- sheet bears); then 11 for the new sheet"; its answer, "0 at place 0" where nothing refuses; and what the next slice holds at the
--- end.
+-- The call (docs/SHEETS.md, "Carrying"): its checks in their order, "the old sheet by 1 to 7; 18 for the new sheet; 19 for the old
+-- sheet and then for the new one; 11 for the next slice, which is to be as long as the new sheet"; its answer, "0 at place 0" where
+-- nothing refuses; and what the next slice holds at the end.
 use Prim.Native.Nat.{ℕ}
 use mathlib.Core.Path.{_≡_}
 use mathlib.Core.Bool.{not}
@@ -13,7 +12,8 @@ use Rattle.records.specs.Words.{count}
 use Rattle.answers.specs.Answers.{lowest, packed, whenDone, Check, check, when, firstApplying}
 use Rattle.answers.specs.declared.Answer.{Answer}
 use Rattle.answers.specs.declared.Answer.the-variants.{Done, Refused}
-use Rattle.verdict.specs.Verdict.{sheetChecks, verdictAnswer, verdict}
+use Rattle.verdict.specs.Verdict.{sheetChecks, verdict}
+use Rattle.verdict.specs.Scopes.{verdictAnswer}
 use Rattle.carry.specs.Labels.{labelTwice}
 use Rattle.carry.specs.Carried.{carried}
 
@@ -41,6 +41,6 @@ unfoldable pub finalCarried : (old new next : List ℕ) → List ℕ
 finalCarried old new next = whenDone (carryAnswer old new next) (carried old new) next
 
 -- what a call gives, for every content and length of the three slices: the number returned and the final bytes
-pub record CarryGives (old new next : List ℕ) (result : ℕ) (next′ : List ℕ) : Type 0 where
+pub record CarryGiven (old new next : List ℕ) (result : ℕ) (next′ : List ℕ) : Type 0 where
   pub result-is : result ≡ packed (carryAnswer old new next)
   pub next-is : next′ ≡ finalCarried old new next

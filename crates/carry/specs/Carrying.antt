@@ -42,21 +42,21 @@ pub record Taking (old : List ℕ) (n from : ℕ) (new : List ℕ) (m to : ℕ) 
   pub long : length next ≡ length new
 
 -- a sheet of n records is accepted
-pub record IsAccepted (s : List ℕ) (n : ℕ) : Type 0 where
+pub record SheetAccepted (s : List ℕ) (n : ℕ) : Type 0 where
   pub sized : Sized s n
   pub type : ℕ
   pub accepted : verdict s ≡ Accepted type
 
 -- the delays of the new sheet take those of the old one, by the table of its labels
 pub record Carrying (old : List ℕ) (n : ℕ) (new : List ℕ) (m : ℕ) (table next : List ℕ) : Type 0 where
-  pub before : IsAccepted old n
-  pub after : IsAccepted new m
+  pub before : SheetAccepted old n
+  pub after : SheetAccepted new m
   pub labels : Bearers old n table
   pub long : length next ≡ length new
 
 -- the same, with the table to be filled: no label stands twice in the old sheet
 pub record CarryingAll (old : List ℕ) (n : ℕ) (new : List ℕ) (m : ℕ) (next : List ℕ) : Type 0 where
-  pub before : IsAccepted old n
-  pub after : IsAccepted new m
+  pub before : SheetAccepted old n
+  pub after : SheetAccepted new m
   pub once : lowest (labelTwice old) n ≡ none
   pub long : length next ≡ length new

@@ -1,5 +1,5 @@
--- Labels and shapes (docs/SHEETS.md, "Carrying"): word d of a delay is its label, 0 for none; "both types have the same shape: pairs,
--- and flats of equal counts, in the same places".
+-- Labels and shapes (docs/SHEETS.md, "Carrying"): word d of a delay is its label, 0 for none; two types have the same shape "if both
+-- are flat with equal numbers of constructors, or both are pairs whose first parts have the same shape and whose second parts have".
 use Prim.Native.Nat.{ℕ}
 use mathlib.Core.Bool.{Bool, true, false, cond, _&&_}
 use mathlib.Core.List.{List}

@@ -10,14 +10,16 @@ ghost use Rattle.records.specs.Trees.{chain, typeAt};
 ghost use Rattle.records.specs.Decoding.{leafValues};
 ghost use Rattle.answers.specs.Answers.{lowest, code};
 ghost use Rattle.answers.specs.Searches.{found};
-ghost use Rattle.verdict.specs.Verdict.{verdict, verdictAnswer};
+ghost use Rattle.verdict.specs.Verdict.{verdict};
+ghost use Rattle.verdict.specs.Scopes.{verdictAnswer};
 ghost use Rattle.behaviour.specs.Delays.{assigned, putAll};
 ghost use Rattle.behaviour.specs.Sheets.{putWord};
 ghost use Rattle.carry.specs.Labels.{label, labelTwice, sameShape};
 ghost use Rattle.carry.specs.Bearers.{Bearers, Labelling, Labelled, AllLabelled};
-ghost use Rattle.carry.specs.Carrying.{Comparing, Taking, IsAccepted, Carrying, CarryingAll};
+ghost use Rattle.carry.specs.Carrying.{Comparing, Taking, SheetAccepted, Carrying, CarryingAll};
 ghost use Rattle.carry.specs.Carried.{giver, takenFrom, takenBelow};
-ghost use Rattle.carry.specs.Carry.{CarryGives};
+ghost use Rattle.carry.specs.Carry.{CarryGiven};
+ghost use Rattle.records.specs.Limits.{wordBound};
 use answers::Found;
 use answers::ILL_TYPED;
 use answers::LABEL_TWICE;
@@ -55,7 +57,7 @@ pub type LabelTable = [u16; LABELS];
 // The label of rec, 0 where it has none or is no delay.
 fn label_of(sheet: &[u8], n: usize, rec: usize) -> usize
     requires { ⌜ Sized (now sheet) n × (rec < n) ⌝ }
-    ensures { λ r. ⌜ (r ≡ label (now (sheet .entry)) rec) × (r < 65536) ⌝ }
+    ensures { λ r. ⌜ (r ≡ label (now (sheet .entry)) rec) × (r < wordBound) ⌝ }
 {
     if word(sheet, n, rec, WORD_KIND) != KIND_DELAY {
         return 0;
@@ -215,8 +217,8 @@ fn carry_values(old: &[u8], n: usize, new: &[u8], m: usize, next: &mut [u8])
 
 // An accepted sheet carried into another: codes 19 and 11, and then the values.
 fn carry_accepted(old: &[u8], n: usize, new: &[u8], m: usize, next: &mut [u8]) -> u64
-    requires { ⌜ IsAccepted (now old) n × IsAccepted (now new) m ⌝ }
-    ensures { λ r. ⌜ CarryGives (now (old .entry)) (now (new .entry)) (now (next .entry)) r (now (next .exit)) ⌝ }
+    requires { ⌜ SheetAccepted (now old) n × SheetAccepted (now new) m ⌝ }
+    ensures { λ r. ⌜ CarryGiven (now (old .entry)) (now (new .entry)) (now (next .entry)) r (now (next .exit)) ⌝ }
 {
     let before = first_repeated(old, n);
     if let Found::At(r) = before {
@@ -261,7 +263,7 @@ fn code_of(v: Verdict) -> u64
 
 // The call: the answer's code and place in one number. The old sheet by codes 1 to 7, the new one by 18, then the rest.
 pub fn carry(old: &[u8], new: &[u8], next: &mut [u8]) -> u64
-    ensures { λ r. ⌜ CarryGives (now (old .entry)) (now (new .entry)) (now (next .entry)) r (now (next .exit)) ⌝ }
+    ensures { λ r. ⌜ CarryGiven (now (old .entry)) (now (new .entry)) (now (next .entry)) r (now (next .exit)) ⌝ }
 {
     let n = records_in(old.len());
     let before = verdict_on(old, n);

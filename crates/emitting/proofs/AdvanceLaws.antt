@@ -6,7 +6,7 @@ use mathlib.Core.List.{List, [], _∷_, _++_}
 use native.Mathlib.Omega.{arith}
 use lib.ListN.{length, drop}
 use Rattle.records.specs.SheetOf.{Record, words, sheetOf}
-use Rattle.instructions.specs.Emission.{Slot, number, barrier, firstWaits, secondWaits, Emission, emission, pop, completed, writtenOf}
+use Rattle.instructions.specs.Emission.{Slot, ofNumber, barrier, firstWaits, secondWaits, Emission, emission, pop, completed, writtenOf}
 use Rattle.emitting.specs.Tables.{heldStack, waitingKind}
 use Rattle.emitting.specs.Emitting.{RecordPut, Stacking, Stacked, Advancing, Advanced}
 use Rattle.emitting.proofs.ByteLaws.{record-on}
@@ -14,7 +14,7 @@ use Rattle.emitting.proofs.StackLaws.{pop-held}
 
 pub completed-grows : (R : List Record) (c : ℕ) (S : List Slot) → length R ≤ length (writtenOf (completed R c S))
 completed-grows R c [] = omega arith
-completed-grows R c (number n ∷ S) = omega arith
+completed-grows R c (ofNumber n ∷ S) = omega arith
 completed-grows R c (barrier ∷ S) = omega arith
 completed-grows R c (firstWaits ∷ S) = let l = completed-grows (words 35 0 c 0 0 0 ∷ R) (c - 1) S in omega arith
 completed-grows R c (secondWaits ∷ S) = let l = completed-grows (words 36 0 c 0 0 0 ∷ R) (c - 1) S in omega arith
@@ -42,14 +42,14 @@ put-then {R} put grows a =
 waiting-put : (R : List Record) (c : ℕ) (S : List Slot) → ¬ (waitingKind S ≡ 0)
     → completed (words (waitingKind S) 0 c 0 0 0 ∷ R) (c - 1) (pop S) ≡ completed R c S
 waiting-put R c [] h = absurd (h refl)
-waiting-put R c (number n ∷ S) h = absurd (h refl)
+waiting-put R c (ofNumber n ∷ S) h = absurd (h refl)
 waiting-put R c (barrier ∷ S) h = absurd (h refl)
 waiting-put R c (firstWaits ∷ S) h = refl
 waiting-put R c (secondWaits ∷ S) h = refl
 
-none-waits : (R : List Record) (c : ℕ) (S : List Slot) → waitingKind S ≡ 0 → completed R c S ≡ emission R c (number c ∷ S) 0
+none-waits : (R : List Record) (c : ℕ) (S : List Slot) → waitingKind S ≡ 0 → completed R c S ≡ emission R c (ofNumber c ∷ S) 0
 none-waits R c [] h = refl
-none-waits R c (number n ∷ S) h = refl
+none-waits R c (ofNumber n ∷ S) h = refl
 none-waits R c (barrier ∷ S) h = refl
 none-waits R c (firstWaits ∷ S) h = absurd (omega arith)
 none-waits R c (secondWaits ∷ S) h = absurd (omega arith)
@@ -119,7 +119,7 @@ module _ {s₀ kinds values : List ℕ} {cursor height : ℕ} where
       (index-before at left kind e h i (subst (λ (q : ℕ). RecordPut s s′ at (words kind 0 at 0 0 0) q) (put .one-less) put))
 
   pub indices-done : {s kinds′ values′ : List ℕ} {at left kind : ℕ} → kind ≡ waitingKind (heldStack kinds values left) → kind ≡ 0
-      → IndicesPut s₀ kinds values cursor height s at left → Stacked (number at) kinds values kinds′ values′ left → (R : List Record)
+      → IndicesPut s₀ kinds values cursor height s at left → Stacked (ofNumber at) kinds values kinds′ values′ left → (R : List Record)
       → Advanced R cursor (completed R cursor (heldStack kinds values height)) s₀ s kinds′ values′ at (left + 1) 0
   indices-done {s} {kinds′} {values′} {at} {left} {kind} e z i pushed R =
       let m = i .moved R in

@@ -10,10 +10,11 @@ use Rattle.instructions.specs.Instruction.{instructionOf, heldCode}
 use Rattle.instructions.specs.Assembly.{DeclaredType}
 use Rattle.instructions.specs.Emission.{Emission, emission, emit, emitAll, writtenOf, cursorOf}
 use Rattle.emitting.specs.Tables.{heldStack, LeavesHeld, SomeLeaves}
-use Rattle.emitting.specs.Emitting.{Stacking, Advancing, Does, emittedFrom, CodeWritten}
+use Rattle.emitting.specs.Emitting.{Stacking, Advancing, InstructionDone, emittedFrom, CodeWritten}
 use Rattle.emitting.proofs.EmissionLaws.{emit-lower, emit-balance, written-grows}
 use Rattle.emitting.proofs.ByteLaws.{less-one}
 
+-- no signature here determines the tables and the sheet
 module _ (ops firsts seconds : List ℕ) (m : ℕ) (leaves : List ℕ) (types records : ℕ) (sheet₀ : List ℕ) where
   pub record CodeLeft (sheet kinds values : List ℕ) (cursor height next k : ℕ) : Type 0 where
     pub so-far : (T : List DeclaredType) → LeavesHeld T leaves types
@@ -26,8 +27,9 @@ module _ (ops firsts seconds : List ℕ) (m : ℕ) (leaves : List ℕ) (types re
     pub stacking : Stacking kinds values height
     pub few : height + k ≤ 65535
 
+module _ {ops firsts seconds : List ℕ} {m : ℕ} {leaves : List ℕ} {types records : ℕ} {sheet₀ : List ℕ} where
   pub nothing-emitted : (kinds values : List ℕ) → length kinds ≡ 65536 → length values ≡ 65536 → m ≤ 65535 → 12 * records ≤ length sheet₀
-      → CodeLeft sheet₀ kinds values records 0 0 m
+      → CodeLeft ops firsts seconds m leaves types records sheet₀ sheet₀ kinds values records 0 0 m
   nothing-emitted kinds values p q few long =
       record {
         so-far = λ T held fits. ([], refl, refl, omega arith);
@@ -37,14 +39,14 @@ module _ (ops firsts seconds : List ℕ) (m : ℕ) (leaves : List ℕ) (types re
         few = omega arith;
       }
 
-  pub can-advance : {sheet kinds values : List ℕ} {cursor height next k : ℕ} → CodeLeft sheet kinds values cursor height next k
+  pub can-advance : {sheet kinds values : List ℕ} {cursor height next k : ℕ} → CodeLeft ops firsts seconds m leaves types records sheet₀ sheet kinds values cursor height next k
       → Advancing sheet kinds values cursor height
   can-advance l = let f = l .few in record { sheet-long = l .sheet-long; stacking = l .stacking; room = omega arith }
 
   one-emitted : (sheet kinds values : List ℕ) (cursor height next k : ℕ) (sheet′ kinds′ values′ : List ℕ) (cursor′ height′ next′ : ℕ)
-      → SomeLeaves leaves types → CodeLeft sheet kinds values cursor height next (suc k)
-      → Does leaves types (instructionOf (getD ops k 0) (getD firsts k 0) (getD seconds k 0)) sheet kinds values cursor height next sheet′ kinds′ values′ cursor′ height′ next′
-      → CodeLeft sheet′ kinds′ values′ cursor′ height′ next′ k
+      → SomeLeaves leaves types → CodeLeft ops firsts seconds m leaves types records sheet₀ sheet kinds values cursor height next (suc k)
+      → InstructionDone leaves types (instructionOf (getD ops k 0) (getD firsts k 0) (getD seconds k 0)) sheet kinds values cursor height next sheet′ kinds′ values′ cursor′ height′ next′
+      → CodeLeft ops firsts seconds m leaves types records sheet₀ sheet′ kinds′ values′ cursor′ height′ next′ k
   one-emitted sheet kinds values cursor height next k sheet′ kinds′ values′ cursor′ height′ next′ some l does =
       let i = instructionOf (getD ops k 0) (getD firsts k 0) (getD seconds k 0) in
       let S = heldStack kinds values height in
@@ -79,22 +81,22 @@ module _ (ops firsts seconds : List ℕ) (m : ℕ) (leaves : List ℕ) (types re
       }
 
   pub code-goes-on : (sheet kinds values : List ℕ) (cursor height next k : ℕ) (sheet′ kinds′ values′ : List ℕ) (cursor′ height′ next′ : ℕ)
-      → SomeLeaves leaves types → ¬ (k ≡ 0) → CodeLeft sheet kinds values cursor height next k
-      → Does leaves types (instructionOf (getD ops (k - 1) 0) (getD firsts (k - 1) 0) (getD seconds (k - 1) 0)) sheet kinds values cursor height next sheet′ kinds′ values′ cursor′ height′ next′
-      → CodeLeft sheet′ kinds′ values′ cursor′ height′ next′ (k - 1)
+      → SomeLeaves leaves types → ¬ (k ≡ 0) → CodeLeft ops firsts seconds m leaves types records sheet₀ sheet kinds values cursor height next k
+      → InstructionDone leaves types (instructionOf (getD ops (k - 1) 0) (getD firsts (k - 1) 0) (getD seconds (k - 1) 0)) sheet kinds values cursor height next sheet′ kinds′ values′ cursor′ height′ next′
+      → CodeLeft ops firsts seconds m leaves types records sheet₀ sheet′ kinds′ values′ cursor′ height′ next′ (k - 1)
   code-goes-on sheet kinds values cursor height next zero sheet′ kinds′ values′ cursor′ height′ next′ some n l does = absurd (n refl)
   code-goes-on sheet kinds values cursor height next (suc k) sheet′ kinds′ values′ cursor′ height′ next′ some n l does =
-      subst (λ (j : ℕ). CodeLeft sheet′ kinds′ values′ cursor′ height′ next′ j) (sym (less-one k))
+      subst (λ (j : ℕ). CodeLeft ops firsts seconds m leaves types records sheet₀ sheet′ kinds′ values′ cursor′ height′ next′ j) (sym (less-one k))
       (one-emitted sheet kinds values cursor height next k sheet′ kinds′ values′ cursor′ height′ next′ some l
       (subst
-      (λ (j : ℕ). Does leaves types (instructionOf (getD ops j 0) (getD firsts j 0) (getD seconds j 0)) sheet kinds values cursor height next sheet′ kinds′ values′ cursor′ height′ next′)
+      (λ (j : ℕ). InstructionDone leaves types (instructionOf (getD ops j 0) (getD firsts j 0) (getD seconds j 0)) sheet kinds values cursor height next sheet′ kinds′ values′ cursor′ height′ next′)
       (less-one k) does))
 
-  pub code-ends : {sheet kinds values : List ℕ} {cursor height next k : ℕ} → k ≡ 0 → CodeLeft sheet kinds values cursor height next k
+  pub code-ends : {sheet kinds values : List ℕ} {cursor height next k : ℕ} → k ≡ 0 → CodeLeft ops firsts seconds m leaves types records sheet₀ sheet kinds values cursor height next k
       → CodeWritten ops firsts seconds m leaves types records sheet₀ sheet
-  code-ends {sheet} {kinds} {values} {cursor} {height} {next} e l = go (subst (λ (j : ℕ). CodeLeft sheet kinds values cursor height next j) e l)
+  code-ends {sheet} {kinds} {values} {cursor} {height} {next} e l = go (subst (λ (j : ℕ). CodeLeft ops firsts seconds m leaves types records sheet₀ sheet kinds values cursor height next j) e l)
     where
-      go : CodeLeft sheet kinds values cursor height next 0 → CodeWritten ops firsts seconds m leaves types records sheet₀ sheet
+      go : CodeLeft ops firsts seconds m leaves types records sheet₀ sheet kinds values cursor height next 0 → CodeWritten ops firsts seconds m leaves types records sheet₀ sheet
       go l =
           record {
             laid-out = λ T held fits.

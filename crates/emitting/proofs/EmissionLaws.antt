@@ -8,13 +8,13 @@ use lib.ListN.{length}
 use Rattle.records.specs.SheetOf.{Record, words}
 use Rattle.instructions.specs.Instruction.{Instruction, declareType, countConstructor, firstType, secondType, inputHas, useName, useConstant, useUndefined, openPair, openLet, openRec, openIf, openDelay, takeFirst, takeSecond, close, closeIf, beginPattern, matchType, matchOne, openParts, nextPart, closeParts, nextAlternative, useLeaf, useZeros, openConstant, closeConstant, endConstant, constantHas}
 use Rattle.instructions.specs.Assembly.{DeclaredType, leavesNumbered}
-use Rattle.instructions.specs.Emission.{Slot, number, barrier, firstWaits, secondWaits, Emission, emission, top, pop, completed, zerosWritten, emit, emitAll, writtenOf, cursorOf}
+use Rattle.instructions.specs.Emission.{Slot, ofNumber, barrier, firstWaits, secondWaits, Emission, emission, top, pop, completed, zerosWritten, emit, emitAll, writtenOf, cursorOf}
 use Rattle.emitting.proofs.AdvanceLaws.{completed-grows}
-use Rattle.emitting.proofs.PartLaws.{zeros-length}
+use Rattle.emitting.proofs.PartLaws.{zeros-written-length}
 
 completed-lower : (R : List Record) (c : ℕ) (S : List Slot) → cursorOf (completed R c S) ≤ c
 completed-lower R c [] = omega arith
-completed-lower R c (number n ∷ S) = omega arith
+completed-lower R c (ofNumber n ∷ S) = omega arith
 completed-lower R c (barrier ∷ S) = omega arith
 completed-lower R c (firstWaits ∷ S) = let l = completed-lower (words 35 0 c 0 0 0 ∷ R) (c - 1) S in omega arith
 completed-lower R c (secondWaits ∷ S) = let l = completed-lower (words 36 0 c 0 0 0 ∷ R) (c - 1) S in omega arith
@@ -22,7 +22,7 @@ completed-lower R c (secondWaits ∷ S) = let l = completed-lower (words 36 0 c 
 completed-balance : (R : List Record) (c : ℕ) (S : List Slot) → length (writtenOf (completed R c S)) ≤ c + length R
     → cursorOf (completed R c S) + length (writtenOf (completed R c S)) ≡ c + length R
 completed-balance R c [] h = refl
-completed-balance R c (number n ∷ S) h = refl
+completed-balance R c (ofNumber n ∷ S) h = refl
 completed-balance R c (barrier ∷ S) h = refl
 completed-balance R c (firstWaits ∷ S) h =
     let g = completed-grows (words 35 0 c 0 0 0 ∷ R) (c - 1) S in
@@ -74,7 +74,7 @@ module _ (T : List DeclaredType) where
   emit-grows R c S x (inputHas t) = omega arith
   emit-grows R c S x (useName t) = let l = completed-grows (words 33 0 t 0 0 0 ∷ R) (c - 1) S in omega arith
   emit-grows R c S x (useConstant t n) = let l = completed-grows (words 32 0 t (c - 1) 0 0 ∷ words 64 0 n 0 0 0 ∷ R) (c - 2) S in omega arith
-  emit-grows R c S x (useUndefined t) = let z = zeros-length (leavesNumbered T t) R c 0 in let l = completed-grows (words 32 0 t (c - leavesNumbered T t) 0 0 ∷ zerosWritten (leavesNumbered T t) R c 0) (c - leavesNumbered T t - 1) S in omega arith
+  emit-grows R c S x (useUndefined t) = let z = zeros-written-length (leavesNumbered T t) R c 0 in let l = completed-grows (words 32 0 t (c - leavesNumbered T t) 0 0 ∷ zerosWritten (leavesNumbered T t) R c 0) (c - leavesNumbered T t - 1) S in omega arith
   emit-grows R c S x openPair = let l = completed-grows (words 34 0 (top S) (top (pop S)) 0 0 ∷ R) (c - 1) (pop (pop (pop S))) in omega arith
   emit-grows R c S x openLet = let l = completed-grows (words 37 0 (top S) (top (pop S)) 0 0 ∷ R) (c - 1) (pop (pop (pop S))) in omega arith
   emit-grows R c S x (openRec t) = let l = completed-grows (words 38 0 t (top S) (top (pop S)) 0 ∷ R) (c - 1) (pop (pop (pop S))) in omega arith
@@ -92,7 +92,7 @@ module _ (T : List DeclaredType) where
   emit-grows R c S x closeParts = omega arith
   emit-grows R c S x nextAlternative = omega arith
   emit-grows R c S x (useLeaf t n) = omega arith
-  emit-grows R c S x (useZeros t) = let z = zeros-length (leavesNumbered T t) R c x in omega arith
+  emit-grows R c S x (useZeros t) = let z = zeros-written-length (leavesNumbered T t) R c x in omega arith
   emit-grows R c S x (openConstant t) = omega arith
   emit-grows R c S x closeConstant = omega arith
   emit-grows R c S x endConstant = omega arith
@@ -114,7 +114,7 @@ module _ (T : List DeclaredType) where
       let b = completed-balance (words 32 0 t (c - 1) 0 0 ∷ words 64 0 n 0 0 0 ∷ R) (c - 2) S (omega arith) in
       omega arith
   emit-balance R c S x (useUndefined t) h =
-      let z = zeros-length (leavesNumbered T t) R c 0 in let g = completed-grows (words 32 0 t (c - leavesNumbered T t) 0 0 ∷ zerosWritten (leavesNumbered T t) R c 0) (c - leavesNumbered T t - 1) S in
+      let z = zeros-written-length (leavesNumbered T t) R c 0 in let g = completed-grows (words 32 0 t (c - leavesNumbered T t) 0 0 ∷ zerosWritten (leavesNumbered T t) R c 0) (c - leavesNumbered T t - 1) S in
       let b = completed-balance (words 32 0 t (c - leavesNumbered T t) 0 0 ∷ zerosWritten (leavesNumbered T t) R c 0) (c - leavesNumbered T t - 1) S (omega arith) in
       omega arith
   emit-balance R c S x openPair h =
@@ -149,7 +149,7 @@ module _ (T : List DeclaredType) where
   emit-balance R c S x closeParts h = omega arith
   emit-balance R c S x nextAlternative h = omega arith
   emit-balance R c S x (useLeaf t n) h = omega arith
-  emit-balance R c S x (useZeros t) h = let z = zeros-length (leavesNumbered T t) R c x in omega arith
+  emit-balance R c S x (useZeros t) h = let z = zeros-written-length (leavesNumbered T t) R c x in omega arith
   emit-balance R c S x (openConstant t) h = omega arith
   emit-balance R c S x closeConstant h = omega arith
   emit-balance R c S x endConstant h = omega arith

@@ -80,10 +80,10 @@ module _ (T : List DeclaredType) (R : List Record) (kinds values : List ℕ) (c 
   delay-step e =
       opened (λ n. words 40 0 (top (heldStack kinds values h)) c n 0) ∙ emit-at 12 e
 
-  pub if-step : op ≡ 11
+  pub choice-step : op ≡ 11
       → choiceWritten kinds values c h R
       ≡ emit T (emission R c (heldStack kinds values h) x) (instructionOf op a b)
-  if-step e =
+  choice-step e =
       let S = heldStack kinds values h in
       let p = pop-held kinds values h in
       let q = pop-two kinds values h in

@@ -36,9 +36,9 @@ constant-put S t {c} {r} {n} put all R =
     let same : completed (words 32 0 t r 0 0 ∷ leaf ∷ R) (r - 1) S ≡ completed (words 32 0 t (c - 1) 0 0 ∷ leaf ∷ R) (c - 2) S = cc in
     the-same same (put-then put (omega arith) (all (leaf ∷ R)))
 
-pub zeros-length : (k : ℕ) (R : List Record) (c x : ℕ) → length (zerosWritten k R c x) ≡ k + length R
-zeros-length zero R c x = omega arith
-zeros-length (suc k) R c x = zeros-length k (words 64 x 0 0 0 0 ∷ R) (c - 1) (c - 1) ∙ (let e : k + suc (length R) ≡ suc k + length R = omega arith in e)
+pub zeros-written-length : (k : ℕ) (R : List Record) (c x : ℕ) → length (zerosWritten k R c x) ≡ k + length R
+zeros-written-length zero R c x = omega arith
+zeros-written-length (suc k) R c x = zeros-written-length k (words 64 x 0 0 0 0 ∷ R) (c - 1) (c - 1) ∙ (let e : k + suc (length R) ≡ suc k + length R = omega arith in e)
 
 -- undefined leaves, and then records before them
 pub zeros-then : {R : List Record} {k c x r y : ℕ} {F : Emission} {before mid after kinds values : List ℕ} {cursor height next : ℕ}
@@ -49,7 +49,7 @@ zeros-then {R} {k} {c} {x} put grows a =
       state = a .state;
       laid-out = λ tail e fits.
           let moved = put .cursor-moved in
-          let long = zeros-length k R c x in
+          let long = zeros-written-length k R c x in
           a .laid-out tail (put .laid-out R tail e (omega arith)) (omega arith);
       as-long = a .as-long ∙ put .as-long;
       stacking = a .stacking;
@@ -61,7 +61,7 @@ pub undefined-put : (S : List Slot) (t : ℕ) {k c r y : ℕ} {before mid after 
 undefined-put S t {k} {c} {r} put all R =
     let moved = put .cursor-moved in
     let Z = zerosWritten k R c 0 in
-    let long = zeros-length k R c 0 in
+    let long = zeros-written-length k R c 0 in
     let grows = completed-grows (words 32 0 t r 0 0 ∷ Z) (r - 1) S in
     let same : completed (words 32 0 t r 0 0 ∷ Z) (r - 1) S ≡ completed (words 32 0 t (c - k) 0 0 ∷ Z) (c - k - 1) S = cc in
     the-same same (zeros-then put (omega arith) (all Z))

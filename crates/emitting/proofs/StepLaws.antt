@@ -12,7 +12,7 @@ use Rattle.emitting.specs.Tables.{heldStack, LeavesHeld}
 use Rattle.emitting.specs.Emitting.{RecordPut, ZerosPut, Stacking, Advanced}
 use Rattle.emitting.proofs.StackLaws.{pop-held}
 use Rattle.emitting.proofs.ByteLaws.{record-on}
-use Rattle.emitting.proofs.PartLaws.{zeros-length}
+use Rattle.emitting.proofs.PartLaws.{zeros-written-length}
 
 -- the leaves of a type in the table
 module _ {leaves : List ℕ} {types declared d : ℕ} (same : d ≡ declared) {T : List DeclaredType} (held : LeavesHeld T leaves types) where
@@ -22,8 +22,8 @@ module _ {leaves : List ℕ} {types declared d : ℕ} (same : d ≡ declared) {T
   pub no-leaves-above : types < d → 0 ≡ leavesNumbered T declared
   no-leaves-above h = sym (held .none-above declared (omega arith))
 
-  pub leaves-there : ¬ (d ≡ 0) → d ≤ types → getD leaves (d - 1) 0 ≡ leavesNumbered T declared
-  leaves-there n h =
+  pub declared-leaves-there : ¬ (d ≡ 0) → d ≤ types → getD leaves (d - 1) 0 ≡ leavesNumbered T declared
+  declared-leaves-there n h =
       let e : suc (d - 1) ≡ declared = omega arith in
       held .counted (d - 1) (omega arith) ∙ ap (leavesNumbered T) e
 
@@ -67,5 +67,5 @@ zeros-alone {R} {k} {c} {x} {r} {y} {h} {kinds = kinds} {values} put s =
     let moved = put .cursor-moved in
     let told = put .next-told in
     let same : emission (zerosWritten k R c x) (c - k) (heldStack kinds values h) (zerosNext k c x) ≡ emission (zerosWritten k R c x) r (heldStack kinds values h) y = cc in
-    let long = zeros-length k R c x in
+    let long = zeros-written-length k R c x in
     record { state = same; laid-out = λ tail g l. put .laid-out R tail g (omega arith); as-long = put .as-long; stacking = s }

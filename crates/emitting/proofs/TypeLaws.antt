@@ -10,6 +10,7 @@ use lib.ListN.{length, drop, getD, replicate}
 use Rattle.records.specs.SheetOf.{Record, words, sheetOf}
 use Rattle.instructions.specs.Assembly.{leavesNumbered, typeHeld, heldTypes}
 use Rattle.instructions.specs.Emission.{typeRecord, typesWritten, writtenOf, cursorOf}
+use Rattle.instructions.proofs.LeavesNumbered.{types-counted}
 use Rattle.emitting.specs.Tables.{LeavesHeld, SomeLeaves}
 use Rattle.emitting.specs.Emitting.{RecordPut, TypesPut, CodeWritten, emittedFrom, Emitting, Emitted}
 use Rattle.emitting.proofs.ByteLaws.{less-one, record-on}
@@ -26,10 +27,6 @@ pair-put zero n put = absurd (n refl)
 pair-put (suc k) n put = put
 
 module _ (pairs firsts seconds : List ℕ) where
-  pub types-counted : (k : ℕ) → length (heldTypes pairs firsts seconds k) ≡ k
-  types-counted zero = refl
-  types-counted (suc k) = ap suc (types-counted k)
-
   pub record TypesLeft (types : ℕ) (sheet₀ sheet : List ℕ) (k cursor next : ℕ) : Type 0 where
     pub so-far : (R : List Record) (tail : List ℕ) → drop (12 * (types + 1)) sheet₀ ≡ sheetOf R ++ tail
         → (R′ : List Record)
@@ -59,7 +56,7 @@ module _ (pairs firsts seconds : List ℕ) where
       let low = l .lower in
       let long = l .sheet-long in
       let same = put .as-long in
-      let counted = types-counted k in
+      let counted = types-counted pairs firsts seconds k in
       let number : r ≡ suc (length (heldTypes pairs firsts seconds k)) = omega arith in
       record {
         so-far = λ R tail f.
@@ -103,11 +100,11 @@ module _ (pairs firsts seconds : List ℕ) where
       → leavesNumbered (typeHeld p n m ∷ heldTypes pairs firsts seconds k) d ≡ 0
   other-number k d zero n m h e =
       let T = heldTypes pairs firsts seconds k in
-      ap (λ (b : Bool). cond b 1 (leavesNumbered T d)) (ne-eqb d (suc (length T)) (λ f. h (f ∙ ap suc (types-counted k)))) ∙ e
+      ap (λ (b : Bool). cond b 1 (leavesNumbered T d)) (ne-eqb d (suc (length T)) (λ f. h (f ∙ ap suc (types-counted pairs firsts seconds k)))) ∙ e
   other-number k d (suc p) n m h e =
       let T = heldTypes pairs firsts seconds k in
       ap (λ (b : Bool). cond b (min 64 (leavesNumbered T n + leavesNumbered T m)) (leavesNumbered T d))
-      (ne-eqb d (suc (length T)) (λ f. h (f ∙ ap suc (types-counted k)))) ∙ e
+      (ne-eqb d (suc (length T)) (λ f. h (f ∙ ap suc (types-counted pairs firsts seconds k)))) ∙ e
 
   none-above : (k d : ℕ) → k < d → leavesNumbered (heldTypes pairs firsts seconds k) d ≡ 0
   none-above zero d h = refl
@@ -122,9 +119,9 @@ module _ (pairs firsts seconds : List ℕ) where
       → LeavesHeld (heldTypes pairs firsts seconds types) leaves types
   leaves-held {types = types} h = record { counted = h; none-above = none-above types; none-of-zero = none-of-zero types }
 
-  pub some-leaves : {leaves : List ℕ} {types : ℕ}
+  pub types-have-leaves : {leaves : List ℕ} {types : ℕ}
       → ((k : ℕ) → k < types → getD leaves k 0 ≡ leavesNumbered (heldTypes pairs firsts seconds types) (suc k)) → SomeLeaves leaves types
-  some-leaves {leaves} {types} h = (heldTypes pairs firsts seconds types, leaves-held h)
+  types-have-leaves {leaves} {types} h = (heldTypes pairs firsts seconds types, leaves-held h)
 
   -- the whole
   module _ {ops code-firsts code-seconds : List ℕ} {m : ℕ} {leaves : List ℕ} {types records : ℕ} {sheet : List ℕ} (input : ℕ)
@@ -141,7 +138,7 @@ module _ (pairs firsts seconds : List ℕ) where
         let tail = replicate {A = ℕ} (length sheet - 12 * records) 0 in
         let ends = ask .ends in
         let fits = ask .fits in
-        let counted = types-counted types in
+        let counted = types-counted pairs firsts seconds types in
         let start : 12 * (types + 1) ≡ 12 * cursorOf E = omega arith in
         let laid : drop (12 * (types + 1)) coded ≡ sheetOf R ++ tail =
         ap (λ (n : ℕ). drop n coded) start ∙ code .laid-out T (leaves-held (ask .counted)) (omega arith) ∙ ap (λ (t : List ℕ). sheetOf R ++ t) zeros in

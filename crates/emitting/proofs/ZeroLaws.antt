@@ -19,8 +19,8 @@ pub record ZerosLeft (sheet₀ : List ℕ) (cursor next count : ℕ) (sheet : Li
   pub room : 12 * at ≤ length sheet
   pub as-long : length sheet ≡ length sheet₀
 
-pub all-left : (sheet : List ℕ) (cursor next count : ℕ) → 12 * cursor ≤ length sheet → ZerosLeft sheet cursor next count sheet cursor next count
-all-left sheet cursor next count h =
+pub all-zeros-left : (sheet : List ℕ) (cursor next count : ℕ) → 12 * cursor ≤ length sheet → ZerosLeft sheet cursor next count sheet cursor next count
+all-zeros-left sheet cursor next count h =
     record { cursor-same = refl; next-same = refl; laid-out = λ R tail e l. (R, refl, e, l); room = h; as-long = refl }
 
 one-put : {s₀ : List ℕ} {cursor next count : ℕ} {s s′ : List ℕ} {at after : ℕ} (k r : ℕ) → r ≡ at - 1 → ZerosLeft s₀ cursor next count s at after (suc k)
@@ -52,9 +52,9 @@ zero-put {s₀} {cursor} {next} {count} {s} {s′} {at} {after} {left} {r} h z p
         (subst (λ (q : ℕ). ZerosLeft s₀ cursor next count s′ q q k) (sym (put .one-less))
         (one-put k r (put .one-less) z (subst (λ (q : ℕ). RecordPut s s′ at (words 64 after 0 0 0 0) q) (put .one-less) put)))
 
-pub none-left : {s₀ : List ℕ} {cursor next count : ℕ} {s : List ℕ} {at after left : ℕ} → left ≡ 0 → ZerosLeft s₀ cursor next count s at after left
+pub no-zeros-left : {s₀ : List ℕ} {cursor next count : ℕ} {s : List ℕ} {at after left : ℕ} → left ≡ 0 → ZerosLeft s₀ cursor next count s at after left
     → ZerosPut count s₀ s cursor next at after
-none-left {s₀} {cursor} {next} {count} {s} {at} {after} e z = go (subst (λ (k : ℕ). ZerosLeft s₀ cursor next count s at after k) e z)
+no-zeros-left {s₀} {cursor} {next} {count} {s} {at} {after} e z = go (subst (λ (k : ℕ). ZerosLeft s₀ cursor next count s at after k) e z)
   where
     go : ZerosLeft s₀ cursor next count s at after 0 → ZerosPut count s₀ s cursor next at after
     go z =

@@ -43,8 +43,8 @@ pub record Advanced (R : List Record) (c : ℕ) (F : Emission) (before after kin
   pub stacking : Stacking kinds values height
 
 -- an expression is written, onto whatever records, and the stack is at most one slot higher
-abbrev pub Completes : (F : List Record → Emission) (c height : ℕ) (before after kinds values : List ℕ) (cursor height′ next : ℕ) → Type 0
-Completes F c height before after kinds values cursor height′ next =
+abbrev pub ExpressionCompleted : (F : List Record → Emission) (c height : ℕ) (before after kinds values : List ℕ) (cursor height′ next : ℕ) → Type 0
+ExpressionCompleted F c height before after kinds values cursor height′ next =
     ((R : List Record) → Advanced R c (F R) before after kinds values cursor height′ next) × (height′ ≤ height + 1)
 
 -- so many undefined leaves
@@ -56,9 +56,9 @@ pub record ZerosPut (count : ℕ) (before after : List ℕ) (c x cursor next : �
   pub as-long : length after ≡ length before
 
 -- an instruction is done, whatever the types, if the table has their leaves
-abbrev pub Does : (leaves : List ℕ) (types : ℕ) (i : Instruction) (sheet kinds values : List ℕ) (cursor height next : ℕ)
+abbrev pub InstructionDone : (leaves : List ℕ) (types : ℕ) (i : Instruction) (sheet kinds values : List ℕ) (cursor height next : ℕ)
     (sheet′ kinds′ values′ : List ℕ) (cursor′ height′ next′ : ℕ) → Type 0
-Does leaves types i sheet kinds values cursor height next sheet′ kinds′ values′ cursor′ height′ next′ =
+InstructionDone leaves types i sheet kinds values cursor height next sheet′ kinds′ values′ cursor′ height′ next′ =
     ((T : List DeclaredType) → LeavesHeld T leaves types → (R : List Record)
     → Advanced R cursor (emit T (emission R cursor (heldStack kinds values height) next) i) sheet sheet′ kinds′ values′ cursor′ height′ next′)
     × (height′ ≤ height + 1)

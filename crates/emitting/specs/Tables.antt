@@ -4,10 +4,10 @@ use mathlib.Core.Path.{_≡_}
 use mathlib.Core.List.{List, [], _∷_}
 use lib.ListN.{getD}
 use Rattle.instructions.specs.Assembly.{DeclaredType, leavesNumbered}
-use Rattle.instructions.specs.Emission.{Slot, number, barrier, firstWaits, secondWaits}
+use Rattle.instructions.specs.Emission.{Slot, ofNumber, barrier, firstWaits, secondWaits}
 
 abbrev pub slotOf : (kind value : ℕ) → Slot
-slotOf zero v = number v
+slotOf zero v = ofNumber v
 slotOf (suc zero) v = barrier
 slotOf (suc (suc zero)) v = firstWaits
 slotOf (suc (suc (suc k))) v = secondWaits
@@ -20,7 +20,7 @@ heldStack kinds values (suc k) = slotOf (getD kinds k 0) (getD values k 0) ∷ h
 -- the kind of the index that waits on top, 0 for none
 abbrev pub waitingKind : List Slot → ℕ
 waitingKind [] = 0
-waitingKind (number n ∷ S) = 0
+waitingKind (ofNumber n ∷ S) = 0
 waitingKind (barrier ∷ S) = 0
 waitingKind (firstWaits ∷ S) = 35
 waitingKind (secondWaits ∷ S) = 36

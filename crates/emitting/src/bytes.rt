@@ -4,9 +4,10 @@ ghost use Prim.Native.Nat.{_+_, _-_, _*_, _/_, _%_, _≤_};
 ghost use lib.ListN.{length, drop, replicate};
 ghost use Rattle.records.specs.SheetOf.{words, wordThen};
 ghost use Rattle.emitting.specs.Emitting.{RecordPut, ZerosPut};
+use records::KIND_LEAF;
 use records::RECORD_BYTES;
 
-pub const LEAF: u16 = 64;
+pub const LEAF: u16 = KIND_LEAF as u16;
 
 pub fn word_number(x: u16) -> usize
     ensures { λ r. ⌜ r ≡ x ⌝ }

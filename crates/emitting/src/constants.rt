@@ -5,7 +5,7 @@ ghost use Prim.Native.Nat.{_≤_, _<_};
 ghost use Rattle.instructions.specs.Instruction.{instructionOf};
 ghost use Rattle.instructions.specs.Assembly.{DeclaredType, leavesNumbered};
 ghost use Rattle.emitting.specs.Tables.{LeavesHeld};
-ghost use Rattle.emitting.specs.Emitting.{Advancing, Does};
+ghost use Rattle.emitting.specs.Emitting.{Advancing, InstructionDone};
 use crate::bytes::LEAF;
 use crate::bytes::put_record;
 use crate::bytes::put_zeros;
@@ -13,8 +13,7 @@ use crate::bytes::word_number;
 use crate::expressions::Place;
 use instructions::Operands;
 use instructions::Ops;
-
-pub const USE_LEAF: u8 = 24;
+use instructions::USE_LEAF;
 
 fn count(x: u8) -> usize
     ensures { λ r. ⌜ r ≡ x ⌝ }
@@ -51,7 +50,7 @@ pub fn step_leaf(
     second: u16,
 ) -> Place
     requires { ⌜ Advancing (now sheet) (now kinds) (now values) cursor height × (24 ≤ op) × (op < 26) ⌝ }
-    ensures { λ r. ⌜ Does (now (leaves .entry)) types (instructionOf op first second) (now (sheet .entry)) (now (kinds .entry)) (now (values .entry)) cursor height next (now (sheet .exit)) (now (kinds .entry)) (now (values .entry)) (r .cursor) (r .height) (r .next) ⌝ }
+    ensures { λ r. ⌜ InstructionDone (now (leaves .entry)) types (instructionOf op first second) (now (sheet .entry)) (now (kinds .entry)) (now (values .entry)) cursor height next (now (sheet .exit)) (now (kinds .entry)) (now (values .entry)) (r .cursor) (r .height) (r .next) ⌝ }
 {
     if op == USE_LEAF {
         let at = put_record(sheet, cursor, LEAF, next, second, 0, 0, 0);

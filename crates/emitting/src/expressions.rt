@@ -2,7 +2,7 @@
 ghost use Rattle.instructions.specs.Emission.{completed};
 ghost use Rattle.emitting.specs.Tables.{heldStack};
 ghost use Rattle.emitting.specs.Expressions.{expressionWritten, twoWritten, recursionWritten, choiceWritten, delayWritten, constantWritten, undefinedWritten};
-ghost use Rattle.emitting.specs.Emitting.{Advancing, Completes};
+ghost use Rattle.emitting.specs.Emitting.{Advancing, ExpressionCompleted};
 use crate::bytes::LEAF;
 use crate::bytes::put_record;
 use crate::bytes::put_zeros;
@@ -13,14 +13,18 @@ use crate::stack::top_below;
 use crate::stack::waiting_kind;
 use instructions::Operands;
 use instructions::Ops;
+use records::KIND_CONSTANT;
+use records::KIND_DELAY;
+use records::KIND_FEEDBACK;
+use records::KIND_IF;
 
-const CONSTANT: u16 = 32;
+const CONSTANT: u16 = KIND_CONSTANT as u16;
 
-const RECURSION: u16 = 38;
+const FEEDBACK: u16 = KIND_FEEDBACK as u16;
 
-const CHOICE: u16 = 39;
+const IF: u16 = KIND_IF as u16;
 
-const DELAY: u16 = 40;
+const DELAY: u16 = KIND_DELAY as u16;
 
 // The record at which the written ones begin, the height of the stack, and the word next of the leaf or the alternative that comes next.
 pub struct Place {
@@ -38,7 +42,7 @@ pub fn complete(
     height: usize,
 ) -> Place
     requires { ⌜ Advancing (now sheet) (now kinds) (now values) cursor height ⌝ }
-    ensures { λ r. ⌜ Completes (λ R. completed R cursor (heldStack (now (kinds .entry)) (now (values .entry)) height)) cursor height (now (sheet .entry)) (now (sheet .exit)) (now (kinds .exit)) (now (values .exit)) (r .cursor) (r .height) (r .next) ⌝ }
+    ensures { λ r. ⌜ ExpressionCompleted (λ R. completed R cursor (heldStack (now (kinds .entry)) (now (values .entry)) height)) cursor height (now (sheet .entry)) (now (sheet .exit)) (now (kinds .exit)) (now (values .exit)) (r .cursor) (r .height) (r .next) ⌝ }
 {
     let mut at = cursor;
     let mut left = height;
@@ -70,7 +74,7 @@ pub fn put_expression(
     d: u16,
 ) -> Place
     requires { ⌜ Advancing (now sheet) (now kinds) (now values) cursor height ⌝ }
-    ensures { λ r. ⌜ Completes (expressionWritten (now (kinds .entry)) (now (values .entry)) cursor height kind a b c d) cursor height (now (sheet .entry)) (now (sheet .exit)) (now (kinds .exit)) (now (values .exit)) (r .cursor) (r .height) (r .next) ⌝ }
+    ensures { λ r. ⌜ ExpressionCompleted (expressionWritten (now (kinds .entry)) (now (values .entry)) cursor height kind a b c d) cursor height (now (sheet .entry)) (now (sheet .exit)) (now (kinds .exit)) (now (values .exit)) (r .cursor) (r .height) (r .next) ⌝ }
 {
     let at = put_record(sheet, cursor, kind, 0, a, b, c, d);
     complete(sheet, kinds, values, at, height)
@@ -86,7 +90,7 @@ pub fn put_two(
     kind: u16,
 ) -> Place
     requires { ⌜ Advancing (now sheet) (now kinds) (now values) cursor height ⌝ }
-    ensures { λ r. ⌜ Completes (twoWritten (now (kinds .entry)) (now (values .entry)) cursor height kind) cursor height (now (sheet .entry)) (now (sheet .exit)) (now (kinds .exit)) (now (values .exit)) (r .cursor) (r .height) (r .next) ⌝ }
+    ensures { λ r. ⌜ ExpressionCompleted (twoWritten (now (kinds .entry)) (now (values .entry)) cursor height kind) cursor height (now (sheet .entry)) (now (sheet .exit)) (now (kinds .exit)) (now (values .exit)) (r .cursor) (r .height) (r .next) ⌝ }
 {
     let a = top_below(kinds, values, height, 0);
     let b = top_below(kinds, values, height, 1);
@@ -114,7 +118,7 @@ pub fn put_recursion(
     declared: u16,
 ) -> Place
     requires { ⌜ Advancing (now sheet) (now kinds) (now values) cursor height ⌝ }
-    ensures { λ r. ⌜ Completes (recursionWritten (now (kinds .entry)) (now (values .entry)) cursor height declared) cursor height (now (sheet .entry)) (now (sheet .exit)) (now (kinds .exit)) (now (values .exit)) (r .cursor) (r .height) (r .next) ⌝ }
+    ensures { λ r. ⌜ ExpressionCompleted (recursionWritten (now (kinds .entry)) (now (values .entry)) cursor height declared) cursor height (now (sheet .entry)) (now (sheet .exit)) (now (kinds .exit)) (now (values .exit)) (r .cursor) (r .height) (r .next) ⌝ }
 {
     let b = top_below(kinds, values, height, 0);
     let c = top_below(kinds, values, height, 1);
@@ -124,7 +128,7 @@ pub fn put_recursion(
         values,
         cursor,
         below(height, 3),
-        RECURSION,
+        FEEDBACK,
         declared,
         b,
         c,
@@ -141,7 +145,7 @@ pub fn put_choice(
     height: usize,
 ) -> Place
     requires { ⌜ Advancing (now sheet) (now kinds) (now values) cursor height ⌝ }
-    ensures { λ r. ⌜ Completes (choiceWritten (now (kinds .entry)) (now (values .entry)) cursor height) cursor height (now (sheet .entry)) (now (sheet .exit)) (now (kinds .exit)) (now (values .exit)) (r .cursor) (r .height) (r .next) ⌝ }
+    ensures { λ r. ⌜ ExpressionCompleted (choiceWritten (now (kinds .entry)) (now (values .entry)) cursor height) cursor height (now (sheet .entry)) (now (sheet .exit)) (now (kinds .exit)) (now (values .exit)) (r .cursor) (r .height) (r .next) ⌝ }
 {
     let a = top_below(kinds, values, height, 0);
     let b = top_below(kinds, values, height, 1);
@@ -153,7 +157,7 @@ pub fn put_choice(
         values,
         cursor,
         below(height, 5),
-        CHOICE,
+        IF,
         a,
         b,
         c,
@@ -170,7 +174,7 @@ pub fn put_delay(
     height: usize,
 ) -> Place
     requires { ⌜ Advancing (now sheet) (now kinds) (now values) cursor height ⌝ }
-    ensures { λ r. ⌜ Completes (delayWritten (now (kinds .entry)) (now (values .entry)) cursor height) cursor height (now (sheet .entry)) (now (sheet .exit)) (now (kinds .exit)) (now (values .exit)) (r .cursor) (r .height) (r .next) ⌝ }
+    ensures { λ r. ⌜ ExpressionCompleted (delayWritten (now (kinds .entry)) (now (values .entry)) cursor height) cursor height (now (sheet .entry)) (now (sheet .exit)) (now (kinds .exit)) (now (values .exit)) (r .cursor) (r .height) (r .next) ⌝ }
 {
     let a = top_below(kinds, values, height, 0);
     let c = top_below(kinds, values, height, 1);
@@ -199,7 +203,7 @@ pub fn put_constant(
     number: u16,
 ) -> Place
     requires { ⌜ Advancing (now sheet) (now kinds) (now values) cursor height ⌝ }
-    ensures { λ r. ⌜ Completes (constantWritten (now (kinds .entry)) (now (values .entry)) cursor height declared number) cursor height (now (sheet .entry)) (now (sheet .exit)) (now (kinds .exit)) (now (values .exit)) (r .cursor) (r .height) (r .next) ⌝ }
+    ensures { λ r. ⌜ ExpressionCompleted (constantWritten (now (kinds .entry)) (now (values .entry)) cursor height declared number) cursor height (now (sheet .entry)) (now (sheet .exit)) (now (kinds .exit)) (now (values .exit)) (r .cursor) (r .height) (r .next) ⌝ }
 {
     let at = put_record(sheet, cursor, LEAF, 0, number, 0, 0, 0);
     put_expression(
@@ -227,7 +231,7 @@ pub fn put_undefined(
     count: usize,
 ) -> Place
     requires { ⌜ Advancing (now sheet) (now kinds) (now values) cursor height ⌝ }
-    ensures { λ r. ⌜ Completes (undefinedWritten (now (kinds .entry)) (now (values .entry)) cursor height declared count) cursor height (now (sheet .entry)) (now (sheet .exit)) (now (kinds .exit)) (now (values .exit)) (r .cursor) (r .height) (r .next) ⌝ }
+    ensures { λ r. ⌜ ExpressionCompleted (undefinedWritten (now (kinds .entry)) (now (values .entry)) cursor height declared count) cursor height (now (sheet .entry)) (now (sheet .exit)) (now (kinds .exit)) (now (values .exit)) (r .cursor) (r .height) (r .next) ⌝ }
 {
     let leaves = put_zeros(sheet, cursor, 0, count);
     let at = leaves.cursor;

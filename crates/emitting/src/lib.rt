@@ -8,10 +8,15 @@ ghost use Rattle.instructions.specs.Emission.{typeRecord};
 ghost use Rattle.instructions.specs.Assembly.{typeHeld, heldTypes};
 ghost use Rattle.emitting.specs.Tables.{SomeLeaves};
 ghost use Rattle.emitting.specs.Emitting.{RecordPut, emittedFrom, Emitting, Emitted, CodeWritten, TypesPut};
+ghost use Rattle.grammar.specs.Legal.{limit};
+ghost use Rattle.records.specs.Limits.{mostRecords};
 use bytes::clear_from;
 use bytes::put_record;
 use instructions::Operands;
 use instructions::Ops;
+use records::KIND_FLAT_TYPE;
+use records::KIND_HEADER;
+use records::KIND_PAIR_TYPE;
 use records::RECORD_BYTES;
 use stack::no_kinds;
 use stack::no_values;
@@ -24,11 +29,11 @@ pub mod patterns;
 pub mod stack;
 pub mod steps;
 
-const HEADER: u16 = 1;
+const HEADER: u16 = KIND_HEADER as u16;
 
-const FLAT_TYPE: u16 = 16;
+const FLAT_TYPE: u16 = KIND_FLAT_TYPE as u16;
 
-const PAIR_TYPE: u16 = 17;
+const PAIR_TYPE: u16 = KIND_PAIR_TYPE as u16;
 
 // The records of the instructions.
 fn write_code(
@@ -41,7 +46,7 @@ fn write_code(
     records: u16,
     sheet: &mut [u8],
 )
-    requires { ⌜ (m ≤ 65535) × (12 * records ≤ length (now sheet)) × SomeLeaves (now leaves) types ⌝ }
+    requires { ⌜ (m ≤ limit) × (12 * records ≤ length (now sheet)) × SomeLeaves (now leaves) types ⌝ }
     ensures { λ _. ⌜ CodeWritten (now (ops .entry)) (now (firsts .entry)) (now (seconds .entry)) m (now (leaves .entry)) types records (now (sheet .entry)) (now (sheet .exit)) ⌝ }
 {
     let mut kinds = no_kinds();
@@ -84,7 +89,7 @@ fn put_type(sheet: &mut [u8], cursor: u16, next: u16, pair: u8, first: u16, seco
 
 // The records of the types, before those that stand.
 fn write_types(pairs: &Ops, firsts: &Operands, seconds: &Operands, types: usize, sheet: &mut [u8])
-    requires { ⌜ (12 * (types + 1) ≤ length (now sheet)) × (types < 4096) ⌝ }
+    requires { ⌜ (12 * (types + 1) ≤ length (now sheet)) × (types < mostRecords) ⌝ }
     ensures { λ _. ⌜ TypesPut (now (pairs .entry)) (now (firsts .entry)) (now (seconds .entry)) types (now (sheet .entry)) (now (sheet .exit)) ⌝ }
 {
     let mut k = types;

@@ -2,30 +2,28 @@
 ghost use mathlib.Core.List.{List};
 ghost use Prim.Native.Nat.{ℕ, _≤_, _<_};
 ghost use Rattle.instructions.specs.Instruction.{instructionOf};
-ghost use Rattle.emitting.specs.Emitting.{Advancing, Does};
+ghost use Rattle.emitting.specs.Emitting.{Advancing, InstructionDone};
 use crate::bytes::put_record;
 use crate::expressions::Place;
 use crate::stack::NUMBER;
 use crate::stack::below;
 use crate::stack::push_slot;
 use crate::stack::top_below;
+use instructions::CLOSE_PARTS;
+use instructions::MATCH_ONE;
+use instructions::MATCH_TYPE;
+use instructions::NEXT_PART;
 use instructions::Operands;
 use instructions::Ops;
+use records::KIND_CONSTRUCTOR_PATTERN;
+use records::KIND_PAIR_PATTERN;
+use records::KIND_WHOLE_PATTERN;
 
-const WHOLE_PATTERN: u16 = 48;
+const WHOLE_PATTERN: u16 = KIND_WHOLE_PATTERN as u16;
 
-const CONSTRUCTOR_PATTERN: u16 = 49;
+const CONSTRUCTOR_PATTERN: u16 = KIND_CONSTRUCTOR_PATTERN as u16;
 
-const PAIR_PATTERN: u16 = 50;
-
-// The instructions, by their numbers.
-pub const MATCH_TYPE: u8 = 18;
-
-const MATCH_CONSTRUCTOR: u8 = 19;
-
-pub const NEXT_PART: u8 = 21;
-
-const CLOSE_PARTS: u8 = 22;
+const PAIR_PATTERN: u16 = KIND_PAIR_PATTERN as u16;
 
 // A pattern's record.
 pub fn step_alternative(
@@ -40,7 +38,7 @@ pub fn step_alternative(
     second: u16,
 ) -> Place
     requires { ⌜ Advancing (now sheet) (now kinds) (now values) cursor height × (18 ≤ op) × (op < 21) ⌝ }
-    ensures { λ r. ⌜ ((leaves : List ℕ) (types : ℕ) → Does leaves types (instructionOf op first second) (now (sheet .entry)) (now (kinds .entry)) (now (values .entry)) cursor height next (now (sheet .exit)) (now (kinds .entry)) (now (values .entry)) (r .cursor) (r .height) (r .next)) ⌝ }
+    ensures { λ r. ⌜ ((leaves : List ℕ) (types : ℕ) → InstructionDone leaves types (instructionOf op first second) (now (sheet .entry)) (now (kinds .entry)) (now (values .entry)) cursor height next (now (sheet .exit)) (now (kinds .entry)) (now (values .entry)) (r .cursor) (r .height) (r .next)) ⌝ }
 {
     if op == MATCH_TYPE {
         let at = put_record(sheet, cursor, WHOLE_PATTERN, next, first, 0, 0, 0);
@@ -50,7 +48,7 @@ pub fn step_alternative(
             next: 0,
         };
     }
-    if op == MATCH_CONSTRUCTOR {
+    if op == MATCH_ONE {
         let at = put_record(
             sheet,
             cursor,
@@ -88,7 +86,7 @@ pub fn step_part(
     op: u8,
 ) -> Place
     requires { ⌜ Advancing (now sheet) (now kinds) (now values) cursor height × (21 ≤ op) × (op < 24) ⌝ }
-    ensures { λ r. ⌜ ((leaves : List ℕ) (types first second : ℕ) → Does leaves types (instructionOf op first second) (now (sheet .entry)) (now (kinds .entry)) (now (values .entry)) cursor height next (now (sheet .entry)) (now (kinds .exit)) (now (values .exit)) (r .cursor) (r .height) (r .next)) ⌝ }
+    ensures { λ r. ⌜ ((leaves : List ℕ) (types first second : ℕ) → InstructionDone leaves types (instructionOf op first second) (now (sheet .entry)) (now (kinds .entry)) (now (values .entry)) cursor height next (now (sheet .entry)) (now (kinds .exit)) (now (values .exit)) (r .cursor) (r .height) (r .next)) ⌝ }
 {
     if op == NEXT_PART {
         push_slot(kinds, values, height, NUMBER, cursor);

@@ -6,9 +6,12 @@ ghost use lib.ListN.{length};
 ghost use Rattle.instructions.specs.Emission.{top};
 ghost use Rattle.emitting.specs.Tables.{slotOf, heldStack, waitingKind};
 ghost use Rattle.emitting.specs.Emitting.{Stacking, Stacked};
+ghost use Rattle.grammar.specs.Sizes.{textTable};
 use instructions::INSTRUCTIONS;
 use instructions::Operands;
 use instructions::Ops;
+use records::KIND_FIRST;
+use records::KIND_SECOND;
 
 pub const NUMBER: u8 = 0;
 
@@ -18,18 +21,18 @@ pub const FIRST_WAITS: u8 = 2;
 
 pub const SECOND_WAITS: u8 = 3;
 
-const FIRST: u16 = 35;
+const FIRST: u16 = KIND_FIRST as u16;
 
-const SECOND: u16 = 36;
+const SECOND: u16 = KIND_SECOND as u16;
 
 pub fn no_kinds() -> Ops
-    ensures { λ r. ⌜ length r ≡ 65536 ⌝ }
+    ensures { λ r. ⌜ length r ≡ textTable ⌝ }
 {
     [0; INSTRUCTIONS]
 }
 
 pub fn no_values() -> Operands
-    ensures { λ r. ⌜ length r ≡ 65536 ⌝ }
+    ensures { λ r. ⌜ length r ≡ textTable ⌝ }
 {
     [0; INSTRUCTIONS]
 }
@@ -85,7 +88,7 @@ pub fn waiting_kind(kinds: &Ops, values: &Operands, height: usize) -> u16
 
 // A slot more.
 pub fn push_slot(kinds: &mut Ops, values: &mut Operands, height: usize, kind: u8, value: u16)
-    requires { ⌜ Stacking (now kinds) (now values) height × (height < 65536) ⌝ }
+    requires { ⌜ Stacking (now kinds) (now values) height × (height < textTable) ⌝ }
     ensures { λ _. ⌜ Stacked (slotOf kind value) (now (kinds .entry)) (now (values .entry)) (now (kinds .exit)) (now (values .exit)) height ⌝ }
 {
     kinds[height] = kind;

@@ -2,8 +2,7 @@
 ghost use mathlib.Core.List.{List};
 ghost use Prim.Native.Nat.{ℕ, _≤_, _<_};
 ghost use Rattle.instructions.specs.Instruction.{instructionOf};
-ghost use Rattle.emitting.specs.Emitting.{Advancing, Does};
-use crate::constants::USE_LEAF;
+ghost use Rattle.emitting.specs.Emitting.{Advancing, InstructionDone};
 use crate::constants::declared_leaves;
 use crate::constants::step_leaf;
 use crate::expressions::Place;
@@ -14,8 +13,6 @@ use crate::expressions::put_expression;
 use crate::expressions::put_recursion;
 use crate::expressions::put_two;
 use crate::expressions::put_undefined;
-use crate::patterns::MATCH_TYPE;
-use crate::patterns::NEXT_PART;
 use crate::patterns::step_alternative;
 use crate::patterns::step_part;
 use crate::stack::BARRIER;
@@ -23,41 +20,33 @@ use crate::stack::FIRST_WAITS;
 use crate::stack::NUMBER;
 use crate::stack::SECOND_WAITS;
 use crate::stack::push_slot;
+use instructions::CLOSE;
+use instructions::CLOSE_IF;
+use instructions::CONSTANT_HAS;
+use instructions::MATCH_TYPE;
+use instructions::NEXT_PART;
+use instructions::OPEN_CONSTANT;
+use instructions::OPEN_IF;
+use instructions::OPEN_LET;
+use instructions::OPEN_PAIR;
+use instructions::OPEN_REC;
 use instructions::Operands;
 use instructions::Ops;
+use instructions::TAKE_FIRST;
+use instructions::TAKE_SECOND;
+use instructions::USE_CONSTANT;
+use instructions::USE_LEAF;
+use instructions::USE_NAME;
+use instructions::USE_UNDEFINED;
+use records::KIND_LET;
+use records::KIND_NAME;
+use records::KIND_PAIR;
 
-const NAME: u16 = 33;
+const NAME: u16 = KIND_NAME as u16;
 
-const PAIR: u16 = 34;
+const PAIR: u16 = KIND_PAIR as u16;
 
-const LET: u16 = 37;
-
-// The instructions, by their numbers.
-const USE_NAME: u8 = 5;
-
-const USE_CONSTANT: u8 = 6;
-
-const USE_UNDEFINED: u8 = 7;
-
-const OPEN_PAIR: u8 = 8;
-
-const OPEN_LET: u8 = 9;
-
-const OPEN_REC: u8 = 10;
-
-const OPEN_IF: u8 = 11;
-
-const TAKE_FIRST: u8 = 13;
-
-const TAKE_SECOND: u8 = 14;
-
-const CLOSE: u8 = 15;
-
-const CLOSE_IF: u8 = 16;
-
-const OPEN_CONSTANT: u8 = 26;
-
-const CONSTANT_HAS: u8 = 29;
+const LET: u16 = KIND_LET as u16;
 
 // An expression.
 fn step_expression(
@@ -73,7 +62,7 @@ fn step_expression(
     second: u16,
 ) -> Place
     requires { ⌜ Advancing (now sheet) (now kinds) (now values) cursor height × (5 ≤ op) × (op < 13) ⌝ }
-    ensures { λ r. ⌜ ((x : ℕ) → Does (now (leaves .entry)) types (instructionOf op first second) (now (sheet .entry)) (now (kinds .entry)) (now (values .entry)) cursor height x (now (sheet .exit)) (now (kinds .exit)) (now (values .exit)) (r .cursor) (r .height) (r .next)) ⌝ }
+    ensures { λ r. ⌜ ((x : ℕ) → InstructionDone (now (leaves .entry)) types (instructionOf op first second) (now (sheet .entry)) (now (kinds .entry)) (now (values .entry)) cursor height x (now (sheet .exit)) (now (kinds .exit)) (now (values .exit)) (r .cursor) (r .height) (r .next)) ⌝ }
 {
     if op == USE_NAME {
         return put_expression(sheet, kinds, values, cursor, height, NAME, first, 0, 0, 0);
@@ -111,7 +100,7 @@ fn step_mark(
     op: u8,
 ) -> Place
     requires { ⌜ Advancing (now sheet) (now kinds) (now values) cursor height × (13 ≤ op) × (op < 18) ⌝ }
-    ensures { λ r. ⌜ ((leaves : List ℕ) (types first second : ℕ) → Does leaves types (instructionOf op first second) (now (sheet .entry)) (now (kinds .entry)) (now (values .entry)) cursor height next (now (sheet .entry)) (now (kinds .exit)) (now (values .exit)) (r .cursor) (r .height) (r .next)) ⌝ }
+    ensures { λ r. ⌜ ((leaves : List ℕ) (types first second : ℕ) → InstructionDone leaves types (instructionOf op first second) (now (sheet .entry)) (now (kinds .entry)) (now (values .entry)) cursor height next (now (sheet .entry)) (now (kinds .exit)) (now (values .exit)) (r .cursor) (r .height) (r .next)) ⌝ }
 {
     if op == TAKE_FIRST {
         push_slot(kinds, values, height, FIRST_WAITS, 0);
@@ -167,7 +156,7 @@ pub fn emission_step(
     second: u16,
 ) -> Place
     requires { ⌜ Advancing (now sheet) (now kinds) (now values) cursor height ⌝ }
-    ensures { λ r. ⌜ Does (now (leaves .entry)) types (instructionOf op first second) (now (sheet .entry)) (now (kinds .entry)) (now (values .entry)) cursor height next (now (sheet .exit)) (now (kinds .exit)) (now (values .exit)) (r .cursor) (r .height) (r .next) ⌝ }
+    ensures { λ r. ⌜ InstructionDone (now (leaves .entry)) types (instructionOf op first second) (now (sheet .entry)) (now (kinds .entry)) (now (values .entry)) cursor height next (now (sheet .exit)) (now (kinds .exit)) (now (values .exit)) (r .cursor) (r .height) (r .next) ⌝ }
 {
     if op < USE_NAME {
         return Place {

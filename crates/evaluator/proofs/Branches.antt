@@ -20,9 +20,10 @@ use Rattle.verdict.specs.Scopes.{Scope, if-tested, if-then, if-else, of-delay}
 use Rattle.accepted.proofs.Scopes.{judged-by-kind}
 use Rattle.meaning.specs.Undecided.{undecidedRule}
 use Rattle.behaviour.specs.Delays.{assigned, putAll, enter}
-use Rattle.behaviour.specs.Evaluated.{valueAt, storedAt}
+use Rattle.behaviour.specs.Evaluated.{valueAt}
+use Rattle.behaviour.specs.Midway.{storedAt}
 use Rattle.behaviour.proofs.Evaluated.{if-value, if-stored, delay-value, delay-stored}
-use Rattle.behaviour.specs.Firing.{firedAt}
+use Rattle.behaviour.specs.Midway.{firedAt}
 use Rattle.behaviour.proofs.Firings.{if-fired, delay-fired}
 use Rattle.values.specs.Chained.{Chained}
 use Rattle.values.specs.Matchings.{Matching, Chosen}
@@ -36,12 +37,12 @@ use Rattle.evaluator.proofs.Readiness.{
   ready-value,
   ready-at,
   in-circuit,
-  type-there,
+  part-typed-there,
   room-few,
   entry-is,
   value-long,
   same-frames,
-  same-values,
+  values-again,
 }
 use Rattle.evaluator.proofs.Parts.{fits-room, room-done, room-wide}
 
@@ -95,7 +96,7 @@ module _ {s : List ℕ} {n : ℕ} {W env : List ℕ} {names rec : ℕ} {out Γ :
       pub then-ready : EvaluatingIn s n W env₁ names y out Γ
       then-ready =
           ready-at r then-scope env₁ names out (r .many) (d₁ .wide) then-entry
-          (same-values r env₁ (d₁ .kept))
+          (values-again r env₁ (d₁ .kept))
 
       module _ {env₂ held₂ fired₂ o₂ : List ℕ} (p₂ : Evaluated s n W env₁ names y held₁ fired₁ out env₂ held₂ fired₂ o₂) where
         d₂ : EvaluatedIn s Γ env₁ names y held₁ fired₁ env₂ held₂ fired₂ o₂
@@ -124,7 +125,7 @@ module _ {s : List ℕ} {n : ℕ} {W env : List ℕ} {names rec : ℕ} {out Γ :
           pub else-ready : EvaluatingIn s n W env₂ names z (take (length o₂ - 0) Q) Γ
           else-ready =
               ready-at r else-scope env₂ names (take (length o₂ - 0) Q) (r .many) (d₂ .wide)
-              (lent-long (length o₂) Q else-fits ∙ then-long ∙ else-entry) (same-values r env₂ kept₂)
+              (lent-long (length o₂) Q else-fits ∙ then-long ∙ else-entry) (values-again r env₂ kept₂)
 
           module _ {env₃ held₃ fired₃ o₃ : List ℕ} (p₃ : Evaluated s n W env₂ names z held₂ fired₂ (take (length o₂ - 0) Q) env₃ held₃ fired₃ o₃) where
             d₃ : EvaluatedIn s Γ env₂ names z held₂ fired₂ env₃ held₃ fired₃ o₃
@@ -167,8 +168,8 @@ module _ {s : List ℕ} {n : ℕ} {W env : List ℕ} {names rec : ℕ} {out Γ :
             pub as-long : length otherwise ≡ length o₂
             as-long = ap length otherwise-is ∙ else-long
 
-            pub pattern-matched : Matching s n W p tested
-            pattern-matched =
+            pub pattern-matching : Matching s n W p tested
+            pattern-matching =
                 let q = part-of-kind w rec (expression ifMatches) patterns b e 5 refl (unfold askOfKind in refl) in
                 let counted = r .sized .counted in
                 let j = judged-by-kind (ready-passes r) (in-circuit r (r .scope)) ifMatches e in
@@ -179,7 +180,7 @@ module _ {s : List ℕ} {n : ℕ} {W env : List ℕ} {names rec : ℕ} {out Γ :
                     passes = ready-passes r;
                     there = omega (arith, q .1, ep);
                     sort = rw ep (q .2);
-                    typed = type-there r tested-scope;
+                    typed = part-typed-there r tested-scope;
                   };
                   table = r .table .patterns;
                   fits = rw (ex, ep) (j .1);

@@ -15,7 +15,8 @@ use Rattle.records.specs.Trees.{typeAt, Declared, treeAt, typeRecordOf}
 use Rattle.records.specs.Written.{Written}
 use Rattle.verdict.specs.Scopes.{Scope, feedback-defining, feedback-body}
 use Rattle.accepted.proofs.Scopes.{judged-by-kind}
-use Rattle.meaning.specs.Values.{undefined, zeros, ValuesOf, more-values}
+use Rattle.meaning.specs.Values.{undefined, ValuesOf, more-values}
+use Rattle.meaning.proofs.Order.{zeros}
 use Rattle.meaning.specs.Elaboration.{Term, Elaborated}
 use Rattle.meaning.specs.Undecided.{undecidedRule}
 use Rattle.meaning.specs.Evaluation.{application, settled}
@@ -23,9 +24,10 @@ use Rattle.meaning.proofs.Order.{value-length, zeros-length, undefined-typed}
 use Rattle.meaning.proofs.UndecidedRule.{rule-lawful}
 use Rattle.meaning.proofs.FeedbackLeast.{undefined-rises, feedback-typed}
 use Rattle.behaviour.specs.Terms.{term}
-use Rattle.behaviour.specs.Evaluated.{valueAt, storedAt}
+use Rattle.behaviour.specs.Evaluated.{valueAt}
+use Rattle.behaviour.specs.Midway.{storedAt}
 use Rattle.behaviour.proofs.Evaluated.{feedback-value, feedback-stored}
-use Rattle.behaviour.specs.Firing.{firedAt}
+use Rattle.behaviour.specs.Midway.{firedAt}
 use Rattle.behaviour.proofs.Firings.{feedback-fired}
 use Rattle.values.specs.Slots.{slot, entered, frames}
 use Rattle.evaluator.specs.Evaluating.{EvaluatingIn, EvaluatedIn, Evaluated, SettlingIn, SettledIn, Settled, leadsTo}
@@ -127,7 +129,7 @@ module _ {s : List ℕ} {n : ℕ} {W env : List ℕ} {names rec : ℕ} {out Γ :
                 (name-values r t few-around (undefined τ) (undefined-typed τ) env (r .wide) refl feedback-small env₁ started);
             same = same-type;
             rises = rw (slot₁, framed₁, applies)
-                (undefined-rises undecidedRule rule-lawful (Declared s) {ρ = π} {t = body-part} part-typed (r .values));
+                (undefined-rises rule-lawful {ρ = π} {t = body-part} part-typed (r .values));
           }
 
       -- no more leaves are undefined than there is room for
@@ -165,7 +167,7 @@ module _ {s : List ℕ} {n : ℕ} {W env : List ℕ} {names rec : ℕ} {out Γ :
         body-values : ValuesOf (map (typeAt s) (t ∷ Γ)) (frames s (t ∷ Γ) env₂)
         body-values =
             rw framed₂
-            (more-values (feedback-typed undecidedRule rule-lawful (Declared s) {ρ = π} {t = body-part} part-typed (r .values)) (r .values))
+            (more-values (feedback-typed rule-lawful {ρ = π} {t = body-part} part-typed (r .values)) (r .values))
 
         body-value : valueAt undecidedRule s Γ π rec ≡ valueAt undecidedRule s (t ∷ Γ) (frames s (t ∷ Γ) env₂) y
         body-value = rw (framed₂, ed, ey) (feedback-value undecidedRule s w Γ π rec b e)

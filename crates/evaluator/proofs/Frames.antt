@@ -69,8 +69,8 @@ module _ (level : ℕ) (v env : List ℕ) (h : 64 * level ≤ length env) where
       let e = length-take-le (64 * level) env h in
       omega arith
 
-pub from-none : (k : ℕ) → 0 ≤ k
-from-none k = omega arith
+pub from-zero : (k : ℕ) → 0 ≤ k
+from-zero k = omega arith
 
 pub to-the-end : (k : ℕ) → k ≤ k
 to-the-end k = omega arith

@@ -16,15 +16,16 @@ use Rattle.records.proofs.Table.{askOfKind}
 use Rattle.records.proofs.Asked.{part-of-kind}
 use Rattle.verdict.specs.Scopes.{Scope, tuple-first, tuple-second, of-first, of-second}
 use Rattle.meaning.specs.Undecided.{undecidedRule}
-use Rattle.behaviour.specs.Evaluated.{valueAt, storedAt}
+use Rattle.behaviour.specs.Evaluated.{valueAt}
+use Rattle.behaviour.specs.Midway.{storedAt}
 use Rattle.behaviour.proofs.Evaluated.{constant-value, constant-stored, tuple-value, tuple-stored, first-value, first-stored, second-value, second-stored}
-use Rattle.behaviour.specs.Firing.{firedAt}
+use Rattle.behaviour.specs.Midway.{firedAt}
 use Rattle.behaviour.proofs.Firings.{constant-fired, tuple-fired, first-fired, second-fired}
 use Rattle.values.specs.Chained.{Chained}
 use Rattle.values.specs.Slots.{frames}
 use Rattle.evaluator.specs.Evaluating.{EvaluatingIn, EvaluatedIn, Evaluated}
 use Rattle.evaluator.proofs.Frames.{back-long, rest-long, both-back, lent-long, zeros-long, front-own, front-few, end-own, end-few, front-of-back, end-of-back, put-whole}
-use Rattle.evaluator.proofs.Readiness.{ready-written, ready-there, ready-value, ready-at, value-long, same-frames, same-values, entry-few}
+use Rattle.evaluator.proofs.Readiness.{ready-written, ready-there, ready-value, ready-at, value-long, same-frames, values-again, entry-few}
 
 module _ {s : List ℕ} {n : ℕ} {W env : List ℕ} {names rec : ℕ} {out Γ : List ℕ} (r : EvaluatingIn s n W env names rec out Γ) where
   abbrev ρ : List (List ℕ)
@@ -78,8 +79,8 @@ module _ {s : List ℕ} {n : ℕ} {W env : List ℕ} {names rec : ℕ} {out Γ :
     parts : val rec ≡ val x ++ val y
     parts = rw (ex, ey) (tuple-value undecidedRule s sheet-written Γ ρ rec record-there e)
 
-    pub pair-small : getD W x 0 ≤ 64
-    pair-small = entry-few r scope-a
+    pub pair-width-small : getD W x 0 ≤ 64
+    pair-width-small = entry-few r scope-a
 
     pub pair-widths : getD W x 0 + getD W y 0 ≡ length out
     pair-widths =
@@ -116,7 +117,7 @@ module _ {s : List ℕ} {n : ℕ} {W env : List ℕ} {names rec : ℕ} {out Γ :
         pair-second-ready =
             ready-at r scope-b env₁ names rest (r .many) (d₁ .wide)
             (let l = rest-long out o₁ first-wide pair-cut in let p = pair-widths in omega arith)
-            (same-values r env₁ (d₁ .kept))
+            (values-again r env₁ (d₁ .kept))
 
         pub pair-done : {env₂ held₂ fired₂ o₂ : List ℕ} → Evaluated s n W env₁ names y held₁ fired₁ rest env₂ held₂ fired₂ o₂
             → EvaluatedIn s Γ env names rec held fired env₂ held₂ fired₂

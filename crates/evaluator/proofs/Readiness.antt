@@ -23,7 +23,7 @@ use Rattle.structure.specs.Rules.{Passes}
 use Rattle.accepted.proofs.Laws.{written, types-fit}
 use Rattle.verdict.specs.Scopes.{Scope}
 use Rattle.accepted.proofs.Laws.{exact}
-use Rattle.accepted.proofs.Scopes.{Checked, scope-checked, few-names, small-names, checked-type}
+use Rattle.accepted.proofs.Scopes.{CheckedAt, scope-checked, few-names, small-names, checked-type}
 use Rattle.meaning.specs.Values.{ValuesOf, more-values}
 use Rattle.meaning.specs.Elaboration.{Elaborated}
 use Rattle.meaning.specs.Undecided.{undecidedRule}
@@ -46,7 +46,7 @@ module _ {s : List ℕ} {n : ℕ} {W env : List ℕ} {names rec : ℕ} {out Γ :
 
   -- at an expression of the circuit
   module _ {x : ℕ} {Δ : List ℕ} (c : Scope s x Δ) where
-    pub in-circuit : Checked s x Δ
+    pub in-circuit : CheckedAt s x Δ
     in-circuit = scope-checked (r .type) ready-passes (r .accepted) c
 
     pub names-few : length Δ ≤ 64
@@ -55,15 +55,15 @@ module _ {s : List ℕ} {n : ℕ} {W env : List ℕ} {names rec : ℕ} {out Γ :
     pub names-small : Small s Δ
     names-small = small-names ready-passes in-circuit
 
-    pub type-there : TypeRecord s (typeRecordOf s Δ (treeAt s x))
-    type-there = checked-type ready-passes in-circuit
+    pub part-typed-there : TypeRecord s (typeRecordOf s Δ (treeAt s x))
+    part-typed-there = checked-type ready-passes in-circuit
 
     pub entry-is : getD W x 0 ≡ leaves (typeAt s (typeRecordOf s Δ (treeAt s x)))
     entry-is = r .table .expressions c
 
     pub entry-few : getD W x 0 ≤ 64
     entry-few =
-        let f = few-leaves (types-fit ready-passes) (typeRecordOf s Δ (treeAt s x)) (type-there .there) (type-there .sort) in
+        let f = few-leaves (types-fit ready-passes) (typeRecordOf s Δ (treeAt s x)) (part-typed-there .there) (part-typed-there .sort) in
         let e = entry-is in
         omega arith
 
@@ -117,8 +117,8 @@ module _ {s : List ℕ} {n : ℕ} {W env : List ℕ} {names rec : ℕ} {out Γ :
     pub same-frames : frames s Γ env′ ≡ frames s Γ env
     same-frames = frames-kept s Γ env′ env (names-small (r .scope)) (rw (r .many) kept)
 
-    pub same-values : ValuesOf (map (typeAt s) Γ) (frames s Γ env′)
-    same-values = rw same-frames (r .values)
+    pub values-again : ValuesOf (map (typeAt s) Γ) (frames s Γ env′)
+    values-again = rw same-frames (r .values)
 
   -- a name of type t entered, where the names of Γ are kept
   module _ (t : ℕ) (few : length (t ∷ Γ) ≤ 64) (v : List ℕ) (typed : OfType (typeAt s t) v) (env₁ : List ℕ)
@@ -151,11 +151,11 @@ module _ {s : List ℕ} {n : ℕ} {W env : List ℕ} {names rec : ℕ} {out Γ :
   -- a part
   module _ (k : ExpressionKind) (e : kindAt s rec ≡ expression k) (j : ℕ) (t : (ltb 0 j && ltb j 6) ≡ true)
       (a : askOfKind (expression k) j ≡ part expressions) {x : ℕ} (ex : x ≡ word s rec j) where
-    pub higher : (rec < x) × (x < n)
-    higher =
+    pub part-higher : (rec < x) × (x < n)
+    part-higher =
         let p = part-of-kind ready-written rec (expression k) expressions ready-there e j t a in
         let c = r .sized .counted in
         (rw ex (p .0), omega (arith, p .1, ex))
 
     pub entry-there : x < 4096
-    entry-there = let h = higher in let f = r .sized .few in omega (arith, h .1)
+    entry-there = let h = part-higher in let f = r .sized .few in omega (arith, h .1)

@@ -11,7 +11,8 @@ use native.Mathlib.Omega.{arith}
 use lib.ListN.{length, getD, take}
 use Rattle.picoella.specs.Language.{Ty, bounds, leaves, OfType}
 use Rattle.records.specs.Trees.{typeAt, Declared, treeAt}
-use Rattle.meaning.specs.Values.{zeros, Both, ValuesOf, more-values}
+use Rattle.meaning.specs.Values.{Both, ValuesOf, more-values}
+use Rattle.meaning.proofs.Order.{zeros}
 use Rattle.meaning.specs.Elaboration.{Term, Elaborated}
 use Rattle.meaning.specs.Undecided.{undecidedRule}
 use Rattle.meaning.specs.Evaluation.{application, iterate, settled}
@@ -19,11 +20,12 @@ use Rattle.meaning.proofs.Order.{value-length}
 use Rattle.meaning.proofs.UndecidedRule.{rule-lawful}
 use Rattle.meaning.proofs.FeedbackLeast.{application-monotone, application-typed, application-falls, iterate-unchanged, iterate-again}
 use Rattle.behaviour.specs.Terms.{term}
-use Rattle.behaviour.specs.Evaluated.{valueAt, storedAt}
+use Rattle.behaviour.specs.Evaluated.{valueAt}
+use Rattle.behaviour.specs.Midway.{storedAt}
 use Rattle.behaviour.proofs.Evaluated.{stored-again}
-use Rattle.behaviour.specs.Firing.{firedAt}
+use Rattle.behaviour.specs.Midway.{firedAt}
 use Rattle.behaviour.proofs.Firings.{fired-again}
-use Rattle.values.specs.Answers.{Agrees}
+use Rattle.values.specs.Answers.{ValuesCompared}
 use Rattle.values.specs.Slots.{slot, entered, frames}
 use Rattle.evaluator.specs.Evaluating.{EvaluatingIn, EvaluatedIn, Evaluated, SettlingIn, SettledIn, Settled, approximation, leadsTo}
 use Rattle.evaluator.proofs.Frames.{front-kept, slot-kept, frames-kept, entered-kept, entered-slot, entered-long}
@@ -95,7 +97,7 @@ module _ {s : List ℕ} {n : ℕ} {W env : List ℕ} {names d : ℕ} {value : Li
 
     given-typed : OfType σ o
     given-typed =
-        rw given (application-typed undecidedRule rule-lawful (Declared s) {ρ = ρ} {t = part} typed (typed-values .1) (typed-values .0))
+        rw given (application-typed rule-lawful {ρ = ρ} {t = part} typed (typed-values .1) (typed-values .0))
 
     given-long : length o ≡ leaves σ
     given-long = value-length σ given-typed
@@ -116,7 +118,7 @@ module _ {s : List ℕ} {n : ℕ} {W env : List ℕ} {names d : ℕ} {value : Li
     fired-is : fired₁ ≡ firedAt undecidedRule s (t ∷ Γ) (v ∷ ρ) d fired
     fired-is = rw framed at (d₁ .noted)
 
-    module _ {answer : Bool} (a : Agrees o (slot names (length o) env₁) answer) where
+    module _ {answer : Bool} (a : ValuesCompared o (slot names (length o) env₁) answer) where
       standing : slot names (length o) env₁ ≡ v
       standing = rw given-long same-slot
 
@@ -124,7 +126,7 @@ module _ {s : List ℕ} {n : ℕ} {W env : List ℕ} {names d : ℕ} {value : Li
       unchanged-settled e =
           let u : application undecidedRule ρ part v ≡ v = sym given ∙ a .same e ∙ standing in
           let i : iterate undecidedRule ρ σ part v ≡ v =
-          iterate-unchanged undecidedRule rule-lawful (Declared s) {ρ = ρ} {t = part} typed (typed-values .1) u in
+          iterate-unchanged rule-lawful {ρ = ρ} {t = part} typed (typed-values .1) u in
           record {
             reached = same-slot ∙ sym i;
             stored = held-is ∙ rw i refl;
@@ -159,7 +161,7 @@ module _ {s : List ℕ} {n : ℕ} {W env : List ℕ} {names d : ℕ} {value : Li
 
         rises₂ : Both (bounds σ) o (application undecidedRule ρ part o)
         rises₂ =
-            rw given (application-monotone undecidedRule rule-lawful (Declared s) {ρ = ρ} {t = part} typed (typed-values .1) v
+            rw given (application-monotone rule-lawful {ρ = ρ} {t = part} typed (typed-values .1) v
             (application undecidedRule ρ part v) rises)
 
         pub settling-again : SettlingIn s n W env₂ names d o t Γ
@@ -174,12 +176,12 @@ module _ {s : List ℕ} {n : ℕ} {W env : List ℕ} {names d : ℕ} {value : Li
         pub fewer-undefined : zeros (slot names (length o) env₂) < zeros (slot names (length value) env)
         fewer-undefined =
             rw (given-long, value-wide, slot₂, given)
-            (application-falls undecidedRule rule-lawful (Declared s) {ρ = ρ} {t = part} typed (typed-values .1) rises changed)
+            (application-falls rule-lawful {ρ = ρ} {t = part} typed (typed-values .1) rises changed)
 
         leads : leadsTo s t Γ d names env₂ ≡ leadsTo s t Γ d names env
         leads =
             rw (ρ₂, slot₂, given)
-            (sym (iterate-again undecidedRule rule-lawful (Declared s) {ρ = ρ} {t = part} typed (typed-values .1) rises))
+            (sym (iterate-again rule-lawful {ρ = ρ} {t = part} typed (typed-values .1) rises))
 
         pub changed-settled : {env₃ held₂ fired₂ : List ℕ} → Settled s n W env₂ names d held₁ fired₁ o env₃ held₂ fired₂
             → SettledIn s t Γ env names d held fired env₃ held₂ fired₂

@@ -15,8 +15,9 @@ use Rattle.meaning.specs.Values.{Both, ValuesOf}
 use Rattle.meaning.specs.Undecided.{undecidedRule}
 use Rattle.meaning.specs.Evaluation.{iterate}
 use Rattle.behaviour.specs.Terms.{term}
-use Rattle.behaviour.specs.Evaluated.{valueAt, storedAt}
-use Rattle.behaviour.specs.Firing.{firedAt}
+use Rattle.behaviour.specs.Evaluated.{valueAt}
+use Rattle.behaviour.specs.Midway.{storedAt}
+use Rattle.behaviour.specs.Midway.{firedAt}
 use Rattle.values.specs.Slots.{slot, frames}
 
 -- an expression is evaluated: record rec of an accepted sheet, with the names of Γ in scope, into a slice as wide as its type

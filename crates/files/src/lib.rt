@@ -1,8 +1,14 @@
-// Files for programs: a file read whole or past its limit, and a file replaced.
-ghost use Prim.Native.Nat.{_≤_};
+// Files for programs: a file read whole or past its limit, a file that cannot be opened refused, what was told printed in pieces, and a
+// file replaced.
+ghost use Prim.Native.Nat.{_≤_, _<_};
 ghost use mathlib.Core.Path.{_≡_};
 ghost use lib.ListN.{length};
 ghost use Rattle.io.specs.Counts.{Counts};
+use libc::STDOUT_FILENO;
+use listing::LINE_BYTES;
+use printout::first_piece;
+use printout::next_piece;
+use printout::put_no_file;
 
 // What reading gave: so many bytes, unless it failed.
 pub struct Got {
@@ -51,6 +57,34 @@ pub fn read_named(path: &[u8], buffer: &mut [u8]) -> Got
     let got = read_file(fd, buffer);
     libc::close(fd);
     got
+}
+
+// Prints the line for a file that could not be opened.
+pub fn refuse_file(opened: bool) {
+    let mut line = [0u8; LINE_BYTES];
+    let end = put_no_file(&mut line, opened);
+    io::write_all(STDOUT_FILENO, &line[0..end]);
+}
+
+// Prints what was told, piece by piece: laid end to end the pieces are the listing, or the line of a refusal.
+pub fn print(code: u64, place: u64, t: u64, w: usize, outputs: &[u8])
+    requires { ⌜ (0 < w) × (w ≤ 64) ⌝ }
+{
+    let mut buffer = io::large_buffer();
+    let begun = first_piece(&mut buffer, code, place, t, w, outputs);
+    let end = begun.end;
+    io::write_all(STDOUT_FILENO, &buffer[0..end]);
+    let mut k = begun.k;
+    let mut first = begun.first;
+    let mut last = begun.last;
+    while !last {
+        let piece = next_piece(&mut buffer, w, outputs, k, first);
+        let until = piece.end;
+        io::write_all(STDOUT_FILENO, &buffer[0..until]);
+        k = piece.k;
+        first = piece.first;
+        last = piece.last;
+    }
 }
 
 // Replaces a file, and says whether it could be opened for that.

@@ -7,9 +7,9 @@ use Rattle.firing.proofs.Witness.{toggle-fires}
 
 pub kept : FiringPromises
 kept = record {
-  lowest-first = Telling.lowest-first;
-  places-small = Telling.places-small;
-  unaltered = Telling.unaltered;
+  lowest-first = Telling.fired-lowest-first;
+  places-small = Telling.fired-places-small;
+  unaltered = Telling.fired-unaltered;
   reached-once = Telling.reached-once;
   reached-expressions = Telling.reached-expressions;
   fired-word = fired-words;

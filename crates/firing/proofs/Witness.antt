@@ -34,7 +34,8 @@ use Rattle.stimulus.specs.OneCycle.{notOneCycle}
 use Rattle.stimulus.proofs.OneCycle.{one-cycle-typed}
 use Rattle.behaviour.specs.Bench.{toggle}
 use Rattle.behaviour.specs.Firing.{fired}
-use Rattle.firing.specs.Telling.{firedAnswer, finalFired, TellingFired}
+use Rattle.firing.specs.Telling.{firedAnswer, finalFired}
+use Rattle.firing.specs.TellingCycle.{TellingFired}
 use Rattle.firing.specs.Promises.{FiredToggle}
 
 pub toggle-fires : FiredToggle
@@ -46,7 +47,7 @@ unfolding verdict byRecords byTypes wrongLength wrongHeader wrongRecord wrongNam
 toggle-accepted = refl
 
 passes : Passes toggle
-passes = accepted-passes toggle toggle-accepted
+passes = accepted-passes toggle-accepted
 
 full : length toggle ≡ 12 * count toggle
 full = accepted-records toggle toggle-accepted

@@ -2,3 +2,5 @@
 -- To believe:
 pub mod Telling
 pub mod Promises
+-- What functions ask and give, and their proofs need:
+pub mod TellingCycle

@@ -1,23 +1,19 @@
--- Which alternative fired, as a call (docs/SHEETS.md, "Which alternative fired"): "A single-cycle call fills a lent slice with one 16-bit
--- word per record: at an IF this number, taken from the evaluation with every enclosing feedback at its settled value, and 0
--- elsewhere. It writes nothing else." "Checks: 1 to 9, with 8 also for a stimulus that is not exactly one cycle, then 16 (slice not
--- one word per record, place: words needed)." Where nothing refuses, it gives 0 at place 0. The slice is a list of words here, so its
--- length and 16's place count words, not bytes.
+-- Which alternative fired, as a call (docs/SHEETS.md, "Which alternative fired"): it "fills the slice: at the record of an IF with the
+-- number told, taken from the evaluation in which every feedback that encloses the IF has its settled value, in the defining part as in
+-- the body; and with 0 at every other record. It writes nothing else." "Its checks are 1 to 7, then 8, also for a stimulus that is not
+-- exactly one cycle, then 9, then 16. Where none applies it gives 0 at place 0." The slice is a list of words here, so its length and
+-- 16's place count words, not bytes.
 use Prim.Native.Nat.{ℕ}
 use mathlib.Core.Path.{_≡_}
 use mathlib.Core.Bool.{not}
 use mathlib.Core.List.{List, [], _∷_, _++_}
 use lib.ListN.{length}
 use lib.Dec.{eqb}
-use Rattle.picoella.specs.Language.{OfType}
 use Rattle.records.specs.Words.{count}
 use Rattle.answers.specs.Answers.{packed, whenDone, Check, check, when, firstApplying}
 use Rattle.answers.specs.declared.Answer.{Answer}
 use Rattle.answers.specs.declared.Answer.the-variants.{Done}
-use Rattle.verdict.specs.Verdict.{sheetChecks, verdict}
-use Rattle.verdict.specs.declared.Verdict.the-variants.{Accepted}
-use Rattle.accepted.specs.Accepting.{Accepting}
-use Rattle.stimulus.specs.Stimulus.{inputType}
+use Rattle.verdict.specs.Verdict.{sheetChecks}
 use Rattle.stimulus.specs.OneCycle.{oneCycleChecks}
 use Rattle.behaviour.specs.Firing.{fired}
 
@@ -37,10 +33,3 @@ finalFired s stim words = whenDone (firedAnswer s stim words) (fired s stim) wor
 pub record ToldFired (sheet stimulus words : List ℕ) (result : ℕ) (words′ : List ℕ) : Type 0 where
   pub result-is : result ≡ packed (firedAnswer sheet stimulus words)
   pub words-is : words′ ≡ finalFired sheet stimulus words
-
--- the words of one cycle of an accepted sheet with output type t are told, into a slice of one a record
-pub record TellingFired (s : List ℕ) (n : ℕ) (widths : List ℕ) (t : ℕ) (input words : List ℕ) : Type 0 where
-  pub accepting : Accepting s n widths
-  pub accepted : verdict s ≡ Accepted t
-  pub typed : OfType (inputType s) input
-  pub room : length words ≡ count s

@@ -6,16 +6,20 @@ ghost use Rattle.verdict.specs.Verdict.{verdict};
 ghost use Rattle.verdict.specs.declared.Verdict.the-variants.{Accepted};
 ghost use Rattle.accepted.specs.Accepting.{Accepting};
 ghost use Rattle.behaviour.specs.Firing.{fired};
-ghost use Rattle.firing.specs.Telling.{ToldFired, TellingFired};
+ghost use Rattle.firing.specs.Telling.{ToldFired};
+ghost use Rattle.firing.specs.TellingCycle.{TellingFired};
+ghost use Rattle.records.specs.Limits.{mostRecords};
 use answers::Answer;
 use answers::WRONG_WORDS;
 use answers::in_one;
 use answers::packed;
 use records::RECORDS;
+use records::VALUE_BYTES;
 use records::WidthTable;
 use records::records_in;
 use stepper::look;
 use stepper::no_names;
+use stepper::no_next_values;
 use stimulus::check_one_cycle;
 use values::Fired;
 use values::none_fired;
@@ -26,7 +30,7 @@ use verdict::packed_verdict;
 
 // Copies the first words of a table.
 fn copy_words(table: &Fired, words: &mut [u16])
-    requires { ⌜ (length (now words) ≤ 4096) × (length (now table) ≡ 4096) ⌝ }
+    requires { ⌜ (length (now words) ≤ mostRecords) × (length (now table) ≡ mostRecords) ⌝ }
     ensures { λ _. ⌜ now (words .exit) ≡ take (length (now (words .entry))) (now (table .entry)) ⌝ }
 {
     let all = words.len();
@@ -38,10 +42,10 @@ fn copy_words(table: &Fired, words: &mut [u16])
 }
 
 // Room for the output, which is not told.
-fn no_output() -> [u8; 64]
+fn no_output() -> [u8; VALUE_BYTES]
     ensures { λ r. ⌜ length r ≡ 64 ⌝ }
 {
-    [0; 64]
+    [0; VALUE_BYTES]
 }
 
 // The words of one cycle, with room of its own.
@@ -50,7 +54,7 @@ fn tell(sheet: &[u8], n: usize, widths: &WidthTable, t: usize, input: &[u8], wor
     ensures { λ _. ⌜ now (words .exit) ≡ fired (now (sheet .entry)) (now (input .entry)) ⌝ }
 {
     let mut env = no_names();
-    let mut held = no_names();
+    let mut held = no_next_values();
     let mut table = none_fired();
     let mut out = no_output();
     let wo = widths[t] as usize;

@@ -13,16 +13,16 @@ use Rattle.grammar.specs.Rows.{State, inPairFirst, inPairSecond, inLetBo
 use Rattle.grammar.specs.Rows.{inThen, inElse, inPatternFirst, inPatternSecond, inConstantFirst, inConstantSecond, inDelayConstant, inDelayed}
 
 -- an expression up to the end completes the text
-abbrev pub Headed : List Token → List Token → Type 0
-Headed ts a = (e : Expression) → ReadsExpression a e [] → (t : Text) × ReadsText ts t
+abbrev pub AwaitsBody : List Token → List Token → Type 0
+AwaitsBody ts a = (e : Expression) → ReadsExpression a e [] → (t : Text) × ReadsText ts t
 
 -- more declarations, INPUT and a name bring an expression
 abbrev pub AwaitsDeclared : List Token → List Token → Type 0
-AwaitsDeclared ts a = (ds : List Declaration) (w : List ℕ) (p : ℕ) (c : List Token) → ReadsMore a ds (nameToken w p ∷ c) → Headed ts c
+AwaitsDeclared ts a = (ds : List Declaration) (w : List ℕ) (p : ℕ) (c : List Token) → ReadsMore a ds (nameToken w p ∷ c) → AwaitsBody ts c
 
 -- so does a declaration first
-abbrev pub Declares : List Token → List Token → Type 0
-Declares ts a = (d : Declaration) (r : List Token) → ReadsDeclaration a d r → AwaitsDeclared ts r
+abbrev pub AwaitsDeclaration : List Token → List Token → Type 0
+AwaitsDeclaration ts a = (d : Declaration) (r : List Token) → ReadsDeclaration a d r → AwaitsDeclared ts r
 
 -- so do the further constructors of one
 abbrev pub Constructs : List Token → List Token → Type 0
@@ -48,7 +48,7 @@ barred (alternative-parts h k) l = (_, reads-parts-or h k l)
 
 -- an expression is awaited
 pub data Awaits (ts : List Token) : List State → List Token → Type 0 where
-  await-end : {a : List Token} → Headed ts a → Awaits ts [] a
+  await-end : {a : List Token} → AwaitsBody ts a → Awaits ts [] a
   await-pair-first : {K : List State} {p : ℕ} {a : List Token} → Awaits ts K (symbol opens p ∷ a) → Awaits ts (inPairFirst ∷ K) a
   await-pair-second : {K : List State} {p q : ℕ} {a b : List Token} {e : Expression}
       → Awaits ts K (symbol opens p ∷ a) → ReadsExpression a e (symbol comma q ∷ b) → Awaits ts (inPairSecond ∷ K) b

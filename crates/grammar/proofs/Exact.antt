@@ -11,7 +11,8 @@ use lib.ListN.{length, take, length-take}
 use lib.Seq.{take-take, take-all}
 use lib.Dec.{T, ltb, ltb→lt, nltb→le}
 use Rattle.grammar.specs.Tokens.{Token, Tokens}
-use Rattle.grammar.specs.Legal.{Legal, Viable, limit, Leaves, at-byte, at-limit, at-end, Told}
+use Rattle.grammar.specs.Legal.{Legal, Viable, limit, Leaves, at-byte, at-limit, at-end}
+use Rattle.grammar.specs.Walk.{Told}
 use Rattle.grammar.specs.Rows.{State, start}
 use Rattle.grammar.specs.Machine.{Config, dead, live, Word, noWord, onByte, afterBytes, ends, begins}
 use Rattle.grammar.specs.Walk.{Walked, stopped, reached, onward, walk, concluded, firstIllegal}

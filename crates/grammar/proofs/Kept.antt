@@ -10,7 +10,8 @@ use lib.ListN.{length, take}
 use Rattle.grammar.specs.Tokens.{Token}
 use Rattle.grammar.specs.Source.{Text}
 use Rattle.grammar.specs.Grammar.{ReadsText}
-use Rattle.grammar.specs.Legal.{Reading, Viable, limit, Leaves, at-byte, at-limit, at-end, Keeps, Told}
+use Rattle.grammar.specs.Legal.{Reading, Viable, limit, Leaves, at-byte, at-limit, at-end, Keeps}
+use Rattle.grammar.specs.Walk.{Told}
 use Rattle.grammar.specs.Walk.{firstIllegal}
 use Rattle.grammar.specs.Promises.{GrammarPromises}
 use Rattle.grammar.proofs.OneLexing.{one-lexing}

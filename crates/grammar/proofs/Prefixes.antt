@@ -4,14 +4,10 @@ use Prim.Native.Nat.{ℕ, suc, _≤_, _<_}
 use native.Mathlib.Omega.{arith}
 use native.Mathlib.Decide.{decLt}
 use mathlib.Core.Path.{_≡_, refl, sym, ap, subst, _∙_}
-use mathlib.Core.List.{List, [], _∷_, _++_, append-assoc}
+use mathlib.Core.List.{List, [], _∷_, _++_, append-assoc, append-nil}
 use lib.ListN.{length, take, drop, take-append-drop}
 use lib.Seq.{take-take, take-all}
 use Rattle.grammar.specs.Legal.{Legal, Viable, limit, Leaves, at-byte, at-limit, at-end, Keeps}
-
-append-nil : (bs : List ℕ) → bs ++ [] ≡ bs
-append-nil [] = refl
-append-nil (b ∷ bs) = ap (λ l. b ∷ l) (append-nil bs)
 
 pub legal-viable : (bs : List ℕ) → Legal bs → Viable bs
 legal-viable bs h = ([], subst Legal (sym (append-nil bs)) h)

@@ -14,7 +14,7 @@ use Rattle.grammar.specs.Rows.{State, start, done, stateNumber, Lead, Ac
 use Rattle.grammar.specs.Machine.{Config, dead, live, Word, noWord, find, perform, taken, onToken, afterTokens, ends, canEnd}
 use Rattle.grammar.specs.Machine.{leadOf, leadByte, leadNumber}
 use Rattle.grammar.proofs.Awaiting.{Indexing, indexing, await-end}
-use Rattle.grammar.proofs.Sound.{Empty, Sound, SoundAt, Moves, EachTransition, moves}
+use Rattle.grammar.proofs.Sound.{Empty, SoundFrom, SoundAt, Moves, EachTransition, moves}
 use Rattle.grammar.proofs.Numbered.{same-lead, same-state}
 
 -- the row that is found
@@ -31,12 +31,12 @@ picked P b (on l a ∷ more) e = go (eqb b (leadByte l)) (e .0) (picked P b more
     go false h k = k
 
 module _ (ts : List Token) (q : State) (K : List State) (b : List Token) where
-  moved : (t : Token) (l : Lead) (a : Action) → leadOf t ≡ l → Moves ts q l a → Sound ts q K (t ∷ b) → SoundAt ts (perform a K noWord) b
+  moved : (t : Token) (l : Lead) (a : Action) → leadOf t ≡ l → Moves ts q l a → SoundFrom ts q K (t ∷ b) → SoundAt ts (perform a K noWord) b
   moved (keyword k p) l a e m h = subst (λ x. Moves ts q x a) (sym e) m K b p h
   moved (symbol s p) l a e m h = subst (λ x. Moves ts q x a) (sym e) m K b p h
   moved (nameToken w p) l a e m h = subst (λ x. Moves ts q x a) (sym e) m K b w p h
 
-  by-row : (t : Token) (r : Option Transition) → OfFound (Moves ts q) r → Sound ts q K (t ∷ b) → SoundAt ts (taken (leadOf t) K r) b
+  by-row : (t : Token) (r : Option Transition) → OfFound (Moves ts q) r → SoundFrom ts q K (t ∷ b) → SoundAt ts (taken (leadOf t) K r) b
   by-row t none m h = tt
   by-row t (some (on l a)) m h = go (eqb (leadNumber (leadOf t)) (leadNumber l)) (eqb→eq (leadNumber (leadOf t)) (leadNumber l))
     where
@@ -44,7 +44,7 @@ module _ (ts : List Token) (q : State) (K : List State) (b : List Token) where
       go true e = moved t l a (same-lead (leadOf t) l (e tt)) m h
       go false e = tt
 
-  by-token : (t : Token) → Sound ts q K (t ∷ b) → SoundAt ts (onToken t q K) b
+  by-token : (t : Token) → SoundFrom ts q K (t ∷ b) → SoundAt ts (onToken t q K) b
   by-token t h = by-row t (find (leadByte (leadOf t)) (transitions q)) (picked (Moves ts q) (leadByte (leadOf t)) (transitions q) (moves ts q)) h
 
 by-tokens : (ts b : List Token) (c : Config) → SoundAt ts c b → SoundAt ts (afterTokens c b) []
@@ -70,7 +70,7 @@ whole-text (q ∷ K) u i = absurd u
 
 ended : (ts : List Token) (c : Config) → SoundAt ts c [] → ends c ≡ true → (t : Text) × ReadsText ts t
 ended ts dead s h = absurd (let z : _≡_ {A = ℕ} 0 1 = cc in omega arith)
-ended ts (live q K w) s h = let f = subst (λ x. Sound ts x K []) (ends-done q K w h) s in whole-text K (f .0) (f .1)
+ended ts (live q K w) s h = let f = subst (λ x. SoundFrom ts x K []) (ends-done q K w h) s in whole-text K (f .0) (f .1)
 
 pub read-to-end : (ts : List Token) → ends (afterTokens (live start [] noWord) ts) ≡ true → (t : Text) × ReadsText ts t
 read-to-end ts h =

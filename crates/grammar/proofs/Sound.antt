@@ -1,4 +1,4 @@
--- The grammar derives what the machine reads on tokens. What is known in each state is a statement about the tokens read so far, `Sound`:
+-- The grammar derives what the machine reads on tokens. What is known in each state is a statement about the tokens read so far, `SoundFrom`:
 -- which production is being read from where, and what follows once the part that is awaited is there. Each row keeps it (`moves`).
 -- Assumes nothing.
 use Prim.Native.Nat.{ℕ}
@@ -20,7 +20,7 @@ use Rattle.grammar.specs.Rows.{inRecBody, inTested, pattern, inMatched, 
 use Rattle.grammar.specs.Rows.{inElse, delayBracket, constant, inDelayConstant, inConstantFirst, inConstantSecond}
 use Rattle.grammar.specs.Rows.{inDelayed, delayClose, index, indexOne, indexTwo}
 use Rattle.grammar.specs.Machine.{Config, dead, live, noWord, back, perform}
-use Rattle.grammar.proofs.Awaiting.{Headed, AwaitsDeclared, Declares, Constructs, AwaitsAlternative, alternative-name, alternative-parts}
+use Rattle.grammar.proofs.Awaiting.{AwaitsBody, AwaitsDeclared, AwaitsDeclaration, Constructs, AwaitsAlternative, alternative-name, alternative-parts}
 use Rattle.grammar.proofs.Awaiting.{alone, barred, Awaits, await-end, await-pair-first, await-pair-second, await-let-bound}
 use Rattle.grammar.proofs.Awaiting.{await-let-body, await-rec-bound, await-rec-body, await-tested, await-then, await-else}
 use Rattle.grammar.proofs.Awaiting.{await-delayed, AwaitsPattern, await-matched, await-pattern-first, await-pattern-second}
@@ -32,71 +32,71 @@ abbrev pub Empty : List State → Type 0
 Empty [] = Unit {0}
 Empty (q ∷ K) = ⊥
 
-abbrev pub Sound : List Token → State → List State → List Token → Type 0
-Sound ts start K b = Empty K × Declares ts b
-Sound ts declared K b = Empty K × AwaitsDeclared ts b
-Sound ts typeName K b = Empty K × (p : ℕ) × Declares ts (keyword TYPE p ∷ b)
-Sound ts typeEquals K b = Empty K × (p : ℕ) × (w : List ℕ) × (q : ℕ) × Declares ts (keyword TYPE p ∷ nameToken w q ∷ b)
-Sound ts typeBody K b = Empty K × (p : ℕ) × (w : List ℕ) × (q : ℕ) × (s : ℕ) × Declares ts (keyword TYPE p ∷ nameToken w q ∷ symbol equals s ∷ b)
-Sound ts constructorEnd K b = Empty K × Constructs ts b
-Sound ts constructorNext K b = Empty K × (p : ℕ) × Constructs ts (symbol bar p ∷ b)
-Sound ts pairFirstType K b = Empty K × (p : ℕ) × (m : List ℕ) × (q : ℕ) × (s : ℕ) × (t : ℕ)
-    × Declares ts (keyword TYPE p ∷ nameToken m q ∷ symbol equals s ∷ symbol opens t ∷ b)
-Sound ts pairComma K b = Empty K × (p : ℕ) × (m : List ℕ) × (q : ℕ) × (s : ℕ) × (t : ℕ) × (n : List ℕ) × (u : ℕ)
-    × Declares ts (keyword TYPE p ∷ nameToken m q ∷ symbol equals s ∷ symbol opens t ∷ nameToken n u ∷ b)
-Sound ts pairSecondType K b = Empty K × (p : ℕ) × (m : List ℕ) × (q : ℕ) × (s : ℕ) × (t : ℕ) × (n : List ℕ) × (u : ℕ) × (v : ℕ)
-    × Declares ts (keyword TYPE p ∷ nameToken m q ∷ symbol equals s ∷ symbol opens t ∷ nameToken n u ∷ symbol comma v ∷ b)
-Sound ts pairClose K b = Empty K × (p : ℕ) × (m : List ℕ) × (q : ℕ) × (s : ℕ) × (t : ℕ) × (n : List ℕ) × (u : ℕ) × (v : ℕ) × (o : List ℕ) × (x : ℕ)
-    × Declares ts (keyword TYPE p ∷ nameToken m q ∷ symbol equals s ∷ symbol opens t ∷ nameToken n u ∷ symbol comma v ∷ nameToken o x ∷ b)
-Sound ts pairIn K b = Empty K × (p : ℕ) × (m : List ℕ) × (q : ℕ) × (s : ℕ) × (t : ℕ) × (n : List ℕ) × (u : ℕ) × (v : ℕ) × (o : List ℕ) × (x : ℕ) × (y : ℕ)
-    × Declares ts (keyword TYPE p ∷ nameToken m q ∷ symbol equals s ∷ symbol opens t ∷ nameToken n u ∷ symbol comma v ∷ nameToken o x ∷ symbol closes y ∷ b)
-Sound ts inputType K b = Empty K × (p : ℕ) × AwaitsDeclared ts (keyword INPUT p ∷ b)
-Sound ts expression K b = Awaits ts K b
-Sound ts undefinedType K b = ((p : ℕ) × Awaits ts K (symbol query p ∷ b)) ⊎ ((p : ℕ) × AwaitsConstant ts K (symbol query p ∷ b))
-Sound ts bracket K b = (p : ℕ) × Awaits ts K (symbol opens p ∷ b)
-Sound ts done K b = Empty K × Indexing ts K b
-Sound ts inPairFirst K b = After ts inPairFirst K b
-Sound ts inPairSecond K b = After ts inPairSecond K b
-Sound ts letName K b = (p : ℕ) × (q : ℕ) × Awaits ts K (symbol opens p ∷ keyword LET q ∷ b)
-Sound ts letEquals K b = (p : ℕ) × (q : ℕ) × (w : List ℕ) × (s : ℕ) × Awaits ts K (symbol opens p ∷ keyword LET q ∷ nameToken w s ∷ b)
-Sound ts inLetBound K b = After ts inLetBound K b
-Sound ts inLetBody K b = After ts inLetBody K b
-Sound ts initQuery K b = (p : ℕ) × (q : ℕ) × (s : ℕ)
+abbrev pub SoundFrom : List Token → State → List State → List Token → Type 0
+SoundFrom ts start K b = Empty K × AwaitsDeclaration ts b
+SoundFrom ts declared K b = Empty K × AwaitsDeclared ts b
+SoundFrom ts typeName K b = Empty K × (p : ℕ) × AwaitsDeclaration ts (keyword TYPE p ∷ b)
+SoundFrom ts typeEquals K b = Empty K × (p : ℕ) × (w : List ℕ) × (q : ℕ) × AwaitsDeclaration ts (keyword TYPE p ∷ nameToken w q ∷ b)
+SoundFrom ts typeBody K b = Empty K × (p : ℕ) × (w : List ℕ) × (q : ℕ) × (s : ℕ) × AwaitsDeclaration ts (keyword TYPE p ∷ nameToken w q ∷ symbol equals s ∷ b)
+SoundFrom ts constructorEnd K b = Empty K × Constructs ts b
+SoundFrom ts constructorNext K b = Empty K × (p : ℕ) × Constructs ts (symbol bar p ∷ b)
+SoundFrom ts pairFirstType K b = Empty K × (p : ℕ) × (m : List ℕ) × (q : ℕ) × (s : ℕ) × (t : ℕ)
+    × AwaitsDeclaration ts (keyword TYPE p ∷ nameToken m q ∷ symbol equals s ∷ symbol opens t ∷ b)
+SoundFrom ts pairComma K b = Empty K × (p : ℕ) × (m : List ℕ) × (q : ℕ) × (s : ℕ) × (t : ℕ) × (n : List ℕ) × (u : ℕ)
+    × AwaitsDeclaration ts (keyword TYPE p ∷ nameToken m q ∷ symbol equals s ∷ symbol opens t ∷ nameToken n u ∷ b)
+SoundFrom ts pairSecondType K b = Empty K × (p : ℕ) × (m : List ℕ) × (q : ℕ) × (s : ℕ) × (t : ℕ) × (n : List ℕ) × (u : ℕ) × (v : ℕ)
+    × AwaitsDeclaration ts (keyword TYPE p ∷ nameToken m q ∷ symbol equals s ∷ symbol opens t ∷ nameToken n u ∷ symbol comma v ∷ b)
+SoundFrom ts pairClose K b = Empty K × (p : ℕ) × (m : List ℕ) × (q : ℕ) × (s : ℕ) × (t : ℕ) × (n : List ℕ) × (u : ℕ) × (v : ℕ) × (o : List ℕ) × (x : ℕ)
+    × AwaitsDeclaration ts (keyword TYPE p ∷ nameToken m q ∷ symbol equals s ∷ symbol opens t ∷ nameToken n u ∷ symbol comma v ∷ nameToken o x ∷ b)
+SoundFrom ts pairIn K b = Empty K × (p : ℕ) × (m : List ℕ) × (q : ℕ) × (s : ℕ) × (t : ℕ) × (n : List ℕ) × (u : ℕ) × (v : ℕ) × (o : List ℕ) × (x : ℕ) × (y : ℕ)
+    × AwaitsDeclaration ts (keyword TYPE p ∷ nameToken m q ∷ symbol equals s ∷ symbol opens t ∷ nameToken n u ∷ symbol comma v ∷ nameToken o x ∷ symbol closes y ∷ b)
+SoundFrom ts inputType K b = Empty K × (p : ℕ) × AwaitsDeclared ts (keyword INPUT p ∷ b)
+SoundFrom ts expression K b = Awaits ts K b
+SoundFrom ts undefinedType K b = ((p : ℕ) × Awaits ts K (symbol query p ∷ b)) ⊎ ((p : ℕ) × AwaitsConstant ts K (symbol query p ∷ b))
+SoundFrom ts bracket K b = (p : ℕ) × Awaits ts K (symbol opens p ∷ b)
+SoundFrom ts done K b = Empty K × Indexing ts K b
+SoundFrom ts inPairFirst K b = After ts inPairFirst K b
+SoundFrom ts inPairSecond K b = After ts inPairSecond K b
+SoundFrom ts letName K b = (p : ℕ) × (q : ℕ) × Awaits ts K (symbol opens p ∷ keyword LET q ∷ b)
+SoundFrom ts letEquals K b = (p : ℕ) × (q : ℕ) × (w : List ℕ) × (s : ℕ) × Awaits ts K (symbol opens p ∷ keyword LET q ∷ nameToken w s ∷ b)
+SoundFrom ts inLetBound K b = After ts inLetBound K b
+SoundFrom ts inLetBody K b = After ts inLetBody K b
+SoundFrom ts initQuery K b = (p : ℕ) × (q : ℕ) × (s : ℕ)
     × Awaits ts K (symbol opens p ∷ keyword LET q ∷ keyword INIT s ∷ b)
-Sound ts initType K b = (p : ℕ) × (q : ℕ) × (s : ℕ) × (t : ℕ)
+SoundFrom ts initType K b = (p : ℕ) × (q : ℕ) × (s : ℕ) × (t : ℕ)
     × Awaits ts K (symbol opens p ∷ keyword LET q ∷ keyword INIT s ∷ symbol query t ∷ b)
-Sound ts recWord K b = (p : ℕ) × (q : ℕ) × (s : ℕ) × (t : ℕ) × (m : List ℕ) × (u : ℕ)
+SoundFrom ts recWord K b = (p : ℕ) × (q : ℕ) × (s : ℕ) × (t : ℕ) × (m : List ℕ) × (u : ℕ)
     × Awaits ts K (symbol opens p ∷ keyword LET q ∷ keyword INIT s ∷ symbol query t ∷ nameToken m u ∷ b)
-Sound ts recName K b = (p : ℕ) × (q : ℕ) × (s : ℕ) × (t : ℕ) × (m : List ℕ) × (u : ℕ) × (v : ℕ)
+SoundFrom ts recName K b = (p : ℕ) × (q : ℕ) × (s : ℕ) × (t : ℕ) × (m : List ℕ) × (u : ℕ) × (v : ℕ)
     × Awaits ts K (symbol opens p ∷ keyword LET q ∷ keyword INIT s ∷ symbol query t ∷ nameToken m u ∷ keyword REC v ∷ b)
-Sound ts recEquals K b = (p : ℕ) × (q : ℕ) × (s : ℕ) × (t : ℕ) × (m : List ℕ) × (u : ℕ) × (v : ℕ) × (n : List ℕ) × (x : ℕ)
+SoundFrom ts recEquals K b = (p : ℕ) × (q : ℕ) × (s : ℕ) × (t : ℕ) × (m : List ℕ) × (u : ℕ) × (v : ℕ) × (n : List ℕ) × (x : ℕ)
     × Awaits ts K (symbol opens p ∷ keyword LET q ∷ keyword INIT s ∷ symbol query t ∷ nameToken m u ∷ keyword REC v ∷ nameToken n x ∷ b)
-Sound ts inRecBound K b = After ts inRecBound K b
-Sound ts inRecBody K b = After ts inRecBody K b
-Sound ts inTested K b = After ts inTested K b
-Sound ts pattern K b = AwaitsPattern ts K b
-Sound ts inMatched K b = AfterAlternative ts inMatched K b
-Sound ts inPatternFirst K b = AfterAlternative ts inPatternFirst K b
-Sound ts inPatternSecond K b = AfterAlternative ts inPatternSecond K b
-Sound ts inThen K b = After ts inThen K b
-Sound ts inElse K b = After ts inElse K b
-Sound ts delayBracket K b = (p : ℕ) × (q : ℕ) × Awaits ts K (symbol opens p ∷ keyword DELAY q ∷ b)
-Sound ts constant K b = AwaitsConstant ts K b
-Sound ts inDelayConstant K b = AfterConstant ts inDelayConstant K b
-Sound ts inConstantFirst K b = AfterConstant ts inConstantFirst K b
-Sound ts inConstantSecond K b = AfterConstant ts inConstantSecond K b
-Sound ts inDelayed K b = After ts inDelayed K b
-Sound ts delayClose K b = (p : ℕ) × After ts inDelayed K (symbol closes p ∷ b)
-Sound ts index K b = (p : ℕ) × Indexing ts K (symbol indexOpens p ∷ b)
-Sound ts indexOne K b = (p : ℕ) × (q : ℕ) × Indexing ts K (symbol indexOpens p ∷ symbol one q ∷ b)
-Sound ts indexTwo K b = (p : ℕ) × (q : ℕ) × Indexing ts K (symbol indexOpens p ∷ symbol two q ∷ b)
+SoundFrom ts inRecBound K b = After ts inRecBound K b
+SoundFrom ts inRecBody K b = After ts inRecBody K b
+SoundFrom ts inTested K b = After ts inTested K b
+SoundFrom ts pattern K b = AwaitsPattern ts K b
+SoundFrom ts inMatched K b = AfterAlternative ts inMatched K b
+SoundFrom ts inPatternFirst K b = AfterAlternative ts inPatternFirst K b
+SoundFrom ts inPatternSecond K b = AfterAlternative ts inPatternSecond K b
+SoundFrom ts inThen K b = After ts inThen K b
+SoundFrom ts inElse K b = After ts inElse K b
+SoundFrom ts delayBracket K b = (p : ℕ) × (q : ℕ) × Awaits ts K (symbol opens p ∷ keyword DELAY q ∷ b)
+SoundFrom ts constant K b = AwaitsConstant ts K b
+SoundFrom ts inDelayConstant K b = AfterConstant ts inDelayConstant K b
+SoundFrom ts inConstantFirst K b = AfterConstant ts inConstantFirst K b
+SoundFrom ts inConstantSecond K b = AfterConstant ts inConstantSecond K b
+SoundFrom ts inDelayed K b = After ts inDelayed K b
+SoundFrom ts delayClose K b = (p : ℕ) × After ts inDelayed K (symbol closes p ∷ b)
+SoundFrom ts index K b = (p : ℕ) × Indexing ts K (symbol indexOpens p ∷ b)
+SoundFrom ts indexOne K b = (p : ℕ) × (q : ℕ) × Indexing ts K (symbol indexOpens p ∷ symbol one q ∷ b)
+SoundFrom ts indexTwo K b = (p : ℕ) × (q : ℕ) × Indexing ts K (symbol indexOpens p ∷ symbol two q ∷ b)
 
 abbrev pub SoundAt : List Token → Config → List Token → Type 0
 SoundAt ts dead b = Unit {0}
-SoundAt ts (live q K w) b = Sound ts q K b
+SoundAt ts (live q K w) b = SoundFrom ts q K b
 
 module _ {ts : List Token} where
-  ended : {a : List Token} (K : List State) → Empty K → Headed ts a → Awaits ts K a
+  ended : {a : List Token} (K : List State) → Empty K → AwaitsBody ts a → Awaits ts K a
   ended [] u h = await-end h
   ended (q ∷ K) u h = absurd u
 
@@ -127,7 +127,7 @@ module _ {ts : List Token} where
   constant-read (await-constant-second w u) d = after-constant (await-constant-second w u) d
 
   undefined-read : {K : List State} {w : List ℕ} {p : ℕ} {b : List Token}
-      → Sound ts undefinedType K (nameToken w p ∷ b) → SoundAt ts (back K noWord) b
+      → SoundFrom ts undefinedType K (nameToken w p ∷ b) → SoundAt ts (back K noWord) b
   undefined-read (inl h) = returned (h .1) reads-undefined-of
   undefined-read (inr h) = constant-read (h .1) reads-undefined
 
@@ -202,10 +202,10 @@ module _ {ts : List Token} where
 
 -- each row of a state keeps what is known
 abbrev pub Moves : List Token → State → Lead → Action → Type 0
-Moves ts q (aSymbol s) a = (K : List State) (b : List Token) (p : ℕ) → Sound ts q K (symbol s p ∷ b) → SoundAt ts (perform a K noWord) b
-Moves ts q (aKeyword k) a = (K : List State) (b : List Token) (p : ℕ) → Sound ts q K (keyword k p ∷ b) → SoundAt ts (perform a K noWord) b
+Moves ts q (aSymbol s) a = (K : List State) (b : List Token) (p : ℕ) → SoundFrom ts q K (symbol s p ∷ b) → SoundAt ts (perform a K noWord) b
+Moves ts q (aKeyword k) a = (K : List State) (b : List Token) (p : ℕ) → SoundFrom ts q K (keyword k p ∷ b) → SoundAt ts (perform a K noWord) b
 Moves ts q aName a =
-    (K : List State) (b : List Token) (w : List ℕ) (p : ℕ) → Sound ts q K (nameToken w p ∷ b) → SoundAt ts (perform a K noWord) b
+    (K : List State) (b : List Token) (w : List ℕ) (p : ℕ) → SoundFrom ts q K (nameToken w p ∷ b) → SoundAt ts (perform a K noWord) b
 
 abbrev pub EachTransition : (Lead → Action → Type 0) → List Transition → Type 0
 EachTransition P [] = Unit {0}

@@ -1,5 +1,5 @@
--- The grammar of request (a), one constructor a production, over placed tokens: `ReadsX ts x rest` says that ts begins with a spelling of x
--- and that rest is left. With {..} for none or more:
+-- The grammar (docs/SHEETS.md, "Grammar"), one constructor a production, over placed tokens: `ReadsX ts x rest` says that ts begins with a
+-- spelling of x and that rest is left. With {..} for none or more:
 --
 --     Text  = Decl {Decl} INPUT name Expr
 --     Decl  = TYPE name = name {| name} IN   |   TYPE name = ( name , name ) IN

@@ -1,8 +1,7 @@
--- Where a text leaves the grammar (request (a), code 13): "text outside the grammar, place: first byte at which no continuation is legal,
--- 65,535 at the latest, the length if it ends early".
+-- Where a text leaves the grammar (docs/SHEETS.md, "Codes", 13): "first byte of the text, from 0, with which no legal text goes on,
+-- 65,535 at the latest; the text's length if it ends too soon".
 use Prim.Native.Nat.{ℕ, suc, _≤_, _<_}
 use mathlib.Core.List.{List, _++_}
-use mathlib.Core.Option.{Option, none, some}
 use lib.ListN.{length, take}
 use Rattle.grammar.specs.Tokens.{Token, Tokens}
 use Rattle.grammar.specs.Source.{Text}
@@ -37,8 +36,3 @@ pub data Leaves : List ℕ → ℕ → Type 0 where
 pub record Keeps (bytes : List ℕ) : Type 0 where
   pub legal : Legal bytes
   pub short : length bytes ≤ limit
-
--- what an answer says of a text: where it leaves the grammar, or that it keeps to it
-abbrev pub Told : List ℕ → Option ℕ → Type 0
-Told bytes none = Keeps bytes
-Told bytes (some i) = Leaves bytes i

@@ -1,4 +1,4 @@
--- The grammar of request (a): tokens, the abstract text, the productions, where a text leaves the grammar, and the promises.
+-- The grammar of texts (docs/SHEETS.md, "Grammar"): tokens, the abstract text, the productions, where a text leaves the grammar, and the promises.
 -- To believe:
 pub mod Tokens
 pub mod Source
@@ -9,3 +9,4 @@ pub mod Promises
 pub mod Rows
 pub mod Machine
 pub mod Walk
+pub mod Sizes

@@ -10,7 +10,7 @@ use Rattle.grammar.specs.Source.{Text}
 use Rattle.grammar.specs.Grammar.{ReadsText}
 use Rattle.grammar.specs.Legal.{Reading, Viable, limit, Leaves, Keeps}
 
--- 1. "The grammar admits one reading": bytes have one list of tokens, tokens one abstract text.
+-- 1. The grammar admits one reading: bytes have one list of tokens, tokens one abstract text.
 abbrev pub OneLexing : Type 0
 OneLexing = (i : ℕ) (bytes : List ℕ) (ts us : List Token) → Tokens i bytes ts → Tokens i bytes us → ts ≡ us
 

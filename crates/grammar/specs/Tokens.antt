@@ -1,5 +1,6 @@
--- The tokens of a text (request (a)): "keywords are capitals", "names are up to 16 lower-case letters", "blanks and line ends (bytes 32
--- and 10) may stand around tokens; a run of letters is one token". Each token carries the place of its first byte, counted from 0.
+-- The tokens of a text (docs/SHEETS.md, "Grammar"): a name "is 1 to 16 lower-case letters", a keyword "is in capitals"; "A run of
+-- letters is one token"; blanks "are spaces and line feeds (bytes 32 and 10)". Each token carries the place of its first byte, counted
+-- from 0.
 use Prim.Native.Nat.{ℕ, suc, _+_, _≤_}
 use mathlib.Core.Path.{_≡_}
 use mathlib.Core.Bool.{Bool, true, false, cond}

@@ -5,7 +5,7 @@ use mathlib.Core.List.{List, [], _∷_}
 use mathlib.Core.Option.{Option, none, some}
 use lib.ListN.{length, take}
 use lib.Dec.{ltb}
-use Rattle.grammar.specs.Legal.{limit}
+use Rattle.grammar.specs.Legal.{limit, Keeps, Leaves}
 use Rattle.grammar.specs.Machine.{Config, dead, live, onByte, ends, begins}
 
 pub data Walked : Type 0 where
@@ -28,3 +28,8 @@ concluded n (reached c) = cond (ltb limit n) (some limit) (cond (ends c) none (s
 -- the place that code 13 tells, or none
 unfoldable pub firstIllegal : List ℕ → Option ℕ
 firstIllegal text = concluded (length text) (walk (take limit text) 0 begins)
+
+-- what an answer says of a text: where it leaves the grammar, or that it keeps to it
+abbrev pub Told : List ℕ → Option ℕ → Type 0
+Told bytes none = Keeps bytes
+Told bytes (some i) = Leaves bytes i

@@ -57,7 +57,7 @@ use Rattle.instructions.specs.TextOrder.{
   expressionInstructions,
   textInstructions,
 }
-use Rattle.instructions.specs.Assembly.{assembly, nothingAssembled, firstUntyped, assemble, assembleAll}
+use Rattle.instructions.specs.Assembly.{assembly, nothingAssembled, firstUntyped, assembleOne, assembleAll}
 use Rattle.instructions.specs.RecordOrder.{declaredTypes, constantOnto, patternInOrder, expressionOnto, textCode}
 use Rattle.instructions.proofs.LeavesNumbered.{leaves-numbered}
 use Rattle.instructions.proofs.TypeNumbers.{constructor-typed, constant-has}
@@ -76,12 +76,12 @@ module _ (ds : List Declaration) (good : AllPass (declarationsChecks atFirst ds)
   finished C W p e f = ap₂ (assembly (declaredTypes ds) i C W [] p) e f
 
   name-run : (bound : List (List ℕ)) (w : List ℕ) (C W : List Instruction) (p r : ℕ) (u : Option ℕ)
-      → assemble (assembly (declaredTypes ds) i C W [] p r u) (valueInstruction ds bound w)
+      → assembleOne (assembly (declaredTypes ds) i C W [] p r u) (valueInstruction ds bound w)
       ≡ assembly (declaredTypes ds) i (valueInstruction ds bound w ∷ C) W [] p (cond (isAmong w bound) 1 (cond (isDeclared constructorRole w (afterAll atFirst ds)) 2 1) + r) u
   name-run bound w C W p r u = go (isAmong w bound) (isDeclared constructorRole w (afterAll atFirst ds)) (distance w bound) (constructorIn ds w .type) (constructorIn ds w .number)
     where
       go : (b c : Bool) (k t n : ℕ)
-          → assemble (assembly (declaredTypes ds) i C W [] p r u) (cond b (useName k) (cond c (useConstant t n) (useName k)))
+          → assembleOne (assembly (declaredTypes ds) i C W [] p r u) (cond b (useName k) (cond c (useConstant t n) (useName k)))
           ≡ assembly (declaredTypes ds) i (cond b (useName k) (cond c (useConstant t n) (useName k)) ∷ C) W [] p (cond b 1 (cond c 2 1) + r) u
       go true c k t n = refl
       go false true k t n = refl
@@ -183,13 +183,3 @@ assembled d ds (identifier w q) e h =
     (declarations-run 1 [] (d ∷ ds) [] 0 [] [] [] 0 0 none)
     (expression-run (d ∷ ds) (both .0) i [] e (pass-rest (both .1)) [] [] 0 0 none
     ∙ finished (d ∷ ds) (both .0) i (textCode (text d ds (identifier w q) e)) [] (lastPlace 0 e) (omega arith) refl)
-
--- names are good where no check on them fails
-pub none-bad : (cs : List PlacedCheck) → firstBadPlace cs ≡ none → AllPass cs
-none-bad [] e = no-check-left
-none-bad (checkAt p true ∷ cs) e = one-holds (none-bad cs e)
-none-bad (checkAt p false ∷ cs) e = absurd (let z : _≡_ {A = ℕ} 0 1 = cc in omega arith)
-
-pub all-good : {cs : List PlacedCheck} → AllPass cs → firstBadPlace cs ≡ none
-all-good no-check-left = refl
-all-good (one-holds h) = all-good h

@@ -58,7 +58,7 @@ use Rattle.instructions.specs.Assembly.{
   patternsBelow,
   outermost,
   firstUntyped,
-  assemble,
+  assembleOne,
   assembleAll,
 }
 use Rattle.instructions.specs.RecordOrder.{typesOnto, declaredTypes, constantOnto, patternInOrder}
@@ -68,7 +68,7 @@ use Rattle.instructions.proofs.TypeNumbers.{HasNumber, constructor-numb
 -- one list of instructions after another
 pub run-append : (A : Assembly) (xs ys : List Instruction) → assembleAll A (xs ++ ys) ≡ assembleAll (assembleAll A xs) ys
 run-append A [] ys = refl
-run-append A (x ∷ xs) ys = run-append (assemble A x) xs ys
+run-append A (x ∷ xs) ys = run-append (assembleOne A x) xs ys
 
 pub run-both : (A : Assembly) {B Z : Assembly} (xs ys : List Instruction) → assembleAll A xs ≡ B → assembleAll B ys ≡ Z → assembleAll A (xs ++ ys) ≡ Z
 run-both A xs ys p q = run-append A xs ys ∙ ap (λ X. assembleAll X ys) p ∙ q
@@ -159,7 +159,7 @@ module _ (ds : List Declaration) (good : AllPass (declarationsChecks atFirst ds)
   pattern-run (Alone n) C W Y p r u = go (isDeclared typeRole (letters n) (afterAll atFirst ds))
     where
       go : (b : Bool)
-          → assemble (assembly (declaredTypes ds) i C W Y p r u)
+          → assembleOne (assembly (declaredTypes ds) i C W Y p r u)
           (cond b (matchType (numberOfType ds (letters n))) (matchOne (constructorIn ds (letters n) .type) (constructorIn ds (letters n) .number)))
           ≡ assembly (declaredTypes ds) i C
           (cond b (matchType (numberOfType ds (letters n))) (matchOne (constructorIn ds (letters n) .type) (constructorIn ds (letters n) .number)) ∷ W)

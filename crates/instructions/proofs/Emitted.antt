@@ -32,7 +32,7 @@ use Rattle.translation.specs.Resolved.{typeMeant, typeEntries, distance}
 use Rattle.translation.specs.Distances.{constantValues}
 use Rattle.translation.specs.Layout.{leavesLaid, numberOr, roomOf, patternLaid, laid}
 use Rattle.translation.proofs.ConstructorTables.{pass-both, passes, pass-rest, after-new}
-use Rattle.translation.proofs.Tables.{Tables}
+use Rattle.translation.proofs.Tables.{TablesMeant}
 use Rattle.translation.proofs.Sizes.{constant-length}
 use Rattle.instructions.specs.Instruction.{
   Instruction,
@@ -58,7 +58,7 @@ use Rattle.instructions.specs.Emission.{
   Emission,
   emission,
   Slot,
-  number,
+  ofNumber,
   barrier,
   firstWaits,
   secondWaits,
@@ -147,8 +147,8 @@ module _ (ds : List Declaration) where
       let b = suc r + patternRecords m in
       let P = patternLaid ds 0 (suc r) m in
       let Q = patternLaid ds 0 b n in
-      pattern-emitted n 0 b c R (number next ∷ S) (nextPart ∷ patternInOrder ds m (openParts ∷ C)) (omega (arith, e))
-      ∙ pattern-emitted m 0 (suc r) b (Q ++ R) (number b ∷ number next ∷ S) (openParts ∷ C) refl
+      pattern-emitted n 0 b c R (ofNumber next ∷ S) (nextPart ∷ patternInOrder ds m (openParts ∷ C)) (omega (arith, e))
+      ∙ pattern-emitted m 0 (suc r) b (Q ++ R) (ofNumber b ∷ ofNumber next ∷ S) (openParts ∷ C) refl
       ∙ ap (λ x. all (emission (words 50 next (suc r) b 0 0 ∷ (P ++ (Q ++ R))) x S 0) C) (step-back r)
       ∙ ap (λ l. all (emission (words 50 next (suc r) b 0 0 ∷ l) r S 0) C) (sym (append-assoc P Q R))
   pattern-emitted (Either m n) next r c R S C e =
@@ -192,7 +192,7 @@ module _ (ds : List Declaration) where
       ∙ ap₂ (λ y u. all (completed (words 32 0 d y 0 0 ∷ zerosWritten m R c 0) u S) C) f g
       ∙ ap (λ l. all (completed (words 32 0 d (suc r) 0 0 ∷ l) r S) C) (z ∙ ap (λ l. l ++ R) (chain-laid (suc r) (replicate m 0)))
 
-module _ {s : List ℕ} {ds : List Declaration} (T : Tables s ds) where
+module _ {s : List ℕ} {ds : List Declaration} (T : TablesMeant s ds) where
   constant-emitted : (k : SourceConstant) (r c x : ℕ) (R : List Record) (S : List Slot) (C : List Instruction)
       → AllPass (constantNames (afterAll atFirst ds) k) → c ≡ r + length (constantValues ds k)
       → all ds (emission R c S x) (constantOnto ds k C)
@@ -235,7 +235,7 @@ module _ {s : List ℕ} {ds : List Declaration} (T : Tables s ds) where
       let P = laid ds bound (suc r) e in
       let Q = laid ds bound b f in
       expression-emitted bound f b c 0 R (barrier ∷ S) (expressionOnto ds bound e (openPair ∷ C)) (both .1) (omega (arith, q))
-      ∙ expression-emitted bound e (suc r) b 0 (Q ++ R) (number b ∷ barrier ∷ S) (openPair ∷ C) (both .0) refl
+      ∙ expression-emitted bound e (suc r) b 0 (Q ++ R) (ofNumber b ∷ barrier ∷ S) (openPair ∷ C) (both .0) refl
       ∙ joined ds (words 34 0 (suc r) b 0 0) P Q R r S C
   expression-emitted bound (FirstOf e) r c x R S C h q =
       expression-emitted bound e (suc r) c x R (firstWaits ∷ S) C h (omega (arith, q))
@@ -250,7 +250,7 @@ module _ {s : List ℕ} {ds : List Declaration} (T : Tables s ds) where
       let P = laid ds bound (suc r) e in
       let Q = laid ds (bind n bound) b f in
       expression-emitted (bind n bound) f b c 0 R (barrier ∷ S) (expressionOnto ds bound e (openLet ∷ C)) (both .1) (omega (arith, q))
-      ∙ expression-emitted bound e (suc r) b 0 (Q ++ R) (number b ∷ barrier ∷ S) (openLet ∷ C) (both .0) refl
+      ∙ expression-emitted bound e (suc r) b 0 (Q ++ R) (ofNumber b ∷ barrier ∷ S) (openLet ∷ C) (both .0) refl
       ∙ joined ds (words 37 0 (suc r) b 0 0) P Q R r S C
   expression-emitted bound (LetRecExpression (identifier t p) n e f) r c x R S C h q =
       let both =
@@ -261,7 +261,7 @@ module _ {s : List ℕ} {ds : List Declaration} (T : Tables s ds) where
       let Q = laid ds (bind n bound) b f in
       let i = openRec (numberOfType ds t) in
       expression-emitted (bind n bound) f b c 0 R (barrier ∷ S) (expressionOnto ds (bind n bound) e (i ∷ C)) (both .1) (omega (arith, q))
-      ∙ expression-emitted (bind n bound) e (suc r) b 0 (Q ++ R) (number b ∷ barrier ∷ S) (i ∷ C) (both .0) refl
+      ∙ expression-emitted (bind n bound) e (suc r) b 0 (Q ++ R) (ofNumber b ∷ barrier ∷ S) (i ∷ C) (both .0) refl
       ∙ joined ds (words 38 0 (numberOfType ds t) (suc r) b 0) P Q R r S C
   expression-emitted bound (IfExpression e m f g) r c x R S C h q =
       let D = afterAll atFirst ds in
@@ -278,11 +278,11 @@ module _ {s : List ℕ} {ds : List Declaration} (T : Tables s ds) where
       let w = words 39 0 (suc r) t o a in
       let E = expressionOnto ds bound e (openIf ∷ C) in
       let F = expressionOnto ds bound f E in
-      let Q = number a ∷ barrier ∷ S in
+      let Q = ofNumber a ∷ barrier ∷ S in
       pattern-emitted ds m 0 a c R (barrier ∷ S) (beginPattern ∷ expressionOnto ds bound g F) (omega (arith, q))
       ∙ expression-emitted bound g o a 0 (P ++ R) Q F (one .1) refl
-      ∙ expression-emitted bound f t o 0 (N ++ (P ++ R)) (number o ∷ Q) E (two .1) refl
-      ∙ expression-emitted bound e (suc r) t 0 (M ++ (N ++ (P ++ R))) (number t ∷ number o ∷ Q) (openIf ∷ C) (three .0) refl
+      ∙ expression-emitted bound f t o 0 (N ++ (P ++ R)) (ofNumber o ∷ Q) E (two .1) refl
+      ∙ expression-emitted bound e (suc r) t 0 (M ++ (N ++ (P ++ R))) (ofNumber t ∷ ofNumber o ∷ Q) (openIf ∷ C) (three .0) refl
       ∙ ap (λ l. all ds (completed (w ∷ (L ++ (M ++ l))) (suc r - 1) S) C) (sym (append-assoc N P R))
       ∙ ap (λ l. all ds (completed (w ∷ (L ++ l)) (suc r - 1) S) C) (sym (append-assoc M (N ++ P) R))
       ∙ joined ds w L (M ++ (N ++ P)) R r S C
@@ -295,6 +295,6 @@ module _ {s : List ℕ} {ds : List Declaration} (T : Tables s ds) where
       let Q = laid ds bound b e in
       let w = words 40 0 d (suc r) b 0 in
       expression-emitted bound e b c 0 R (barrier ∷ S) (constantHas d ∷ constantOnto ds k (openDelay ∷ C)) (both .1) (omega (arith, q))
-      ∙ constant-emitted k (suc r) b 0 (Q ++ R) (number d ∷ number b ∷ barrier ∷ S) (openDelay ∷ C) (both .0) (omega (arith, l))
+      ∙ constant-emitted k (suc r) b 0 (Q ++ R) (ofNumber d ∷ ofNumber b ∷ barrier ∷ S) (openDelay ∷ C) (both .0) (omega (arith, l))
       ∙ ap (λ y. all ds (completed (w ∷ (y ++ (Q ++ R))) (suc r - 1) S) C) (chain-laid (suc r) vs)
       ∙ joined ds w (leavesLaid (suc r) vs) Q R r S C

@@ -15,7 +15,7 @@ use Rattle.naming.specs.Constants.{letters}
 use Rattle.instructions.specs.TextOrder.{textInstructions}
 use Rattle.instructions.specs.Assembly.{Assembly, assembly, nothingAssembled, assembleAll}
 use Rattle.instructions.specs.RecordOrder.{declaredTypes, textCode}
-use Rattle.instructions.specs.Emission.{number, emission, emitAll, recordsWritten}
+use Rattle.instructions.specs.Emission.{ofNumber, emission, emitAll, recordsWritten}
 
 abbrev declarationsOf : Text → List Declaration
 declarationsOf (text d ds n e) = d ∷ ds
@@ -37,7 +37,7 @@ Assembles t =
 abbrev Emits : Text → Type 0
 Emits t =
     emitAll (declaredTypes (declarationsOf t)) (emission [] (recordsNeeded t) [] 0) (textCode t)
-    ≡ emission (laidOf t) (suc (length (declarationsOf t))) (number (suc (length (declarationsOf t))) ∷ []) 0
+    ≡ emission (laidOf t) (suc (length (declarationsOf t))) (ofNumber (suc (length (declarationsOf t))) ∷ []) 0
 
 abbrev Writes : Text → Type 0
 Writes t = recordsWritten (declaredTypes (declarationsOf t)) (inputOf t) (laidOf t) ≡ textRecords t

@@ -4,7 +4,7 @@
 use Prim.Native.Nat.{ℕ, suc}
 use mathlib.Core.Path.{_≡_, refl, sym, ap, ap₂, _∙_}
 use mathlib.Core.Bool.{Bool, true, false, cond}
-use mathlib.Core.List.{List, [], _∷_, _++_, append-assoc}
+use mathlib.Core.List.{List, [], _∷_, _++_, append-assoc, append-nil}
 use Rattle.grammar.specs.Tokens.{Token, symbol, nameToken, bar, indexOpens, indexCloses, one, two}
 use Rattle.grammar.specs.Source.{Identifier, identifier, Declaration, SourceConstant, SourcePattern, Expression, Text}
 use Rattle.grammar.specs.Grammar.{ReadsOthers, no-other, one-other, ReadsDeclaration, reads-constructors, reads-pair-of}
@@ -269,10 +269,6 @@ module _ {ds : List Declaration} (N : NamesNumbered ds) where
       (both-parts (constants P B (inDelayConstant ∷ K) refl (b .0) h)
       (then refl (both-parts (expressions (inDelayed ∷ K) P B (λ p b. refl) refl (b .1) k) (last refl))))
 
-pub append-nothing : (l : List Instruction) → l ++ [] ≡ l
-append-nothing [] = refl
-append-nothing (x ∷ l) = ap (λ k. x ∷ k) (append-nothing l)
-
 pub instructed : {ts : List Token} {t : Text} → ReadsText ts t → AllPass (nameChecks t) → walkInstructions begins firstScope ts ≡ textInstructions t
 instructed (reads-text {p} {w} {d} {ds} {e} h k l) g =
     let E = afterAll atFirst (d ∷ ds) in
@@ -283,4 +279,4 @@ instructed (reads-text {p} {w} {d} {ds} {e} h k l) g =
     ∙ declaration [] [] atFirst ds first-agrees (c .0) h
     (more [] [] (afterDeclaration atFirst d) (declaration-agrees d first-agrees) (c .1) (passes (b .1)) k) .split
     ∙ ap (λ z. declarationInstructions 1 [] (d ∷ ds) ++ (inputHas (typeNumber (typeEntries (d ∷ ds)) w) ∷ z))
-    (x .split ∙ append-nothing (expressionInstructions (d ∷ ds) [] e))
+    (x .split ∙ append-nil (expressionInstructions (d ∷ ds) [] e))

@@ -1,7 +1,7 @@
 -- The numbers of a text's type names: each is below the number of the next declaration, one number has one name, and the leaves of the type
 -- with that number are those that are counted by its name.
 -- Assumes nothing.
-use Prim.Native.Nat.{ℕ, suc, _+_, _≤_, _<_, min}
+use Prim.Native.Nat.{ℕ, zero, suc, _+_, _≤_, _<_, min}
 use native.Mathlib.Omega.{arith}
 use mathlib.Core.Path.{_≡_, refl, sym, ap, ap₂, _∙_}
 use mathlib.Core.Bool.{Bool, true, false, cond}
@@ -15,7 +15,7 @@ use Rattle.naming.proofs.SameName.{same-equal}
 use Rattle.naming.specs.Constants.{letters}
 use Rattle.naming.specs.Records.{LeafCount, leafCountOf, leafCounts}
 use Rattle.translation.specs.Resolved.{TypeEntry, typeNumber, typeEntriesFrom, typeEntries}
-use Rattle.instructions.specs.Assembly.{DeclaredType, leavesNumbered}
+use Rattle.instructions.specs.Assembly.{DeclaredType, leavesNumbered, heldTypes}
 use Rattle.instructions.specs.RecordOrder.{typesOnto, declaredTypes}
 
 -- the names of the types declared so far, by numbers and by their leaves
@@ -92,3 +92,8 @@ types-numbered ds = numbered-from 1 ds refl nothing-numbered
 pub leaves-numbered : (ds : List Declaration) (w : List ℕ)
     → leavesNumbered (declaredTypes ds) (typeNumber (typeEntries ds) w) ≡ leafCountOf (leafCounts [] ds) w
 leaves-numbered ds w = types-numbered ds .leaves-agree w
+
+-- tables of types hold as many as are asked for
+pub types-counted : (pairs firsts seconds : List ℕ) (k : ℕ) → length (heldTypes pairs firsts seconds k) ≡ k
+types-counted pairs firsts seconds zero = refl
+types-counted pairs firsts seconds (suc k) = ap suc (types-counted pairs firsts seconds k)

@@ -34,8 +34,8 @@ use Rattle.translation.specs.Resolved.{
 use Rattle.translation.proofs.ConstructorTables.{pass-both, passes, pass-rest}
 use Rattle.instructions.specs.TokenOrder.{namedFrom, typesAmong, constructorsAmong}
 
-pub never : {P : Type 0} → false ≡ true → P
-never e = absurd (let o : _≡_ {A = ℕ} 0 1 = cc in omega arith)
+pub never-true : {P : Type 0} → false ≡ true → P
+never-true e = absurd (let o : _≡_ {A = ℕ} 0 1 = cc in omega arith)
 
 -- the types
 
@@ -59,7 +59,7 @@ constructors-agree {i} {D} {T} (identifier v p ∷ cs) a =
   where
     go : (w : List ℕ) (x : Bool) → cond x false (isDeclared typeRole w D) ≡ true
         → typesAmong (cond x (declaredAs v aConstructor ∷ D) (namedFrom w D)) ≡ typeNumber T w
-    go w true h = never h
+    go w true h = never-true h
     go w false h = a .agree w h
 
 pub declaration-agrees : {i : ℕ} {D : List DeclaredName} {T : List TypeEntry} (d : Declaration) → TypesAgree i D T
@@ -85,7 +85,7 @@ new-other : (D : List DeclaredName) (v w : List ℕ) → not (isTaken v D) ≡ t
 new-other D v w h t = go (sameName w v) refl
   where
     go : (x : Bool) → sameName w v ≡ x → x ≡ false
-    go true e = never (sym (ap not (ap (λ u. isTaken u D) (sym (same-equal w v e)) ∙ t)) ∙ h)
+    go true e = never-true (sym (ap not (ap (λ u. isTaken u D) (sym (same-equal w v e)) ∙ t)) ∙ h)
     go false e = refl
 
 -- one more declared name after another one
@@ -139,7 +139,7 @@ untaken w (declaredAs v r ∷ D) h = go (sameName w v) h (untaken w D)
   where
     go : (x : Bool) → cond x true (isTaken w D) ≡ false → (isTaken w D ≡ false → isDeclared constructorRole w D ≡ false)
         → cond x (constructorRole r) (isDeclared constructorRole w D) ≡ false
-    go true e again = never (sym e)
+    go true e again = never-true (sym e)
     go false e again = again e
 
 -- the numbers of a name in the table
@@ -201,13 +201,13 @@ types-added D (identifier v p ∷ cs) = types-added (declaredAs v aConstructor �
 type-stays : (w v : List ℕ) (D : List DeclaredName) (x : List DeclaredName) → namedFrom w x ≡ namedFrom w (declaredAs v aType ∷ D) → sameName w v ≡ true
     → isDeclared constructorRole w x ≡ true → ⊥
 type-stays w v D x e o h =
-    never
+    never-true
     (sym (head-declared constructorRole w x ∙ ap (headRole constructorRole) (e ∙ ap (λ y. cond y (declaredAs v aType ∷ D) (namedFrom w D)) o)) ∙ h)
 
 numbered : (w : List ℕ) (i : ℕ) (D : List DeclaredName) (ds : List Declaration) → suc (typesAmong D) ≡ i → AllPass (declarationsChecks D ds) → isTaken w D ≡ false
     → isDeclared constructorRole w (afterAll D ds) ≡ true
     → NumberedAs (namedFrom w (afterAll D ds)) (constructorMeant (constructorEntriesFrom i ds) w)
-numbered w i D [] e g u h = never (sym (untaken w D u) ∙ h)
+numbered w i D [] e g u h = never-true (sym (untaken w D u) ∙ h)
 numbered w i D (Constructors (identifier v p) c cs ∷ ds) e g u h =
     go (sameName w v) refl
     (λ z y. numbered w (suc i) (afterDeclaration D (Constructors (identifier v p) c cs)) ds
@@ -277,6 +277,6 @@ names-numbered ds g = record { types = all-agree ds first-agrees; constructors =
         → NumberedAs (namedFrom w (afterAll atFirst ds)) (constructorMeant (constructorEntries ds) w)
     go w true o h =
         let k = all-kept w atFirst ds g (ap (λ x. cond x true false) o) in
-        never
+        never-true
         (sym (head-declared constructorRole w (afterAll atFirst ds) ∙ ap (headRole constructorRole) (k ∙ ap (λ y. cond y atFirst []) o)) ∙ h)
     go w false o h = numbered w 1 atFirst ds refl g (ap (λ x. cond x true false) o) h

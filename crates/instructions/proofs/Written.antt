@@ -17,7 +17,7 @@ use Rattle.translation.proofs.Sizes.{expression-length}
 use Rattle.translation.proofs.Kept.{names-good, in-its-sheet}
 use Rattle.instructions.specs.Assembly.{DeclaredType, flatType, pairedType}
 use Rattle.instructions.specs.RecordOrder.{typesOnto, declaredTypes, textCode}
-use Rattle.instructions.specs.Emission.{emission, number, emitAll, typeRecord, typesWritten, recordsWritten}
+use Rattle.instructions.specs.Emission.{emission, ofNumber, emitAll, typeRecord, typesWritten, recordsWritten}
 use Rattle.instructions.proofs.Emitted.{expression-emitted}
 
 types-many : (i : ℕ) (E : List TypeEntry) (ds : List Declaration) (T : List DeclaredType) → length (typesOnto i E ds T) ≡ length T + length ds
@@ -51,11 +51,11 @@ module _ (d : Declaration) (ds : List Declaration) (w : List ℕ) (p : ℕ) (e :
 
   pub emitted :
       emitAll (declaredTypes (d ∷ ds)) (emission [] (recordsNeeded (text d ds (identifier w p) e)) [] 0) (textCode (text d ds (identifier w p) e))
-      ≡ emission laidAfter (suc (length (d ∷ ds))) (number (suc (length (d ∷ ds))) ∷ []) 0
+      ≡ emission laidAfter (suc (length (d ∷ ds))) (ofNumber (suc (length (d ∷ ds))) ∷ []) 0
   emitted =
       expression-emitted (in-its-sheet d ds w p e h .held) [] e (suc (length (d ∷ ds))) (recordsNeeded (text d ds (identifier w p) e)) 0 [] [] []
       (names-good d ds w p e h .1) (omega arith)
-      ∙ ap (λ l. emission l (suc (length (d ∷ ds))) (number (suc (length (d ∷ ds))) ∷ []) 0) (append-nil laidAfter)
+      ∙ ap (λ l. emission l (suc (length (d ∷ ds))) (ofNumber (suc (length (d ∷ ds))) ∷ []) 0) (append-nil laidAfter)
 
   pub laid-many : suc (length (d ∷ ds)) + length laidAfter ≡ recordsNeeded (text d ds (identifier w p) e)
   laid-many =

@@ -126,41 +126,41 @@ firstUntyped (some q) t p = some q
 firstUntyped none zero p = some p
 firstUntyped none (suc t) p = none
 
-abbrev pub assemble : Assembly → Instruction → Assembly
-assemble (assembly T i C W Y p r u) declareType = assembly (flatType 0 ∷ T) i C W Y p r u
-assemble (assembly T i C W Y p r u) countConstructor = assembly (oneMore T) i C W Y p r u
-assemble (assembly T i C W Y p r u) (firstType t) = assembly (withFirst t T) i C W Y p r u
-assemble (assembly T i C W Y p r u) (secondType t) = assembly (withSecond t T) i C W Y p r u
-assemble (assembly T i C W Y p r u) (inputHas t) = assembly T t C W Y p r u
-assemble (assembly T i C W Y p r u) (useName k) = assembly T i (useName k ∷ C) W Y p (1 + r) u
-assemble (assembly T i C W Y p r u) (useConstant t n) = assembly T i (useConstant t n ∷ C) W Y p (2 + r) u
-assemble (assembly T i C W Y p r u) (useUndefined t) = assembly T i (useUndefined t ∷ C) W Y p (1 + leavesNumbered T t + r) u
-assemble (assembly T i C W Y p r u) openPair = assembly T i (openPair ∷ C) W Y p (1 + r) u
-assemble (assembly T i C W Y p r u) openLet = assembly T i (openLet ∷ C) W Y p (1 + r) u
-assemble (assembly T i C W Y p r u) (openRec t) = assembly T i (openRec t ∷ C) W Y p (1 + r) u
-assemble (assembly T i C W Y p r u) openIf = assembly T i (openIf ∷ C) W Y p (1 + r) u
-assemble (assembly T i C W Y p r u) openDelay = assembly T i (openDelay ∷ C) W Y p (1 + r) u
-assemble (assembly T i C W Y p r u) takeFirst = assembly T i (takeFirst ∷ C) W Y p (1 + r) u
-assemble (assembly T i C W Y p r u) takeSecond = assembly T i (takeSecond ∷ C) W Y p (1 + r) u
-assemble (assembly T i C W Y p r u) close = assembly T i (close ∷ C) W Y p r u
-assemble (assembly T i C W Y p r u) closeIf = assembly T i (close ∷ patternOnto W C) (patternsBelow W) Y p r u
-assemble (assembly T i C W Y p r u) beginPattern = assembly T i C (beginPattern ∷ W) Y p r u
-assemble (assembly T i C W Y p r u) (matchType t) = assembly T i C (matchType t ∷ W) Y p (1 + r) u
-assemble (assembly T i C W Y p r u) (matchOne t n) = assembly T i C (matchOne t n ∷ W) Y p (1 + r) u
-assemble (assembly T i C W Y p r u) openParts = assembly T i C (openParts ∷ W) Y p (1 + r) u
-assemble (assembly T i C W Y p r u) nextPart = assembly T i C (nextPart ∷ W) Y p r u
-assemble (assembly T i C W Y p r u) closeParts = assembly T i C (closeParts ∷ W) Y p r u
-assemble (assembly T i C W Y p r u) nextAlternative = assembly T i C (nextAlternative ∷ W) Y p r u
-assemble (assembly T i C W Y p r u) (useLeaf t n) = assembly T i (useLeaf t n ∷ C) W (t ∷ Y) p (1 + r) u
-assemble (assembly T i C W Y p r u) (useZeros t) = assembly T i (useZeros t ∷ C) W (t ∷ Y) p (leavesNumbered T t + r) u
-assemble (assembly T i C W Y p r u) (openConstant q) = assembly T i C W (0 ∷ Y) (outermost Y p q) r u
-assemble (assembly T i C W Y p r u) closeConstant = assembly T i C W (pairClosed T Y) p r u
-assemble (assembly T i C W Y p r u) endConstant = assembly T i (constantHas (topConstant Y) ∷ C) W [] p r (firstUntyped u (topConstant Y) p)
-assemble (assembly T i C W Y p r u) (constantHas t) = assembly T i C W Y p r u
+abbrev pub assembleOne : Assembly → Instruction → Assembly
+assembleOne (assembly T i C W Y p r u) declareType = assembly (flatType 0 ∷ T) i C W Y p r u
+assembleOne (assembly T i C W Y p r u) countConstructor = assembly (oneMore T) i C W Y p r u
+assembleOne (assembly T i C W Y p r u) (firstType t) = assembly (withFirst t T) i C W Y p r u
+assembleOne (assembly T i C W Y p r u) (secondType t) = assembly (withSecond t T) i C W Y p r u
+assembleOne (assembly T i C W Y p r u) (inputHas t) = assembly T t C W Y p r u
+assembleOne (assembly T i C W Y p r u) (useName k) = assembly T i (useName k ∷ C) W Y p (1 + r) u
+assembleOne (assembly T i C W Y p r u) (useConstant t n) = assembly T i (useConstant t n ∷ C) W Y p (2 + r) u
+assembleOne (assembly T i C W Y p r u) (useUndefined t) = assembly T i (useUndefined t ∷ C) W Y p (1 + leavesNumbered T t + r) u
+assembleOne (assembly T i C W Y p r u) openPair = assembly T i (openPair ∷ C) W Y p (1 + r) u
+assembleOne (assembly T i C W Y p r u) openLet = assembly T i (openLet ∷ C) W Y p (1 + r) u
+assembleOne (assembly T i C W Y p r u) (openRec t) = assembly T i (openRec t ∷ C) W Y p (1 + r) u
+assembleOne (assembly T i C W Y p r u) openIf = assembly T i (openIf ∷ C) W Y p (1 + r) u
+assembleOne (assembly T i C W Y p r u) openDelay = assembly T i (openDelay ∷ C) W Y p (1 + r) u
+assembleOne (assembly T i C W Y p r u) takeFirst = assembly T i (takeFirst ∷ C) W Y p (1 + r) u
+assembleOne (assembly T i C W Y p r u) takeSecond = assembly T i (takeSecond ∷ C) W Y p (1 + r) u
+assembleOne (assembly T i C W Y p r u) close = assembly T i (close ∷ C) W Y p r u
+assembleOne (assembly T i C W Y p r u) closeIf = assembly T i (close ∷ patternOnto W C) (patternsBelow W) Y p r u
+assembleOne (assembly T i C W Y p r u) beginPattern = assembly T i C (beginPattern ∷ W) Y p r u
+assembleOne (assembly T i C W Y p r u) (matchType t) = assembly T i C (matchType t ∷ W) Y p (1 + r) u
+assembleOne (assembly T i C W Y p r u) (matchOne t n) = assembly T i C (matchOne t n ∷ W) Y p (1 + r) u
+assembleOne (assembly T i C W Y p r u) openParts = assembly T i C (openParts ∷ W) Y p (1 + r) u
+assembleOne (assembly T i C W Y p r u) nextPart = assembly T i C (nextPart ∷ W) Y p r u
+assembleOne (assembly T i C W Y p r u) closeParts = assembly T i C (closeParts ∷ W) Y p r u
+assembleOne (assembly T i C W Y p r u) nextAlternative = assembly T i C (nextAlternative ∷ W) Y p r u
+assembleOne (assembly T i C W Y p r u) (useLeaf t n) = assembly T i (useLeaf t n ∷ C) W (t ∷ Y) p (1 + r) u
+assembleOne (assembly T i C W Y p r u) (useZeros t) = assembly T i (useZeros t ∷ C) W (t ∷ Y) p (leavesNumbered T t + r) u
+assembleOne (assembly T i C W Y p r u) (openConstant q) = assembly T i C W (0 ∷ Y) (outermost Y p q) r u
+assembleOne (assembly T i C W Y p r u) closeConstant = assembly T i C W (pairClosed T Y) p r u
+assembleOne (assembly T i C W Y p r u) endConstant = assembly T i (constantHas (topConstant Y) ∷ C) W [] p r (firstUntyped u (topConstant Y) p)
+assembleOne (assembly T i C W Y p r u) (constantHas t) = assembly T i C W Y p r u
 
 abbrev pub assembleAll : Assembly → List Instruction → Assembly
 assembleAll A [] = A
-assembleAll A (i ∷ is) = assembleAll (assemble A i) is
+assembleAll A (i ∷ is) = assembleAll (assembleOne A i) is
 
 -- a declared type that three tables hold: a flat type's first number is that of its constructors
 abbrev pub typeHeld : (pair first second : ℕ) → DeclaredType

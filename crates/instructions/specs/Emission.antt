@@ -42,7 +42,7 @@ use Rattle.instructions.specs.Assembly.{DeclaredType, flatType, pairedTy
 
 -- what stands on the stack: the number of a record or a type, where the parts of an expression end, an index that waits
 pub data Slot : Type 0 where
-  number : ℕ → Slot
+  ofNumber : ℕ → Slot
   barrier firstWaits secondWaits : Slot
 
 -- the records written, of which the first has number `cursor`; the stack; the word next
@@ -57,7 +57,7 @@ cursorOf (emission R c S x) = c
 
 abbrev pub top : List Slot → ℕ
 top [] = 0
-top (number n ∷ S) = n
+top (ofNumber n ∷ S) = n
 top (barrier ∷ S) = 0
 top (firstWaits ∷ S) = 0
 top (secondWaits ∷ S) = 0
@@ -68,9 +68,9 @@ pop (s ∷ S) = S
 
 -- an expression is written: the indices that wait for it are, and it is a part of what stands before it
 abbrev pub completed : List Record → ℕ → List Slot → Emission
-completed R c [] = emission R c (number c ∷ []) 0
-completed R c (number n ∷ S) = emission R c (number c ∷ number n ∷ S) 0
-completed R c (barrier ∷ S) = emission R c (number c ∷ barrier ∷ S) 0
+completed R c [] = emission R c (ofNumber c ∷ []) 0
+completed R c (ofNumber n ∷ S) = emission R c (ofNumber c ∷ ofNumber n ∷ S) 0
+completed R c (barrier ∷ S) = emission R c (ofNumber c ∷ barrier ∷ S) 0
 completed R c (firstWaits ∷ S) = completed (words 35 0 c 0 0 0 ∷ R) (c - 1) S
 completed R c (secondWaits ∷ S) = completed (words 36 0 c 0 0 0 ∷ R) (c - 1) S
 
@@ -102,19 +102,19 @@ module _ (T : List DeclaredType) where
   emit (emission R c S x) takeSecond = emission R c (secondWaits ∷ S) x
   emit (emission R c S x) close = emission R c (barrier ∷ S) 0
   emit (emission R c S x) closeIf = emission R c S x
-  emit (emission R c S x) beginPattern = emission R c (number c ∷ S) x
+  emit (emission R c S x) beginPattern = emission R c (ofNumber c ∷ S) x
   emit (emission R c S x) (matchType t) = emission (words 48 x t 0 0 0 ∷ R) (c - 1) S 0
   emit (emission R c S x) (matchOne t n) = emission (words 49 x t n 0 0 ∷ R) (c - 1) S 0
   emit (emission R c S x) openParts = emission (words 50 (top (pop S)) c (top S) 0 0 ∷ R) (c - 1) (pop (pop S)) 0
-  emit (emission R c S x) nextPart = emission R c (number c ∷ S) 0
-  emit (emission R c S x) closeParts = emission R c (number x ∷ S) 0
+  emit (emission R c S x) nextPart = emission R c (ofNumber c ∷ S) 0
+  emit (emission R c S x) closeParts = emission R c (ofNumber x ∷ S) 0
   emit (emission R c S x) nextAlternative = emission R c S c
   emit (emission R c S x) (useLeaf t n) = emission (words 64 x n 0 0 0 ∷ R) (c - 1) S (c - 1)
   emit (emission R c S x) (useZeros t) = let k = leavesNumbered T t in emission (zerosWritten k R c x) (c - k) S (zerosNext k c x)
   emit (emission R c S x) (openConstant p) = emission R c S x
   emit (emission R c S x) closeConstant = emission R c S x
   emit (emission R c S x) endConstant = emission R c S x
-  emit (emission R c S x) (constantHas t) = emission R c (number t ∷ S) 0
+  emit (emission R c S x) (constantHas t) = emission R c (ofNumber t ∷ S) 0
 
   abbrev pub emitAll : Emission → List Instruction → Emission
   emitAll E [] = E

@@ -9,8 +9,8 @@ use native.Mathlib.Numerals.{add-one}
 use lib.ListN.{length, take, drop}
 use lib.Seq.{drop-drop}
 use Rattle.listing.specs.Lines.{cycleLine, cycleLines}
-use Rattle.listing.specs.Wrote.{Wrote}
-use Rattle.listing.specs.Fills.{Fillable, Filling, Fills, Printed, nothing, piece, WholeListing}
+use Rattle.listing.specs.Wrote.{TextPut}
+use Rattle.listing.specs.Fills.{FillingLines, Filling, FilledLines, Printed, nothing, piece, WholeListing}
 use Rattle.listing.proofs.Written.{wrote-none, wrote-then}
 
 -- the lines of m cycles and then of n more
@@ -32,9 +32,9 @@ line-more :
     cycleLines w (count + 1) k leaves ≡ cycleLines w count k leaves ++ cycleLine (k + count) (take w (drop (count * w) leaves))
 line-more w count k leaves = lines-join w count 1 k leaves ∙ rw append-nil refl
 
-module _ {buffer : List ℕ} {at k w : ℕ} {outputs : List ℕ} {first : ℕ} (asked : Fillable buffer at k w outputs first) where
-  pub none-filled : Filling buffer at k w outputs first buffer 0 first at
-  none-filled =
+module _ {buffer : List ℕ} {at k w : ℕ} {outputs : List ℕ} {first : ℕ} (asked : FillingLines buffer at k w outputs first) where
+  pub no-line-filled : Filling buffer at k w outputs first buffer 0 first at
+  no-line-filled =
       record {
         wrote = wrote-none buffer at (asked .room);
         taken = rw (zero-mul w) (omega arith);
@@ -46,7 +46,7 @@ module _ {buffer : List ℕ} {at k w : ℕ} {outputs : List ℕ} {first : ℕ} (
       {now after : List ℕ} {count next end place : ℕ} →
       Filling buffer at k w outputs first now count next end →
       w ≤ length outputs - next →
-      Wrote now end (cycleLine (k + count) (take (next + w - next) (drop next outputs))) after place →
+      TextPut now end (cycleLine (k + count) (take (next + w - next) (drop next outputs))) after place →
       Filling buffer at k w outputs first after (count + 1) (next + w) place
   one-filled {count = count} {next = next} f left v =
       let i = f .inside in
@@ -68,7 +68,7 @@ module _ {buffer : List ℕ} {at k w : ℕ} {outputs : List ℕ} {first : ℕ} (
 -- where a line surely has room and a cycle is left, lines are written
 pub filled-some :
     {buffer : List ℕ} {at k w : ℕ} {outputs : List ℕ} {first : ℕ} {after : List ℕ} (count : ℕ) {next end : ℕ} →
-    Fills buffer at k w outputs first after count next end →
+    FilledLines buffer at k w outputs first after count next end →
     0 < w →
     at + 280 ≤ length buffer →
     first + w ≤ length outputs →
@@ -98,8 +98,8 @@ printed-inside : (w k first : ℕ) (outputs text : List ℕ) → Printed w outpu
 printed-inside w k first outputs text nothing = omega arith
 printed-inside w k first outputs text (piece buffer at after count next end p h) = h .lines .inside
 
-pub whole : WholeListing
-whole w k first outputs text some p left =
+pub whole-listing : WholeListing
+whole-listing w k first outputs text some p left =
     let lines = printed-lines w k first outputs text p in
     let inside = printed-inside w k first outputs text p in
     let start = lines .1 in

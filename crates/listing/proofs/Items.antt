@@ -8,13 +8,13 @@ use native.Mathlib.Numerals.{add-one}
 use lib.ListN.{length, getD, take, drop, length-append, take-append-drop}
 use lib.Seq.{take-length, take-suc}
 use Rattle.listing.specs.Lines.{leafText, leafTexts}
-use Rattle.listing.specs.Wrote.{Wrote}
+use Rattle.listing.specs.Wrote.{TextPut}
 use Rattle.listing.proofs.Written.{wrote-none, wrote-then, wrote-long}
 
 -- the texts of the first i items are written
 pub record Begun (texts : List ℕ → List ℕ) (buffer : List ℕ) (at : ℕ) (items : List ℕ) (i : ℕ) (now : List ℕ) (place : ℕ) : Type 0 where
   pub few : i ≤ length items
-  pub so-far : Wrote buffer at (texts (take i items)) now place
+  pub so-far : TextPut buffer at (texts (take i items)) now place
 
 -- a list's text is the texts of its items, in order
 pub record Each (texts : List ℕ → List ℕ) (item : ℕ → List ℕ) : Type 0 where
@@ -48,8 +48,8 @@ module _ {texts : List ℕ → List ℕ} {item : ℕ → List ℕ} (each : Each 
         in
         omega arith
 
-  pub begin : (buffer : List ℕ) (at : ℕ) (items : List ℕ) → at ≤ length buffer → Begun texts buffer at items 0 buffer at
-  begin buffer at items h = record { few = omega arith; so-far = rw (each .none) (wrote-none buffer at h) }
+  pub items-begun : (buffer : List ℕ) (at : ℕ) (items : List ℕ) → at ≤ length buffer → Begun texts buffer at items 0 buffer at
+  items-begun buffer at items h = record { few = omega arith; so-far = rw (each .none) (wrote-none buffer at h) }
 
   module _ {buffer : List ℕ} {at : ℕ} {items : List ℕ} {i : ℕ} {now : List ℕ} {place : ℕ} (b : Begun texts buffer at items i now place) where
     pub next-room :
@@ -64,12 +64,12 @@ module _ {texts : List ℕ → List ℕ} {item : ℕ → List ℕ} (each : Each 
     pub next-item :
         {after : List ℕ} {end : ℕ} →
         i < length items →
-        Wrote now place (item (getD items i 0)) after end →
+        TextPut now place (item (getD items i 0)) after end →
         Begun texts buffer at items (i + 1) after end
     next-item h w =
         record { few = omega arith; so-far = rw (add-one i, next-text items i h) (wrote-then (b .so-far) w) }
 
-    pub all-written : length items ≤ i → Wrote buffer at (texts items) now place
+    pub all-written : length items ≤ i → TextPut buffer at (texts items) now place
     all-written h =
         let few = b .few in
         let e : i ≡ length items = omega arith in

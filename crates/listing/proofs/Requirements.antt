@@ -7,7 +7,7 @@ use lib.Dec.{lit≤}
 use lib.ListN.{length, replicate, length-replicate}
 use Rattle.listing.specs.Digits.{digits}
 use Rattle.listing.specs.Lines.{ascii, leafText, leafTexts}
-use Rattle.listing.specs.Fills.{Fillable}
+use Rattle.listing.specs.Fills.{FillingLines}
 
 buffer : List ℕ
 buffer = replicate 300 0
@@ -45,5 +45,5 @@ put-leaves = room 2 (lit≤ tt)
 put-cycle : (0 + 280 ≤ length buffer) × (length {A = ℕ} (2 ∷ []) ≤ 64)
 put-cycle = (put-line, lit≤ tt)
 
-put-lines : Fillable buffer 0 0 1 (2 ∷ 1 ∷ 1 ∷ []) 0
+put-lines : FillingLines buffer 0 0 1 (2 ∷ 1 ∷ 1 ∷ []) 0
 put-lines = record { room = room 0 (lit≤ tt); some = lit≤ tt; few = lit≤ tt; numbered = lit≤ tt; inside = lit≤ tt }

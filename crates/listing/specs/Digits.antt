@@ -1,6 +1,6 @@
--- A number in decimal (docs/SHEETS.md, "Listing": "a decimal number for each leaf"): its digits as ASCII bytes, the most
--- significant first. It is left open what stands in front of a number; here nothing does, no zeros either, and the number
--- 0 is one digit.
+-- A number in decimal (docs/SHEETS.md, "Listing": "for each leaf a space and its value in decimal"): its digits as ASCII bytes, the
+-- most significant first. It is left open what stands in front of a number; here nothing does, no zeros either, and the number 0 is one
+-- digit.
 use Prim.Native.Nat.{ℕ, zero, suc, _+_, _*_, _-_, _/_, _%_, _≤_, _<_}
 use mathlib.Core.Path.{_≡_}
 use mathlib.Core.Logic.{_≢_, _↔_}

@@ -5,10 +5,10 @@ use mathlib.Core.Path.{_≡_}
 use mathlib.Core.List.{List, [], _++_}
 use lib.ListN.{length, drop}
 use Rattle.listing.specs.Lines.{cycleLines}
-use Rattle.listing.specs.Wrote.{Wrote}
+use Rattle.listing.specs.Wrote.{TextPut}
 
 -- what is asked: lines of 1 to 64 leaves; cycle k's begin at the leaf `first`
-pub record Fillable (buffer : List ℕ) (at k w : ℕ) (outputs : List ℕ) (first : ℕ) : Type 0 where
+pub record FillingLines (buffer : List ℕ) (at k w : ℕ) (outputs : List ℕ) (first : ℕ) : Type 0 where
   pub room : at ≤ length buffer
   pub some : 0 < w
   pub few : w ≤ 64
@@ -18,13 +18,13 @@ pub record Fillable (buffer : List ℕ) (at k w : ℕ) (outputs : List ℕ) (fir
 
 -- the lines of `count` cycles are written, up to the leaf `next`
 pub record Filling (buffer : List ℕ) (at k w : ℕ) (outputs : List ℕ) (first : ℕ) (after : List ℕ) (count next end : ℕ) : Type 0 where
-  pub wrote : Wrote buffer at (cycleLines w count k (drop first outputs)) after end
+  pub wrote : TextPut buffer at (cycleLines w count k (drop first outputs)) after end
   pub taken : next ≡ first + count * w
   pub numbered : k + count ≤ next
   pub inside : next ≤ length outputs
 
 -- what is given: it stops only where no cycle is left or a line might not fit
-pub record Fills (buffer : List ℕ) (at k w : ℕ) (outputs : List ℕ) (first : ℕ) (after : List ℕ) (count next end : ℕ) : Type 0 where
+pub record FilledLines (buffer : List ℕ) (at k w : ℕ) (outputs : List ℕ) (first : ℕ) (after : List ℕ) (count next end : ℕ) : Type 0 where
   pub lines : Filling buffer at k w outputs first after count next end
   pub full : next + w ≤ length outputs → length buffer < end + 280
 
@@ -34,7 +34,7 @@ pub data Printed (w : ℕ) (outputs : List ℕ) : (k first : ℕ) (text : List �
   piece :
       {k first : ℕ} {text : List ℕ} (buffer : List ℕ) (at : ℕ) (after : List ℕ) (count next end : ℕ) →
       Printed w outputs k first text →
-      Fills buffer at k w outputs first after count next end →
+      FilledLines buffer at k w outputs first after count next end →
       Printed w outputs (k + count) next (text ++ cycleLines w count k (drop first outputs))
 
 -- where no cycle is left, they are the listing's lines and their count; kept by `whole` (proofs/Filling.antt)

@@ -26,7 +26,7 @@ cyclesLine n = wordLine (ascii "cycles ") n
 abbrev pub refusedLine : (code place : ℕ) → List ℕ
 refusedLine c p = ascii "refused " ++ digits c ++ wordLine (ascii " at ") p
 
--- "a space and a decimal number for each leaf"
+-- "for each leaf a space and its value in decimal"
 abbrev pub leafText : (leaf : ℕ) → List ℕ
 leafText leaf = ascii " " ++ digits leaf
 

@@ -6,15 +6,15 @@ ghost use Prim.Native.Nat.{_+_, _≤_, _<_};
 ghost use lib.ListN.{length};
 ghost use Rattle.listing.specs.Digits.{digits};
 ghost use Rattle.listing.specs.Lines.{wordLine, typeLine, cyclesLine, refusedLine, leafText, leafTexts, cycleLine};
-ghost use Rattle.listing.specs.Wrote.{Wrote};
-ghost use Rattle.listing.specs.Fills.{Fillable, Fills};
+ghost use Rattle.listing.specs.Wrote.{TextPut, lineBytes};
+ghost use Rattle.listing.specs.Fills.{FillingLines, FilledLines};
 
 // The room that a line is given.
 pub const LINE_BYTES: usize = 280;
 
 fn put_byte(buffer: &mut [u8], at: usize, b: u8) -> usize
     requires { ⌜ at < length (now buffer) ⌝ }
-    ensures { λ r. ⌜ Wrote (now (buffer .entry)) at (b ∷ []) (now (buffer .exit)) r ⌝ }
+    ensures { λ r. ⌜ TextPut (now (buffer .entry)) at (b ∷ []) (now (buffer .exit)) r ⌝ }
 {
     buffer[at] = b;
     at + 1
@@ -22,7 +22,7 @@ fn put_byte(buffer: &mut [u8], at: usize, b: u8) -> usize
 
 fn put_text(buffer: &mut [u8], at: usize, text: &[u8]) -> usize
     requires { ⌜ at + length (now text) ≤ length (now buffer) ⌝ }
-    ensures { λ r. ⌜ Wrote (now (buffer .entry)) at (now (text .entry)) (now (buffer .exit)) r ⌝ }
+    ensures { λ r. ⌜ TextPut (now (buffer .entry)) at (now (text .entry)) (now (buffer .exit)) r ⌝ }
 {
     let mut place = at;
     let mut i = 0;
@@ -36,7 +36,7 @@ fn put_text(buffer: &mut [u8], at: usize, text: &[u8]) -> usize
 // A number in decimal: its front digits, which are those of a tenth of it, and the last one.
 pub fn put_number(buffer: &mut [u8], at: usize, n: u64) -> usize
     requires { ⌜ at + length (digits n) ≤ length (now buffer) ⌝ }
-    ensures { λ r. ⌜ Wrote (now (buffer .entry)) at (digits n) (now (buffer .exit)) r ⌝ }
+    ensures { λ r. ⌜ TextPut (now (buffer .entry)) at (digits n) (now (buffer .exit)) r ⌝ }
 {
     let last = 48 + (n % 10) as u8;
     if n < 10 {
@@ -49,7 +49,7 @@ pub fn put_number(buffer: &mut [u8], at: usize, n: u64) -> usize
 // A word, a number and the line's end.
 fn put_word_line(buffer: &mut [u8], at: usize, word: &[u8], n: u64) -> usize
     requires { ⌜ at + length (now word) + 21 ≤ length (now buffer) ⌝ }
-    ensures { λ r. ⌜ Wrote (now (buffer .entry)) at (wordLine (now (word .entry)) n) (now (buffer .exit)) r ⌝ }
+    ensures { λ r. ⌜ TextPut (now (buffer .entry)) at (wordLine (now (word .entry)) n) (now (buffer .exit)) r ⌝ }
 {
     let number = put_text(buffer, at, word);
     let end = put_number(buffer, number, n);
@@ -58,24 +58,24 @@ fn put_word_line(buffer: &mut [u8], at: usize, word: &[u8], n: u64) -> usize
 
 // The first line: the output type's record.
 pub fn put_type(buffer: &mut [u8], at: usize, t: u64) -> usize
-    requires { ⌜ at + 280 ≤ length (now buffer) ⌝ }
-    ensures { λ r. ⌜ Wrote (now (buffer .entry)) at (typeLine t) (now (buffer .exit)) r ⌝ }
+    requires { ⌜ at + lineBytes ≤ length (now buffer) ⌝ }
+    ensures { λ r. ⌜ TextPut (now (buffer .entry)) at (typeLine t) (now (buffer .exit)) r ⌝ }
 {
     put_word_line(buffer, at, b"type ", t)
 }
 
 // The last line: how many cycles were done.
 pub fn put_cycles(buffer: &mut [u8], at: usize, count: usize) -> usize
-    requires { ⌜ at + 280 ≤ length (now buffer) ⌝ }
-    ensures { λ r. ⌜ Wrote (now (buffer .entry)) at (cyclesLine count) (now (buffer .exit)) r ⌝ }
+    requires { ⌜ at + lineBytes ≤ length (now buffer) ⌝ }
+    ensures { λ r. ⌜ TextPut (now (buffer .entry)) at (cyclesLine count) (now (buffer .exit)) r ⌝ }
 {
     put_word_line(buffer, at, b"cycles ", count as u64)
 }
 
 // The line of a refusal.
 pub fn put_refused(buffer: &mut [u8], at: usize, code: u64, place: u64) -> usize
-    requires { ⌜ at + 280 ≤ length (now buffer) ⌝ }
-    ensures { λ r. ⌜ Wrote (now (buffer .entry)) at (refusedLine code place) (now (buffer .exit)) r ⌝ }
+    requires { ⌜ at + lineBytes ≤ length (now buffer) ⌝ }
+    ensures { λ r. ⌜ TextPut (now (buffer .entry)) at (refusedLine code place) (now (buffer .exit)) r ⌝ }
 {
     let number = put_text(buffer, at, b"refused ");
     let end = put_number(buffer, number, code);
@@ -84,7 +84,7 @@ pub fn put_refused(buffer: &mut [u8], at: usize, code: u64, place: u64) -> usize
 
 fn put_leaf(buffer: &mut [u8], at: usize, leaf: u8) -> usize
     requires { ⌜ at + length (leafText leaf) ≤ length (now buffer) ⌝ }
-    ensures { λ r. ⌜ Wrote (now (buffer .entry)) at (leafText leaf) (now (buffer .exit)) r ⌝ }
+    ensures { λ r. ⌜ TextPut (now (buffer .entry)) at (leafText leaf) (now (buffer .exit)) r ⌝ }
 {
     let number = put_byte(buffer, at, b' ');
     put_number(buffer, number, leaf as u64)
@@ -92,7 +92,7 @@ fn put_leaf(buffer: &mut [u8], at: usize, leaf: u8) -> usize
 
 fn put_leaves(buffer: &mut [u8], at: usize, leaves: &[u8]) -> usize
     requires { ⌜ at + length (leafTexts (now leaves)) ≤ length (now buffer) ⌝ }
-    ensures { λ r. ⌜ Wrote (now (buffer .entry)) at (leafTexts (now (leaves .entry))) (now (buffer .exit)) r ⌝ }
+    ensures { λ r. ⌜ TextPut (now (buffer .entry)) at (leafTexts (now (leaves .entry))) (now (buffer .exit)) r ⌝ }
 {
     let mut place = at;
     let mut i = 0;
@@ -105,8 +105,8 @@ fn put_leaves(buffer: &mut [u8], at: usize, leaves: &[u8]) -> usize
 
 // The line of cycle k.
 pub fn put_cycle(buffer: &mut [u8], at: usize, k: usize, leaves: &[u8]) -> usize
-    requires { ⌜ (at + 280 ≤ length (now buffer)) × (length (now leaves) ≤ 64) ⌝ }
-    ensures { λ r. ⌜ Wrote (now (buffer .entry)) at (cycleLine k (now (leaves .entry))) (now (buffer .exit)) r ⌝ }
+    requires { ⌜ (at + lineBytes ≤ length (now buffer)) × (length (now leaves) ≤ 64) ⌝ }
+    ensures { λ r. ⌜ TextPut (now (buffer .entry)) at (cycleLine k (now (leaves .entry))) (now (buffer .exit)) r ⌝ }
 {
     let colon = put_number(buffer, at, k as u64);
     let first = put_byte(buffer, colon, b':');
@@ -130,8 +130,8 @@ pub fn put_lines(
     outputs: &[u8],
     first: usize,
 ) -> Filled
-    requires { ⌜ Fillable (now buffer) at k w (now outputs) first ⌝ }
-    ensures { λ r. ⌜ Fills (now (buffer .entry)) at k w (now (outputs .entry)) first (now (buffer .exit)) (r .count) (r .next) (r .end) ⌝ }
+    requires { ⌜ FillingLines (now buffer) at k w (now outputs) first ⌝ }
+    ensures { λ r. ⌜ FilledLines (now (buffer .entry)) at k w (now (outputs .entry)) first (now (buffer .exit)) (r .count) (r .next) (r .end) ⌝ }
 {
     let mut count = 0;
     let mut next = first;

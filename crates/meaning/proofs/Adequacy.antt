@@ -36,11 +36,11 @@ all-flatten-one (of-all-more h k) (of-all-more i j) p =
     ap₂ (λ c cs. c ∷ cs) (flatten-one h i (head-eq-of-cons-eq p)) (all-flatten-one k j (tail-eq-of-cons-eq p))
 
 module _
-    (undecided : List ℕ → List ℕ → List ℕ)
-    (tree : ConstantTree → ConstantTree → ConstantTree)
+    {undecided : List ℕ → List ℕ → List ℕ}
+    {tree : ConstantTree → ConstantTree → ConstantTree}
     (law : Lawful undecided)
     (agree : Agreeing undecided tree)
-    (Declared : Ty → Type 0)
+    {Declared : Ty → Type 0}
   where
     pub cycle-adequate
         : {Γ : List Ty} {t : Term} {τ : Ty} {l : List ConstantTree} {c : ConstantTree} {f : Expr}
@@ -81,7 +81,7 @@ module _
     run-derived typed env (of-all-more h k) =
         let (d, i, p, r) = derived undecided tree law agree Declared typed (beside-more h refl env) in
         let (ds, j, q, s)
-        = run-derived (next-typed undecided law Declared typed (more-values (flatten-typed h) (beside-values env))) env k in
+        = run-derived (next-typed law typed (more-values (flatten-typed h) (beside-values env))) env k in
         (d ∷ ds, of-all-more i j, ap₂ (λ v vs. v ∷ vs) p q, s-cycle r s)
 
     pub run-adequate

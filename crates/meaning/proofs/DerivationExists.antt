@@ -9,7 +9,8 @@ use mathlib.Core.Logic.{_⊎_, inl, inr, _≢_}
 use mathlib.Core.List.{List, [], _∷_, _++_, map}
 use lib.ListN.{getD, take, drop, replicate-append-replicate}
 use Rattle.picoella.specs.Language.{Ty, Flat, TyTuple, bounds, leaves, OfType, Expr, Index1, Index2, Named, here, there}
-use Rattle.meaning.specs.Values.{zeros, undefined, Both, ValuesOf, no-values, more-values}
+use Rattle.meaning.specs.Values.{undefined, Both, ValuesOf, no-values, more-values}
+use Rattle.meaning.proofs.Order.{zeros}
 use Rattle.meaning.specs.Matching.{Decision, Yes, No, Undecided, matches}
 use Rattle.meaning.specs.Elaboration.{
   Term,
@@ -169,7 +170,7 @@ module _
         settling-unchanged a v h p q (c, i, m, r) =
             let same : c ≡ a = flatten-one i h (m ∙ sym q ∙ sym p) in
             let still : iterate undecided ρ σ t v ≡ v
-            = iterate-unchanged undecided law Declared typed (beside-values env) (sym q) in (
+            = iterate-unchanged law typed (beside-values env) (sym q) in (
               a,
               h,
               p ∙ sym still,
@@ -185,7 +186,7 @@ module _
             → Settling l ρ σ t c (application undecided ρ t v) → Settling l ρ σ t a v
         settling-again a v p rises fewer c m r (d, j, n, s) =
             let on : iterate undecided ρ σ t v ≡ iterate undecided ρ σ t (application undecided ρ t v)
-            = iterate-again undecided law Declared typed (beside-values env) rises in
+            = iterate-again law typed (beside-values env) rises in
             let differs : a ≢ c = λ e. zeros-differ (sym p ∙ ap flatten e ∙ m) in (
               d,
               j,
@@ -210,7 +211,7 @@ module _
             go (same-or-fewer rises) (derive a v h p)
             (λ c i m less.
             settling derive k c (application undecided ρ t v) i m
-            (application-monotone undecided law Declared typed (beside-values env) _ _ rises) less)
+            (application-monotone law typed (beside-values env) _ _ rises) less)
           where
             go
                 : (v ≡ application undecided ρ t v) ⊎ (zeros (application undecided ρ t v) < zeros v)
@@ -249,7 +250,7 @@ module _
         let (c, i, p, r)
         = settling te env (λ a v h q. derived te (beside-more h q env)) (leaves σ) (bottomOfType σ) (undefined σ)
         (bottom-typed σ) (bottom-flattens σ)
-        (undefined-rises undecided law Declared te (beside-values env)) (omega (arith, zeros-undefined (leaves σ))) in
+        (undefined-rises law te (beside-values env)) (omega (arith, zeros-undefined (leaves σ))) in
         let (b, j, q, w) = derived se (beside-more i p env) in
         (b, j, q, r-letrec r w)
     derived {ρ} (e-if {t} {p = pattern} te h se re) env =

@@ -8,7 +8,8 @@ use mathlib.Core.Path.{_≡_, sym, ap, _∙_}
 use mathlib.Core.Logic.{_⊎_, inl, inr, _≢_}
 use mathlib.Core.List.{List, _∷_}
 use Rattle.picoella.specs.Language.{Ty, bounds, leaves, OfType}
-use Rattle.meaning.specs.Values.{undefined, zeros, Both, ValuesOf, both-more-values}
+use Rattle.meaning.specs.Values.{undefined, Both, ValuesOf, both-more-values}
+use Rattle.meaning.proofs.Order.{zeros}
 use Rattle.meaning.specs.Elaboration.{Term, Elaborated}
 use Rattle.meaning.specs.Undecided.{Lawful}
 use Rattle.meaning.specs.Evaluation.{iter, application, iterate, settled, applications}
@@ -36,9 +37,9 @@ use Rattle.meaning.proofs.FixedPoint.{
 }
 
 module _
-    (undecided : List ℕ → List ℕ → List ℕ)
+    {undecided : List ℕ → List ℕ → List ℕ}
     (law : Lawful undecided)
-    (Declared : Ty → Type 0)
+    {Declared : Ty → Type 0}
     {Γ : List Ty}
     {ρ : List (List ℕ)}
     {σ : Ty}

@@ -11,7 +11,8 @@ use mathlib.Core.Bool.{Bool, true, false, _&&_}
 use mathlib.Core.List.{List, [], _∷_}
 use lib.Dec.{T, eqb, eqb→eq, eqb-refl}
 use lib.ListN.{replicate}
-use Rattle.meaning.specs.Values.{zeros, Both, both-none, both-leaf}
+use Rattle.meaning.specs.Values.{Both, both-none, both-leaf}
+use Rattle.meaning.proofs.Order.{zeros}
 use Rattle.meaning.specs.Evaluation.{iter, unchanged, countedFrom}
 
 -- of two values in order the upper one is the same or has fewer undefined leaves

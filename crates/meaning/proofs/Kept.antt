@@ -52,23 +52,23 @@ module _
     unfolding eval next
     settles typed env =
         record {
-          rises = λ k. both-below (feedback-rises undecided law Declared typed env k);
-          stable = feedback-stable undecided law Declared typed env;
-          of-type = feedback-typed undecided law Declared typed env;
-          fixed = feedback-fixed undecided law Declared typed env;
-          least = λ w h p. both-below (feedback-least undecided law Declared typed env h p);
-          at-most = applications-most undecided law Declared typed env;
-          reached = applications-reach undecided law Declared typed env;
-          none-fewer = applications-fewest undecided law Declared typed env;
+          rises = λ k. both-below (feedback-rises law typed env k);
+          stable = feedback-stable law typed env;
+          of-type = feedback-typed law typed env;
+          fixed = feedback-fixed law typed env;
+          least = λ w h p. both-below (feedback-least law typed env h p);
+          at-most = applications-most law typed env;
+          reached = applications-reach law typed env;
+          none-fewer = applications-fewest law typed env;
           value = λ s. refl;
           after-cycle = λ s. refl;
         }
 
     iterate-equations : IterateEquations undecided law tree agree Declared
     iterate-equations Γ ρ σ t v typed env h below = (
-      λ p. iterate-unchanged undecided law Declared typed env p ∙ sym p,
-      iterate-again undecided law Declared typed env
-          (both-of h (application-typed undecided law Declared typed env h) below),
+      λ p. iterate-unchanged law typed env p ∙ sym p,
+      iterate-again law typed env
+          (both-of h (application-typed law typed env h) below),
     )
 
     kept-promises : Promises undecided law tree agree Declared
@@ -79,10 +79,10 @@ module _
           erasure-typed = λ Γ t τ h. erased-typed Declared h;
           annotation-ignored = λ places ρ t. (eval-annotation undecided places ρ t, next-annotation undecided places ρ t);
           evaluation-typed = λ Γ t τ ρ h env. eval-typed undecided law Declared h env;
-          next-typed = λ Γ t τ ρ h env. (next-typed undecided law Declared h env, next-frame undecided ρ t);
+          next-typed = λ Γ t τ ρ h env. (next-typed law h env, next-frame undecided ρ t);
           run-typed = λ Γ t σ τ ρ inputs h env given. (
-            outputs-typed undecided law Declared h env given,
-            after-typed undecided law Declared h env given,
+            outputs-typed law h env given,
+            after-typed law h env given,
             after-frame undecided ρ t inputs,
           );
           match-monotone = λ p τ v w h i j below. match-monotone h (both-of i j below);
@@ -92,12 +92,12 @@ module _
           flatten-one-to-one = λ τ.
               (λ c h. flatten-typed h, λ c d h k p. flatten-one h k p, λ v h. flatten-onto τ h);
           match-agrees = λ p τ c h k. match-agrees h k;
-          cycle-adequate = λ Γ t τ l c f h env. cycle-adequate undecided tree law agree Declared h env;
-          cycle-exists = λ Γ t τ l h env. cycle-exists undecided tree law agree Declared h env;
+          cycle-adequate = λ Γ t τ l c f h env. cycle-adequate law agree h env;
+          cycle-exists = λ Γ t τ l h env. cycle-exists law agree h env;
           cycle-unique = λ l e f g c d r s. reduces-one tree r s;
           run-adequate = λ Γ t σ τ l inputs cs f h env given.
-              run-adequate undecided tree law agree Declared h env given;
-          run-exists = λ Γ t σ τ l inputs h env given. run-exists undecided tree law agree Declared h env given;
+              run-adequate law agree h env given;
+          run-exists = λ Γ t σ τ l inputs h env given. run-exists law agree h env given;
           run-unique = λ l inputs cs ds e f g r s. reduces-seq-one tree r s;
         }
 

@@ -58,7 +58,7 @@ unfolding after
 after-frame u ρ t [] = refl
 after-frame u ρ t (v ∷ vs) = after-frame u ρ (next u (v ∷ ρ) t) vs ∙ next-frame u (v ∷ ρ) t
 
-module _ (undecided : List ℕ → List ℕ → List ℕ) (law : Lawful undecided) (Declared : Ty → Type 0) where
+module _ {undecided : List ℕ → List ℕ → List ℕ} (law : Lawful undecided) {Declared : Ty → Type 0} where
   pub next-typed
       : {Γ : List Ty} {t : Term} {τ : Ty} {ρ : List (List ℕ)}
       → Elaborated Declared Γ t τ → ValuesOf Γ ρ → Elaborated Declared Γ (next undecided ρ t) τ
@@ -71,8 +71,8 @@ module _ (undecided : List ℕ → List ℕ → List ℕ) (law : Lawful undecide
   next-typed (e-let t s) r =
       e-let (next-typed t r) (next-typed s (more-values (eval-typed undecided law Declared t r) r))
   next-typed (e-feedback t s) r =
-      e-feedback (next-typed t (more-values (feedback-typed undecided law Declared t r) r))
-      (next-typed s (more-values (feedback-typed undecided law Declared t r) r))
+      e-feedback (next-typed t (more-values (feedback-typed law t r) r))
+      (next-typed s (more-values (feedback-typed law t r) r))
   next-typed (e-if t p s e) r = e-if (next-typed t r) p (next-typed s r) (next-typed e r)
   next-typed (e-delay h t) r = e-delay (eval-typed undecided law Declared t r) (next-typed t r)
 

@@ -10,7 +10,6 @@ use lib.ListN.{length, take, drop, replicate, length-append}
 use Rattle.picoella.specs.Language.{Ty, Flat, TyTuple, bounds, leaves, Within, within-none, within-leaf, OfType}
 use Rattle.meaning.specs.Values.{
   undefined,
-  zeros,
   LeafBelow,
   _⊑_,
   below-none,
@@ -19,6 +18,12 @@ use Rattle.meaning.specs.Values.{
   both-none,
   both-leaf,
 }
+
+-- how many leaves are undefined
+abbrev pub zeros : List ℕ → ℕ
+zeros [] = 0
+zeros (zero ∷ vs) = suc (zeros vs)
+zeros (suc v ∷ vs) = zeros vs
 
 -- the halves, and the whole from its halves
 pub both-lower : {b v w : List ℕ} → Both b v w → Within b v

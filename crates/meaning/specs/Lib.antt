@@ -5,7 +5,8 @@ pub mod Rules
 pub mod Values
 pub mod Ordered
 pub mod Promises
--- What the promises pin down, so that it need not be believed:
+-- What the promises pin down, so that it need not be believed, but of `Undecided` what is asked of a rule and the earlier rule, which
+-- (c) and (e) speak of:
 pub mod Elaboration
 pub mod Matching
 pub mod Undecided

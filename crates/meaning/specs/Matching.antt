@@ -1,7 +1,6 @@
--- Matching (docs/SHEETS.md, "One cycle": "A match is yes, no or undecided"; 000, §4.2.3: `match`), on leaves. A pair pattern cuts
--- the leaves at the width of its first part, which the pattern itself has: on a value of its type that is where the first
--- part's leaves end. All alternatives of a chain have one width; the first gives it. Without leaves a constructor pattern
--- is undecided.
+-- Matching (docs/SHEETS.md, "One cycle", where it "says yes, no or undecided"; 000, §4.2.3: `match`), on leaves. A pair pattern cuts
+-- the leaves at the width of its first part, which the pattern itself has: on a value of its type that is where the first part's leaves
+-- end. All alternatives of a chain have one width; the first gives it. Without leaves a constructor pattern is undecided.
 use Prim.Native.Nat.{ℕ, zero, suc, _+_}
 use mathlib.Core.Path.{_≡_}
 use mathlib.Core.Logic.{_⊎_}

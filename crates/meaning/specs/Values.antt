@@ -3,7 +3,7 @@
 -- `Both` says of two values at once that they lie within the same bounds and that the first is at or below the second: every
 -- induction proves it, and being of a type and the order are its halves. 000 leaves the order of values of different types
 -- open; here two values of different lengths are never ordered.
-use Prim.Native.Nat.{ℕ, zero, suc, _≤_}
+use Prim.Native.Nat.{ℕ, _≤_}
 use mathlib.Core.Path.{_≡_}
 use mathlib.Core.Logic.{_⊎_}
 use mathlib.Core.List.{List, [], _∷_}
@@ -23,12 +23,6 @@ infix 40 _⊑_
 pub data _⊑_ : List ℕ → List ℕ → Type 0 where
   below-none : [] ⊑ []
   below-leaf : {v w : ℕ} {vs ws : List ℕ} → LeafBelow v w → vs ⊑ ws → (v ∷ vs) ⊑ (w ∷ ws)
-
--- how many leaves are undefined
-abbrev pub zeros : List ℕ → ℕ
-zeros [] = 0
-zeros (zero ∷ vs) = suc (zeros vs)
-zeros (suc v ∷ vs) = zeros vs
 
 -- leaf by leaf both within the bound and the first at or below the second
 pub data Both : (bounds v w : List ℕ) → Type 0 where

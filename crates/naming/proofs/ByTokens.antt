@@ -4,7 +4,7 @@
 use Prim.Native.Nat.{ℕ}
 use mathlib.Core.Path.{_≡_, refl, sym, ap, ap₂, _∙_}
 use mathlib.Core.Bool.{Bool, true, false, cond, not}
-use mathlib.Core.List.{List, [], _∷_, _++_, append-assoc}
+use mathlib.Core.List.{List, [], _∷_, _++_, append-assoc, append-nil}
 use lib.Dec.{eqb, ltb}
 use Rattle.grammar.specs.Tokens.{Token, symbol, nameToken, bar, indexOpens, indexCloses, one, two}
 use Rattle.grammar.specs.Source.{Identifier, identifier, Declaration, SourceConstant, SourcePattern, Expression, Text}
@@ -209,10 +209,6 @@ expressions K P B D i (reads-if h j k l) =
 expressions K P B D i (reads-delay h k) =
     both-parts (constants P B D (inDelayConstant ∷ K) h) (expressions (inDelayed ∷ K) P B D (λ p b. refl) k)
 
-append-nothing : (l : List PlacedCheck) → l ++ [] ≡ l
-append-nothing [] = refl
-append-nothing (x ∷ l) = ap (λ k. x ∷ k) (append-nothing l)
-
 -- no name but `input` is in scope at first
 abbrev pub firstScope : NameScope
 firstScope = scope [] [] atFirst
@@ -223,4 +219,4 @@ by-tokens (reads-text {p} {w} {d} {ds} {e} h k l) =
     first-declaration [] firstScope h
     ∙ both-parts (declaration [] [] atFirst h) (more [] [] (afterDeclaration atFirst d) k) .split
     ∙ ap (λ x. declarationsChecks atFirst (d ∷ ds) ++ (isOne typeRole D (identifier w p) ∷ x))
-    (expressions [] [] [] D (λ p b. refl) l .split ∙ append-nothing (expressionChecks D [] e))
+    (expressions [] [] [] D (λ p b. refl) l .split ∙ append-nil (expressionChecks D [] e))

@@ -5,7 +5,7 @@ use Prim.Native.Nat.{ℕ}
 use native.Mathlib.Omega.{arith}
 use mathlib.Core.Path.{_≡_, refl, sym, ap, _∙_}
 use mathlib.Core.Bool.{Bool, true, false, cond}
-use mathlib.Core.List.{List, [], _∷_, _++_}
+use mathlib.Core.List.{List, [], _∷_, _++_, append-nil}
 use Rattle.grammar.specs.Tokens.{Token, Tokens, no-token, a-blank, a-symbol, a-word, spells-keyword, spells-name}
 use Rattle.grammar.specs.Source.{Identifier, Declaration, SourceConstant, SourcePattern, Expression, Text}
 use Rattle.grammar.specs.Grammar.{ReadsOthers, no-other, one-other, ReadsDeclaration, reads-constructors, reads-pair-of}
@@ -16,8 +16,8 @@ use Rattle.grammar.specs.Grammar.{reads-let-rec, reads-if, reads-delay, ReadsTe
 use Rattle.naming.specs.Checks.{checkPlaces}
 use Rattle.naming.specs.Constants.{constantPlace, constantChecks, constantsOfText}
 use Rattle.naming.specs.Promises.{DelayPhase, beforeDelay, bracketNext, constantNext, afterKeyword, isQuery, constantPlaces, Increasing}
-use Rattle.naming.proofs.EachOnce.{both, append-nothing}
-use Rattle.naming.proofs.TextOrder.{From, from-none, from-one, lower, increasing, run-long}
+use Rattle.naming.proofs.EachOnce.{places-both}
+use Rattle.naming.proofs.TextOrder.{PlacesFrom, from-none, from-one, from-lower, increasing, run-long}
 
 abbrev places : List Token → List ℕ
 places ts = constantPlaces beforeDelay ts
@@ -57,42 +57,42 @@ expression-constants : {a r : List Token} {e : Expression} (ds : List Declaratio
 expression-constants ds reads-named = refl
 expression-constants ds reads-undefined-of = refl
 expression-constants {r} ds (reads-pair {e} {f} h k) =
-    both (constantChecks ds e) (constantChecks ds f) (places r) (expression-constants ds h) (expression-constants ds k)
+    places-both (constantChecks ds e) (constantChecks ds f) (places r) (expression-constants ds h) (expression-constants ds k)
 expression-constants ds (reads-first h) = expression-constants ds h
 expression-constants ds (reads-second h) = expression-constants ds h
 expression-constants {r} ds (reads-let {e} {f} h k) =
-    both (constantChecks ds e) (constantChecks ds f) (places r) (expression-constants ds h) (expression-constants ds k)
+    places-both (constantChecks ds e) (constantChecks ds f) (places r) (expression-constants ds h) (expression-constants ds k)
 expression-constants {r} ds (reads-let-rec {e} {f} h k) =
-    both (constantChecks ds e) (constantChecks ds f) (places r) (expression-constants ds h) (expression-constants ds k)
+    places-both (constantChecks ds e) (constantChecks ds f) (places r) (expression-constants ds h) (expression-constants ds k)
 expression-constants {r} ds (reads-if {d} {e} {f} {g} h i k l) =
-    both (constantChecks ds e ++ constantChecks ds f) (constantChecks ds g) (places r)
-    (both (constantChecks ds e) (constantChecks ds f) (places d) (expression-constants ds h) (expression-constants ds k ∙ pattern-none i))
+    places-both (constantChecks ds e ++ constantChecks ds f) (constantChecks ds g) (places r)
+    (places-both (constantChecks ds e) (constantChecks ds f) (places d) (expression-constants ds h) (expression-constants ds k ∙ pattern-none i))
     (expression-constants ds l)
 expression-constants ds (reads-delay {c} h k) = ap (λ l. constantPlace c ∷ l) (expression-constants ds k) ∙ sym (constant-start h)
 
 pub each-constant-once : {ts : List Token} {t : Text} → ReadsText ts t → checkPlaces (constantsOfText t) ≡ constantPlaces beforeDelay ts
 each-constant-once (reads-text {d} {ds} {e} h k l) =
-    sym (append-nothing (checkPlaces (constantChecks (d ∷ ds) e))) ∙ expression-constants (d ∷ ds) l ∙ list-none k ∙ declaration-none h
+    sym (append-nil (checkPlaces (constantChecks (d ∷ ds) e))) ∙ expression-constants (d ∷ ds) l ∙ list-none k ∙ declaration-none h
 
-either-from : {i : ℕ} {x y : List ℕ} (b : Bool) → From i x → From i y → From i (cond b x y)
+either-from : {i : ℕ} {x y : List ℕ} (b : Bool) → PlacesFrom i x → PlacesFrom i y → PlacesFrom i (cond b x y)
 either-from true f g = f
 either-from false f g = g
 
-constants-from : {i : ℕ} {bs : List ℕ} {ts : List Token} (q : DelayPhase) → Tokens i bs ts → From i (constantPlaces q ts)
+constants-from : {i : ℕ} {bs : List ℕ} {ts : List Token} (q : DelayPhase) → Tokens i bs ts → PlacesFrom i (constantPlaces q ts)
 constants-from beforeDelay no-token = from-none
 constants-from bracketNext no-token = from-none
 constants-from constantNext no-token = from-none
-constants-from q (a-blank e t) = lower (omega arith) (constants-from q t)
-constants-from beforeDelay (a-symbol e t) = lower (omega arith) (constants-from beforeDelay t)
-constants-from bracketNext (a-symbol e t) = lower (omega arith) (constants-from constantNext t)
+constants-from q (a-blank e t) = from-lower (omega arith) (constants-from q t)
+constants-from beforeDelay (a-symbol e t) = from-lower (omega arith) (constants-from beforeDelay t)
+constants-from bracketNext (a-symbol e t) = from-lower (omega arith) (constants-from constantNext t)
 constants-from constantNext (a-symbol {i} {s} e t) =
-    either-from (isQuery s) (lower (omega arith) (constants-from constantNext t)) (from-one {i = i} {p = i} (omega arith) (constants-from beforeDelay t))
-constants-from beforeDelay (a-word {i} {word} r (spells-keyword {k} e) t) = lower (omega (arith, run-long r)) (constants-from (afterKeyword k) t)
-constants-from beforeDelay (a-word {i} {word} r (spells-name a l) t) = lower (omega (arith, run-long r)) (constants-from beforeDelay t)
-constants-from bracketNext (a-word {i} {word} r s t) = lower (omega (arith, run-long r)) (constants-from constantNext t)
-constants-from constantNext (a-word {i} {word} r (spells-keyword e) t) = lower (omega (arith, run-long r)) (constants-from beforeDelay t)
+    either-from (isQuery s) (from-lower (omega arith) (constants-from constantNext t)) (from-one {i = i} {p = i} (omega arith) (constants-from beforeDelay t))
+constants-from beforeDelay (a-word {i} {word} r (spells-keyword {k} e) t) = from-lower (omega (arith, run-long r)) (constants-from (afterKeyword k) t)
+constants-from beforeDelay (a-word {i} {word} r (spells-name a l) t) = from-lower (omega (arith, run-long r)) (constants-from beforeDelay t)
+constants-from bracketNext (a-word {i} {word} r s t) = from-lower (omega (arith, run-long r)) (constants-from constantNext t)
+constants-from constantNext (a-word {i} {word} r (spells-keyword e) t) = from-lower (omega (arith, run-long r)) (constants-from beforeDelay t)
 constants-from constantNext (a-word {i} {word} r (spells-name a l) t) =
-    from-one {i = i} {p = i} (omega arith) (lower (omega (arith, run-long r)) (constants-from beforeDelay t))
+    from-one {i = i} {p = i} (omega arith) (from-lower (omega (arith, run-long r)) (constants-from beforeDelay t))
 
 pub constants-increase : {i : ℕ} {bs : List ℕ} {ts : List Token} → Tokens i bs ts → Increasing (constantPlaces beforeDelay ts)
 constants-increase t = increasing (constants-from beforeDelay t)

@@ -1,5 +1,5 @@
--- The types of constants: "pairs in brackets are pair expressions, except the constant of a DELAY, whose pairs have the first declared pair type
--- of their parts". `?d` keeps its own type d; a pair over a part without a type has none either.
+-- The types of constants (docs/SHEETS.md, "Names"): a pair in the constant of a DELAY "is one constant, and its type is the first
+-- declared pair type of its parts' types". `?d` keeps its own type d; a pair over a part without a type has none either.
 use Prim.Native.Nat.{ℕ}
 use mathlib.Core.Bool.{Bool, true, false, cond}
 use mathlib.Core.List.{List, [], _∷_, _++_}

@@ -1,5 +1,5 @@
--- The names that a text declares before its expression. "Type names, constructor names and `input` are all different, each is declared once
--- and before its use, and no LET takes one."
+-- The names that a text declares before its expression (docs/SHEETS.md, "Names"): "Type names, constructor names and `input` are all
+-- different, and each is declared once. No LET takes one of them."
 use Prim.Native.Nat.{ℕ}
 use mathlib.Core.Bool.{Bool, true, false, cond}
 use mathlib.Core.List.{List, [], _∷_}

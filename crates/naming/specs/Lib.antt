@@ -1,4 +1,4 @@
--- The rules on names and constants of request (a), code 14: as a list of checks in text order, of which the first that fails is told.
+-- The rules on names and constants of a text (docs/SHEETS.md, "Names"; code 14): as a list of checks in text order, of which the first that fails is told.
 -- To believe:
 pub mod Declared
 pub mod Checks

@@ -64,7 +64,7 @@ isValue D bound (identifier w p) = checkAt p (cond (isAmong w bound) true (isDec
 abbrev pub bind : Identifier → List (List ℕ) → List (List ℕ)
 bind (identifier w p) bound = w ∷ bound
 
--- "a nearer name hides a farther one"; a LET's name is known in its second part, a LET REC's in both
+-- "A nearer name hides a farther one"; a LET's name is known in its second part, a LET REC's in both
 abbrev pub expressionChecks : List DeclaredName → List (List ℕ) → Expression → List PlacedCheck
 expressionChecks D bound (NameUse n) = isValue D bound n ∷ []
 expressionChecks D bound (UndefinedOf t) = isOne typeRole D t ∷ []
@@ -82,6 +82,6 @@ abbrev pub nameChecks : Text → List PlacedCheck
 nameChecks (text d ds t e) =
     declarationsChecks atFirst (d ∷ ds) ++ isOne typeRole (afterAll atFirst (d ∷ ds)) t ∷ expressionChecks (afterAll atFirst (d ∷ ds)) [] e
 
--- "first name that breaks the rules .., or with none the first constant pair without a type"
+-- code 14 "looks at all names first, by their places in the text", and with no wrong one at the constants of DELAYs
 abbrev pub textChecks : Text → List PlacedCheck
 textChecks t = nameChecks t ++ constantsOfText t

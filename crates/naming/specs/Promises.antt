@@ -88,7 +88,7 @@ constantPlaces constantNext (keyword k p ∷ ts) = constantPlaces beforeDelay ts
 constantPlaces constantNext (symbol s p ∷ ts) = cond (isQuery s) (constantPlaces constantNext ts) (p ∷ constantPlaces beforeDelay ts)
 constantPlaces constantNext (nameToken w p ∷ ts) = p ∷ constantPlaces beforeDelay ts
 
--- 3. Each constant of a DELAY is checked once, in text order; so "the first constant pair without a type" is the first in the text.
+-- 3. Each constant of a DELAY is checked once, in text order; so the first constant pair without a type is the first in the text.
 abbrev pub EachConstantOnce : Type 0
 EachConstantOnce = (ts : List Token) (t : Text) → ReadsText ts t → checkPlaces (constantsOfText t) ≡ constantPlaces beforeDelay ts
 

@@ -1,5 +1,5 @@
--- How many records the sheet of a text needs, without limit: the header, one for each declaration, and those of the expression. "An undefined
--- constant of a type over 64 leaves gets 64 leaves."
+-- How many records the sheet of a text needs, without limit: the header, one for each declaration, and those of the expression
+-- (docs/SHEETS.md, "The sheet of a text": "`?t` gets as many leaves as `t` has, but never more than 64").
 use Prim.Native.Nat.{ℕ, _+_, min}
 use mathlib.Core.Bool.{cond}
 use mathlib.Core.List.{List, [], _∷_}

@@ -17,7 +17,6 @@ use Rattle.verdict.specs.Verdict.{sheetChecks, outputType, verdict}
 use Rattle.verdict.specs.declared.Verdict.the-variants.{Accepted}
 use Rattle.accepted.proofs.Calls.{accepted-output}
 use Rattle.accepted.proofs.Small.{accepted-few}
-use Rattle.meaning.specs.Undecided.{undecidedRule}
 use Rattle.meaning.proofs.UndecidedRule.{rule-lawful}
 use Rattle.stimulus.specs.Stimulus.{inputLeaves, cycleCount, stimulusChecks}
 use Rattle.stimulus.specs.OneCycle.{oneCycleChecks}
@@ -26,7 +25,7 @@ use Rattle.stimulus.proofs.OneCycleCalls.{one-cycle-lowest-first, one-cycle-pla
 use Rattle.behaviour.specs.Cycle.{output}
 use Rattle.behaviour.specs.Run.{outputNeeded, lengthChecks, runChecks, answer, finalOut}
 use Rattle.behaviour.proofs.Answers.{answer-first}
-use Rattle.behaviour.proofs.Cycle.{output-typed}
+use Rattle.behaviour.proofs.Cycle.{output-of-type}
 use Rattle.preview.specs.Preview.{outputLeaves, shownChecks, previewAnswer, finalPreview}
 use Rattle.preview.specs.Promises.{
   PreviewLowestFirst,
@@ -37,21 +36,21 @@ use Rattle.preview.specs.Promises.{
   PreviewTyped,
 }
 
-pub lowest-first : PreviewLowestFirst
+pub preview-lowest-first : PreviewLowestFirst
 unfolding previewAnswer
-lowest-first s stim out a = one-cycle-lowest-first 10 (outputLeaves s) s stim out a
+preview-lowest-first s stim out a = one-cycle-lowest-first 10 (outputLeaves s) s stim out a
 
 -- an accepted sheet's output type has at most 64 leaves
 leaves-few : (s : List ℕ) (t : ℕ) → verdict s ≡ Accepted t → outputLeaves s ≤ 64
 leaves-few s t v = rw (accepted-output s t v) at (accepted-few s v)
 
-pub places-small : PreviewPlacesSmall
+pub preview-places-small : PreviewPlacesSmall
 unfolding previewAnswer
-places-small s stim out = one-cycle-place 10 (outputLeaves s) s stim out (λ t v. let few = leaves-few s t v in omega arith)
+preview-places-small s stim out = one-cycle-place 10 (outputLeaves s) s stim out (λ t v. let few = leaves-few s t v in omega arith)
 
-pub unaltered : PreviewUnaltered
+pub preview-unaltered : PreviewUnaltered
 unfolding finalPreview
-unaltered s stim out f = kept-bytes (previewAnswer s stim out) _ out f
+preview-unaltered s stim out f = kept-bytes (previewAnswer s stim out) _ out f
 
 -- 10 alone
 abbrev roomChecks : (s out : List ℕ) → List Check
@@ -99,7 +98,7 @@ module _
     answered-alike = run-left ∙ left-then ∙ ap (λ (a : Answer). onDone a (λ p. Done 1)) (sym preview-left)
 
     zero-from : (a : Answer) → previewAnswer s stim shown ≡ a → onDone a (λ p. Done 1) ≡ Done 1 → a ≡ Done 0
-    zero-from (Done p) e q = ap Done (lowest-first s stim shown (Done p) .0 e .1)
+    zero-from (Done p) e q = ap Done (preview-lowest-first s stim shown (Done p) .0 e .1)
     zero-from (Refused c p) e q = let z : _≡_ {A = ℕ} 0 1 = cc in absurd (omega arith)
 
     outputs-alike : previewAnswer s stim shown ≡ Done 0 → finalPreview s stim shown ≡ finalOut s stim out next
@@ -125,6 +124,6 @@ as-run s stim shown out next l es eo en = as-run-where s stim shown out next l e
 pub typed : PreviewTyped
 unfolding finalPreview
 typed s stim out e =
-    let h = lowest-first s stim out (Done 0) .0 e .0 in
+    let h = preview-lowest-first s stim out (Done 0) .0 e .0 in
     let passes : NoneApplies (oneCycleChecks s stim) = (rw (h .one-cycle) refl, (h .fitting, tt)) in
-    rw e (output-typed undecidedRule rule-lawful s (h .accepted) stim (one-cycle-typed s stim passes))
+    rw e (output-of-type rule-lawful s (h .accepted) (one-cycle-typed s stim passes))

@@ -6,9 +6,9 @@ use Rattle.preview.proofs.Witness.{shown-toggle}
 
 pub kept : PreviewPromises
 kept = record {
-  lowest-first = Answered.lowest-first;
-  places-small = Answered.places-small;
-  unaltered = Answered.unaltered;
+  lowest-first = Answered.preview-lowest-first;
+  places-small = Answered.preview-places-small;
+  unaltered = Answered.preview-unaltered;
   as-run = Answered.as-run;
   typed = Answered.typed;
   toggle = shown-toggle;

@@ -11,14 +11,15 @@ use Rattle.records.specs.Trees.{typeAt}
 use Rattle.answers.specs.Answers.{inOne, packed}
 use Rattle.answers.specs.declared.Answer.{Answer}
 use Rattle.answers.specs.declared.Answer.the-variants.{Done, Refused}
-use Rattle.verdict.specs.Verdict.{verdictAnswer, verdict}
+use Rattle.verdict.specs.Verdict.{verdict}
+use Rattle.verdict.specs.Scopes.{verdictAnswer}
 use Rattle.verdict.specs.declared.Verdict.{Verdict}
 use Rattle.verdict.specs.declared.Verdict.the-variants.{Accepted}
 use Rattle.accepted.specs.Accepting.{Accepting}
 use Rattle.accepted.proofs.Calls.{accepted-output}
 use Rattle.accepted.proofs.Laws.{Refusing}
 use Rattle.accepted.proofs.Small.{output-typed, accepted-few}
-use Rattle.stimulus.specs.OneCycle.{HeldToOne}
+use Rattle.stimulus.specs.Holding.{HeldToOne}
 use Rattle.stimulus.proofs.OneCycle.{one-cycle-passes, one-cycle-typed}
 use Rattle.stimulus.proofs.OneCycleCalls.{
   one-cycle-done,
@@ -29,7 +30,8 @@ use Rattle.stimulus.proofs.OneCycleCalls.{
 }
 use Rattle.behaviour.specs.Cycle.{output}
 use Rattle.stepper.specs.Cycling.{Cycling}
-use Rattle.preview.specs.Preview.{outputLeaves, previewAnswer, finalPreview, Previewed, Showing}
+use Rattle.preview.specs.Preview.{outputLeaves, previewAnswer, finalPreview, Previewed}
+use Rattle.preview.specs.Showing.{Showing}
 
 previewed-refusal : (s stim out : List ℕ) (c p : ℕ) → previewAnswer s stim out ≡ Refused c p → Previewed s stim out (inOne c p) out
 unfolding finalPreview
@@ -46,10 +48,10 @@ preview-refused-sheet s stim out w e o result q =
 module _ {s : List ℕ} {n : ℕ} {W : List ℕ} {t : ℕ} (g : Accepting s n W) (v : verdict s ≡ Accepted t) where
   pub preview-type-there : t < 4096
   preview-type-there =
-      let c = g .sized .counted in let f = g .sized .few in let h = output-typed s v .there in omega arith
+      let c = g .sized .counted in let f = g .sized .few in let h = output-typed v .there in omega arith
 
   output-width : getD W t 0 ≡ leaves (typeAt s t)
-  output-width = g .table .types t (output-typed s v)
+  output-width = g .table .types t (output-typed v)
 
   pub preview-room-few : getD W t 0 ≤ 64
   preview-room-few = let f = accepted-few s v in let e = output-width in omega arith
@@ -62,7 +64,7 @@ module _ {s : List ℕ} {n : ℕ} {W : List ℕ} {t : ℕ} (g : Accepting s n W)
     pub preview-refused-input : (c p : ℕ) → a ≡ Refused c p → (result : ℕ) → result ≡ packed a → Previewed s stim out result out
     unfolding previewAnswer
     preview-refused-input c p e result q =
-        rw (q, e) (previewed-refusal s stim out c p (one-cycle-input 10 (outputLeaves s) s stim out t v a h c p e))
+        rw (q, e) (previewed-refusal s stim out c p (one-cycle-input 10 (outputLeaves s) out v h c p e))
 
     module _ (k : ℕ) (e : a ≡ Done k) where
       -- 10
@@ -72,7 +74,7 @@ module _ {s : List ℕ} {n : ℕ} {W : List ℕ} {t : ℕ} (g : Accepting s n W)
       preview-refused-output d result q =
           rw (q, needed)
           (previewed-refusal s stim out 10 (outputLeaves s)
-          (one-cycle-length 10 (outputLeaves s) s stim out t v a h k e (λ y. d (y ∙ sym needed))))
+          (one-cycle-length 10 (outputLeaves s) out v h k e (λ y. d (y ∙ sym needed))))
 
       module _ (y : length out ≡ getD W t 0) where
         pub showing : Showing s n W stim out
@@ -88,8 +90,8 @@ module _ {s : List ℕ} {n : ℕ} {W : List ℕ} {t : ℕ} (g : Accepting s n W)
         pub preview-done : (out′ : List ℕ) → out′ ≡ output s stim → Previewed s stim out 0 out′
         unfolding finalPreview previewAnswer
         preview-done out′ o =
-            let f = one-cycle-good 10 (outputLeaves s) s stim out t v a h k e (y ∙ needed) in
-            let d : previewAnswer s stim out ≡ Done 0 = one-cycle-done 10 (outputLeaves s) s stim out f in
+            let f = one-cycle-good {lent = out} v h k e (y ∙ needed) in
+            let d : previewAnswer s stim out ≡ Done 0 = one-cycle-done 10 f in
             record { result-is = rw d refl; out-is = rw (o, d) refl }
 
 -- a cycle from the sheet that was checked

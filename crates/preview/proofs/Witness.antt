@@ -37,7 +37,8 @@ use Rattle.behaviour.specs.Cycle.{outputBy}
 use Rattle.behaviour.specs.Bench.{toggle}
 use Rattle.evaluator.proofs.Frames.{zeros-long}
 use Rattle.stepper.specs.Cycling.{Cycling}
-use Rattle.preview.specs.Preview.{previewAnswer, finalPreview, Showing}
+use Rattle.preview.specs.Preview.{previewAnswer, finalPreview}
+use Rattle.preview.specs.Showing.{Showing}
 use Rattle.preview.specs.Promises.{PreviewToggle}
 use Rattle.preview.proofs.Showing.{shown-cycling}
 
@@ -50,7 +51,7 @@ unfolding verdict byRecords byTypes wrongLength wrongHeader wrongRecord wrongNam
 toggle-accepted = refl
 
 passes : Passes toggle
-passes = accepted-passes toggle toggle-accepted
+passes = accepted-passes toggle-accepted
 
 full : length toggle ≡ 12 * count toggle
 full = accepted-records toggle toggle-accepted

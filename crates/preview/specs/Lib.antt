@@ -2,3 +2,5 @@
 -- To believe:
 pub mod Preview
 pub mod Promises
+-- What functions ask and give, and their proofs need:
+pub mod Showing

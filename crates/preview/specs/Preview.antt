@@ -1,20 +1,17 @@
--- The preview (docs/SHEETS.md, "The preview"): "The preview takes a sheet and one cycle of input and writes the outputs."
--- "Checks: 1 to 10, with 10 for one cycle's outputs." Where nothing refuses, it gives 0 at place 0.
+-- The preview (docs/SHEETS.md, "The preview"): it "writes the value of the root for that input and for the sheet as it is". Its checks
+-- are 1 to 10, with 10 for the outputs of one cycle. Where nothing refuses, it gives 0 at place 0.
 use Prim.Native.Nat.{ℕ}
 use mathlib.Core.Path.{_≡_}
 use mathlib.Core.Bool.{not}
 use mathlib.Core.List.{List, [], _∷_, _++_}
 use lib.ListN.{length}
 use lib.Dec.{eqb}
-use Rattle.picoella.specs.Language.{leaves, OfType}
+use Rattle.picoella.specs.Language.{leaves}
 use Rattle.records.specs.Trees.{typeAt}
 use Rattle.answers.specs.Answers.{packed, whenDone, Check, check, when, firstApplying}
 use Rattle.answers.specs.declared.Answer.{Answer}
 use Rattle.answers.specs.declared.Answer.the-variants.{Done}
-use Rattle.verdict.specs.Verdict.{sheetChecks, outputType, verdict}
-use Rattle.verdict.specs.declared.Verdict.the-variants.{Accepted}
-use Rattle.accepted.specs.Accepting.{Accepting}
-use Rattle.stimulus.specs.Stimulus.{inputType}
+use Rattle.verdict.specs.Verdict.{sheetChecks, outputType}
 use Rattle.stimulus.specs.OneCycle.{oneCycleChecks}
 use Rattle.behaviour.specs.Cycle.{output}
 
@@ -22,7 +19,7 @@ use Rattle.behaviour.specs.Cycle.{output}
 abbrev pub outputLeaves : (sheet : List ℕ) → ℕ
 outputLeaves s = leaves (typeAt s (outputType s))
 
--- the checks after those of the sheet: 8 and 9 for one cycle, and 10 "for one cycle's outputs"
+-- the checks after those of the sheet: 8 and 9 for one cycle, and 10 for its outputs
 abbrev pub shownChecks : (sheet stimulus out : List ℕ) → List Check
 shownChecks s stim out =
     oneCycleChecks s stim ++ (check 10 (when (not (eqb (length out) (outputLeaves s))) (outputLeaves s)) ∷ [])
@@ -42,11 +39,3 @@ finalPreview s stim out = whenDone (previewAnswer s stim out) (output s stim) ou
 pub record Previewed (sheet stimulus out : List ℕ) (result : ℕ) (out′ : List ℕ) : Type 0 where
   pub result-is : result ≡ packed (previewAnswer sheet stimulus out)
   pub out-is : out′ ≡ finalPreview sheet stimulus out
-
--- the outputs of one cycle of an accepted sheet are computed, into a slice of their length
-pub record Showing (s : List ℕ) (n : ℕ) (widths input out : List ℕ) : Type 0 where
-  pub accepting : Accepting s n widths
-  pub type : ℕ
-  pub accepted : verdict s ≡ Accepted type
-  pub typed : OfType (inputType s) input
-  pub room : length out ≡ leaves (typeAt s type)

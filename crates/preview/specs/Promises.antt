@@ -32,9 +32,10 @@ PreviewPlacesSmall = (s stim out : List ℕ) → place (previewAnswer s stim out
 abbrev pub PreviewUnaltered : Type 0
 PreviewUnaltered = (s stim out : List ℕ) → code (previewAnswer s stim out) ≢ 0 → finalPreview s stim out ≡ out
 
--- "They equal those of a real run of that cycle on a copy": on every sheet and every stimulus of exactly one cycle's bytes, the run
--- with slices of the right lengths is answered as the preview with one of the right length is, by the same code at the same place,
--- and where the preview gives 0 by 0 and one cycle done; and then the outputs are the same.
+-- "These are the bytes that a run of this one cycle on a copy of the sheet gives" (docs/SHEETS.md, "The preview"): on every sheet and
+-- every stimulus of exactly one cycle's bytes, the run with slices of the right lengths is answered as the preview with one of the
+-- right length is, by the same code at the same place, and where the preview gives 0 by 0 and one cycle done; and then the outputs are
+-- the same.
 pub record AsRun (s stim shown out next : List ℕ) : Type 0 where
   pub answered : answer s stim out next ≡ onDone (previewAnswer s stim shown) (λ p. Done 1)
   pub zero-where : previewAnswer s stim shown ≡ Done 0 ↔ answer s stim out next ≡ Done 1

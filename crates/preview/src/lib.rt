@@ -4,7 +4,8 @@ ghost use Rattle.verdict.specs.Verdict.{verdict};
 ghost use Rattle.verdict.specs.declared.Verdict.the-variants.{Accepted};
 ghost use Rattle.accepted.specs.Accepting.{Accepting};
 ghost use Rattle.behaviour.specs.Cycle.{output};
-ghost use Rattle.preview.specs.Preview.{Previewed, Showing};
+ghost use Rattle.preview.specs.Preview.{Previewed};
+ghost use Rattle.preview.specs.Showing.{Showing};
 use answers::Answer;
 use answers::WRONG_OUTPUT;
 use answers::in_one;
@@ -14,6 +15,7 @@ use records::WidthTable;
 use records::records_in;
 use stepper::look;
 use stepper::no_names;
+use stepper::no_next_values;
 use stimulus::check_one_cycle;
 use values::none_fired;
 use verdict::Verdict;
@@ -27,7 +29,7 @@ fn show(sheet: &[u8], n: usize, widths: &WidthTable, input: &[u8], out: &mut [u8
     ensures { λ _. ⌜ now (out .exit) ≡ output (now (sheet .entry)) (now (input .entry)) ⌝ }
 {
     let mut env = no_names();
-    let mut held = no_names();
+    let mut held = no_next_values();
     let mut fired = none_fired();
     look(
         sheet,

@@ -12,8 +12,8 @@ use lib.Seq.{take-at, drop-drop, length-take-le}
 use native.Mathlib.Decide.{decLe}
 use Rattle.listing.specs.Digits.{digits}
 use Rattle.listing.specs.Lines.{ascii, wordLine, typeLine, cyclesLine, refusedLine, cycleLines, listing}
-use Rattle.listing.specs.Wrote.{written, Wrote}
-use Rattle.listing.specs.Fills.{Fillable, Fills}
+use Rattle.listing.specs.Wrote.{withText, TextPut}
+use Rattle.listing.specs.Fills.{FillingLines, FilledLines}
 use Rattle.listing.proofs.Lengths.{number-few}
 use Rattle.listing.proofs.Filling.{lines-join}
 use Rattle.listing.proofs.Written.{wrote-long, wrote-then}
@@ -41,13 +41,13 @@ type-short t h =
     omega arith
 
 -- a text written at the front
-at-front : {buffer text after : List ℕ} {end : ℕ} → Wrote buffer 0 text after end → take end after ≡ text
-unfolding written
+at-front : {buffer text after : List ℕ} {end : ℕ} → TextPut buffer 0 text after end → take end after ≡ text
+unfolding withText
 at-front {buffer} {text} {end = end} v =
     rw (v .bytes) (take-at text (drop (0 + length text) buffer) end (let p = v .place in omega arith))
 
 module _ {buffer : List ℕ} {at w k first : ℕ} {outputs : List ℕ} (g : PuttingLines buffer at w k first outputs) where
-  pub fillable : Fillable buffer at k w outputs first
+  pub fillable : FillingLines buffer at k w outputs first
   fillable =
       let r = g .room in
       let s = g .some in
@@ -55,7 +55,7 @@ module _ {buffer : List ℕ} {at w k first : ℕ} {outputs : List ℕ} (g : Putt
       let m : k * 1 ≤ k * w = mul-le-mul-left k (omega arith) in
       record { room = omega arith; some = g .some; few = g .few; numbered = omega arith; inside = g .inside }
 
-  module _ {after : List ℕ} {count next end : ℕ} (f : Fills buffer at k w outputs first after count next end) where
+  module _ {after : List ℕ} {count next end : ℕ} (f : FilledLines buffer at k w outputs first after count next end) where
     next-start : next ≡ (k + count) * w
     next-start = let e = f .lines .taken in let d = g .start in let m = add-mul k count w in omega arith
 
@@ -110,7 +110,7 @@ module _ {buffer : List ℕ} {at w k first : ℕ} {outputs : List ℕ} (g : Putt
               go (yes h) = let z = f .full h in let long = wrote-long (f .lines .wrote) in absurd (omega arith)
               go (no h) = omega arith
 
-      pub lines-end : {after₂ : List ℕ} {end₂ : ℕ} → Wrote after end (cyclesLine (k + count)) after₂ end₂
+      pub lines-end : {after₂ : List ℕ} {end₂ : ℕ} → TextPut after end (cyclesLine (k + count)) after₂ end₂
           → PutLines buffer at w k outputs after₂ end₂ (k + count) next true
       lines-end v =
           let lines = cycleLines w count k (drop first outputs) in
@@ -141,7 +141,7 @@ next-pieced {w = w} {outputs = outputs} {k′ = k′} {last = last} l =
       inside = l .inside;
     }
 
-pub refusal-pieced : {buffer after : List ℕ} {end : ℕ} (c p t w : ℕ) (outputs : List ℕ) → (c ≡ 0 → ⊥) → Wrote buffer 0 (refusedLine c p) after end
+pub refusal-pieced : {buffer after : List ℕ} {end : ℕ} (c p t w : ℕ) (outputs : List ℕ) → (c ≡ 0 → ⊥) → TextPut buffer 0 (refusedLine c p) after end
     → Pieced (toldText c p t w outputs) w outputs after end 0 0 true
 refusal-pieced zero p t w outputs d v = absurd (d refl)
 refusal-pieced (suc c) p t w outputs d v =
@@ -157,7 +157,7 @@ refusal-pieced (suc c) p t w outputs d v =
       inside = omega arith;
     }
 
-module _ {buffer after : List ℕ} {start w : ℕ} {outputs : List ℕ} (t : ℕ) (v : Wrote buffer 0 (typeLine t) after start) where
+module _ {buffer after : List ℕ} {start w : ℕ} {outputs : List ℕ} (t : ℕ) (v : TextPut buffer 0 (typeLine t) after start) where
   pub first-lines : t < 2 ^ 64 → 560 ≤ length buffer → 0 < w → w ≤ 64 → PuttingLines after start w 0 0 outputs
   first-lines small room some few =
       let long = wrote-long v in
@@ -169,7 +169,7 @@ module _ {buffer after : List ℕ} {start w : ℕ} {outputs : List ℕ} (t : ℕ
       → PutLines after start w 0 outputs after₂ end k first last → Pieced (toldText c p t w outputs) w outputs after₂ end k first last
   first-pieced (suc c) p z l = absurd (omega arith)
   first-pieced zero p z {k = k} {last = last} l =
-      let all : Wrote buffer 0 (typeLine t ++ l .part) _ _ = wrote-then v (l .wrote) in
+      let all : TextPut buffer 0 (typeLine t ++ l .part) _ _ = wrote-then v (l .wrote) in
       let long = wrote-long all in
       let i = all .inside in
       let m = l .more in

@@ -18,18 +18,20 @@ use Rattle.answers.specs.declared.Answer.{Answer}
 use Rattle.answers.specs.declared.Answer.the-variants.{Done, Refused}
 use Rattle.answers.proofs.First.{first-says}
 use Rattle.answers.proofs.Kept as Answers
-use Rattle.verdict.specs.Verdict.{verdictAnswer, sheetChecks, outputType, verdict}
+use Rattle.verdict.specs.Verdict.{sheetChecks, outputType, verdict}
+use Rattle.verdict.specs.Scopes.{verdictAnswer}
 use Rattle.verdict.specs.declared.Verdict.the-variants.{Accepted}
 use Rattle.accepted.proofs.Laws.{verdict-first, verdict-place, first-accepted}
 use Rattle.accepted.proofs.Small.{accepted-few}
 use Rattle.stimulus.specs.Stimulus.{inputType, wrongStimulus, stimulusChecks, cycleCount}
-use Rattle.behaviour.specs.Run.{outputNeeded, callChecks, bySlices, answer, finalOut, finalNext, Gives}
+use Rattle.behaviour.specs.Run.{outputNeeded, callChecks, bySlices, answer, finalOut, finalNext, RunGiven}
 use Rattle.behaviour.specs.Promises.{SaysOfCall}
 use Rattle.behaviour.proofs.Answers.{lowest-first, places-small, refused-by-verdict, stimulus-refused}
 use Rattle.simulator.specs.Running.{Measured}
 use Rattle.simulator.specs.Calls.{Ran}
 use Rattle.listing.specs.Lines.{refusedLine}
-use Rattle.printout.specs.Printout.{outputRecord, runAnswer, runOutputs, runSheet, printed, toldText, Tells, OutputsLong}
+use Rattle.printout.specs.Printout.{outputRecord, runAnswer, runOutputs, runSheet, printed, toldText, RunTold}
+use Rattle.printout.specs.OutputsLong.{OutputsLong}
 
 -- an answer depends on the slices' lengths alone
 answer-by-lengths : (s stim out out₂ next next₂ : List ℕ) → length out ≡ length out₂ → length next ≡ length next₂
@@ -155,9 +157,9 @@ module _ (s stim : List ℕ) (i o many : ℕ) (m : Measured s i o) (q : OutputsL
         let y : r % 2 ^ 32 ≡ p = apart .1 ∙ ap place e in
         rw (← same-answer, e, z, y) (sym (refusal-text c p (v % 2 ^ 32) w ro (refused-code s stim lo ln c p e)))
 
-    pub told : (out′ next′ : List ℕ) → take many out′ ≡ ro → many ≤ length out′ → take (length s) next′ ≡ rn
-        → Tells s stim (r / 2 ^ 32) (r % 2 ^ 32) (v % 2 ^ 32) w many out′ next′
-    told out′ next′ eo′ inside en′ =
+    pub run-told : (out′ next′ : List ℕ) → take many out′ ≡ ro → many ≤ length out′ → take (length s) next′ ≡ rn
+        → RunTold s stim (r / 2 ^ 32) (r % 2 ^ 32) (v % 2 ^ 32) w many out′ next′
+    run-told out′ next′ eo′ inside en′ =
         record {
           coded = apart .0 ∙ ap code same-answer;
           text = rw eo′ (sym (go (answer s stim lo ln) refl));
@@ -190,9 +192,9 @@ module _ (s stim : List ℕ) (i o many : ℕ) (m : Measured s i o) (q : OutputsL
   pub told-lent : {r v w : ℕ} {ro rn : List ℕ} → Ran s stim (take (many - 0) out) (take (length s - 0) next) r ro rn
       → length ro ≡ length (take (many - 0) out) → length rn ≡ length (take (length s - 0) next)
       → v ≡ packed (verdictAnswer (verdict s)) → (0 < w) × (w ≤ 64) × (0 < o → o ≤ 64 → w ≡ o)
-      → Tells s stim (r / 2 ^ 32) (r % 2 ^ 32) (v % 2 ^ 32) w many (ro ++ drop (many - 0) out) (rn ++ drop (length s - 0) next)
+      → RunTold s stim (r / 2 ^ 32) (r % 2 ^ 32) (v % 2 ^ 32) w many (ro ++ drop (many - 0) out) (rn ++ drop (length s - 0) next)
   told-lent {ro = ro} {rn = rn} ran lo ln ev ew =
-      told s stim i o many m q (take (many - 0) out) (take (length s - 0) next) out-long next-long ran ev ew
+      run-told s stim i o many m q (take (many - 0) out) (take (length s - 0) next) out-long next-long ran ev ew
       (ro ++ drop (many - 0) out) (rn ++ drop (length s - 0) next)
       (take-at ro (drop (many - 0) out) many (lo ∙ out-long))
       (let l = length-append ro (drop (many - 0) out) in let e = out-long in omega arith)

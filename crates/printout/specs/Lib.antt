@@ -2,5 +2,6 @@
 -- To believe:
 pub mod Printout
 pub mod Promises
--- What functions ask and give, and their proofs need:
+-- What functions ask and give, and their proofs need; pieces laid end to end are to be believed for `PiecesArePrinted`:
 pub mod Pieces
+pub mod OutputsLong

@@ -6,7 +6,7 @@ use mathlib.Core.Bool.{Bool, true, false}
 use mathlib.Core.List.{List, [], _++_}
 use lib.ListN.{length, take, drop}
 use Rattle.listing.specs.Lines.{cycleLines, cyclesLine}
-use Rattle.listing.specs.Wrote.{Wrote}
+use Rattle.listing.specs.Wrote.{TextPut}
 
 -- the lines from cycle k on, of outputs of w leaves each, and the last line
 abbrev pub textFrom : (w k : ℕ) (outputs : List ℕ) → List ℕ
@@ -28,7 +28,7 @@ pub record PuttingLines (buffer : List ℕ) (at w k first : ℕ) (outputs : List
 
 pub record PutLines (buffer : List ℕ) (at w k : ℕ) (outputs after : List ℕ) (end k′ first′ : ℕ) (last : Bool) : Type 0 where
   pub part : List ℕ
-  pub wrote : Wrote buffer at part after end
+  pub wrote : TextPut buffer at part after end
   pub text : textFrom w k outputs ≡ part ++ textLeft last w k′ outputs
   pub more : at < end
   pub start : first′ ≡ k′ * w

@@ -1,7 +1,7 @@
 -- What the program prints and writes (docs/SHEETS.md, "Listing"), for the answer of the run with slices of the right lengths: the
 -- listing of its outputs, or the one line of a refusal. For a file that cannot be opened it is the line of code 12, whose place
 -- names the sheet before the stimulus.
-use Prim.Native.Nat.{ℕ, zero, suc, _/_, _*_, _≤_, _<_}
+use Prim.Native.Nat.{ℕ, zero, suc, _≤_, _<_}
 use mathlib.Core.Path.{_≡_}
 use mathlib.Core.Bool.{Bool, true, false}
 use mathlib.Core.List.{List}
@@ -11,7 +11,8 @@ use Rattle.records.specs.Trees.{typeAt}
 use Rattle.answers.specs.Answers.{code, place}
 use Rattle.answers.specs.declared.Answer.{Answer}
 use Rattle.answers.specs.declared.Answer.the-variants.{Done, Refused}
-use Rattle.verdict.specs.Verdict.{verdictAnswer, verdict}
+use Rattle.verdict.specs.Verdict.{verdict}
+use Rattle.verdict.specs.Scopes.{verdictAnswer}
 use Rattle.meaning.specs.Undecided.{undecidedRule}
 use Rattle.stimulus.specs.Stimulus.{endToEnd, cycles}
 use Rattle.behaviour.specs.Run.{outputsBy, sheetAfter, outputNeeded, answer}
@@ -42,7 +43,7 @@ unfoldable pub printed : (sheet stimulus : List ℕ) → List ℕ
 printed s stim =
     answerText (runAnswer s stim) (outputRecord s) (leaves (typeAt s (outputRecord s))) (runOutputs s stim)
 
--- "12: a file that the program cannot open; the sheet's is tried first"
+-- 12: "a file that the program cannot open; the sheet's is tried first"
 abbrev pub noFileLine : (sheetOpened : Bool) → List ℕ
 noFileLine false = refusedLine 12 1
 noFileLine true = refusedLine 12 2
@@ -54,15 +55,10 @@ toldText (suc c) p t w outputs = refusedLine (suc c) p
 
 -- what is told of a sheet and a stimulus: the text to print by these numbers and the first so many bytes of the outputs' room, and
 -- where nothing is refused the sheet for next.bin
-pub record Tells (s stim : List ℕ) (c p t w many : ℕ) (out′ next′ : List ℕ) : Type 0 where
+pub record RunTold (s stim : List ℕ) (c p t w many : ℕ) (out′ next′ : List ℕ) : Type 0 where
   pub coded : c ≡ code (runAnswer s stim)
   pub text : toldText c p t w (take many out′) ≡ printed s stim
   pub inside : many ≤ length out′
   pub some : 0 < w
   pub few : w ≤ 64
   pub next : c ≡ 0 → take (length s) next′ ≡ runSheet s stim
-
--- the length of outputs, from the leaves of input and output and the length of a stimulus
-pub record OutputsLong (input output all many : ℕ) : Type 0 where
-  pub needed : 0 < input → all ≤ 65535 → many ≡ all / input * output
-  pub small : many ≤ 4194240

@@ -5,14 +5,14 @@ use mathlib.Core.List.{List, [], _∷_}
 use lib.ListN.{take}
 use Rattle.behaviour.specs.Bench.{toggle}
 use Rattle.listing.specs.Lines.{ascii}
-use Rattle.printout.specs.Printout.{printed, runSheet, toldText, Tells}
+use Rattle.printout.specs.Printout.{printed, toldText, RunTold}
 use Rattle.printout.specs.Pieces.{Pieces}
 
 -- Whatever was told of a sheet and a stimulus, the pieces made from it, laid end to end from the first to the last, are the listing
 -- for the run's answer, or the one line of a refusal.
 abbrev pub PiecesArePrinted : Type 0
 PiecesArePrinted =
-    (s stim : List ℕ) (c p t w many : ℕ) (out′ next′ text : List ℕ) → Tells s stim c p t w many out′ next′
+    (s stim : List ℕ) (c p t w many : ℕ) (out′ next′ text : List ℕ) → RunTold s stim c p t w many out′ next′
     → Pieces w (take many out′) (toldText c p t w (take many out′)) text → text ≡ printed s stim
 
 -- So the sheet T is listed (docs/SHEETS.md, "Sheet T").

@@ -1,9 +1,10 @@
 // What the program prints: told of a sheet and a stimulus by their run, and made in pieces of one buffer.
 ghost use mathlib.Core.Path.{_≡_};
-ghost use Prim.Native.Nat.{_+_, _≤_, _<_};
+ghost use Prim.Native.Nat.{_+_, _≤_, _<_, _*_};
 ghost use lib.ListN.{length};
-ghost use Rattle.listing.specs.Wrote.{Wrote};
-ghost use Rattle.printout.specs.Printout.{noFileLine, toldText, Tells, OutputsLong};
+ghost use Rattle.listing.specs.Wrote.{TextPut, lineBytes};
+ghost use Rattle.printout.specs.Printout.{noFileLine, toldText, RunTold};
+ghost use Rattle.printout.specs.OutputsLong.{OutputsLong, mostOutput};
 ghost use Rattle.printout.specs.Pieces.{textFrom, PuttingLines, PutLines, Pieced};
 use answers::NO_FILE;
 use answers::PLACES;
@@ -12,6 +13,7 @@ use listing::put_cycles;
 use listing::put_lines;
 use listing::put_refused;
 use listing::put_type;
+use records::MOST_LEAVES;
 use simulator::leaves_of;
 use simulator::run;
 use stimulus::STIMULUS_BYTES;
@@ -21,6 +23,9 @@ use verdict::check_sheet;
 const SHEET_FILE: u64 = 1;
 
 const STIMULUS_FILE: u64 = 2;
+
+// The most leaves of a line.
+const MOST_WIDTH: usize = MOST_LEAVES as usize;
 
 // What is to be printed: a code and its place, or where the code is 0 the listing of so many bytes of outputs, of w leaves each, whose
 // type is at record t.
@@ -39,8 +44,8 @@ fn width(leaves: usize) -> usize
     if leaves == 0 {
         return 1;
     }
-    if 64 < leaves {
-        return 64;
+    if MOST_WIDTH < leaves {
+        return MOST_WIDTH;
     }
     leaves
 }
@@ -61,8 +66,8 @@ fn outputs_length(input: usize, output: usize, all: usize) -> usize
 
 // Runs a sheet on a stimulus, in room for the longest outputs and for the sheet after it, and tells what is to be printed.
 pub fn tell(sheet: &[u8], stim: &[u8], out: &mut [u8], next: &mut [u8]) -> ToPrint
-    requires { ⌜ (4194240 ≤ length (now out)) × (length (now sheet) ≤ length (now next)) ⌝ }
-    ensures { λ r. ⌜ Tells (now (sheet .entry)) (now (stim .entry)) (r .code) (r .place) (r .t) (r .w) (r .many) (now (out .exit)) (now (next .exit)) ⌝ }
+    requires { ⌜ (mostOutput ≤ length (now out)) × (length (now sheet) ≤ length (now next)) ⌝ }
+    ensures { λ r. ⌜ RunTold (now (sheet .entry)) (now (stim .entry)) (r .code) (r .place) (r .t) (r .w) (r .many) (now (out .exit)) (now (next .exit)) ⌝ }
 {
     let leaves = leaves_of(sheet);
     let many = outputs_length(leaves.input, leaves.output, stim.len());
@@ -120,7 +125,7 @@ pub fn first_piece(
     w: usize,
     outputs: &[u8],
 ) -> Piece
-    requires { ⌜ (560 ≤ length (now buffer)) × (0 < w) × (w ≤ 64) ⌝ }
+    requires { ⌜ (2 * lineBytes ≤ length (now buffer)) × (0 < w) × (w ≤ 64) ⌝ }
     ensures { λ r. ⌜ Pieced (toldText code place t w (now (outputs .entry))) w (now (outputs .entry)) (now (buffer .exit)) (r .end) (r .k) (r .first) (r .last) ⌝ }
 {
     if code != 0 {
@@ -146,8 +151,8 @@ pub fn next_piece(buffer: &mut [u8], w: usize, outputs: &[u8], k: usize, first: 
 
 // The line for a file that could not be opened: the sheet's, or where that was opened the stimulus's.
 pub fn put_no_file(buffer: &mut [u8], opened: bool) -> usize
-    requires { ⌜ 280 ≤ length (now buffer) ⌝ }
-    ensures { λ r. ⌜ Wrote (now (buffer .entry)) 0 (noFileLine opened) (now (buffer .exit)) r ⌝ }
+    requires { ⌜ lineBytes ≤ length (now buffer) ⌝ }
+    ensures { λ r. ⌜ TextPut (now (buffer .entry)) 0 (noFileLine opened) (now (buffer .exit)) r ⌝ }
 {
     if opened {
         return put_refused(buffer, 0, NO_FILE, STIMULUS_FILE);

@@ -8,7 +8,7 @@ use borrow.Author.Tests.{ne-eqb, le-leb, lt-leb}
 use Rattle.grammar.specs.Tokens.{isLower, isUpper, between, unlettered}
 use Rattle.reading.specs.Coded.{capitals, position, classNumber, classOf}
 
-module _ (b : ℕ) where
+module _ {b : ℕ} where
   pub capital-at : (n r : ℕ) → b ≡ n → r ≡ 11 + position n capitals → r ≡ 11 + position b capitals
   capital-at n r e h = subst (λ x. r ≡ 11 + position x capitals) (sym e) h
 

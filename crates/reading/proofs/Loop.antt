@@ -10,11 +10,12 @@ use mathlib.Core.Option.{Option, none, some}
 use lib.ListN.{length, getD, take, drop, length-take, drop-of-length-le}
 use lib.Seq.{drop-cons, getD-take}
 use lib.Dec.{eqb, ltb}
-use Rattle.grammar.specs.Legal.{limit, Told, Leaves}
+use Rattle.grammar.specs.Legal.{limit, Leaves}
+use Rattle.grammar.specs.Walk.{Told}
 use Rattle.grammar.specs.Machine.{Config, live, onByte, begins}
 use Rattle.grammar.specs.Walk.{onward, walk, concluded, firstIllegal}
 use Rattle.grammar.proofs.Exact.{first-illegal-exact}
-use Rattle.reading.specs.Coded.{stateOf, stackOf, wordOf, letterTable, configOf, conclusion, Ready, Stepped}
+use Rattle.reading.specs.Coded.{stateOf, stackOf, wordOf, letterTable, configOf, conclusion, Stepping, Stepped}
 use Rattle.reading.proofs.WordLaws.{ends-number}
 
 pub record LeftToRead (text : List ℕ) (i state word depth : ℕ) (stack : List ℕ) : Type 0 where
@@ -24,12 +25,12 @@ pub record LeftToRead (text : List ℕ) (i state word depth : ℕ) (stack : List
 pub left-at-first : (text stack : List ℕ) → LeftToRead text 0 0 0 0 stack
 left-at-first text stack = record { same-walk = refl }
 
-pub ready-first : (stack : List ℕ) → length stack ≡ 65536 → Ready 0 0 0 stack
+pub ready-first : (stack : List ℕ) → length stack ≡ 65536 → Stepping 0 0 0 stack
 ready-first stack l =
     record { few-states = omega arith; few-words = omega arith; room = omega arith; long = l; waiting = λ k h. absurd (omega arith) }
 
 pub ready-next : {c : Config} {depth : ℕ} {ok : Bool} {state word depth′ : ℕ} {stack : List ℕ} (i : ℕ)
-    → Stepped c depth ok state word depth′ stack → depth ≤ i → i < 65535 → Ready state word depth′ stack
+    → Stepped c depth ok state word depth′ stack → depth ≤ i → i < 65535 → Stepping state word depth′ stack
 ready-next i s h l = record {
   few-states = s .few-states;
   few-words = s .few-words;
@@ -74,15 +75,15 @@ module _ {text : List ℕ} {i state word depth : ℕ} {stack : List ℕ} (left :
       subst (Told text) (ap (concluded (length text)) (one-byte h false state′ word′ depth′ stack′ s)) (first-illegal-exact text)
 
   -- nothing left
-  pub all-read : min 65535 (length text) ≤ i → Ready state word depth stack → (letter : ℕ) → getD letterTable word 0 ≡ letter
+  pub text-read : min 65535 (length text) ≤ i → Stepping state word depth stack → (letter : ℕ) → getD letterTable word 0 ≡ letter
       → (o : Option ℕ) → o ≡ conclusion (length text) state letter → Told text o
   unfolding firstIllegal
-  all-read h r letter l o e =
+  text-read h r letter l o e =
       let none-left : drop i (readOf text) ≡ [] = drop-of-length-le (readOf text) {i = i} (omega (arith, length-take limit text)) in
       subst (Told text)
       (ap (concluded (length text)) (left .same-walk ∙ ap (λ k. walk k i (live (stateOf state) (stackOf depth stack) (wordOf word))) none-left)
       ∙ ap (λ x. cond (ltb limit (length text)) (some limit) (cond x none (some (length text))))
-      (ends-number word (r .few-words) state (stackOf depth stack) (r .few-states)
+      (ends-number (r .few-words) state (stackOf depth stack) (r .few-states)
       ∙ ap (λ n. cond (eqb n 0) (eqb state 16) false) l)
       ∙ sym e)
       (first-illegal-exact text)

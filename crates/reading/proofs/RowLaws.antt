@@ -13,7 +13,7 @@ use Rattle.grammar.specs.Rows.{State, stateNumber, states, Lead, aSymbol, aKeyw
 use Rattle.grammar.specs.Rows.{start}
 use Rattle.grammar.specs.Machine.{live, back, performFound, find, leadWord, perform}
 use Rattle.grammar.proofs.Numbered.{state-found, state-below}
-use Rattle.reading.specs.Coded.{stateOf, wordOf, keywordWord, wordNumber, nextNumber, waitsNumber, rowNext, rowWaits, rowWord, follows}
+use Rattle.reading.specs.Coded.{stateOf, wordOf, keywordWord, wordOfLead, nextNumber, waitsNumber, rowNext, rowWaits, rowWord, follows}
 use Rattle.reading.specs.Coded.{leadBytes, tableOf}
 
 -- the numbers from i on
@@ -42,7 +42,7 @@ keyword-below THEN = lit< tt
 keyword-below ELSE = lit< tt
 keyword-below DELAY = lit< tt
 
-word-below : (l : Lead) → wordNumber l < 60
+word-below : (l : Lead) → wordOfLead l < 60
 word-below (aSymbol s) = lit< tt
 word-below (aKeyword k) = keyword-below k
 word-below aName = lit< tt
@@ -60,7 +60,7 @@ keyword-word THEN = refl
 keyword-word ELSE = refl
 keyword-word DELAY = refl
 
-word-found : (l : Lead) → wordOf (wordNumber l) ≡ leadWord l
+word-found : (l : Lead) → wordOf (wordOfLead l) ≡ leadWord l
 word-found (aSymbol s) = refl
 word-found (aKeyword k) = keyword-word k
 word-found aName = refl
@@ -69,7 +69,7 @@ word-found aName = refl
 back-again : (q : State) → stateOf (stateNumber q + 1 - 1) ≡ q
 back-again q = let e : stateNumber q + 1 - 1 ≡ stateNumber q = omega arith in ap stateOf e ∙ state-found q
 
-row-follows : (l : Lead) (a : Action) (K : List State) → follows (nextNumber a) (waitsNumber a) (wordNumber l) K ≡ perform a K (leadWord l)
+row-follows : (l : Lead) (a : Action) (K : List State) → follows (nextNumber a) (waitsNumber a) (wordOfLead l) K ≡ perform a K (leadWord l)
 row-follows l (go q) K =
     rw (ne-eqb (stateNumber q + 1) 0 (λ e. omega arith), ne-eqb (stateNumber q + 1) 48 (λ e. omega (arith, state-below q)))
     (ap₂ (λ r w. live r K w) (back-again q) (word-found l))

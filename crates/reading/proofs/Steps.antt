@@ -14,7 +14,7 @@ use lib.Seq.{getD-set-same, getD-set-other}
 use borrow.Author.Tests.{eq-eqb, ne-eqb, lt-ltb, le-ltb, le-leb, lt-leb}
 use Rattle.grammar.specs.Rows.{State, Transition, transitions}
 use Rattle.grammar.specs.Machine.{Config, dead, live, back, find, onByte}
-use Rattle.reading.specs.Coded.{stateOf, stackOf, wordOf, follows, configOf, Ready, Stepped, Worded, Tables}
+use Rattle.reading.specs.Coded.{stateOf, stackOf, wordOf, follows, configOf, Stepping, Stepped, Worded, Tables}
 use Rattle.reading.specs.Coded.{tableOf, nextTable, waitsTable, wordTable, rowNext, rowWaits, rowWord, leadBytes, afterLead, afterByteClass}
 use Rattle.reading.specs.Coded.{lettered, followed, letterTable, classOf, spelledOut, conclusion}
 use Rattle.reading.proofs.RowLaws.{table-entry-at, row-followed, row-next-below, row-waits-below, row-word-below}
@@ -47,12 +47,12 @@ restepped c e s = record {
 }
 
 -- a step that leaves the stack as it is
-unstacked : {state word depth : ℕ} {stack : List ℕ} (c : Config) (ok : Bool) (state′ word′ : ℕ) → Ready state word depth stack
+unstacked : {state word depth : ℕ} {stack : List ℕ} (c : Config) (ok : Bool) (state′ word′ : ℕ) → Stepping state word depth stack
     → c ≡ configOf ok state′ word′ depth stack → state′ < 47 → word′ < 60 → Stepped c depth ok state′ word′ depth stack
 unstacked c ok state′ word′ r e h l =
     record { stepped = e; few-states = h; few-words = l; higher = omega arith; long = r .long; waiting = r .waiting }
 
-module _ {word depth : ℕ} {stack : List ℕ} (r : Ready 0 word depth stack) where
+module _ {word depth : ℕ} {stack : List ℕ} (r : Stepping 0 word depth stack) where
   pub resumed-end : depth ≡ 0 → Stepped (back (stackOf depth stack) (wordOf word)) depth true 16 word depth stack
   resumed-end e =
       unstacked (back (stackOf depth stack) (wordOf word)) true 16 word r
@@ -71,7 +71,7 @@ module _ {word depth : ℕ} {stack : List ℕ} (r : Ready 0 word depth stack) wh
         waiting = λ k l. r .waiting k (omega arith);
       }
 
-module _ {next waits word state depth : ℕ} {stack : List ℕ} (r : Ready state word depth stack) (few : next ≤ 48) (w : waits ≤ 47) where
+module _ {next waits word state depth : ℕ} {stack : List ℕ} (r : Stepping state word depth stack) (few : next ≤ 48) (w : waits ≤ 47) where
   pub taken-dead : next ≡ 0 → Stepped (follows next waits word (stackOf depth stack)) depth false state word depth stack
   taken-dead e =
       unstacked (follows next waits word (stackOf depth stack)) false state word r (rw (eq-eqb next 0 e)) (r .few-states) (r .few-words)
@@ -133,7 +133,7 @@ in-word true state word depth stack = refl
 in-word false state word depth stack = refl
 
 pub worded : {state word depth : ℕ} {stack : List ℕ} (c : Config) (f : State → List State → Config) (ok : Bool) (state′ word′ depth′ : ℕ)
-    → Ready state word depth stack → c ≡ f (stateOf state) (stackOf depth stack) → Worded f state depth ok state′ word′ depth′
+    → Stepping state word depth stack → c ≡ f (stateOf state) (stackOf depth stack) → Worded f state depth ok state′ word′ depth′
     → Stepped c depth ok state′ word′ depth′ stack
 worded {state} {depth} {stack} c f ok state′ word′ depth′ r e w = record {
   stepped =
@@ -149,11 +149,11 @@ worded {state} {depth} {stack} c f ok state′ word′ depth′ r e w = record {
 }
 
 -- ready to begin a word
-pub ready-afresh : {state word depth : ℕ} {stack : List ℕ} → Ready state word depth stack → Ready state 0 depth stack
+pub ready-afresh : {state word depth : ℕ} {stack : List ℕ} → Stepping state word depth stack → Stepping state 0 depth stack
 ready-afresh r = record { few-states = r .few-states; few-words = omega arith; room = r .room; long = r .long; waiting = r .waiting }
 
 -- a byte by its class
-module _ {class state word depth : ℕ} {stack : List ℕ} (r : Ready state word depth stack) where
+module _ {class state word depth : ℕ} {stack : List ℕ} (r : Stepping state word depth stack) where
   pub blank-follows : class ≡ 19 → Stepped (followed class (stateOf state) (stackOf depth stack) word) depth true state 0 depth stack
   blank-follows e =
       unstacked (followed class (stateOf state) (stackOf depth stack) word) true state 0 r (rw (eq-eqb class 19 e)) (r .few-states) (omega arith)
@@ -208,8 +208,8 @@ module _ {class state s c : ℕ} {nexts waits words : List (List ℕ)} (few : st
     unfolding wordTable
     word-read = entry-read rowWord words (t .words-right)
 
-    pub rows-fit : {depth : ℕ} {stack : List ℕ} → Ready state 0 depth stack
-        → Ready state (getD (getD words s []) c 0) depth stack × (getD (getD nexts s []) c 0 ≤ 48) × (getD (getD waits s []) c 0 ≤ 47)
+    pub rows-fit : {depth : ℕ} {stack : List ℕ} → Stepping state 0 depth stack
+        → Stepping state (getD (getD words s []) c 0) depth stack × (getD (getD nexts s []) c 0 ≤ 48) × (getD (getD waits s []) c 0 ≤ 47)
     rows-fit r = (
       record {
         few-states = r .few-states;
@@ -238,14 +238,14 @@ pub read-below : (b class : ℕ) → class ≡ classOf b → class < 21
 read-below b class e = subst (λ x. x < 21) (sym e) (class-below b)
 
 -- a byte of the text
-module _ {state word depth : ℕ} {stack : List ℕ} (r : Ready state word depth stack) (b : ℕ) where
+module _ {state word depth : ℕ} {stack : List ℕ} (r : Stepping state word depth stack) (b : ℕ) where
   pub spelled-byte : (c : ℕ) → getD letterTable word 0 ≡ c → (c ≡ 0 → ⊥)
       → onByte b (stateOf state) (stackOf depth stack) (wordOf word) ≡ spelledOut b c word (stateOf state) (stackOf depth stack)
-  spelled-byte c e n = spelled word (r .few-words) b c (stateOf state) (stackOf depth stack) e n
+  spelled-byte c e n = spelled (r .few-words) b c (stateOf state) (stackOf depth stack) e n
 
   pub followed-byte : getD letterTable word 0 ≡ 0
       → onByte b (stateOf state) (stackOf depth stack) (wordOf word) ≡ followed (classOf b) (stateOf state) (stackOf depth stack) word
-  followed-byte e = follows-byte word (r .few-words) b (stateOf state) (stackOf depth stack) e
+  followed-byte e = follows-byte (r .few-words) b (stateOf state) (stackOf depth stack) e
 
   pub read-followed : (class : ℕ) → class ≡ classOf b → getD letterTable word 0 ≡ 0
       → onByte b (stateOf state) (stackOf depth stack) (wordOf word) ≡ followed class (stateOf state) (stackOf depth stack) word

@@ -40,7 +40,7 @@ word-after w h =
     ∙ ap (λ x. cond x (naming (w + 1)) (spelt (untilZero (drop (w + 1) letterTable)))) (le-ltb (w + 1) 17 (omega arith))
     ∙ ap (λ n. spelt (untilZero (drop n letterTable))) (add-one w)
 
-module _ (w : ℕ) (few : w < 60) where
+module _ {w : ℕ} (few : w < 60) where
   -- where a letter is awaited the word is a keyword's, and not the last number
   awaited : (getD letterTable w 0 ≡ 0 → ⊥) → 17 ≤ w
   awaited n = go (decLt w 17)

@@ -67,10 +67,10 @@ keywordWord THEN = 47
 keywordWord ELSE = 51
 keywordWord DELAY = 55
 
-abbrev pub wordNumber : Lead → ℕ
-wordNumber (aSymbol s) = 0
-wordNumber (aKeyword k) = keywordWord k
-wordNumber aName = 1
+abbrev pub wordOfLead : Lead → ℕ
+wordOfLead (aSymbol s) = 0
+wordOfLead (aKeyword k) = keywordWord k
+wordOfLead aName = 1
 
 -- a row in three numbers: the next state and one, 48 to go back, or 0 for no row; the state that waits and one, or 0; the word
 abbrev pub nextNumber : Action → ℕ
@@ -93,7 +93,7 @@ rowWaits (some (on l a)) = waitsNumber a
 
 abbrev pub rowWord : Option Transition → ℕ
 rowWord none = 0
-rowWord (some (on l a)) = wordNumber l
+rowWord (some (on l a)) = wordOfLead l
 
 -- what a row's numbers say to do
 abbrev pub follows : (next waits word : ℕ) → List State → Config
@@ -171,7 +171,7 @@ configOf true s w d K = live (stateOf s) (stackOf d K) (wordOf w)
 configOf false s w d K = dead
 
 -- what a step asks of the machine's numbers
-pub record Ready (state word depth : ℕ) (stack : List ℕ) : Type 0 where
+pub record Stepping (state word depth : ℕ) (stack : List ℕ) : Type 0 where
   pub few-states : state < 47
   pub few-words : word < 60
   pub room : depth < 65536

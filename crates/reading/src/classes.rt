@@ -3,55 +3,76 @@ ghost use mathlib.Core.Path.{_≡_};
 ghost use Prim.Native.Nat.{_+_};
 ghost use Rattle.grammar.specs.Tokens.{unlettered};
 ghost use Rattle.reading.specs.Coded.{capitals, position, classNumber, classOf};
+use crate::numbers::BLANK;
+use crate::numbers::CAPITAL_D;
+use crate::numbers::CAPITAL_E;
+use crate::numbers::CAPITAL_I;
+use crate::numbers::CAPITAL_L;
+use crate::numbers::CAPITAL_M;
+use crate::numbers::CAPITAL_R;
+use crate::numbers::CAPITAL_T;
+use crate::numbers::OTHER_BYTE;
+use crate::numbers::OTHER_CAPITAL;
+use crate::numbers::SMALL_LETTER;
+use crate::numbers::SYMBOL_BAR;
+use crate::numbers::SYMBOL_CLOSES;
+use crate::numbers::SYMBOL_COMMA;
+use crate::numbers::SYMBOL_EQUALS;
+use crate::numbers::SYMBOL_INDEX_CLOSES;
+use crate::numbers::SYMBOL_INDEX_OPENS;
+use crate::numbers::SYMBOL_ONE;
+use crate::numbers::SYMBOL_OPENS;
+use crate::numbers::SYMBOL_QUERY;
+use crate::numbers::SYMBOL_TWO;
 
-// The class of a capital: those that a keyword begins with, and 18 for the others.
+// The class of a capital: those that a keyword begins with have one each.
 fn capital_class(b: u8) -> u8
     ensures { λ r. ⌜ r ≡ 11 + position b capitals ⌝ }
 {
     match b {
-        b'T' => 11,
-        b'I' => 12,
-        b'L' => 13,
-        b'R' => 14,
-        b'M' => 15,
-        b'E' => 16,
-        b'D' => 17,
-        _ => 18,
+        b'T' => CAPITAL_T,
+        b'I' => CAPITAL_I,
+        b'L' => CAPITAL_L,
+        b'R' => CAPITAL_R,
+        b'M' => CAPITAL_M,
+        b'E' => CAPITAL_E,
+        b'D' => CAPITAL_D,
+        _ => OTHER_CAPITAL,
     }
 }
 
-// The class of a byte that is no letter: a symbol's, 19 for a blank, 20 for any other.
+// The class of a byte that is no letter: each symbol has one.
 fn unlettered_class(b: u8) -> u8
     ensures { λ r. ⌜ r ≡ classNumber (unlettered b) b ⌝ }
 {
     match b {
-        b' ' => 19,
-        b'\n' => 19,
-        b'(' => 0,
-        b')' => 1,
-        b',' => 2,
-        b'=' => 3,
-        b'|' => 4,
-        b'?' => 5,
-        b'[' => 6,
-        b']' => 7,
-        b'1' => 8,
-        b'2' => 9,
-        _ => 20,
+        b' ' => BLANK,
+        b'\n' => BLANK,
+        b'(' => SYMBOL_OPENS,
+        b')' => SYMBOL_CLOSES,
+        b',' => SYMBOL_COMMA,
+        b'=' => SYMBOL_EQUALS,
+        b'|' => SYMBOL_BAR,
+        b'?' => SYMBOL_QUERY,
+        b'[' => SYMBOL_INDEX_OPENS,
+        b']' => SYMBOL_INDEX_CLOSES,
+        b'1' => SYMBOL_ONE,
+        b'2' => SYMBOL_TWO,
+        _ => OTHER_BYTE,
     }
 }
 
-// The class of a byte; 10 for a small letter.
+// The class of a byte.
 pub fn class_of(b: u8) -> u8
     ensures { λ r. ⌜ r ≡ classOf b ⌝ }
 {
-    if 97 <= b {
-        if b <= 122 {
-            return 10;
+    if b'a' <= b {
+        if b <= b'z' {
+            return SMALL_LETTER;
         }
     }
-    if 65 <= b {
-        if b <= 90 {
+    if b'A' <= b {
+        if b <= b'Z' {
             return capital_class(b);
         }
     }

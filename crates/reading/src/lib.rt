@@ -8,10 +8,11 @@ pub mod tables;
 ghost use mathlib.Core.Path.{_≡_};
 ghost use Prim.Native.Nat.{_+_, _≤_, _<_, min};
 ghost use lib.ListN.{length};
-ghost use Rattle.grammar.specs.Legal.{Told};
+ghost use Rattle.grammar.specs.Walk.{Told};
 ghost use Rattle.grammar.specs.Machine.{back, onByte};
 ghost use Rattle.reading.specs.Coded.{illegal, stateOf, stackOf, wordOf, letterTable, follows, afterLead, followed, lettered};
-ghost use Rattle.reading.specs.Coded.{spelledOut, conclusion, Ready, Stepped, Worded, Tables};
+ghost use Rattle.reading.specs.Coded.{spelledOut, conclusion, Stepping, Stepped, Worded, Tables};
+ghost use Rattle.grammar.specs.Legal.{limit};
 use numbers::BACK;
 use numbers::BLANK;
 use numbers::ContextStack;
@@ -19,7 +20,9 @@ use numbers::DONE;
 use numbers::LEADS;
 use numbers::LETTERS;
 use numbers::LIMIT;
+use numbers::LetterTable;
 use numbers::SMALL_LETTER;
+use numbers::StateTable;
 use numbers::wide;
 
 // Where a text leaves the grammar.
@@ -38,7 +41,7 @@ pub struct Moved {
 
 // Back to the state that waits.
 fn resume(word: u8, depth: usize, stack: &ContextStack) -> Moved
-    requires { ⌜ Ready 0 word depth (now stack) ⌝ }
+    requires { ⌜ Stepping 0 word depth (now stack) ⌝ }
     ensures { λ r. ⌜ Stepped (back (stackOf depth (now (stack .entry))) (wordOf word)) depth (r .ok) (r .state) (r .word) (r .depth) (now (stack .entry)) ⌝ }
 {
     if depth == 0 {
@@ -66,7 +69,7 @@ fn take_row(
     depth: usize,
     stack: &mut ContextStack,
 ) -> Moved
-    requires { ⌜ Ready state word depth (now stack) × (next ≤ 48) × (waits ≤ 47) ⌝ }
+    requires { ⌜ Stepping state word depth (now stack) × (next ≤ 48) × (waits ≤ 47) ⌝ }
     ensures { λ r. ⌜ Stepped (follows next waits word (stackOf depth (now (stack .entry)))) depth (r .ok) (r .state) (r .word) (r .depth) (now (stack .exit)) ⌝ }
 {
     if next == 0 {
@@ -147,11 +150,11 @@ pub fn begin(
     state: u8,
     depth: usize,
     stack: &mut ContextStack,
-    nexts: &[[u8; 18]; 47],
-    waits: &[[u8; 18]; 47],
-    words: &[[u8; 18]; 47],
+    nexts: &StateTable,
+    waits: &StateTable,
+    words: &StateTable,
 ) -> Moved
-    requires { ⌜ Ready state 0 depth (now stack) × (class < 18) × Tables (now nexts) (now waits) (now words) ⌝ }
+    requires { ⌜ Stepping state 0 depth (now stack) × (class < 18) × Tables (now nexts) (now waits) (now words) ⌝ }
     ensures { λ r. ⌜ Stepped (afterLead class (stateOf state) (stackOf depth (now (stack .entry)))) depth (r .ok) (r .state) (r .word) (r .depth) (now (stack .exit)) ⌝ }
 {
     let row = wide(state);
@@ -173,11 +176,11 @@ fn follow(
     word: u8,
     depth: usize,
     stack: &mut ContextStack,
-    nexts: &[[u8; 18]; 47],
-    waits: &[[u8; 18]; 47],
-    words: &[[u8; 18]; 47],
+    nexts: &StateTable,
+    waits: &StateTable,
+    words: &StateTable,
 ) -> Moved
-    requires { ⌜ Ready state word depth (now stack) × (class < 21) × Tables (now nexts) (now waits) (now words) ⌝ }
+    requires { ⌜ Stepping state word depth (now stack) × (class < 21) × Tables (now nexts) (now waits) (now words) ⌝ }
     ensures { λ r. ⌜ Stepped (followed class (stateOf state) (stackOf depth (now (stack .entry))) word) depth (r .ok) (r .state) (r .word) (r .depth) (now (stack .exit)) ⌝ }
 {
     if class == BLANK {
@@ -211,12 +214,12 @@ pub fn step(
     word: u8,
     depth: usize,
     stack: &mut ContextStack,
-    nexts: &[[u8; 18]; 47],
-    waits: &[[u8; 18]; 47],
-    words: &[[u8; 18]; 47],
-    letters: &[u8; 60],
+    nexts: &StateTable,
+    waits: &StateTable,
+    words: &StateTable,
+    letters: &LetterTable,
 ) -> Moved
-    requires { ⌜ Ready state word depth (now stack) × Tables (now nexts) (now waits) (now words) × (now letters ≡ letterTable) ⌝ }
+    requires { ⌜ Stepping state word depth (now stack) × Tables (now nexts) (now waits) (now words) × (now letters ≡ letterTable) ⌝ }
     ensures { λ r. ⌜ Stepped (onByte b (stateOf state) (stackOf depth (now (stack .entry))) (wordOf word)) depth (r .ok) (r .state) (r .word) (r .depth) (now (stack .exit)) ⌝ }
 {
     let letter = letters[wide(word)];
@@ -237,7 +240,7 @@ pub fn step(
 
 // How many bytes of a text are read.
 fn reach(all: usize) -> usize
-    ensures { λ r. ⌜ r ≡ min 65535 all ⌝ }
+    ensures { λ r. ⌜ r ≡ min limit all ⌝ }
 {
     if LIMIT < all {
         return LIMIT;

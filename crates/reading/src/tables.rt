@@ -2,12 +2,15 @@
 // letter, and the capitals T I L R M E D. And the letters of the keywords.
 use crate::numbers::CONTEXTS;
 use crate::numbers::ContextStack;
+use crate::numbers::LetterTable;
+use crate::numbers::StateTable;
 ghost use mathlib.Core.Path.{_≡_};
 ghost use lib.ListN.{length};
 ghost use Rattle.reading.specs.Coded.{nextTable, waitsTable, wordTable, letterTable};
+ghost use Rattle.grammar.specs.Sizes.{textTable};
 
 // The next state and one, 48 to go back to the one that waits, 0 for no step.
-pub fn next_table() -> [[u8; 18]; 47]
+pub fn next_table() -> StateTable
     ensures { λ r. ⌜ r ≡ nextTable ⌝ }
 {
     [
@@ -62,7 +65,7 @@ pub fn next_table() -> [[u8; 18]; 47]
 }
 
 // The state that then waits and one, or 0.
-pub fn waits_table() -> [[u8; 18]; 47]
+pub fn waits_table() -> StateTable
     ensures { λ r. ⌜ r ≡ waitsTable ⌝ }
 {
     [
@@ -117,7 +120,7 @@ pub fn waits_table() -> [[u8; 18]; 47]
 }
 
 // The word that is begun.
-pub fn word_table() -> [[u8; 18]; 47]
+pub fn word_table() -> StateTable
     ensures { λ r. ⌜ r ≡ wordTable ⌝ }
 {
     [
@@ -173,7 +176,7 @@ pub fn word_table() -> [[u8; 18]; 47]
 
 // The letter that a word awaits, or 0: 0 is no word, 1 to 16 are names by their letters so far, and from 17 on stand the keywords' letters
 // after the first.
-pub fn letter_table() -> [u8; 60]
+pub fn letter_table() -> LetterTable
     ensures { λ r. ⌜ r ≡ letterTable ⌝ }
 {
     *b"\0\0\0\0\0\0\0\0\0\0\0\0\0\0\0\0\0YPE\0N\0NPUT\0ET\0NIT\0EC\0F\0ATCHES\0HEN\0LSE\0ELAY\0"
@@ -181,7 +184,7 @@ pub fn letter_table() -> [u8; 60]
 
 // An empty stack: no text has more open contexts than bytes.
 pub fn no_stack() -> ContextStack
-    ensures { λ r. ⌜ length r ≡ 65536 ⌝ }
+    ensures { λ r. ⌜ length r ≡ textTable ⌝ }
 {
     [0; CONTEXTS]
 }

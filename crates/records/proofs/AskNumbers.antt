@@ -75,7 +75,7 @@ meets-bounded s r w n x a c e h l =
 -- where the number is 16 or more: the sort, and which of the two
 pub data Ranged (x : Ask) : Type 0 where
   small : askNumber x < 16 → Ranged x
-  next : (σ : Sort) → x ≡ nextOf σ → sortNumber σ < 6 → Ranged x
+  next-asked : (σ : Sort) → x ≡ nextOf σ → sortNumber σ < 6 → Ranged x
   named : (σ : Sort) → x ≡ part σ → Ranged x
 
 sort-below-six : (σ : Sort) → sortNumber σ < 6
@@ -88,7 +88,7 @@ sort-below-six Sort.noSort = omega arith
 
 pub ranged : (x : Ask) → Ranged x
 ranged zeroed = small (omega arith)
-ranged (nextOf σ) = next σ refl (sort-below-six σ)
+ranged (nextOf σ) = next-asked σ refl (sort-below-six σ)
 ranged (part σ) = named σ refl
 ranged anyType = small (omega arith)
 ranged lowerType = small (omega arith)
@@ -107,7 +107,7 @@ meets-part s r w x a t e h f = go (ranged x)
   where
     go : Ranged x → t ≡ meets s r x w
     go (small l) = absurd (omega arith)
-    go (next σ q l) = let m : askNumber x ≡ 16 + sortNumber σ = ap askNumber q in absurd (omega arith)
+    go (next-asked σ q l) = let m : askNumber x ≡ 16 + sortNumber σ = ap askNumber q in absurd (omega arith)
     go (named σ q) = let m : askNumber x ≡ 32 + sortNumber σ = ap askNumber q in rw q (f σ (omega arith))
 
 pub meets-next : (s : List ℕ) (r w : ℕ) (x : Ask) (a : ℕ) (t : Bool) → askNumber x ≡ a → 16 ≤ a → a < 32
@@ -116,5 +116,5 @@ meets-next s r w x a t e h b f = go (ranged x)
   where
     go : Ranged x → t ≡ meets s r x w
     go (small l) = absurd (omega arith)
-    go (next σ q l) = let m : askNumber x ≡ 16 + sortNumber σ = ap askNumber q in rw q (f σ (omega arith))
+    go (next-asked σ q l) = let m : askNumber x ≡ 16 + sortNumber σ = ap askNumber q in rw q (f σ (omega arith))
     go (named σ q) = let m : askNumber x ≡ 32 + sortNumber σ = ap askNumber q in absurd (omega arith)

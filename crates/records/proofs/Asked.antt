@@ -62,19 +62,19 @@ unfolding wellSaid
 meets-at {s} w r k h low high = any-of-five (meetsAt s r) (w .said r h) k low high
 
 -- what it is to be as asked, in words
-abbrev pub Means : List ℕ → ℕ → Ask → ℕ → Type 0
-Means s r zeroed w = w ≡ 0
-Means s r (nextOf σ) w = 0 < w → (r < w) × (w < count s) × (sortAt s w ≡ σ)
-Means s r (part σ) w = (r < w) × (w < count s) × (sortAt s w ≡ σ)
-Means s r anyType w = (0 < w) × (w < count s) × (sortAt s w ≡ types)
-Means s r lowerType w = (w < r) × (sortAt s w ≡ types)
-Means s r lowerFlat w = (w < r) × (kindAt s w ≡ typeOf flat)
-Means s r constructorOf w = (0 < w) × (w ≤ wordA s (wordA s r))
-Means s r counted w = (0 < w) × (w ≤ 255)
-Means s r byte w = w ≤ 255
-Means s r free w = Unit {0}
-Means s r total w = w ≡ count s
-Means s r never w = ⊥
+abbrev pub AskMeans : List ℕ → ℕ → Ask → ℕ → Type 0
+AskMeans s r zeroed w = w ≡ 0
+AskMeans s r (nextOf σ) w = 0 < w → (r < w) × (w < count s) × (sortAt s w ≡ σ)
+AskMeans s r (part σ) w = (r < w) × (w < count s) × (sortAt s w ≡ σ)
+AskMeans s r anyType w = (0 < w) × (w < count s) × (sortAt s w ≡ types)
+AskMeans s r lowerType w = (w < r) × (sortAt s w ≡ types)
+AskMeans s r lowerFlat w = (w < r) × (kindAt s w ≡ typeOf flat)
+AskMeans s r constructorOf w = (0 < w) × (w ≤ wordA s (wordA s r))
+AskMeans s r counted w = (0 < w) × (w ≤ 255)
+AskMeans s r byte w = w ≤ 255
+AskMeans s r free w = Unit {0}
+AskMeans s r total w = w ≡ count s
+AskMeans s r never w = ⊥
 
 pub higher-is : (s : List ℕ) (r : ℕ) (σ : Sort) (w : ℕ) → higher s r σ w ≡ true → (r < w) × (w < count s) × (sortAt s w ≡ σ)
 higher-is s r σ w e =
@@ -84,14 +84,14 @@ higher-is s r σ w e =
       same-sort (sortAt s w) σ (both-right (ltb w (count s)) (sameSort (sortAt s w) σ) f),
     )
 
-next-is : (s : List ℕ) (r : ℕ) (σ : Sort) (w : ℕ) → (eqb w 0 || higher s r σ w) ≡ true → Means s r (nextOf σ) w
+next-is : (s : List ℕ) (r : ℕ) (σ : Sort) (w : ℕ) → (eqb w 0 || higher s r σ w) ≡ true → AskMeans s r (nextOf σ) w
 next-is s r σ w e = λ h. higher-is s r σ w (go (eqb w 0) (ne-eqb w 0 (λ z. omega arith)) e)
   where
     go : (b : Bool) → b ≡ false → (b || higher s r σ w) ≡ true → higher s r σ w ≡ true
     go b f e = rw f at e
 
 -- what meets an ask is as asked
-pub means : (s : List ℕ) (r : ℕ) (a : Ask) (w : ℕ) → meets s r a w ≡ true → Means s r a w
+pub means : (s : List ℕ) (r : ℕ) (a : Ask) (w : ℕ) → meets s r a w ≡ true → AskMeans s r a w
 means s r zeroed w e = eqb-true w 0 e
 means s r (nextOf σ) w e = next-is s r σ w e
 means s r (part σ) w e = higher-is s r σ w e
@@ -117,13 +117,13 @@ means s r never w e = absurd (never-both false e refl)
 
 -- word j, from 1 to 5, of a record is as asked
 pub as-asked :
-    {s : List ℕ} → Written s → (r j : ℕ) (a : Ask) → r < count s → 0 < j → j < 6 → askAt s r j ≡ a → Means s r a (word s r j)
+    {s : List ℕ} → Written s → (r j : ℕ) (a : Ask) → r < count s → 0 < j → j < 6 → askAt s r j ≡ a → AskMeans s r a (word s r j)
 as-asked {s} w r j a h low high e = rw e at (means s r (askAt s r j) (word s r j) (meets-at w r j h low high))
 
 -- the same where the kind is known; at a kind and a word `askOfKind` computes
 pub as-kind-asks :
     {s : List ℕ} → Written s → (r : ℕ) (k : Kind) → r < count s → kindAt s r ≡ k → (j : ℕ) → (ltb 0 j && ltb j 6) ≡ true
-    → Means s r (askOfKind k j) (word s r j)
+    → AskMeans s r (askOfKind k j) (word s r j)
 as-kind-asks {s} w r k h e j t =
     as-asked w r j (askOfKind k j) h (ltb-true 0 j (both-left (ltb 0 j) (ltb j 6) t)) (ltb-true j 6 (both-right (ltb 0 j) (ltb j 6) t))
     (ask-by-kind s r j k e)

@@ -26,7 +26,7 @@ use Rattle.records.specs.Kinds.{
   kindRows,
   numberIn,
   asksIn,
-  lookUp,
+  rowIn,
   rowOf,
   kindOf,
   askOf,
@@ -47,7 +47,7 @@ Others U [] n = U
 Others U (x ∷ xs) n = Others (U × (n ≡ numberIn x → ⊥)) xs n
 
 not-listed : (U : Type 0) (xs : List Row) (n : ℕ) → Others U xs n
-    → U × (lookUp xs n ≡ row n unknown never never never never never)
+    → U × (rowIn xs n ≡ row n unknown never never never never never)
 not-listed U [] n u = (u, refl)
 not-listed U (x ∷ xs) n u =
     let v = not-listed (U × (n ≡ numberIn x → ⊥)) xs n u in
@@ -91,17 +91,17 @@ unfolding askOf
 ask-at kind k = ask-entry (rowOf kind) k
 
 -- A test of kinds that passes at one number alone: computed at the numbers below 65.
-abbrev pub below : (ℕ → Bool) → ℕ → Bool
-below f zero = true
-below f (suc n) = f n && below f n
+abbrev pub allBelow : (ℕ → Bool) → ℕ → Bool
+allBelow f zero = true
+allBelow f (suc n) = f n && allBelow f n
 
-below-at : (f : ℕ → Bool) (n : ℕ) → T (below f n) → (k : ℕ) → k < n → T (f k)
+below-at : (f : ℕ → Bool) (n : ℕ) → T (allBelow f n) → (k : ℕ) → k < n → T (f k)
 below-at f zero t k h = absurd (not-suc-le-zero h)
-below-at f (suc n) t k h = go (below-at f n (both-right (f n) (below f n) t) k) (decLt k n)
+below-at f (suc n) t k h = go (below-at f n (both-right (f n) (allBelow f n) t) k) (decLt k n)
   where
     go : (k < n → T (f k)) → Dec (k < n) → T (f k)
     go lower (yes l) = lower l
-    go lower (no l) = let e : n ≡ k = omega arith in subst (λ (x : ℕ). T (f x)) e (both-left (f n) (below f n) t)
+    go lower (no l) = let e : n ≡ k = omega arith in subst (λ (x : ℕ). T (f x)) e (both-left (f n) (allBelow f n) t)
 
 beq→eq : (a b : Bool) → T (Bool·beq a b) → a ≡ b
 beq→eq true true t = refl
@@ -142,7 +142,7 @@ module _ (f : Kind → Bool) (m : ℕ) (none : f unknown ≡ false) (small : m <
   abbrev kind-test : ℕ → Bool
   kind-test k = Bool·beq (f (kindOf k)) (eqb k m)
 
-  pub only-kind : T (below kind-test 65) → (k : ℕ) → f (kindOf k) ≡ eqb k m
+  pub only-kind : T (allBelow kind-test 65) → (k : ℕ) → f (kindOf k) ≡ eqb k m
   unfolding kindOf
   only-kind t k = go (decLt k 65)
     where

@@ -43,7 +43,7 @@ use Rattle.records.proofs.Table.{askOfKind, kind-of-sort}
 use Rattle.records.proofs.Asked.{part-of-kind, root-is}
 use Rattle.records.proofs.Trees.{from-above, next-leaf, chain-of, tree-of}
 use Rattle.records.proofs.Namings.{Names, part-names, next-names, part-word-other}
-use Rattle.records.proofs.Under.{Under, here, down, under-higher, under-under, parts-apart}
+use Rattle.records.proofs.Under.{Under, under-itself, down, under-higher, under-under, parts-apart}
 
 -- distinct records, all with this property
 pub record Only (P : ℕ → Type 0) (rs : List ℕ) : Type 0 where
@@ -105,7 +105,7 @@ piece-below : {s : List ℕ} {r j : ℕ} {rs : List ℕ} → Written s → Piece
 piece-below {s} {r} {j} {rs} w p =
     only-weaker rs
     (λ x u. let h = under-higher w u in let l = p .higher in
-    (omega arith, under-under (down (record { by = r; at = j }) here (omega arith) (p .other) (p .named)) u))
+    (omega arith, under-under (down (record { by = r; at = j }) under-itself (omega arith) (p .other) (p .named)) u))
     (p .only)
 
 pieces-apart : {s : List ℕ} {r j k : ℕ} {rs ls : List ℕ} → Written s → WellNamed s → (j ≡ k → ⊥) → Piece s r j rs
@@ -120,7 +120,7 @@ pieces-apart {s} {r} {j} {k} w well differ p q =
 with-own : {s : List ℕ} {r : ℕ} (b : Bool) (rs : List ℕ) → Below s r rs → Only (Under s r) (listed b (r ∷ []) ++ rs)
 unfolding Apart
 with-own {s} {r} b rs o =
-    only-both (listed b (r ∷ [])) rs (only-one b r here) (only-weaker rs (λ x p. p .1) o)
+    only-both (listed b (r ∷ [])) rs (only-one b r under-itself) (only-weaker rs (λ x p. p .1) o)
     (λ x m n. let e : x ≡ r = only-one {P = λ y. y ≡ r} b r refl .all x m in let h = o .all x n .0 in omega arith)
 
 below-both : {s : List ℕ} {r : ℕ} (rs ls : List ℕ) → Below s r rs → Below s r ls → Apart rs ls → Below s r (rs ++ ls)
@@ -175,7 +175,7 @@ node-only : {s : List ℕ} → Written s → WellNamed s → (x c d : Bool) (k :
     → Only (Under s r) (held x c d (treeStep s (treeAt s) (expression k) r (wordA s r) (wordB s r) (wordC s r) (wordD s r)))
 node-only {s} w well x c d constant r at leaves =
     with-own x (listed c (chain s (wordB s r))) (piece-below w (leaves (unfold askOfKind in refl) c))
-node-only {s} w well x c d name r at leaves = only-one x r here
+node-only {s} w well x c d name r at leaves = only-one x r under-itself
 node-only {s} w well x c d tuple r at leaves =
     two w well x (at 2 refl (unfold askOfKind in refl)) (at 3 refl (unfold askOfKind in refl)) (λ e. omega arith)
 node-only {s} w well x c d first r at leaves =

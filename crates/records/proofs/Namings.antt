@@ -67,7 +67,7 @@ use Rattle.records.specs.Says.{kindAt, sortAt, askAt, Naming, names, nam
 use Rattle.records.specs.Written.{Written, WellNamed}
 use Rattle.records.proofs.Tests.{never-both, both-left, both-right}
 use Rattle.records.proofs.Table.{askOfKind, ask-by-kind}
-use Rattle.records.proofs.Asked.{Means, as-asked, part-of-kind}
+use Rattle.records.proofs.Asked.{AskMeans, as-asked, part-of-kind}
 
 -- a word that names is in the list
 in-record : (s : List ℕ) (r q n k : ℕ) → 0 < k → k ≤ n → namesAt s r q k ≡ true
@@ -151,7 +151,7 @@ pub in-namings-names : (s : List ℕ) (r : ℕ) (x : Naming) → List·Memᴰ x 
 unfolding namings
 in-namings-names s r x m = records-name s r (count s) x (omega arith) m
 
-named-higher : (s : List ℕ) (q w : ℕ) (a : Ask) → names a ≡ true → Means s q a w → 0 < w → (q < w) × (w < count s)
+named-higher : (s : List ℕ) (q w : ℕ) (a : Ask) → names a ≡ true → AskMeans s q a w → 0 < w → (q < w) × (w < count s)
 named-higher s q w (nextOf σ) e m h = let f = m h in (f .0, f .1)
 named-higher s q w (part σ) e m h = (m .0, m .1)
 named-higher s q w zeroed e m h = absurd (never-both false e refl)

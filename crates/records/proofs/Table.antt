@@ -60,7 +60,7 @@ use Rattle.records.specs.Kinds.{
   numberIn,
   kindIn,
   asksIn,
-  lookUp,
+  rowIn,
   rowOf,
   kindOf,
   askOf,
@@ -103,10 +103,10 @@ pick P false x y p q = q
 
 -- what each row has, and the row of an unknown number, has the row that is looked up
 looked-up : (P : Row → Type 0) (xs : List Row) (n : ℕ) → All P xs → P (row n unknown never never never never never)
-    → P (lookUp xs n)
+    → P (rowIn xs n)
 looked-up P [] n all rest = rest
 looked-up P (x ∷ xs) n all rest =
-    pick P (eqb (numberIn x) n) x (lookUp xs n) (all .0) (looked-up P xs n (all .1) rest)
+    pick P (eqb (numberIn x) n) x (rowIn xs n) (all .0) (looked-up P xs n (all .1) rest)
 
 asks-by-kind : (n : ℕ) → asksIn (rowOf n) ≡ asksIn (rowOf (numberOf (kindIn (rowOf n))))
 unfolding rowOf

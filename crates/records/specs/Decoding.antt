@@ -1,43 +1,12 @@
 -- Decoding: the expression of picoELLA that the records say. It infers no type: it reads types off type records, leaves off
 -- chains, and keeps first and second part bare. It succeeds exactly where each part of the tree is there.
 use Prim.Native.Nat.{ℕ}
-use mathlib.Core.Path.{_≡_, refl}
 use mathlib.Core.Bool.{Bool, true, false, _&&_}
 use mathlib.Core.List.{List, map}
 use mathlib.Core.Option.{Option, none, some}
 use Rattle.picoella.specs.Language.{Flat, Pattern, Whole, Constructor, Parts, Bar, Expr, Const, Var, Tuple, Index1, Index2, Let, LetRec, If, Delay}
-use Rattle.records.specs.Words.{word, count, wordA}
-use Rattle.records.specs.SheetOf.{sheetOf}
-use Rattle.records.specs.Kinds.{rowOf, kindOf}
-use Rattle.records.specs.Trees.{
-  typeWithin,
-  typeAt,
-  Alternatives,
-  end,
-  noPattern,
-  wholeType,
-  oneConstructor,
-  pairOfPatterns,
-  Tree,
-  noExpression,
-  constantOf,
-  nameOf,
-  tupleOf,
-  firstOf,
-  secondOf,
-  letOf,
-  feedbackOf,
-  ifOf,
-  delayOf,
-  chainWithin,
-  chain,
-  alternativesWithin,
-  alternatives,
-  treeWithin,
-  treeAt,
-  circuit,
-}
-use Rattle.records.specs.DecodingRows.{DecodingRow, saysExpression, decodingRows}
+use Rattle.records.specs.Words.{wordA}
+use Rattle.records.specs.Trees.{typeAt, Alternatives, end, noPattern, wholeType, oneConstructor, pairOfPatterns, Tree, noExpression, constantOf, nameOf, tupleOf, firstOf, secondOf, letOf, feedbackOf, ifOf, delayOf, circuit}
 
 -- the number in each leaf record
 abbrev pub leafValues : List ℕ → List ℕ → List ℕ
@@ -96,14 +65,3 @@ whenThere false e = none
 
 unfoldable pub decode : List ℕ → Option Expr
 decode s = whenThere (allThere (circuit s)) (expressionOf s (circuit s))
-
--- each row has its expression, by computation
-abbrev namedExpression : DecodingRow → Option Expr
-namedExpression (saysExpression rs e) = some e
-
-abbrev foundExpression : DecodingRow → Option Expr
-foundExpression (saysExpression rs e) = decode (sheetOf rs)
-
-decoding-rows-hold : map foundExpression decodingRows ≡ map namedExpression decodingRows
-unfolding decode circuit treeAt treeWithin alternatives alternativesWithin chain chainWithin typeAt typeWithin kindOf rowOf word count
-decoding-rows-hold = refl

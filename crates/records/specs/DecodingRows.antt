@@ -1,6 +1,8 @@
 -- Two sheets with the expression that each says, found by hand from docs/SHEETS.md: its sheet T, and one that has each form that T
--- has not. That they decode so is shown where decoding is defined, `Decoding`.
-use mathlib.Core.List.{List, [], _∷_}
+-- has not. They decode so, by computation.
+use mathlib.Core.Path.{_≡_, refl}
+use mathlib.Core.List.{List, [], _∷_, map}
+use mathlib.Core.Option.{Option, some}
 use Rattle.picoella.specs.Language.{
   Ty,
   Flat,
@@ -20,7 +22,11 @@ use Rattle.picoella.specs.Language.{
   If,
   Delay,
 }
-use Rattle.records.specs.SheetOf.{Record, words}
+use Rattle.records.specs.Words.{word, count}
+use Rattle.records.specs.Kinds.{rowOf, kindOf}
+use Rattle.records.specs.Trees.{typeWithin, typeAt, chainWithin, chain, alternativesWithin, alternatives, treeWithin, treeAt, circuit}
+use Rattle.records.specs.Decoding.{decode}
+use Rattle.records.specs.SheetOf.{Record, words, sheetOf}
 
 pub data DecodingRow : Type 0 where
   saysExpression : List Record → Expr → DecodingRow
@@ -90,3 +96,14 @@ decodingRows =
     (Var 1)
     (Const bothFlat (1 ∷ 3 ∷ []))))
     ∷ []
+
+-- each row has its expression, by computation
+abbrev namedExpression : DecodingRow → Option Expr
+namedExpression (saysExpression rs e) = some e
+
+abbrev foundExpression : DecodingRow → Option Expr
+foundExpression (saysExpression rs e) = decode (sheetOf rs)
+
+decoding-rows-hold : map foundExpression decodingRows ≡ map namedExpression decodingRows
+unfolding decode circuit treeAt treeWithin alternatives alternativesWithin chain chainWithin typeAt typeWithin kindOf rowOf word count
+decoding-rows-hold = refl

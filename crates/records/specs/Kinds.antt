@@ -83,13 +83,13 @@ abbrev pub asksIn : Row → List Ask
 asksIn (row number kind next a b c d) = free ∷ next ∷ a ∷ b ∷ c ∷ d ∷ []
 
 -- the row of a kind's number
-abbrev pub lookUp : List Row → ℕ → Row
-lookUp [] n = row n unknown never never never never never
-lookUp (x ∷ xs) n = cond (eqb (numberIn x) n) x (lookUp xs n)
+abbrev pub rowIn : List Row → ℕ → Row
+rowIn [] n = row n unknown never never never never never
+rowIn (x ∷ xs) n = cond (eqb (numberIn x) n) x (rowIn xs n)
 
 unfoldable pub rowOf : ℕ → Row
 unfolding kindRows
-rowOf n = lookUp kindRows n
+rowOf n = rowIn kindRows n
 
 unfoldable pub kindOf : ℕ → Kind
 unfolding rowOf

@@ -11,6 +11,7 @@ pub mod Rewritten
 -- Examples, by computation:
 pub mod DecodingRows
 -- What functions ask and give, and their proofs need:
+pub mod Limits
 pub mod Sized
 pub mod AskNumbers
 pub mod Written

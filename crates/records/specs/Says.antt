@@ -28,10 +28,10 @@ use Rattle.records.specs.Kinds.{
   isFlat,
 }
 
--- What a record says (docs/SHEETS.md, "Numbering and naming"): its kind, and for each word whether the number in it is what the
--- table asks. "Outside the header a type word names a type record with a lower number; each other named record, and every next
--- that isn't zero, has a higher number than the record naming it. A named record is of the sort its word asks for; a number at or
--- past the count names no record."
+-- What a record says (docs/SHEETS.md, "Numbering and naming"): its kind, and for each word whether the number in it is what the table
+-- asks. "A type word, unless it is the header's, names a record whose number is lower than that of its own record." "Every other word
+-- that names a record, and every `next` that is not 0, has a number higher than its own record's." "A number at or above the number of
+-- records names nothing, and breaks the numbering." "What a word names is of the sort that the word asks for."
 
 -- the kind and the sort of record r
 abbrev pub kindAt : List ℕ → ℕ → Kind
@@ -71,11 +71,11 @@ meetsAt s r k = meets s r (askAt s r k) (word s r k)
 unfoldable pub wellSaid : List ℕ → ℕ → Bool
 wellSaid s r = meetsAt s r 1 && (meetsAt s r 2 && (meetsAt s r 3 && (meetsAt s r 4 && meetsAt s r 5)))
 
--- Which words name a record, and when it is well named (docs/SHEETS.md, "Numbering and naming": "Every record but 0 is named exactly
--- once; type words that aren't next do not count as naming", amended by "The first record of a pattern may now be named by the d word
--- of several IFs. A pattern record named by a next word or by a pair pattern is still named once and by nothing else"). A naming is
--- the record and the word that names, and the rule is a predicate on the list of a record's namings. It need not ask for IFs and
--- patterns: of all words d only an IF's names, and what it names is a pattern (`word-d-names`).
+-- Which words name a record, and when it is well named (docs/SHEETS.md, "Numbering and naming": "Every record but 0 is named by exactly
+-- one word, except that several IFs may name the first record of one pattern, each by its `d`. A pattern record that a `next` or a pair
+-- pattern names is named by nothing else. Type words are not counted, `next` words are"). A naming is the record and the word that
+-- names, and the rule is a predicate on the list of a record's namings. It need not ask for IFs and patterns: of all words d only an
+-- IF's names, and what it names is a pattern (`word-d-names`).
 
 pub record Naming : Type 0 where
   pub by : ℕ  -- the record that names

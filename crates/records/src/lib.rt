@@ -86,6 +86,12 @@ pub const MOST_NAMES: usize = 64;
 
 pub const MOST_LEAVES: u8 = 64;
 
+// The room of a value: a byte a leaf.
+pub const VALUE_BYTES: usize = MOST_LEAVES as usize;
+
+// The room of the names in scope, a value each.
+pub const ENVIRONMENT: usize = MOST_NAMES * VALUE_BYTES;
+
 pub const MOST_DEPTH: u8 = 64;
 
 pub const MOST_NESTING: u8 = 3;

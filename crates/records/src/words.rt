@@ -3,6 +3,7 @@ ghost use mathlib.Core.Path.{_≡_};
 ghost use Prim.Native.Nat.{_/_, _<_};
 ghost use Rattle.records.specs.Words.{offset, word};
 ghost use Rattle.records.specs.Sized.{Sized};
+ghost use Rattle.records.specs.Limits.{mostRecords, wordBound};
 use crate::RECORD_BYTES;
 
 fn wide(x: u8) -> usize
@@ -20,7 +21,7 @@ pub fn records_in(length: usize) -> usize
 
 // Where word k of a record begins.
 pub fn offset(rec: usize, k: usize) -> usize
-    requires { ⌜ (rec < 4096) × (k < 6) ⌝ }
+    requires { ⌜ (rec < mostRecords) × (k < 6) ⌝ }
     ensures { λ r. ⌜ r ≡ offset rec k ⌝ }
 {
     RECORD_BYTES * rec + 2 * k
@@ -29,7 +30,7 @@ pub fn offset(rec: usize, k: usize) -> usize
 // Word k of a record: 0 is the kind, 1 next, 2 to 5 the words a, b, c, d.
 pub fn word(sheet: &[u8], n: usize, rec: usize, k: usize) -> usize
     requires { ⌜ Sized (now sheet) n × (rec < n) × (k < 6) ⌝ }
-    ensures { λ r. ⌜ (r ≡ word (now (sheet .entry)) rec k) × (r < 65536) ⌝ }
+    ensures { λ r. ⌜ (r ≡ word (now (sheet .entry)) rec k) × (r < wordBound) ⌝ }
 {
     let at = offset(rec, k);
     wide(sheet[at]) + 256 * wide(sheet[at + 1])

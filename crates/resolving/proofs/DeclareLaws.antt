@@ -11,8 +11,8 @@ use Rattle.naming.specs.TokenWalk.{NameScope, scope, declaredIn, metIn, leftBy,
 use Rattle.naming.specs.TokenWalk.{ScopeEffect, keepsScope, pends, declaresFirst, declaresNext, binds, bindsPending, declaresPending, unbinds}
 use Rattle.symbols.specs.Names.{declaredNames}
 use Rattle.instructions.specs.TokenOrder.{typesAmong, constructorsAmong}
-use Rattle.resolving.specs.Said.{Declares, Numbered, typesBelow, ranksBelow}
-use Rattle.resolving.proofs.NameEntries.{types-counted, ranks-counted}
+use Rattle.resolving.specs.Said.{NamesDeclared, Numbered, typesBelow, ranksBelow}
+use Rattle.resolving.proofs.NameEntries.{type-names-counted, ranks-counted}
 
 -- some names before others
 data Extends (D : List DeclaredName) : List DeclaredName → Type 0 where
@@ -78,32 +78,32 @@ module _ (text spans roles spans′ roles′ : List ℕ) where
       go (no z) again = again (omega (arith, z))
 
   extended : {E : List DeclaredName} (base base′ : ℕ) → Extends (declaredNames text spans roles base) E → declaredNames text spans′ roles′ base′ ≡ E
-      → Declares text spans roles base spans′ roles′ base′
+      → NamesDeclared text spans roles base spans′ roles′ base′
   extended base base′ x e =
       let h = extends-names x base base′ refl (sym e) in record { higher = h .0; same = names-below base (h .1) }
 
 pub name-declares : {text spans roles spans′ roles′ : List ℕ} {base base′ : ℕ} (e : ScopeEffect) (w : List ℕ) (P B : List (List ℕ))
     → declaredNames text spans′ roles′ base′ ≡ declaredIn (leftBy e w (metIn e (scope P B (declaredNames text spans roles base))))
-    → Declares text spans roles base spans′ roles′ base′
+    → NamesDeclared text spans roles base spans′ roles′ base′
 name-declares {text} {spans} {roles} {spans′} {roles′} {base} {base′} e w P B s =
     extended text spans roles spans′ roles′ base base′ (name-extends e w P B (declaredNames text spans roles base)) s
 
 pub other-declares : {text spans roles spans′ roles′ : List ℕ} {base base′ : ℕ} (e : ScopeEffect) (P B : List (List ℕ))
     → declaredNames text spans′ roles′ base′ ≡ declaredIn (endedBy e (scope P B (declaredNames text spans roles base)))
-    → Declares text spans roles base spans′ roles′ base′
+    → NamesDeclared text spans roles base spans′ roles′ base′
 other-declares {text} {spans} {roles} {spans′} {roles′} {base} {base′} e P B s =
     extended text spans roles spans′ roles′ base base′ (other-extends e P B (declaredNames text spans roles base)) s
 
-pub still-numbered : {text spans roles spans′ roles′ types ranks : List ℕ} {base base′ : ℕ} → Declares text spans roles base spans′ roles′ base′
+pub still-numbered : {text spans roles spans′ roles′ types ranks : List ℕ} {base base′ : ℕ} → NamesDeclared text spans roles base spans′ roles′ base′
     → Numbered roles types ranks base → Numbered roles′ types ranks base
 still-numbered {text} {spans} {roles} {spans′} {roles′} d s = record {
   types-long = s .types-long;
   ranks-long = s .ranks-long;
   types-right = λ k h.
       s .types-right k h
-      ∙ sym (types-counted text spans roles (suc k))
+      ∙ sym (type-names-counted text spans roles (suc k))
       ∙ ap typesAmong (sym (d .same (suc k) (omega arith)))
-      ∙ types-counted text spans′ roles′ (suc k);
+      ∙ type-names-counted text spans′ roles′ (suc k);
   ranks-right = λ k h.
       s .ranks-right k h
       ∙ sym (ranks-counted text spans roles (suc k))

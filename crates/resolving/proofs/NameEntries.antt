@@ -21,9 +21,9 @@ use Rattle.instructions.specs.TokenOrder.{namedFrom, typesAmong, constructorsAm
 use Rattle.resolving.specs.Said.{Numbered, typesBelow, ranksBelow, entryIn, roleAt, namedSaid}
 
 module _ (text spans roles : List ℕ) where
-  pub types-counted : (m : ℕ) → typesAmong (declaredNames text spans roles m) ≡ typesBelow roles m
-  types-counted zero = refl
-  types-counted (suc k) = go (getD roles k 0) (types-counted k)
+  pub type-names-counted : (m : ℕ) → typesAmong (declaredNames text spans roles m) ≡ typesBelow roles m
+  type-names-counted zero = refl
+  type-names-counted (suc k) = go (getD roles k 0) (type-names-counted k)
     where
       go : (r : ℕ) → typesAmong (declaredNames text spans roles k) ≡ typesBelow roles k
           → typesAmong (declaredAs (lettersAt text (getD spans k 0)) (roleNamed r) ∷ declaredNames text spans roles k)
@@ -134,7 +134,7 @@ module _ (text spans : List ℕ) {roles types ranks : List ℕ} {base : ℕ} (r 
 
   named-types : typesAmong (namedFrom w D) ≡ entryIn types (nearest text spans w base)
   named-types =
-      entry-counted text spans roles typesAmong types w refl refl base (λ k h. s .types-right k h ∙ sym (types-counted text spans roles (suc k)))
+      entry-counted text spans roles typesAmong types w refl refl base (λ k h. s .types-right k h ∙ sym (type-names-counted text spans roles (suc k)))
 
   named-ranks : constructorsAmong (namedFrom w D) ≡ entryIn ranks (nearest text spans w base)
   named-ranks =

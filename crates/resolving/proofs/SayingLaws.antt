@@ -5,7 +5,7 @@ use native.Mathlib.Omega.{arith}
 use native.Mathlib.Numerals.{add-one}
 use mathlib.Core.Path.{_≡_, refl, sym, ap, ap₂, subst, _∙_}
 use mathlib.Core.Bool.{Bool, true, false, cond}
-use mathlib.Core.List.{List, [], _∷_, _++_, append-assoc, map}
+use mathlib.Core.List.{List, [], _∷_, _++_, append-assoc, map, append-nil}
 use lib.ListN.{length, getD, set, length-set, length-append}
 use lib.Seq.{getD-set-same, getD-set-other}
 use lib.Dec.{eqb, leb}
@@ -17,12 +17,11 @@ use Rattle.reading.proofs.RowLaws.{number-of-state}
 use Rattle.instructions.specs.Instruction.{Instruction, instructionOf, heldFrom, openPair}
 use Rattle.instructions.specs.TokenOrder.{opBy, inConstant, declaredOp, pairBefore, nameSaid, valueSaid, otherSaid}
 use Rattle.naming.specs.Declared.{DeclaredName}
-use Rattle.instructions.proofs.Instructed.{append-nothing}
 use Rattle.scoping.proofs.TableLaws.{mapped-at}
 use Rattle.resolving.specs.Said.{sayingTable, CodeSized, CodeHeld, CodeSaid, entryIn, roleAt, namedSaid, classSaid}
 
-pub entry-at : (numbers : List ℕ) (k : ℕ) → (k ≡ 0 → ⊥) → getD numbers (k - 1) 0 ≡ entryIn numbers k
-entry-at numbers k n = let e : k ≡ suc (k - 1) = omega (arith, n) in sym (ap (entryIn numbers) e)
+pub entry-numbered : (numbers : List ℕ) (k : ℕ) → (k ≡ 0 → ⊥) → getD numbers (k - 1) 0 ≡ entryIn numbers k
+entry-numbered numbers k n = let e : k ≡ suc (k - 1) = omega (arith, n) in sym (ap (entryIn numbers) e)
 
 pub no-entry : (numbers : List ℕ) (k : ℕ) → k ≡ 0 → 0 ≡ entryIn numbers k
 no-entry numbers k e = sym (ap (entryIn numbers) e)
@@ -46,9 +45,9 @@ module _ (stack : List ℕ) (depth : ℕ) where
   pub waits-below : (depth ≡ 0 → ⊥) → getD stack (depth - 1) 0 < 47 → getD stack (depth - 1) 0 < 39 → false ≡ inConstant (stackOf depth stack)
   waits-below n h l = sym (top-waits n h ∙ ap (λ x. cond x (leb (getD stack (depth - 1) 0) 41) false) (lt-leb 39 (getD stack (depth - 1) 0) l))
 
-  pub waits-above : (depth ≡ 0 → ⊥) → getD stack (depth - 1) 0 < 47 → 39 ≤ getD stack (depth - 1) 0
+  pub top-in-constant : (depth ≡ 0 → ⊥) → getD stack (depth - 1) 0 < 47 → 39 ≤ getD stack (depth - 1) 0
       → leb (getD stack (depth - 1) 0) 41 ≡ inConstant (stackOf depth stack)
-  waits-above n h l = sym (top-waits n h ∙ ap (λ x. cond x (leb (getD stack (depth - 1) 0) 41) false) (le-leb 39 (getD stack (depth - 1) 0) l))
+  top-in-constant n h l = sym (top-waits n h ∙ ap (λ x. cond x (leb (getD stack (depth - 1) 0) 41) false) (le-leb 39 (getD stack (depth - 1) 0) l))
 
 -- the number of an instruction over a declared name
 module _ (op : ℕ) (delayed typed : Bool) where
@@ -135,7 +134,7 @@ module _ {ops firsts seconds : List ℕ} {count : ℕ} (s : CodeSized ops firsts
   pub none-said : CodeSaid ops firsts seconds count [] ops firsts seconds count
   none-said = record {
     sized = s;
-    held = λ code h. subst (λ q. CodeHeld ops firsts seconds count q) (sym (append-nothing code)) h;
+    held = λ code h. subst (λ q. CodeHeld ops firsts seconds count q) (sym (append-nil code)) h;
   }
 
 -- by another name, and one after the other

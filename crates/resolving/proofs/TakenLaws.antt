@@ -25,15 +25,15 @@ use Rattle.scoping.proofs.EffectLaws.{first-scoping}
 use Rattle.scoping.proofs.ScopeLaws.{roomier}
 use Rattle.reading.proofs.Loop.{ready-first}
 use Rattle.symbols.specs.Names.{lettersAt, Hashed, Roles}
-use Rattle.resolving.specs.Walked.{Walks, WalksHeld, Walking, WalkedOn, TokenTaken, TokenNoted, FoundWith, tokenHolds}
+use Rattle.resolving.specs.Walked.{Walks, WalksHeld, TakingToken, WalkedOn, TokenTaken, TokenNoted, FoundWith, tokenHolds}
 use Rattle.resolving.specs.Said.{Numbered, CodeSized, CodeSaid, spanBetween, classSaid}
 use Rattle.resolving.proofs.SayingLaws.{emptied}
-use Rattle.instructions.proofs.NameNumbers.{never}
+use Rattle.instructions.proofs.NameNumbers.{never-true}
 use Rattle.resolving.proofs.Noted.{span-spelled, class-instructions}
 use Rattle.instructions.specs.Instruction.{Instruction}
 use Rattle.instructions.specs.TokenOrder.{walkInstructions, instructionsOn, opBy, inConstant}
 use Rattle.naming.specs.Declared.{DeclaredName}
-use Rattle.resolving.proofs.Walks.{Meets, meets, stepped-on, walks-first}
+use Rattle.resolving.proofs.Walks.{Meets, meets-token, stepped-on, walks-first}
 
 effect-again : (e : ScopeEffect) → effectOf (effectNumber e) ≡ e
 effect-again keepsScope = refl
@@ -57,8 +57,8 @@ with-effect {class} span effect q v z same f = record {
 -- the check on a token, before those that are left
 bad-check : {text : List ℕ} {start end class : ℕ} {others : List Token} (q : State) (S : NameScope) (rest : List PlacedCheck) (v : Token)
     → FirstToken text start end class v others → false ≡ tokenHolds q v S → firstBadPlace (checksOn q v S ++ rest) ≡ some start
-bad-check q S rest (keyword k p) f o = never o
-bad-check q S rest (symbol x p) f o = never o
+bad-check q S rest (keyword k p) f o = never-true o
+bad-check q S rest (symbol x p) f o = never-true o
 bad-check q S rest (nameToken x p) f o = ap (λ y. unlessFails y p (firstBadPlace rest)) (sym o) ∙ ap some (f .placed)
 
 good-check : (q : State) (S : NameScope) (rest : List PlacedCheck) (v : Token) → true ≡ tokenHolds q v S
@@ -83,8 +83,8 @@ pub refused-token : {text : List ℕ} {start : ℕ} {q : State} {K : List State}
     → TokenTaken text start q K S ops firsts seconds count ok end state depth base n m count′ stack spans links heads roles pendings types ranks ops′ firsts′ seconds′
 refused-token {text} {start} {end} {state} {depth} {base} {n} {m} {count′} {stack} {spans} {roles} {pendings} {ops′} {firsts′} {seconds′} e c z f = record {
   sized = emptied c z;
-  walking = λ o. never (sym e ∙ o);
-  further = λ o. never (sym e ∙ o);
+  walking = λ o. never-true (sym e ∙ o);
+  further = λ o. never-true (sym e ∙ o);
   walked = λ ts t i l s w.
       subst (λ x. WalkedOn text ts t x start end (stateOf state) (stackOf depth stack) (heldScope text base n m spans roles pendings) ops′ firsts′ seconds′ count′) (sym e) (f ts t i l s w);
 }
@@ -97,7 +97,7 @@ module _ {text : List ℕ} {start class : ℕ} (h : start < length text) (c : cl
 
   met-here : {ts : List Token} {t : Text} {i end : ℕ} {q : State} {K : List State} {S : NameScope} {said : List Instruction} → end ≡ tokenEnd text start class
       → i ≤ length text → start ≡ i + blanksIn (drop i text) → Walks text ts t i q K S said → Meets text ts t start end class q K S said
-  met-here e l s w = meets l s h (found-here e s) w
+  met-here e l s w = meets-token l s h (found-here e s) w
 
   pub unled-token : {q : State} {K : List State} {S : NameScope} {ops firsts seconds : List ℕ} {count : ℕ} → 18 ≤ class
       → FirstBad text start q K S ops firsts seconds count
@@ -106,7 +106,7 @@ module _ {text : List ℕ} {start class : ℕ} (h : start < length text) (c : cl
   module _ {end : ℕ} (e : end ≡ tokenEnd text start class) {q : State} {K : List State} {S : NameScope} {ops firsts seconds : List ℕ} {count : ℕ} where
     pub stuck-token : {depth : ℕ} {ok : Bool} {state word depth′ : ℕ} {stack : List ℕ} → Stepped (afterLead class q K) depth ok state word depth′ stack
         → ok ≡ false → FirstBad text start q K S ops firsts seconds count
-    stuck-token r o ts t i l s w = never (sym o ∙ stepped-on (met-here e l s (w .walks)) r .0)
+    stuck-token r o ts t i l s w = never-true (sym o ∙ stepped-on (met-here e l s (w .walks)) r .0)
 
     -- the token with its span and effect
     module _ {span effect : ℕ} (z : span ≡ spanBetween start end) (same : effect ≡ effectNumber (effectBy q (getD leadBytes class 0))) where
@@ -155,10 +155,10 @@ module _ {text : List ℕ} {start class : ℕ} (h : start < length text) (c : cl
 -- the tables after a token
 pub walking-next : {text : List ℕ} {start state depth base n m count : ℕ} {stack spans links heads roles pendings types ranks ops firsts seconds : List ℕ} {c : Config} {ok : Bool}
     {end state′ word depth′ base′ n′ m′ count′ : ℕ} {stack′ spans′ links′ heads′ roles′ pendings′ types′ ranks′ ops′ firsts′ seconds′ : List ℕ}
-    → Walking text start state depth base n m count stack spans links heads roles pendings types ranks ops firsts seconds → Stepped c depth ok state′ word depth′ stack′
+    → TakingToken text start state depth base n m count stack spans links heads roles pendings types ranks ops firsts seconds → Stepped c depth ok state′ word depth′ stack′
     → start < end → end ≤ length text → Scoping text (n + m + 1) base′ n′ m′ spans′ links′ heads′ roles′ pendings′
     → Numbered roles′ types′ ranks′ base′ → CodeSized ops′ firsts′ seconds′ count′
-    → Walking text end state′ depth′ base′ n′ m′ count′ stack′ spans′ links′ heads′ roles′ pendings′ types′ ranks′ ops′ firsts′ seconds′
+    → TakingToken text end state′ depth′ base′ n′ m′ count′ stack′ spans′ links′ heads′ roles′ pendings′ types′ ranks′ ops′ firsts′ seconds′
 walking-next {end} w s h l z y x = record {
   short = w .short;
   scoping = roomier end (let k = w .scoping .few in omega arith) (let k = w .short in omega arith) z;
@@ -177,7 +177,7 @@ walking-next {end} w s h l z y x = record {
 -- the loop
 pub walking-first : {text stack spans links heads roles pendings types ranks ops firsts seconds : List ℕ} → length text ≤ 65535 → length stack ≡ 65536
     → Hashed text 0 spans links heads → Roles roles 0 → length pendings ≡ 65536 → length types ≡ 65536 → length ranks ≡ 65536 → CodeSized ops firsts seconds 0
-    → Walking text 0 0 0 0 0 0 0 stack spans links heads roles pendings types ranks ops firsts seconds
+    → TakingToken text 0 0 0 0 0 0 0 stack spans links heads roles pendings types ranks ops firsts seconds
 walking-first {stack} h l t r p x y z = record {
   short = h;
   scoping = first-scoping t r p;
@@ -192,8 +192,8 @@ pub walks-begin : {text : List ℕ} {ts : List Token} {t : Text} {ops firsts sec
 walks-begin r = record { said = []; walks = walks-first r; held = λ h. refl }
 
 pub walking-at : {text : List ℕ} {i state depth base n m count : ℕ} {stack spans links heads roles pendings types ranks ops firsts seconds : List ℕ} (first : ℕ)
-    → i ≤ first → first ≤ length text → Walking text i state depth base n m count stack spans links heads roles pendings types ranks ops firsts seconds
-    → Walking text first state depth base n m count stack spans links heads roles pendings types ranks ops firsts seconds
+    → i ≤ first → first ≤ length text → TakingToken text i state depth base n m count stack spans links heads roles pendings types ranks ops firsts seconds
+    → TakingToken text first state depth base n m count stack spans links heads roles pendings types ranks ops firsts seconds
 walking-at first h l w = record {
   short = w .short;
   scoping = roomier first h (let k = w .short in omega arith) (w .scoping);

@@ -5,7 +5,7 @@ use Prim.Native.Nat.{ℕ, suc, _+_, _≤_, _<_}
 use native.Mathlib.Omega.{arith}
 use mathlib.Core.Path.{_≡_, refl, sym, ap, _∙_}
 use mathlib.Core.Bool.{Bool, true, false, cond}
-use mathlib.Core.List.{List, [], _∷_, _++_}
+use mathlib.Core.List.{List, [], _∷_, _++_, append-nil}
 use mathlib.Core.Option.{none, some}
 use lib.ListN.{length, drop, length-drop}
 use Rattle.grammar.specs.Tokens.{Token, Tokens, no-token, a-blank}
@@ -27,7 +27,8 @@ use Rattle.resolving.proofs.SayingLaws.{held-length}
 use Rattle.instructions.specs.Instruction.{Instruction}
 use Rattle.instructions.specs.TextOrder.{textInstructions}
 use Rattle.instructions.specs.TokenOrder.{walkInstructions, instructionsOn}
-use Rattle.instructions.proofs.Instructed.{append-nothing, instructed}
+use Rattle.naming.proofs.First.{none-bad}
+use Rattle.instructions.proofs.Instructed.{instructed}
 use Rattle.instructions.proofs.FewInstructions.{few-instructions}
 use Rattle.naming.proofs.Bounded.{tokens-few}
 
@@ -48,9 +49,9 @@ walks-done {text} {ts} {t} {i} {q} {K} {S} {ops} {firsts} {seconds} {count} firs
     let none-left = none-from text i first e h (w .walks .lexed) in
     let good = w .walks .same-place ∙ ap (λ l. firstBadPlace (walkChecks (live q K noWord) S l)) none-left in
     let all : w .said ≡ textInstructions t
-    = sym (append-nothing (w .said))
+    = sym (append-nil (w .said))
     ∙ sym (w .walks .same-code ∙ ap (λ l. w .said ++ walkInstructions (live q K noWord) S l) none-left)
-    ∙ instructed (r .parsed) (all-good (nameChecks t) good) in
+    ∙ instructed (r .parsed) (none-bad (nameChecks t) good) in
     let many = ap length all in
     let few = few-instructions (r .parsed) in
     let fewer = tokens-few (r .lexed) in
@@ -61,11 +62,6 @@ walks-done {text} {ts} {t} {i} {q} {K} {S} {ops} {firsts} {seconds} {count} firs
   where
     none-fails : {p : ℕ} → some p ≡ none → ⊥
     none-fails z = let o : _≡_ {A = ℕ} 0 1 = cc in omega arith
-
-    all-good : (cs : List PlacedCheck) → firstBadPlace cs ≡ none → AllPass cs
-    all-good [] g = no-check-left
-    all-good (checkAt p true ∷ cs) g = one-holds (all-good cs g)
-    all-good (checkAt p false ∷ cs) g = absurd (none-fails g)
 
 -- only blanks have no token
 blank-rest : {i : ℕ} {bs : List ℕ} → Tokens i bs [] → blanksIn bs ≡ length bs
@@ -85,10 +81,10 @@ pub record Meets (text : List ℕ) (ts : List Token) (t : Text) (first end class
   pub same-code : walkInstructions begins firstScope ts
       ≡ said ++ (instructionsOn q K token S ++ walkInstructions (perform action K noWord) (scopeAfter q token S) others)
 
-pub meets : {text : List ℕ} {ts : List Token} {t : Text} {i first end class : ℕ} {q : State} {K : List State} {S : NameScope} {said : List Instruction} → i ≤ length text
+pub meets-token : {text : List ℕ} {ts : List Token} {t : Text} {i first end class : ℕ} {q : State} {K : List State} {S : NameScope} {said : List Instruction} → i ≤ length text
     → first ≡ i + blanksIn (drop i text) → first < length text → FoundFrom text i first end class → Walks text ts t i q K S said
     → Meets text ts t first end class q K S said
-meets {text} {ts} {t} {i} {first} {end} {class} {q} {K} {S} {said} l e h f w = go (w .left) (w .lexed) (w .readable) (w .same-place) (w .same-code)
+meets-token {text} {ts} {t} {i} {first} {end} {class} {q} {K} {S} {said} l e h f w = go (w .left) (w .lexed) (w .readable) (w .same-place) (w .same-code)
   where
     go : (l : List Token) → Tokens i (drop i text) l → ends (afterTokens (live q K noWord) l) ≡ true
         → firstBadPlace (nameChecks t) ≡ firstBadPlace (walkChecks (live q K noWord) S l)

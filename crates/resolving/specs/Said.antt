@@ -62,12 +62,12 @@ abbrev pub spanBetween : (start end : ℕ) → ℕ
 spanBetween start end = cond (leb (end - start) 16) (start * 32 + (end - start)) (start * 32)
 
 -- the names declared before a token are so after it
-pub record Declares (text spans roles : List ℕ) (base : ℕ) (spans′ roles′ : List ℕ) (base′ : ℕ) : Type 0 where
+pub record NamesDeclared (text spans roles : List ℕ) (base : ℕ) (spans′ roles′ : List ℕ) (base′ : ℕ) : Type 0 where
   pub higher : base ≤ base′
   pub same : (k : ℕ) → k ≤ base → declaredNames text spans′ roles′ k ≡ declaredNames text spans roles k
 
 -- what is asked of the tables where a token speaks
-pub record Speaking (text : List ℕ) (base n : ℕ) (spans links heads roles types ranks : List ℕ) (count : ℕ) (ops firsts seconds : List ℕ) : Type 0 where
+pub record Saying (text : List ℕ) (base n : ℕ) (spans links heads roles types ranks : List ℕ) (count : ℕ) (ops firsts seconds : List ℕ) : Type 0 where
   pub hashed : Hashed text n spans links heads
   pub named : Roles roles base
   pub bound-roles : BoundRoles text spans roles base n

@@ -10,7 +10,7 @@ use Rattle.grammar.specs.Source.{Text}
 use Rattle.grammar.specs.Legal.{Reading}
 use Rattle.grammar.specs.Rows.{State}
 use Rattle.grammar.specs.Machine.{live, noWord, begins, leadOf, afterTokens, ends}
-use Rattle.reading.specs.Coded.{Ready, stateOf, stackOf}
+use Rattle.reading.specs.Coded.{Stepping, stateOf, stackOf}
 use Rattle.naming.specs.Checks.{firstBadPlace}
 use Rattle.naming.specs.Names.{nameChecks}
 use Rattle.naming.specs.TokenWalk.{NameScope, scope, walkChecks, nameHolds, scopeAfter, effectOn}
@@ -57,11 +57,11 @@ pub record FoundWith (text : List ℕ) (start end class span effect : ℕ) (q : 
   pub same-effect : effectOf effect ≡ effectOn q (leadOf t)
 
 -- what the walk asks of the tables at a place, and keeps
-pub record Walking (text : List ℕ) (i state depth base n m count : ℕ) (stack spans links heads roles pendings types ranks ops firsts seconds : List ℕ) : Type 0
+pub record TakingToken (text : List ℕ) (i state depth base n m count : ℕ) (stack spans links heads roles pendings types ranks ops firsts seconds : List ℕ) : Type 0
   where
     pub short : length text ≤ 65535
     pub scoping : Scoping text i base n m spans links heads roles pendings
-    pub ready : Ready state 0 depth stack
+    pub ready : Stepping state 0 depth stack
     pub shallow : depth ≤ i
     pub numbered : Numbered roles types ranks base
     pub sized : CodeSized ops firsts seconds count
@@ -75,7 +75,7 @@ pub record TokenTaken (text : List ℕ) (start : ℕ) (q : State) (K : List Stat
     (ok : Bool) (end state depth base n m count′ : ℕ) (stack spans links heads roles pendings types ranks ops′ firsts′ seconds′ : List ℕ) : Type 0
   where
     pub sized : CodeSized ops′ firsts′ seconds′ 0
-    pub walking : ok ≡ true → Walking text end state depth base n m count′ stack spans links heads roles pendings types ranks ops′ firsts′ seconds′
+    pub walking : ok ≡ true → TakingToken text end state depth base n m count′ stack spans links heads roles pendings types ranks ops′ firsts′ seconds′
     pub further : ok ≡ true → (start < end) × (end ≤ length text)
     pub walked : (ts : List Token) (t : Text) (i : ℕ) → i ≤ length text → start ≡ i + blanksIn (drop i text) → WalksHeld text ts t i q K S ops firsts seconds count
         → WalkedOn text ts t ok start end (stateOf state) (stackOf depth stack) (heldScope text base n m spans roles pendings) ops′ firsts′ seconds′ count′

@@ -5,6 +5,8 @@ ghost use Prim.Native.Nat.{suc, _≤_, _<_};
 ghost use lib.ListN.{length};
 ghost use lib.Dec.{eqb};
 ghost use Rattle.resolving.specs.Said.{Numbered, entryIn, roleAt};
+ghost use Rattle.grammar.specs.Legal.{limit};
+ghost use Rattle.grammar.specs.Sizes.{textTable};
 use instructions::Operands;
 use symbols::NameRoles;
 use symbols::ROLE_TYPE;
@@ -14,7 +16,7 @@ const NO_NUMBER: u16 = 0;
 
 // What a table has at an entry, counted from 1; 0 for none.
 pub fn entry(k: usize, numbers: &Operands) -> u16
-    requires { ⌜ (length (now numbers) ≡ 65536) × (k ≤ 65536) ⌝ }
+    requires { ⌜ (length (now numbers) ≡ textTable) × (k ≤ textTable) ⌝ }
     ensures { λ r. ⌜ r ≡ entryIn (now (numbers .entry)) k ⌝ }
 {
     if k == 0 {
@@ -25,7 +27,7 @@ pub fn entry(k: usize, numbers: &Operands) -> u16
 
 // Whether an entry is of a role, a type's or a constructor's.
 pub fn has_role(k: usize, kind: u8, roles: &NameRoles) -> bool
-    requires { ⌜ (length (now roles) ≡ 65536) × (k ≤ 65536) ⌝ }
+    requires { ⌜ (length (now roles) ≡ textTable) × (k ≤ textTable) ⌝ }
     ensures { λ r. ⌜ r ≡ roleAt kind (now (roles .entry)) k ⌝ }
 {
     if k == 0 {
@@ -36,7 +38,7 @@ pub fn has_role(k: usize, kind: u8, roles: &NameRoles) -> bool
 
 // The number of types after a name of a role.
 fn types_after(kind: u8, before: u16) -> u16
-    requires { ⌜ before < 65535 ⌝ }
+    requires { ⌜ before < limit ⌝ }
     ensures { λ r. ⌜ r ≡ cond (eqb kind 0) (suc before) before ⌝ }
 {
     if kind == ROLE_TYPE {
@@ -47,7 +49,7 @@ fn types_after(kind: u8, before: u16) -> u16
 
 // The number of constructors since the last type.
 fn ranks_after(kind: u8, before: u16) -> u16
-    requires { ⌜ before < 65535 ⌝ }
+    requires { ⌜ before < limit ⌝ }
     ensures { λ r. ⌜ r ≡ cond (eqb kind 0) 0 (suc before) ⌝ }
 {
     if kind == ROLE_TYPE {
@@ -64,7 +66,7 @@ pub fn number_names(
     types: &mut Operands,
     ranks: &mut Operands,
 )
-    requires { ⌜ Numbered (now roles) (now types) (now ranks) from × (from ≤ to) × (to ≤ 65535) × (length (now roles) ≡ 65536) ⌝ }
+    requires { ⌜ Numbered (now roles) (now types) (now ranks) from × (from ≤ to) × (to ≤ limit) × (length (now roles) ≡ textTable) ⌝ }
     ensures { λ _. ⌜ Numbered (now (roles .entry)) (now (types .exit)) (now (ranks .exit)) to ⌝ }
 {
     let mut k = from;

@@ -5,12 +5,21 @@ ghost use Prim.Native.Nat.{_-_, _≤_, _<_};
 ghost use Rattle.reading.specs.Coded.{stateOf};
 ghost use Rattle.symbols.specs.Names.{lettersAt, Inside, declaredNames, boundNames};
 ghost use Rattle.instructions.specs.TokenOrder.{declaredOp, nameSaid, otherSaid, valueSaid, pairBefore};
-ghost use Rattle.resolving.specs.Said.{CodeSized, CodeSaid, Speaking, namedSaid, classSaid};
+ghost use Rattle.resolving.specs.Said.{CodeSized, CodeSaid, Saying, namedSaid, classSaid};
+ghost use Rattle.grammar.specs.Legal.{limit};
 use crate::code::say;
 use crate::numbering::entry;
 use crate::numbering::has_role;
+use instructions::MATCH_ONE;
+use instructions::MATCH_TYPE;
+use instructions::OPEN_PAIR;
 use instructions::Operands;
 use instructions::Ops;
+use instructions::SILENT;
+use instructions::USE_CONSTANT;
+use instructions::USE_NAME;
+use instructions::USE_UNDEFINED;
+use instructions::USE_ZEROS;
 use reading::numbers::SMALL_LETTER;
 use symbols::Heads;
 use symbols::Links;
@@ -20,22 +29,6 @@ use symbols::ROLE_TYPE;
 use symbols::Spans;
 use symbols::find_declared;
 use symbols::find_name;
-
-const USE_NAME: u8 = 5;
-
-const USE_CONSTANT: u8 = 6;
-
-const USE_UNDEFINED: u8 = 7;
-
-const OPEN_PAIR: u8 = 8;
-
-const MATCH_TYPE: u8 = 18;
-
-const MATCH_CONSTRUCTOR: u8 = 19;
-
-const USE_ZEROS: u8 = 25;
-
-const SILENT: u8 = 30;
 
 // The state after the bracket of an expression.
 const BRACKET: u8 = 15;
@@ -48,7 +41,7 @@ fn declared_op(op: u8, delayed: bool, typed: bool) -> u8
         if typed {
             return MATCH_TYPE;
         }
-        return MATCH_CONSTRUCTOR;
+        return MATCH_ONE;
     }
     if op == USE_UNDEFINED {
         if delayed {
@@ -75,7 +68,7 @@ fn say_value(
     firsts: &mut Operands,
     seconds: &mut Operands,
 ) -> usize
-    requires { ⌜ Speaking (now text) base n (now spans) (now links) (now heads) (now roles) (now types) (now ranks) count (now ops) (now firsts) (now seconds) × Inside (now text) span ⌝ }
+    requires { ⌜ Saying (now text) base n (now spans) (now links) (now heads) (now roles) (now types) (now ranks) count (now ops) (now firsts) (now seconds) × Inside (now text) span ⌝ }
     ensures { λ r. ⌜ CodeSaid (now (ops .entry)) (now (firsts .entry)) (now (seconds .entry)) count (valueSaid (lettersAt (now (text .entry)) span) (boundNames (now (text .entry)) (now (spans .entry)) base (n - base)) (declaredNames (now (text .entry)) (now (spans .entry)) (now (roles .entry)) base) ∷ []) (now (ops .exit)) (now (firsts .exit)) (now (seconds .exit)) r ⌝ }
 {
     let k = find_name(text, span, n, n, spans, links, heads);
@@ -115,7 +108,7 @@ fn say_declared(
     firsts: &mut Operands,
     seconds: &mut Operands,
 ) -> usize
-    requires { ⌜ Speaking (now text) base n (now spans) (now links) (now heads) (now roles) (now types) (now ranks) count (now ops) (now firsts) (now seconds) × Inside (now text) span ⌝ }
+    requires { ⌜ Saying (now text) base n (now spans) (now links) (now heads) (now roles) (now types) (now ranks) count (now ops) (now firsts) (now seconds) × Inside (now text) span ⌝ }
     ensures { λ r. ⌜ CodeSaid (now (ops .entry)) (now (firsts .entry)) (now (seconds .entry)) count (namedSaid op delayed (lettersAt (now (text .entry)) span) (declaredNames (now (text .entry)) (now (spans .entry)) (now (roles .entry)) base) ∷ []) (now (ops .exit)) (now (firsts .exit)) (now (seconds .exit)) r ⌝ }
 {
     let k = find_declared(text, span, base, n, spans, links, heads, roles);
@@ -149,7 +142,7 @@ fn say_name(
     firsts: &mut Operands,
     seconds: &mut Operands,
 ) -> usize
-    requires { ⌜ Speaking (now text) base n (now spans) (now links) (now heads) (now roles) (now types) (now ranks) count (now ops) (now firsts) (now seconds) × Inside (now text) span ⌝ }
+    requires { ⌜ Saying (now text) base n (now spans) (now links) (now heads) (now roles) (now types) (now ranks) count (now ops) (now firsts) (now seconds) × Inside (now text) span ⌝ }
     ensures { λ r. ⌜ CodeSaid (now (ops .entry)) (now (firsts .entry)) (now (seconds .entry)) count (nameSaid op delayed (lettersAt (now (text .entry)) span) (boundNames (now (text .entry)) (now (spans .entry)) base (n - base)) (declaredNames (now (text .entry)) (now (spans .entry)) (now (roles .entry)) base)) (now (ops .exit)) (now (firsts .exit)) (now (seconds .exit)) r ⌝ }
 {
     if op == SILENT {
@@ -219,7 +212,7 @@ fn say_other(
     firsts: &mut Operands,
     seconds: &mut Operands,
 ) -> usize
-    requires { ⌜ CodeSized (now ops) (now firsts) (now seconds) count × (place ≤ 65535) ⌝ }
+    requires { ⌜ CodeSized (now ops) (now firsts) (now seconds) count × (place ≤ limit) ⌝ }
     ensures { λ r. ⌜ CodeSaid (now (ops .entry)) (now (firsts .entry)) (now (seconds .entry)) count (otherSaid op place) (now (ops .exit)) (now (firsts .exit)) (now (seconds .exit)) r ⌝ }
 {
     if op == SILENT {
@@ -250,7 +243,7 @@ pub fn say_token(
     firsts: &mut Operands,
     seconds: &mut Operands,
 ) -> usize
-    requires { ⌜ Speaking (now text) base n (now spans) (now links) (now heads) (now roles) (now types) (now ranks) count (now ops) (now firsts) (now seconds) × Inside (now text) span × (state < 47) × (start ≤ 65535) ⌝ }
+    requires { ⌜ Saying (now text) base n (now spans) (now links) (now heads) (now roles) (now types) (now ranks) count (now ops) (now firsts) (now seconds) × Inside (now text) span × (state < 47) × (start ≤ limit) ⌝ }
     ensures { λ r. ⌜ CodeSaid (now (ops .entry)) (now (firsts .entry)) (now (seconds .entry)) count (classSaid class start (stateOf state) op delayed (lettersAt (now (text .entry)) span) (boundNames (now (text .entry)) (now (spans .entry)) base (n - base)) (declaredNames (now (text .entry)) (now (spans .entry)) (now (roles .entry)) base)) (now (ops .exit)) (now (firsts .exit)) (now (seconds .exit)) r ⌝ }
 {
     if class != SMALL_LETTER {

@@ -1,62 +1,87 @@
 // What a token says in a state of the grammar's machine: a line a state.
 ghost use mathlib.Core.Path.{_≡_};
 ghost use Rattle.resolving.specs.Said.{sayingTable};
+use instructions::BEGIN_PATTERN as BP;
+use instructions::CLOSE as CL;
+use instructions::CLOSE_CONSTANT as CC;
+use instructions::CLOSE_IF as CI;
+use instructions::CLOSE_PARTS as CS;
+use instructions::COUNT_CONSTRUCTOR as CO;
+use instructions::DECLARE_TYPE as DT;
+use instructions::END_CONSTANT as EC;
+use instructions::FIRST_TYPE as FT;
+use instructions::INPUT_HAS as IH;
+use instructions::MATCH_TYPE as MT;
+use instructions::NEXT_ALTERNATIVE as NA;
+use instructions::NEXT_PART as NS;
+use instructions::OPEN_CONSTANT as OC;
+use instructions::OPEN_DELAY as OD;
+use instructions::OPEN_IF as OI;
+use instructions::OPEN_LET as OL;
+use instructions::OPEN_PAIR as OP;
+use instructions::OPEN_PARTS as OS;
+use instructions::OPEN_REC as OR;
+use instructions::SECOND_TYPE as ST;
+use instructions::SILENT as N;
+use instructions::TAKE_FIRST as TF;
+use instructions::TAKE_SECOND as TS;
+use instructions::USE_LEAF as UL;
+use instructions::USE_NAME as UN;
+use instructions::USE_UNDEFINED as UU;
+use reading::numbers::StateTable;
 
-pub type Sayings = [[u8; 18]; 47];
+pub type Sayings = StateTable;
 
-// Nothing is said.
-const N: u8 = 30;
-
-// By the class of a token's first byte the number of the instruction.
+// By the class of a token's first byte the number of the instruction, under two letters of its name; N where nothing is said.
 pub fn saying_table() -> Sayings
     ensures { λ r. ⌜ r ≡ sayingTable ⌝ }
 {
     [
         [N, N, N, N, N, N, N, N, N, N, N, N, N, N, N, N, N, N],
         [N, N, N, N, N, N, N, N, N, N, N, N, N, N, N, N, N, N],
-        [N, N, N, N, N, N, N, N, N, N, 0, N, N, N, N, N, N, N],
+        [N, N, N, N, N, N, N, N, N, N, DT, N, N, N, N, N, N, N],
         [N, N, N, N, N, N, N, N, N, N, N, N, N, N, N, N, N, N],
-        [N, N, N, N, N, N, N, N, N, N, 1, N, N, N, N, N, N, N],
+        [N, N, N, N, N, N, N, N, N, N, CO, N, N, N, N, N, N, N],
         [N, N, N, N, N, N, N, N, N, N, N, N, N, N, N, N, N, N],
-        [N, N, N, N, N, N, N, N, N, N, 1, N, N, N, N, N, N, N],
-        [N, N, N, N, N, N, N, N, N, N, 2, N, N, N, N, N, N, N],
+        [N, N, N, N, N, N, N, N, N, N, CO, N, N, N, N, N, N, N],
+        [N, N, N, N, N, N, N, N, N, N, FT, N, N, N, N, N, N, N],
         [N, N, N, N, N, N, N, N, N, N, N, N, N, N, N, N, N, N],
-        [N, N, N, N, N, N, N, N, N, N, 3, N, N, N, N, N, N, N],
-        [N, N, N, N, N, N, N, N, N, N, N, N, N, N, N, N, N, N],
-        [N, N, N, N, N, N, N, N, N, N, N, N, N, N, N, N, N, N],
-        [N, N, N, N, N, N, N, N, N, N, 4, N, N, N, N, N, N, N],
-        [N, N, N, N, N, N, N, N, N, N, 5, N, N, N, N, N, N, N],
-        [N, N, N, N, N, N, N, N, N, N, 7, N, N, N, N, N, N, N],
-        [8, N, N, N, N, 8, N, N, N, N, 5, N, 11, N, N, N, N, 12],
+        [N, N, N, N, N, N, N, N, N, N, ST, N, N, N, N, N, N, N],
         [N, N, N, N, N, N, N, N, N, N, N, N, N, N, N, N, N, N],
         [N, N, N, N, N, N, N, N, N, N, N, N, N, N, N, N, N, N],
-        [N, 15, N, N, N, N, N, N, N, N, N, N, N, N, N, N, N, N],
-        [N, N, N, N, N, N, N, N, N, N, 9, N, N, N, N, N, N, N],
+        [N, N, N, N, N, N, N, N, N, N, IH, N, N, N, N, N, N, N],
+        [N, N, N, N, N, N, N, N, N, N, UN, N, N, N, N, N, N, N],
+        [N, N, N, N, N, N, N, N, N, N, UU, N, N, N, N, N, N, N],
+        [OP, N, N, N, N, OP, N, N, N, N, UN, N, OI, N, N, N, N, OD],
         [N, N, N, N, N, N, N, N, N, N, N, N, N, N, N, N, N, N],
         [N, N, N, N, N, N, N, N, N, N, N, N, N, N, N, N, N, N],
-        [N, 15, N, N, N, N, N, N, N, N, N, N, N, N, N, N, N, N],
-        [N, N, N, N, N, N, N, N, N, N, N, N, N, N, N, N, N, N],
-        [N, N, N, N, N, N, N, N, N, N, 10, N, N, N, N, N, N, N],
-        [N, N, N, N, N, N, N, N, N, N, N, N, N, N, N, N, N, N],
+        [N, CL, N, N, N, N, N, N, N, N, N, N, N, N, N, N, N, N],
+        [N, N, N, N, N, N, N, N, N, N, OL, N, N, N, N, N, N, N],
         [N, N, N, N, N, N, N, N, N, N, N, N, N, N, N, N, N, N],
         [N, N, N, N, N, N, N, N, N, N, N, N, N, N, N, N, N, N],
+        [N, CL, N, N, N, N, N, N, N, N, N, N, N, N, N, N, N, N],
         [N, N, N, N, N, N, N, N, N, N, N, N, N, N, N, N, N, N],
-        [N, 15, N, N, N, N, N, N, N, N, N, N, N, N, N, N, N, N],
-        [N, N, N, N, N, N, N, N, N, N, N, N, N, N, N, 17, N, N],
-        [20, N, N, N, N, N, N, N, N, N, 18, N, N, N, N, N, N, N],
-        [N, N, N, N, 23, N, N, N, N, N, N, N, N, N, N, N, N, N],
-        [N, N, 21, N, 23, N, N, N, N, N, N, N, N, N, N, N, N, N],
-        [N, 22, N, N, 23, N, N, N, N, N, N, N, N, N, N, N, N, N],
+        [N, N, N, N, N, N, N, N, N, N, OR, N, N, N, N, N, N, N],
         [N, N, N, N, N, N, N, N, N, N, N, N, N, N, N, N, N, N],
-        [N, 16, N, N, N, N, N, N, N, N, N, N, N, N, N, N, N, N],
         [N, N, N, N, N, N, N, N, N, N, N, N, N, N, N, N, N, N],
-        [26, N, N, N, N, N, N, N, N, N, 24, N, N, N, N, N, N, N],
-        [N, N, 28, N, N, N, N, N, N, N, N, N, N, N, N, N, N, N],
         [N, N, N, N, N, N, N, N, N, N, N, N, N, N, N, N, N, N],
-        [N, 27, N, N, N, N, N, N, N, N, N, N, N, N, N, N, N, N],
-        [N, 15, N, N, N, N, N, N, N, N, N, N, N, N, N, N, N, N],
         [N, N, N, N, N, N, N, N, N, N, N, N, N, N, N, N, N, N],
-        [N, N, N, N, N, N, N, N, 13, 14, N, N, N, N, N, N, N, N],
+        [N, CL, N, N, N, N, N, N, N, N, N, N, N, N, N, N, N, N],
+        [N, N, N, N, N, N, N, N, N, N, N, N, N, N, N, BP, N, N],
+        [OS, N, N, N, N, N, N, N, N, N, MT, N, N, N, N, N, N, N],
+        [N, N, N, N, NA, N, N, N, N, N, N, N, N, N, N, N, N, N],
+        [N, N, NS, N, NA, N, N, N, N, N, N, N, N, N, N, N, N, N],
+        [N, CS, N, N, NA, N, N, N, N, N, N, N, N, N, N, N, N, N],
+        [N, N, N, N, N, N, N, N, N, N, N, N, N, N, N, N, N, N],
+        [N, CI, N, N, N, N, N, N, N, N, N, N, N, N, N, N, N, N],
+        [N, N, N, N, N, N, N, N, N, N, N, N, N, N, N, N, N, N],
+        [OC, N, N, N, N, N, N, N, N, N, UL, N, N, N, N, N, N, N],
+        [N, N, EC, N, N, N, N, N, N, N, N, N, N, N, N, N, N, N],
+        [N, N, N, N, N, N, N, N, N, N, N, N, N, N, N, N, N, N],
+        [N, CC, N, N, N, N, N, N, N, N, N, N, N, N, N, N, N, N],
+        [N, CL, N, N, N, N, N, N, N, N, N, N, N, N, N, N, N, N],
+        [N, N, N, N, N, N, N, N, N, N, N, N, N, N, N, N, N, N],
+        [N, N, N, N, N, N, N, N, TF, TS, N, N, N, N, N, N, N, N],
         [N, N, N, N, N, N, N, N, N, N, N, N, N, N, N, N, N, N],
         [N, N, N, N, N, N, N, N, N, N, N, N, N, N, N, N, N, N],
     ]

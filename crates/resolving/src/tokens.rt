@@ -2,15 +2,17 @@
 ghost use mathlib.Core.Path.{_≡_};
 ghost use mathlib.Core.Bool.{true, false};
 ghost use mathlib.Core.List.{List};
-ghost use Prim.Native.Nat.{ℕ, _+_, _≤_, _<_};
+ghost use Prim.Native.Nat.{ℕ, _+_, _≤_, _<_, _-_};
 ghost use lib.ListN.{length, getD};
 ghost use Rattle.grammar.specs.Tokens.{Token};
 ghost use Rattle.reading.specs.Coded.{stateOf, stackOf, Tables};
 ghost use Rattle.scoping.specs.Scoped.{admissionTable, effectTable, heldScope, Scoping};
 ghost use Rattle.symbols.specs.Names.{Inside};
 ghost use Rattle.instructions.specs.TokenOrder.{inConstant};
-ghost use Rattle.resolving.specs.Said.{spanBetween, Declares, sayingTable};
-ghost use Rattle.resolving.specs.Walked.{TokenNoted, FoundWith, Walking, TokenTaken};
+ghost use Rattle.resolving.specs.Said.{spanBetween, NamesDeclared, sayingTable};
+ghost use Rattle.resolving.specs.Walked.{TokenNoted, FoundWith, TakingToken, TokenTaken};
+ghost use Rattle.grammar.specs.Legal.{limit};
+ghost use Rattle.grammar.specs.Sizes.{textTable};
 use crate::numbering::number_names;
 use crate::sayings::say_token;
 use crate::tables::Sayings;
@@ -20,7 +22,9 @@ use reading::begin;
 use reading::classes::class_of;
 use reading::numbers::ContextStack;
 use reading::numbers::LEADS;
+use reading::numbers::LETTERS;
 use reading::numbers::SMALL_LETTER;
+use reading::numbers::StateTable;
 use reading::numbers::wide;
 use scanning::token_end;
 use scoping::notes::note_name;
@@ -35,7 +39,7 @@ use symbols::SPAN;
 use symbols::Spans;
 
 // The most letters of a name.
-const MOST_LETTERS: usize = 16;
+const MOST_LETTERS: usize = LETTERS as usize;
 
 // The states of a DELAY's constant that wait, from the first to the last.
 const CONSTANT_WAITS: u8 = 39;
@@ -56,7 +60,7 @@ pub struct Taken {
 
 // The span of a token from its place to its end; one without letters where it has too many for a name.
 fn span_of(start: usize, end: usize) -> u32
-    requires { ⌜ (start < end) × (end ≤ 65535) ⌝ }
+    requires { ⌜ (start < end) × (end ≤ limit) ⌝ }
     ensures { λ r. ⌜ r ≡ spanBetween start end ⌝ }
 {
     let letters = end - start;
@@ -68,7 +72,7 @@ fn span_of(start: usize, end: usize) -> u32
 
 // Whether a state of a DELAY's constant waits.
 fn in_constant(depth: usize, stack: &ContextStack) -> bool
-    requires { ⌜ (length (now stack) ≡ 65536) × (depth ≤ 65536) × ((k : ℕ) → k < depth → getD (now stack) k 0 < 47) ⌝ }
+    requires { ⌜ (length (now stack) ≡ textTable) × (depth ≤ textTable) × ((k : ℕ) → k < depth → getD (now stack) k 0 < 47) ⌝ }
     ensures { λ r. ⌜ r ≡ inConstant (stackOf depth (now (stack .entry))) ⌝ }
 {
     if depth == 0 {
@@ -98,8 +102,8 @@ fn note(
     pendings: &mut Spans,
     admissions: &Admissions,
 ) -> ScopeCounts
-    requires { ⌜ Scoping (now text) 65534 base n m (now spans) (now links) (now heads) (now roles) (now pendings) × Inside (now text) span × (state < 47) × (now admissions ≡ admissionTable) ⌝ }
-    ensures { λ r. ⌜ (r .ok ≡ true → Scoping (now (text .entry)) (n + m + 1) (r .base) (r .all) (r .waiting) (now (spans .exit)) (now (links .exit)) (now (heads .exit)) (now (roles .exit)) (now (pendings .exit)) × Declares (now (text .entry)) (now (spans .entry)) (now (roles .entry)) base (now (spans .exit)) (now (roles .exit)) (r .base)) × ((start end : ℕ) (t : Token) (others : List Token) → FoundWith (now (text .entry)) start end class span effect (stateOf state) t others → TokenNoted (stateOf state) t (heldScope (now (text .entry)) base n m (now (spans .entry)) (now (roles .entry)) (now (pendings .entry))) (r .ok) (heldScope (now (text .entry)) (r .base) (r .all) (r .waiting) (now (spans .exit)) (now (roles .exit)) (now (pendings .exit)))) ⌝ }
+    requires { ⌜ Scoping (now text) (limit - 1) base n m (now spans) (now links) (now heads) (now roles) (now pendings) × Inside (now text) span × (state < 47) × (now admissions ≡ admissionTable) ⌝ }
+    ensures { λ r. ⌜ (r .ok ≡ true → Scoping (now (text .entry)) (n + m + 1) (r .base) (r .all) (r .waiting) (now (spans .exit)) (now (links .exit)) (now (heads .exit)) (now (roles .exit)) (now (pendings .exit)) × NamesDeclared (now (text .entry)) (now (spans .entry)) (now (roles .entry)) base (now (spans .exit)) (now (roles .exit)) (r .base)) × ((start end : ℕ) (t : Token) (others : List Token) → FoundWith (now (text .entry)) start end class span effect (stateOf state) t others → TokenNoted (stateOf state) t (heldScope (now (text .entry)) base n m (now (spans .entry)) (now (roles .entry)) (now (pendings .entry))) (r .ok) (heldScope (now (text .entry)) (r .base) (r .all) (r .waiting) (now (spans .exit)) (now (roles .exit)) (now (pendings .exit)))) ⌝ }
 {
     if class == SMALL_LETTER {
         return note_name(
@@ -175,14 +179,14 @@ pub fn take_token(
     ops: &mut Ops,
     firsts: &mut Operands,
     seconds: &mut Operands,
-    nexts: &[[u8; 18]; 47],
-    waits: &[[u8; 18]; 47],
-    words: &[[u8; 18]; 47],
+    nexts: &StateTable,
+    waits: &StateTable,
+    words: &StateTable,
     effects: &Effects,
     admissions: &Admissions,
     sayings: &Sayings,
 ) -> Taken
-    requires { ⌜ Walking (now text) start state depth base n m count (now stack) (now spans) (now links) (now heads) (now roles) (now pendings) (now types) (now ranks) (now ops) (now firsts) (now seconds) × (start < length (now text)) × Tables (now nexts) (now waits) (now words) × (now effects ≡ effectTable) × (now admissions ≡ admissionTable) × (now sayings ≡ sayingTable) ⌝ }
+    requires { ⌜ TakingToken (now text) start state depth base n m count (now stack) (now spans) (now links) (now heads) (now roles) (now pendings) (now types) (now ranks) (now ops) (now firsts) (now seconds) × (start < length (now text)) × Tables (now nexts) (now waits) (now words) × (now effects ≡ effectTable) × (now admissions ≡ admissionTable) × (now sayings ≡ sayingTable) ⌝ }
     ensures { λ r. ⌜ TokenTaken (now (text .entry)) start (stateOf state) (stackOf depth (now (stack .entry))) (heldScope (now (text .entry)) base n m (now (spans .entry)) (now (roles .entry)) (now (pendings .entry))) (now (ops .entry)) (now (firsts .entry)) (now (seconds .entry)) count (r .ok) (r .end) (r .state) (r .depth) (r .base) (r .all) (r .waiting) (r .count) (now (stack .exit)) (now (spans .exit)) (now (links .exit)) (now (heads .exit)) (now (roles .exit)) (now (pendings .exit)) (now (types .exit)) (now (ranks .exit)) (now (ops .exit)) (now (firsts .exit)) (now (seconds .exit)) ⌝ }
 {
     let class = class_of(text[start]);

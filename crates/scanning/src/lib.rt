@@ -5,10 +5,11 @@ ghost use lib.ListN.{length, drop};
 ghost use Rattle.scanning.specs.Scanned.{blanksIn, lettersIn, tokenEnd};
 use reading::classes::class_of;
 use reading::numbers::BLANK;
+use reading::numbers::OTHER_CAPITAL;
 use reading::numbers::SMALL_LETTER;
 
 // The last class of letters, a capital that no keyword begins with.
-const LAST_LETTER: u8 = 18;
+const LAST_LETTER: u8 = OTHER_CAPITAL;
 
 // The first byte from i on that is no blank, or the end.
 pub fn skip_blanks(text: &[u8], i: usize) -> usize

@@ -82,22 +82,22 @@ module _ {text : List ℕ} {base n m : ℕ} {spans links heads roles pendings : 
       ∙ none-bound text spans roles pendings base n m e (holdsIn q w (heldScope text base n m spans roles pendings))
 
   -- after the type's name
-  pub first-told : {b a m′ : ℕ} {spans′ links′ heads′ roles′ : List ℕ} (q : State) (w : List ℕ) (x : Bool) → base ≡ n
+  pub first-type-told : {b a m′ : ℕ} {spans′ links′ heads′ roles′ : List ℕ} (q : State) (w : List ℕ) (x : Bool) → base ≡ n
       → Rescoped (declarePending (heldScope text base base m spans roles pendings)) text (base + m) b a m′ spans′ links′ heads′ roles′ pendings → b ≡ a
       → x ≡ holdsIn q w (heldScope text a a m′ spans′ roles′ pendings)
       → x ≡ cond (noneBound (heldScope text base n m spans roles pendings)) (holdsIn q w (declarePending (heldScope text base n m spans roles pendings))) false
-  first-told {a} {m′} {spans′} {roles′} q w x e r f h =
+  first-type-told {a} {m′} {spans′} {roles′} q w x e r f h =
       h
       ∙ ap (holdsIn q w)
       (ap (λ k. heldScope text k a m′ spans′ roles′ pendings) (sym f) ∙ r .same-scope ∙ ap declarePending (same-base text spans roles pendings base n m e))
       ∙ none-bound text spans roles pendings base n m e (holdsIn q w (declarePending (heldScope text base n m spans roles pendings)))
 
   -- a pair type
-  pub pair-noted : {q : State} {w : List ℕ} {ok : Bool} {b a m′ : ℕ} {spans′ links′ heads′ roles′ : List ℕ} → base ≡ n
+  pub pair-type-noted : {q : State} {w : List ℕ} {ok : Bool} {b a m′ : ℕ} {spans′ links′ heads′ roles′ : List ℕ} → base ≡ n
       → true ≡ cond (noneBound (heldScope text base n m spans roles pendings)) (holdsIn q w (heldScope text base n m spans roles pendings)) false
       → Rescoped (declarePending (heldScope text base base m spans roles pendings)) text (base + m) b a m′ spans′ links′ heads′ roles′ pendings → ok ≡ true
       → NameNoted q declaresPending w (heldScope text base n m spans roles pendings) text (n + m + 1) ok b a m′ spans′ links′ heads′ roles′ pendings
-  pair-noted e t r o = record {
+  pair-type-noted e t r o = record {
     told = o ∙ t;
     rescoped =
         λ z. rescoped-as (n + m + 1) (ap declarePending (same-base text spans roles pendings base n m e)) (omega arith) (omega (arith, s .few)) r;

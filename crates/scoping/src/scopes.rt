@@ -2,12 +2,14 @@
 ghost use mathlib.Core.Path.{_≡_};
 ghost use mathlib.Core.Bool.{true};
 ghost use mathlib.Core.List.{List, _∷_};
-ghost use Prim.Native.Nat.{ℕ, _+_, _≤_, _<_};
+ghost use Prim.Native.Nat.{ℕ, _+_, _≤_, _<_, _-_};
 ghost use Rattle.naming.specs.Declared.{declaredAs};
 ghost use Rattle.naming.specs.TokenWalk.{holdsIn, declarePending, declaresFirst, declaresNext};
 ghost use Rattle.reading.specs.Coded.{stateOf};
 ghost use Rattle.symbols.specs.Names.{lettersAt, Inside, Hashed, Roles, BoundRoles, roleNamed, declaredNames};
 ghost use Rattle.scoping.specs.Scoped.{admissionTable, heldScope, Scoping, Rescoped, NameBound, NameNoted};
+ghost use Rattle.grammar.specs.Legal.{limit};
+ghost use Rattle.grammar.specs.Sizes.{textTable};
 use crate::tables::Admissions;
 use reading::numbers::wide;
 use symbols::Heads;
@@ -42,7 +44,7 @@ pub fn declare_name(
     heads: &mut Heads,
     roles: &mut NameRoles,
 )
-    requires { ⌜ Hashed (now text) n (now spans) (now links) (now heads) × Inside (now text) span × (n < 65536) × Roles (now roles) n × (kind < 2) ⌝ }
+    requires { ⌜ Hashed (now text) n (now spans) (now links) (now heads) × Inside (now text) span × (n < textTable) × Roles (now roles) n × (kind < 2) ⌝ }
     ensures { λ _. ⌜ Hashed (now (text .entry)) (n + 1) (now (spans .exit)) (now (links .exit)) (now (heads .exit)) × Roles (now (roles .exit)) (n + 1) × (declaredNames (now (text .entry)) (now (spans .exit)) (now (roles .exit)) (n + 1) ≡ declaredAs (lettersAt (now (text .entry)) span) (roleNamed kind) ∷ declaredNames (now (text .entry)) (now (spans .entry)) (now (roles .entry)) n) ⌝ }
 {
     push_name(text, span, n, spans, links, heads);
@@ -60,7 +62,7 @@ pub fn bind_name(
     heads: &mut Heads,
     roles: &mut NameRoles,
 )
-    requires { ⌜ Hashed (now text) n (now spans) (now links) (now heads) × Inside (now text) span × (n < 65536) × (base ≤ n) × Roles (now roles) base × BoundRoles (now text) (now spans) (now roles) base n ⌝ }
+    requires { ⌜ Hashed (now text) n (now spans) (now links) (now heads) × Inside (now text) span × (n < textTable) × (base ≤ n) × Roles (now roles) base × BoundRoles (now text) (now spans) (now roles) base n ⌝ }
     ensures { λ _. ⌜ NameBound (now (text .entry)) span base n (now (spans .entry)) (now (roles .entry)) (now (spans .exit)) (now (links .exit)) (now (heads .exit)) (now (roles .exit)) ⌝ }
 {
     let declared = declared_role(text, span, base, n, spans, links, heads, roles);
@@ -79,7 +81,7 @@ pub fn declare_pending(
     roles: &mut NameRoles,
     pendings: &Spans,
 ) -> ScopeCounts
-    requires { ⌜ Scoping (now text) 65535 base base m (now spans) (now links) (now heads) (now roles) (now pendings) ⌝ }
+    requires { ⌜ Scoping (now text) limit base base m (now spans) (now links) (now heads) (now roles) (now pendings) ⌝ }
     ensures { λ r. ⌜ Rescoped (declarePending (heldScope (now (text .entry)) base base m (now (spans .entry)) (now (roles .entry)) (now (pendings .entry)))) (now (text .entry)) (base + m) (r .base) (r .all) (r .waiting) (now (spans .exit)) (now (links .exit)) (now (heads .exit)) (now (roles .exit)) (now (pendings .entry)) × (r .base ≡ r .all) × (r .ok ≡ true) ⌝ }
 {
     if m == 0 {
@@ -148,7 +150,7 @@ pub fn note_first(
     pendings: &Spans,
     admissions: &Admissions,
 ) -> ScopeCounts
-    requires { ⌜ Scoping (now text) 65534 base n m (now spans) (now links) (now heads) (now roles) (now pendings) × Inside (now text) span × (state < 47) × (now admissions ≡ admissionTable) ⌝ }
+    requires { ⌜ Scoping (now text) (limit - 1) base n m (now spans) (now links) (now heads) (now roles) (now pendings) × Inside (now text) span × (state < 47) × (now admissions ≡ admissionTable) ⌝ }
     ensures { λ r. ⌜ NameNoted (stateOf state) declaresFirst (lettersAt (now (text .entry)) span) (heldScope (now (text .entry)) base n m (now (spans .entry)) (now (roles .entry)) (now (pendings .entry))) (now (text .entry)) (n + m + 1) (r .ok) (r .base) (r .all) (r .waiting) (now (spans .exit)) (now (links .exit)) (now (heads .exit)) (now (roles .exit)) (now (pendings .entry)) ⌝ }
 {
     if base != n {
@@ -214,7 +216,7 @@ pub fn note_next(
     pendings: &Spans,
     admissions: &Admissions,
 ) -> ScopeCounts
-    requires { ⌜ Scoping (now text) 65534 base n m (now spans) (now links) (now heads) (now roles) (now pendings) × Inside (now text) span × (state < 47) × (now admissions ≡ admissionTable) ⌝ }
+    requires { ⌜ Scoping (now text) (limit - 1) base n m (now spans) (now links) (now heads) (now roles) (now pendings) × Inside (now text) span × (state < 47) × (now admissions ≡ admissionTable) ⌝ }
     ensures { λ r. ⌜ NameNoted (stateOf state) declaresNext (lettersAt (now (text .entry)) span) (heldScope (now (text .entry)) base n m (now (spans .entry)) (now (roles .entry)) (now (pendings .entry))) (now (text .entry)) (n + m + 1) (r .ok) (r .base) (r .all) (r .waiting) (now (spans .exit)) (now (links .exit)) (now (heads .exit)) (now (roles .exit)) (now (pendings .entry)) ⌝ }
 {
     if base != n {

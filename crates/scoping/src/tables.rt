@@ -1,10 +1,15 @@
 // What the states of the grammar's machine say of names: a line a state.
 ghost use mathlib.Core.Path.{_≡_};
 ghost use Rattle.scoping.specs.Scoped.{admissionTable, effectTable};
+use reading::numbers::STATES;
+use reading::numbers::StateTable;
 
-pub type Admissions = [[u8; 6]; 47];
+// What a row says of a name.
+const ADMISSION_ENTRIES: usize = 6;
 
-pub type Effects = [[u8; 18]; 47];
+pub type Admissions = [[u8; ADMISSION_ENTRIES]; STATES];
+
+pub type Effects = StateTable;
 
 // Whether a name may stand for a type, a constructor, `input`, a bound name, nothing; and whether it is looked for among the bound names.
 pub fn admission_table() -> Admissions

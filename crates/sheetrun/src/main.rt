@@ -1,54 +1,34 @@
 // Runs sheet.bin on stim.bin: prints the listing and writes next.bin, or prints only the refusal (docs/SHEETS.md, "Listing").
-ghost use Prim.Native.Nat.{_≤_, _<_};
+ghost use Prim.Native.Nat.{_≤_};
 ghost use mathlib.Core.Path.{_≡_};
 ghost use lib.ListN.{length, take};
 ghost use Rattle.printout.specs.Printout.{runSheet};
+ghost use Rattle.printout.specs.OutputsLong.{mostOutput, sheetRoom};
+use files::print;
 use files::read_named;
+use files::refuse_file;
 use files::replace;
-use libc::STDOUT_FILENO;
-use listing::LINE_BYTES;
-use printout::first_piece;
-use printout::next_piece;
-use printout::put_no_file;
 use printout::tell;
+use records::SHEET_BYTES;
+use records::VALUE_BYTES;
+use stimulus::STIMULUS_BYTES;
 
-// The longest sheet and a byte more, and the longest output: 65,535 cycles of 64 leaves.
-const SHEET_ROOM: usize = 49153;
+// The longest sheet and a byte more, and the longest output: a value for each byte of the longest stimulus.
+const SHEET_ROOM: usize = SHEET_BYTES + 1;
 
-const OUTPUT_ROOM: usize = 4194240;
+const OUTPUT_ROOM: usize = STIMULUS_BYTES * VALUE_BYTES;
 
 // A longer file is refused for its length and not cut.
 fn sheet_room() -> [u8; SHEET_ROOM]
-    ensures { λ r. ⌜ 49153 ≡ length r ⌝ }
+    ensures { λ r. ⌜ sheetRoom ≡ length r ⌝ }
 {
     [0; SHEET_ROOM]
 }
 
 fn output_room() -> [u8; OUTPUT_ROOM]
-    ensures { λ r. ⌜ 4194240 ≡ length r ⌝ }
+    ensures { λ r. ⌜ mostOutput ≡ length r ⌝ }
 {
     [0; OUTPUT_ROOM]
-}
-
-// Prints what was told, piece by piece: laid end to end the pieces are the listing, or the line of a refusal.
-fn print(code: u64, place: u64, t: u64, w: usize, outputs: &[u8])
-    requires { ⌜ (0 < w) × (w ≤ 64) ⌝ }
-{
-    let mut buffer = io::large_buffer();
-    let begun = first_piece(&mut buffer, code, place, t, w, outputs);
-    let end = begun.end;
-    io::write_all(STDOUT_FILENO, &buffer[0..end]);
-    let mut k = begun.k;
-    let mut first = begun.first;
-    let mut last = begun.last;
-    while !last {
-        let piece = next_piece(&mut buffer, w, outputs, k, first);
-        let until = piece.end;
-        io::write_all(STDOUT_FILENO, &buffer[0..until]);
-        k = piece.k;
-        first = piece.first;
-        last = piece.last;
-    }
 }
 
 // Writes the sheet after the last cycle. Where next.bin can't be written, nothing more is done: the listing is printed already.
@@ -67,7 +47,7 @@ fn keep_next(sheet: &[u8], stim: &[u8], room: &[u8])
 }
 
 fn run_files(sheet: &[u8], stim: &[u8])
-    requires { ⌜ length (now sheet) ≤ 49153 ⌝ }
+    requires { ⌜ length (now sheet) ≤ sheetRoom ⌝ }
 {
     let mut output = output_room();
     let mut next = sheet_room();
@@ -78,13 +58,6 @@ fn run_files(sheet: &[u8], stim: &[u8])
         return;
     }
     keep_next(sheet, stim, &next);
-}
-
-// Prints the line for a file that could not be opened.
-fn refuse_file(opened: bool) {
-    let mut line = [0u8; LINE_BYTES];
-    let end = put_no_file(&mut line, opened);
-    io::write_all(STDOUT_FILENO, &line[0..end]);
 }
 
 fn main() {

@@ -1,9 +1,10 @@
 // Every call for hosts in C: libsheets.a.
 ghost use mathlib.Core.Path.{_≡_};
 ghost use Rattle.answers.specs.Answers.{packed};
-ghost use Rattle.verdict.specs.Verdict.{verdict, verdictAnswer};
+ghost use Rattle.verdict.specs.Verdict.{verdict};
+ghost use Rattle.verdict.specs.Scopes.{verdictAnswer};
 ghost use Rattle.simulator.specs.Calls.{Ran};
-ghost use Rattle.carry.specs.Carry.{CarryGives};
+ghost use Rattle.carry.specs.Carry.{CarryGiven};
 ghost use Rattle.firing.specs.Telling.{ToldFired};
 ghost use Rattle.preview.specs.Preview.{Previewed};
 ghost use Rattle.translator.specs.Translation.{TranslatedInOne};
@@ -33,7 +34,7 @@ pub extern "C" fn sheet_run(sheet: &[u8], stim: &[u8], out: &mut [u8], next: &mu
 // Carrying: the answer's code times 2^32, plus its place.
 #[no_mangle]
 pub extern "C" fn sheet_carry(old: &[u8], new: &[u8], next: &mut [u8]) -> u64
-    ensures { λ r. ⌜ CarryGives (now (old .entry)) (now (new .entry)) (now (next .entry)) r (now (next .exit)) ⌝ }
+    ensures { λ r. ⌜ CarryGiven (now (old .entry)) (now (new .entry)) (now (next .entry)) r (now (next .exit)) ⌝ }
 {
     carry(old, new, next)
 }

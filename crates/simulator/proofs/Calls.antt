@@ -15,7 +15,8 @@ use Rattle.answers.specs.Answers.{code, place, inOne, packed, firstApplying, Sa
 use Rattle.answers.specs.declared.Answer.{Answer}
 use Rattle.answers.specs.declared.Answer.the-variants.{Done, Refused}
 use Rattle.answers.proofs.First.{when-none, first-says}
-use Rattle.verdict.specs.Verdict.{verdictAnswer, verdict}
+use Rattle.verdict.specs.Verdict.{verdict}
+use Rattle.verdict.specs.Scopes.{verdictAnswer}
 use Rattle.verdict.specs.Widths.{Widths, Checked}
 use Rattle.verdict.specs.declared.Verdict.{Verdict}
 use Rattle.verdict.specs.declared.Verdict.the-variants as Verdicts
@@ -25,7 +26,7 @@ use Rattle.accepted.proofs.Small.{output-typed, accepted-sized, accepted-few}
 use Rattle.stimulus.specs.Stimulus.{cycleCount, wrongStimulus, wrongByte, stimulusChecks}
 use Rattle.stimulus.specs.Holding.{Held}
 use Rattle.stimulus.proofs.Holding as Holding
-use Rattle.behaviour.specs.Run.{outputNeeded, answer, Gives}
+use Rattle.behaviour.specs.Run.{outputNeeded, answer, RunGiven}
 use Rattle.behaviour.specs.Afterwards.{WellFormed}
 use Rattle.behaviour.proofs.Answers.{
   gives-refusal,
@@ -49,15 +50,15 @@ module _ {s : List ℕ} {n : ℕ} {W : List ℕ} {t : ℕ} (g : RunningAccepted 
   output-there =
       let c = g .sized .counted in
       let f = g .sized .few in
-      let h = output-typed s (g .accepted) .there in
+      let h = output-typed (g .accepted) .there in
       omega arith
 
   pub output-few : getD W t 0 ≤ 64
-  output-few = let f = accepted-few s (g .accepted) in let e = g .table .types t (output-typed s (g .accepted)) in omega arith
+  output-few = let f = accepted-few s (g .accepted) in let e = g .table .types t (output-typed (g .accepted)) in omega arith
 
   module _ {stim : List ℕ} {a : Answer} (h : Held s stim a) where
     -- 8 and 9
-    pub refused-stimulus : {out next : List ℕ} {c p : ℕ} → a ≡ Refused c p → {result : ℕ} → result ≡ packed a → Gives s stim out next result out next
+    pub refused-stimulus : {out next : List ℕ} {c p : ℕ} → a ≡ Refused c p → {result : ℕ} → result ≡ packed a → RunGiven s stim out next result out next
     refused-stimulus {out} {next} e q =
         rw (q, e) (gives-refusal (stimulus-refused s stim out next (g .accepted) (sym (h .answered) ∙ e)))
 
@@ -87,17 +88,17 @@ module _ {s : List ℕ} {n : ℕ} {W : List ℕ} {t : ℕ} (g : RunningAccepted 
           let m : count * getD W t 0 ≤ count * 64 = mul-le-mul-left count output-few in let l = count-few in omega arith
 
       needed : count * getD W t 0 ≡ outputNeeded s t stim
-      needed = rw (counted, g .table .types t (output-typed s (g .accepted))) refl
+      needed = rw (counted, g .table .types t (output-typed (g .accepted))) refl
 
       -- 10 and 11
       pub refused-output : {out next : List ℕ} → (length out ≡ count * getD W t 0 → ⊥) → {result : ℕ} → result ≡ inOne 10 (count * getD W t 0)
-          → Gives s stim out next result out next
+          → RunGiven s stim out next result out next
       refused-output {out} {next} d q =
           rw (q, needed)
           (gives-refusal (output-refused s stim out next (g .accepted) stimulus-done (λ y. d (y ∙ sym needed))))
 
       module _ {out : List ℕ} (y : length out ≡ count * getD W t 0) where
-        pub refused-next : {next : List ℕ} → (length next ≡ length s → ⊥) → {result : ℕ} → result ≡ inOne 11 (length s) → Gives s stim out next result out next
+        pub refused-next : {next : List ℕ} → (length next ≡ length s → ⊥) → {result : ℕ} → result ≡ inOne 11 (length s) → RunGiven s stim out next result out next
         refused-next {next} d q =
             rw q
             (gives-refusal (next-refused s stim out next (g .accepted) stimulus-done (y ∙ needed) d))
@@ -118,17 +119,17 @@ module _ {s : List ℕ} {n : ℕ} {W : List ℕ} {t : ℕ} (g : RunningAccepted 
                 whole = whole;
                 fitting = fitting;
                 takes = Holding.takes call-accepting eb;
-                gives = g .table .types t (output-typed s (g .accepted));
+                gives = g .table .types t (output-typed (g .accepted));
                 counted = counted;
                 room = y;
                 start = put-whole s next next₁ (sym x) c;
               }
 
-          pub call-done : {next₂ out₂ : List ℕ} → RanCycles s stim next₂ out₂ → Gives s stim out next count out₂ next₂
+          pub call-done : {next₂ out₂ : List ℕ} → RanCycles s stim next₂ out₂ → RunGiven s stim out next count out₂ next₂
           call-done r = rw (counted, r .outputs, r .next) (gives-done well-formed)
 
 pub call-runs : {s stim out next : List ℕ} {result : ℕ} {out′ next′ : List ℕ} → ((i : ℕ) → Fits w8 (getD s i 0))
-    → Gives s stim out next result out′ next′ → Ran s stim out next result out′ next′
+    → RunGiven s stim out next result out′ next′ → Ran s stim out next result out′ next′
 call-runs {s} {stim} {out} {next} {result} {out′} {next′} b g =
     record {
       gives = g;
@@ -152,7 +153,7 @@ pub accepted-call : (s : List ℕ) (n : ℕ) → n ≡ length s / 12 → (w : Ve
     → Checked s w before table → w ≡ Verdicts.Accepted t → RunningAccepted s n table t
 accepted-call s n c w before table t l e =
     let v : verdict s ≡ Verdicts.Accepted t = sym (l .answered) ∙ e in
-    record { sized = rw c (accepted-sized s v); accepted = v; table = l .accepted (rw e refl) }
+    record { sized = rw c (accepted-sized v); accepted = v; table = l .accepted (rw e refl) }
 
 -- the leaves that a host asks for
 pub measured-refused : (s : List ℕ) (w : Verdict) → w ≡ verdict s → Refusing w → Measured s 0 0
@@ -171,7 +172,7 @@ measured-accepted {s} {n} {W} {t} g {a} ea =
       leaves-of = λ u v.
           let same : Verdicts.Accepted t ≡ Verdicts.Accepted u = sym (g .accepted) ∙ v in
           let eu : t ≡ u = cc in
-          (Holding.takes (call-accepting g) ea, g .table .types t (output-typed s (g .accepted)) ∙ rw eu refl);
+          (Holding.takes (call-accepting g) ea, g .table .types t (output-typed (g .accepted)) ∙ rw eu refl);
       few-input = Holding.input-few (call-accepting g) ea;
       few-output = output-few g;
     }

@@ -25,12 +25,13 @@ use Rattle.meaning.proofs.UndecidedRule.{rule-lawful}
 use Rattle.meaning.proofs.Order.{value-length}
 use Rattle.behaviour.specs.Afterwards.{OnlyDelays}
 use Rattle.behaviour.specs.Cycle.{output, sheetAfterCycle}
-use Rattle.behaviour.proofs.Cycle.{output-typed}
+use Rattle.behaviour.proofs.Cycle.{output-of-type}
 use Rattle.behaviour.proofs.Sheets.{only-leaves, header-same, accepted-written}
 use Rattle.stimulus.specs.Stimulus.{inputType, endToEnd, cycles}
-use Rattle.behaviour.specs.Run.{outputsBy, sheetBefore}
+use Rattle.behaviour.specs.Run.{outputsBy}
+use Rattle.behaviour.specs.Midway.{sheetBefore}
 use Rattle.stimulus.proofs.Stimulus.{stimulus-whole, cycles-typed, cycles-counted, cycle-at}
-use Rattle.behaviour.proofs.Run.{sheet-last, sheet-first, sheet-next, output-at, outputs-counted, sheet-accepted, sheet-only-delays}
+use Rattle.behaviour.proofs.Run.{sheet-last, sheet-first, sheet-next, output-at, outputs-counted, accepted-before, sheet-only-delays}
 use Rattle.behaviour.proofs.Afterwards.{all-at}
 use Rattle.stepper.specs.Cycling.{Cycling, Cycled}
 use Rattle.simulator.specs.Running.{Lending, Lent, RunningCycles, RanCycles}
@@ -114,9 +115,9 @@ module _ {s : List ℕ} {n : ℕ} {W stim : List ℕ} {wi wo count : ℕ} {curre
         let g = r .gives in
         omega arith
 
-    pub at-first : {env held : List ℕ} → length env ≡ 4096 → length held ≡ 4096
+    pub before-first : {env held : List ℕ} → length env ≡ 4096 → length held ≡ 4096
         → Before s stim wi wo count out₀ 0 0 0 env held current₀ out₀
-    at-first w l =
+    before-first w l =
         record {
           few = omega arith;
           read = sym (zero-mul wi);
@@ -165,7 +166,7 @@ module _ {s : List ℕ} {n : ℕ} {W stim : List ℕ} {wi wo count : ℕ} {curre
 
         begins-accepted : verdict begins ≡ Accepted (r .type)
         begins-accepted =
-            sheet-accepted rule-lawful s (r .accepted) inputs-typed k ∙ r .accepted
+            accepted-before rule-lawful s (r .accepted) inputs-typed k ∙ r .accepted
 
         input-typed : OfType (inputType s) input
         input-typed = rw input-is at (all-at inputs-typed k (in-list k h))
@@ -209,17 +210,17 @@ module _ {s : List ℕ} {n : ℕ} {W stim : List ℕ} {wi wo count : ℕ} {curre
         output-long : length (output begins input) ≡ wo
         output-long =
             value-length (typeAt begins (r .type))
-            (output-typed undecidedRule rule-lawful begins begins-accepted input
+            (output-of-type rule-lawful begins begins-accepted {i = input}
             (rw (header-same (accepted-written s (r .accepted)) delays 2 (omega arith), same-type begins-leaves (wordA s 0)) input-typed))
             ∙ rw (same-type begins-leaves (r .type)) (sym (r .gives))
 
         next-output : getD outs k [] ≡ output begins input
         next-output = output-at undecidedRule s (cycles s stim) k (in-list k h) ∙ ap (output begins) input-is
 
-        pub gone-on : {from′ at′ : ℕ} {env′ held′ current′ out′ : List ℕ} → from′ ≡ from + wi → at′ ≡ at + wo
+        pub cycle-gone-on : {from′ at′ : ℕ} {env′ held′ current′ out′ : List ℕ} → from′ ≡ from + wi → at′ ≡ at + wo
             → Lent stim from wi current out at wo env′ held′ current′ out′
             → Before s stim wi wo count out₀ (k + 1) from′ at′ env′ held′ current′ out′
-        gone-on {out′ = out′} ef ea l =
+        cycle-gone-on {out′ = out′} ef ea l =
             let filled : out′ ≡ take at out ++ (output begins input ++ drop (at + wo) out) = rw (b .sheet) at (l .filled) in
             let c = cycle-room in
             let front : length (take at out) ≡ at = length-take-le at out (omega arith) in
@@ -254,9 +255,9 @@ module _ {s : List ℕ} {n : ℕ} {W stim : List ℕ} {wi wo count : ℕ} {curre
         ∙ sheet-only-delays rule-lawful s (r .accepted) inputs-typed k .length
         ∙ ap length (sym (r .start))
 
-    pub ended : {k from at : ℕ} {env held current out : List ℕ} → Before s stim wi wo count out₀ k from at env held current out → count ≤ k
+    pub run-ended : {k from at : ℕ} {env held current out : List ℕ} → Before s stim wi wo count out₀ k from at env held current out → count ≤ k
         → RanCycles s stim current out
-    ended {k} {at = at} {out = out} b h =
+    run-ended {k} {at = at} {out = out} b h =
         let f = b .few in
         let e : k ≡ count = omega arith in
         let c = cycles-counted s stim in

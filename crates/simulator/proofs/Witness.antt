@@ -33,7 +33,7 @@ use Rattle.records.specs.Trees.{typeWithin, typeAt, TypeRecord, chainWithin, ch
 use Rattle.structure.specs.Rules.{Passes}
 use Rattle.accepted.proofs.Laws.{written}
 use Rattle.typing.specs.Judgements.{patternFits}
-use Rattle.verdict.specs.Verdict.{inputs}
+use Rattle.verdict.specs.Scopes.{inputs}
 use Rattle.verdict.specs.Scopes.{Scope, tuple-first, tuple-second, let-defining, if-tested, of-delay}
 use Rattle.accepted.proofs.Requirements.{widths}
 use Rattle.accepted.proofs.Requirements as Requirements
@@ -42,7 +42,7 @@ use Rattle.stimulus.specs.Stimulus.{inputLeaves, cycleCount, wrongStimulus, wro
 use Rattle.behaviour.specs.Afterwards.{WellFormed}
 use Rattle.behaviour.specs.Bench.{toggle}
 use Rattle.stimulus.proofs.Stimulus.{stimulus-whole}
-use Rattle.behaviour.proofs.Witness.{ones, room, lent, toggle-formed}
+use Rattle.behaviour.proofs.Witness.{ones, roomOfT, lent, toggle-formed}
 use Rattle.values.specs.Chained.{Chained}
 use Rattle.values.specs.Matchings.{Matching}
 use Rattle.values.specs.Slots.{entered}
@@ -51,9 +51,9 @@ use Rattle.evaluator.proofs.Frames.{zeros-long}
 use Rattle.evaluator.proofs.Parts.{room-ready}
 use Rattle.evaluator.proofs.Feedbacks.{feedback-settling}
 use Rattle.stepper.specs.Cycling.{Copying, Cycling}
-use Rattle.stepper.proofs.Cycling.{root-ready, copying}
+use Rattle.stepper.proofs.Cycling.{root-evaluating, copying}
 use Rattle.simulator.specs.Running.{Lending, RunningCycles, RunningAccepted}
-use Rattle.simulator.proofs.Running.{at-first, lending}
+use Rattle.simulator.proofs.Running.{before-first, lending}
 use Rattle.accepted.proofs.Small.{accepted-passes, accepted-records}
 
 abbrev names : List ℕ
@@ -62,7 +62,7 @@ names = replicate 4096 0
 -- a well-formed call with a first cycle
 module _ {s stim out next : List ℕ} {t : ℕ} (h : WellFormed s stim out next t) (some : 0 < length stim) where
   passes : Passes s
-  passes = accepted-passes s (h .accepted)
+  passes = accepted-passes (h .accepted)
 
   full : length s ≡ 12 * count s
   full = accepted-records s (h .accepted)
@@ -100,7 +100,7 @@ module _ {s stim out next : List ℕ} {t : ℕ} (h : WellFormed s stim out next 
 
   first-lending : Lending s (count s) table names names stim 0 (inputLeaves s) s out 0 (leaves (typeAt s t))
   first-lending =
-      lending running (at-first running (zeros-long 4096) (zeros-long 4096)) some-cycle
+      lending running (before-first running (zeros-long 4096) (zeros-long 4096)) some-cycle
 
   abbrev input : List ℕ
   input = take (inputLeaves s) stim
@@ -115,7 +115,7 @@ module _ {s stim out next : List ℕ} {t : ℕ} (h : WellFormed s stim out next 
   first-copying = copying first-cycling
 
   first-ready : EvaluatingIn s (count s) table (entered 0 input names) 1 (wordB s 0) part (inputs s)
-  first-ready = root-ready first-cycling refl refl
+  first-ready = root-evaluating first-cycling refl refl
 
   -- where the root is a feedback
   abbrev started : List ℕ
@@ -148,14 +148,14 @@ some-input = omega arith
 
 toggle-running
     : RunningCycles toggle (count toggle) (table toggle-formed some-input) ones (inputLeaves toggle) (leaves (typeAt toggle 1))
-    (cycleCount toggle ones) toggle room
+    (cycleCount toggle ones) toggle roomOfT
 toggle-running = running toggle-formed some-input
 
 toggle-running-accepted : RunningAccepted toggle (count toggle) (table toggle-formed some-input) 1
 toggle-running-accepted = running-accepted toggle-formed some-input
 
 toggle-lending
-    : Lending toggle (count toggle) (table toggle-formed some-input) names names ones 0 (inputLeaves toggle) toggle room 0
+    : Lending toggle (count toggle) (table toggle-formed some-input) names names ones 0 (inputLeaves toggle) toggle roomOfT 0
     (leaves (typeAt toggle 1))
 toggle-lending = first-lending toggle-formed some-input
 

@@ -39,7 +39,7 @@ use Rattle.records.proofs.Table.{askOfKind}
 use Rattle.records.proofs.Asked.{past-header, part-of-kind}
 use Rattle.values.proofs.Gathering.{left, left-falls}
 use Rattle.behaviour.specs.Sheets.{putWord}
-use Rattle.behaviour.specs.Copies.{copied, leavesOf, delayChains}
+use Rattle.behaviour.specs.Copies.{copied, leavesByKind, delayChains}
 use Rattle.stepper.specs.Cycling.{Copying}
 
 numbered-delay : (k : ℕ) → kindOf k ≡ expression delay → k ≡ 40
@@ -57,8 +57,8 @@ module _ {s : List ℕ} {n : ℕ} {before : List ℕ} (h : List ℕ) (g : Copyin
   follows zero f = absurd (f refl)
   follows (suc x) f = refl
 
-  pub in-count : {x : ℕ} → x < n → x < count s
-  in-count k = let c = g .sized .counted in omega arith
+  pub copied-in-count : {x : ℕ} → x < n → x < count s
+  copied-in-count k = let c = g .sized .counted in omega arith
 
   -- no leaf is the header
   not-header : (x : ℕ) → sortAt s x ≡ leafs → x ≡ 0 → ⊥
@@ -66,22 +66,22 @@ module _ {s : List ℕ} {n : ℕ} {before : List ℕ} (h : List ℕ) (g : Copyin
 
   pub all-left : {x : ℕ} → x < n → sortAt s x ≡ leafs → Left s h (chain s x) before x before
   all-left {x} k e =
-      record { long = refl; there = in-count k; sort = λ _. e; rest = ap (λ ls. copied h ls before) (follows x (not-header x e)) }
+      record { long = refl; there = copied-in-count k; sort = λ _. e; rest = ap (λ ls. copied h ls before) (follows x (not-header x e)) }
 
   module _ {all : List ℕ} {l : ℕ} {now : List ℕ} (r : Left s h all before l now) (f : l ≡ 0 → ⊥) where
-    pub leaf-there : l < n
-    leaf-there = let t = r .there in let c = g .sized .counted in omega arith
+    pub copied-leaf-there : l < n
+    copied-leaf-there = let t = r .there in let c = g .sized .counted in omega arith
 
     pub leaf-bytes : 12 * l + 4 + 1 < length now
     leaf-bytes =
-        let t = leaf-there in
+        let t = copied-leaf-there in
         let w = g .sized .whole in
         let a = r .long in
         let b = g .long in
         omega arith
 
-    pub high-byte : 12 * l + 4 + 1 < length (set now (12 * l + 4) (getD h l 0))
-    high-byte = lt-length-set now (12 * l + 4) (getD h l 0) leaf-bytes
+    pub leaf-high-byte : 12 * l + 4 + 1 < length (set now (12 * l + 4) (getD h l 0))
+    leaf-high-byte = lt-length-set now (12 * l + 4) (getD h l 0) leaf-bytes
 
     pub next-left : {x : ℕ} → x ≡ nextWord s l
         → Left s h all before x (set (set now (12 * l + 4) (getD h l 0)) (12 * l + 4 + 1) 0)
@@ -103,7 +103,7 @@ module _ {s : List ℕ} {n : ℕ} {before : List ℕ} (h : List ℕ) (g : Copyin
         go (suc y) e = let p = next-leaf (g .written) l (r .there) (r .sort f) (omega arith) in (p .1, λ _. p .2)
 
     pub next-falls : {x : ℕ} → x ≡ nextWord s l → left n x < left n l
-    next-falls {x} ex = left-falls n l x f leaf-there (λ z. higher (λ y. z (ex ∙ y)))
+    next-falls {x} ex = left-falls n l x f copied-leaf-there (λ z. higher (λ y. z (ex ∙ y)))
       where
         higher : (nextWord s l ≡ 0 → ⊥) → (l < x) × (x < n)
         higher z =
@@ -118,10 +118,10 @@ module _ {s : List ℕ} {n : ℕ} {before : List ℕ} (h : List ℕ) (g : Copyin
   none-left r e = rw e at (r .rest)
 
   -- a record that is no delay has no leaves to copy to
-  pub no-delay : (r : ℕ) {k : ℕ} → k ≡ word s r 0 → (k ≡ 40 → ⊥) → before ≡ copied h (leavesOf (kindAt s r) (chain s (wordB s r))) before
+  pub no-delay : (r : ℕ) {k : ℕ} → k ≡ word s r 0 → (k ≡ 40 → ⊥) → before ≡ copied h (leavesByKind (kindAt s r) (chain s (wordB s r))) before
   no-delay r ek f = ap (λ ls. copied h ls before) (sym (none (kindAt s r) refl))
     where
-      none : (q : Kind) → kindAt s r ≡ q → leavesOf q (chain s (wordB s r)) ≡ []
+      none : (q : Kind) → kindAt s r ≡ q → leavesByKind q (chain s (wordB s r)) ≡ []
       none header e = refl
       none (typeOf q) e = refl
       none (expression constant) e = refl
@@ -139,12 +139,12 @@ module _ {s : List ℕ} {n : ℕ} {before : List ℕ} (h : List ℕ) (g : Copyin
 
   -- and a delay's are those of its chain
   pub delay-copied : (r : ℕ) → kindAt s r ≡ expression delay → {x : ℕ} → x ≡ word s r 3 → {now : List ℕ} → now ≡ copied h (chain s x) before
-      → now ≡ copied h (leavesOf (kindAt s r) (chain s (wordB s r))) before
+      → now ≡ copied h (leavesByKind (kindAt s r) (chain s (wordB s r))) before
   delay-copied r e ex c = c ∙ rw (e, ex) refl
 
 module _ {s : List ℕ} {n : ℕ} {before : List ℕ} (g : Copying s n before) where
-  pub delay-leaves : (r : ℕ) → r < n → kindAt s r ≡ expression delay → {x : ℕ} → x ≡ word s r 3 → (x < n) × (sortAt s x ≡ leafs)
-  delay-leaves r k e ex =
+  pub delay-first-leaf : (r : ℕ) → r < n → kindAt s r ≡ expression delay → {x : ℕ} → x ≡ word s r 3 → (x < n) × (sortAt s x ≡ leafs)
+  delay-first-leaf r k e ex =
       let c = g .sized .counted in
       let p = part-of-kind (g .written) r (expression delay) leafs (omega arith) e 3 refl (unfold askOfKind in refl) in
       (omega (arith, p .1, ex), rw ex (p .2))
@@ -174,7 +174,7 @@ module _ {s h before : List ℕ} {n : ℕ} where
     pub below-copying : Copying s n before → Copying s n now
     below-copying g = record { sized = g .sized; written = g .written; long = below-long ∙ g .long }
 
-    pub below-next : r < n → {now′ : List ℕ} → now′ ≡ copied h (leavesOf (kindAt s r) (chain s (wordB s r))) now
+    pub below-next : r < n → {now′ : List ℕ} → now′ ≡ copied h (leavesByKind (kindAt s r) (chain s (wordB s r))) now
         → Below s h before n (r + 1) now′
     below-next k e =
         record {
@@ -182,7 +182,7 @@ module _ {s h before : List ℕ} {n : ℕ} where
           so-far =
               e
               ∙ rw (b .so-far, add-one r)
-              (sym (copied-both h (delayChains s r) (leavesOf (kindAt s r) (chain s (wordB s r))) before));
+              (sym (copied-both h (delayChains s r) (leavesByKind (kindAt s r) (chain s (wordB s r))) before));
         }
 
     pub all-below : n ≤ r → now ≡ copied h (delayChains s n) before

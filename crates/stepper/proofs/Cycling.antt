@@ -18,7 +18,7 @@ use Rattle.records.proofs.Rewritten.{same-kind, same-chain, same-type}
 use Rattle.records.proofs.Types.{few-leaves}
 use Rattle.records.proofs.TypeRecords.{input-type}
 use Rattle.accepted.proofs.Laws.{written, types-fit}
-use Rattle.verdict.specs.Verdict.{inputs}
+use Rattle.verdict.specs.Scopes.{inputs}
 use Rattle.verdict.specs.Scopes.{root}
 use Rattle.verdict.specs.Widths.{Widths}
 use Rattle.accepted.proofs.Laws.{exact, accepted-judged}
@@ -29,10 +29,10 @@ use Rattle.meaning.proofs.Order.{value-length}
 use Rattle.meaning.proofs.UndecidedRule.{rule-lawful}
 use Rattle.behaviour.specs.Terms.{circuitTerm}
 use Rattle.behaviour.specs.Delays.{store}
-use Rattle.behaviour.specs.Copies.{copied, leavesOf, delayChains}
+use Rattle.behaviour.specs.Copies.{copied, leavesByKind, delayChains}
 use Rattle.behaviour.specs.Cycle.{output, sheetAfterCycle, afterBy}
 use Rattle.behaviour.specs.Evaluated.{valueAt}
-use Rattle.behaviour.specs.Firing.{firedAt}
+use Rattle.behaviour.specs.Midway.{firedAt}
 use Rattle.behaviour.proofs.Firings.{fired-long}
 use Rattle.behaviour.proofs.Evaluated.{root-value, root-stored}
 use Rattle.behaviour.proofs.Cycle.{cycle-writable}
@@ -95,8 +95,8 @@ module _ {s : List ℕ} {n : ℕ} {W env held input current out : List ℕ} (g :
         let j = accepted-judged (g .type) (exact current (g .type) .0 (g .again) .0) (g .again) in
         g .room ∙ sym (table .expressions root ∙ rw (j .1, same-type o (g .type)) refl)
 
-    pub root-ready : EvaluatingIn current n W env₁ 1 x out (inputs current)
-    root-ready =
+    pub root-evaluating : EvaluatingIn current n W env₁ 1 x out (inputs current)
+    root-evaluating =
         record {
           sized = sized-again o (g .sized);
           type = g .type;
@@ -112,7 +112,7 @@ module _ {s : List ℕ} {n : ℕ} {W env held input current out : List ℕ} (g :
     pub look-done : {fired env₂ held₁ fired₁ o₁ : List ℕ} → Evaluated current n W env₁ 1 x held fired out env₂ held₁ fired₁ o₁
         → Looked input current held fired env₂ held₁ fired₁ o₁
     look-done {fired} {held₁ = held₁} {fired₁} {o₁} p =
-        let d = p .done (inputs current) root-ready in
+        let d = p .done (inputs current) root-evaluating in
         let v : o₁ ≡ valueAt undecidedRule current (inputs current) (input ∷ []) (wordB current 0) = rw (framed, at-root) at (d .value) in
         let h : held₁ ≡ store (next undecidedRule (input ∷ []) (circuitTerm current)) held =
         rw (framed, at-root) at (d .stored) ∙ sym (root-stored undecidedRule current input held) in
@@ -128,15 +128,15 @@ module _ {s : List ℕ} {n : ℕ} {W env held input current out : List ℕ} (g :
         }
 
   -- the chains are where they were
-  same-leaves : (r : ℕ) (k : Kind) → kindAt s r ≡ k → leavesOf k (chain s (wordB s r)) ≡ leavesOf k (chain current (wordB current r))
+  same-leaves : (r : ℕ) (k : Kind) → kindAt s r ≡ k → leavesByKind k (chain s (wordB s r)) ≡ leavesByKind k (chain current (wordB current r))
   same-leaves r k ek =
-      ap (leavesOf k) (sym (same-chain o (wordB s r)) ∙ ap (chain current) (sym (o .leaves r 3 (omega arith) (λ z. omega arith))))
+      ap (leavesByKind k) (sym (same-chain o (wordB s r)) ∙ ap (chain current) (sym (o .leaves r 3 (omega arith) (λ z. omega arith))))
 
   same-chains : (m : ℕ) → delayChains s m ≡ delayChains current m
   same-chains zero = refl
   same-chains (suc r) =
       ap₂ _++_ (same-chains r)
-      (same-leaves r (kindAt s r) refl ∙ ap (λ k. leavesOf k (chain current (wordB current r))) (sym (same-kind o r)))
+      (same-leaves r (kindAt s r) refl ∙ ap (λ k. leavesByKind k (chain current (wordB current r))) (sym (same-kind o r)))
 
   room : (l : ℕ) → List·Memᴰ l (delayLeaves (circuit current)) → l < length held
   room l m = let h = leaves-in-table current (g .type) (g .again) l m in let w = g .long in omega arith
@@ -146,7 +146,7 @@ module _ {s : List ℕ} {n : ℕ} {W env held input current out : List ℕ} (g :
   unfolding afterBy
   written-after =
       write-copied-chains (g .again) (next undecidedRule (input ∷ []) (circuitTerm current))
-      (cycle-writable undecidedRule rule-lawful current (g .again) input input-typed) held room
+      (cycle-writable rule-lawful current (g .again) input-typed) held room
 
   pub cycle-done : {fired env₂ held₁ fired₁ o₁ : List ℕ} → Looked input current held fired env₂ held₁ fired₁ o₁
       → {current′ : List ℕ} → current′ ≡ copied held₁ (delayChains s n) current → Cycled input current env₂ held₁ current′ o₁

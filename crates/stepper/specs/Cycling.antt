@@ -10,14 +10,15 @@ use Rattle.records.specs.Sized.{Sized}
 use Rattle.records.specs.Trees.{typeAt}
 use Rattle.records.specs.Written.{Written}
 use Rattle.records.specs.Rewritten.{Rewritten}
-use Rattle.verdict.specs.Verdict.{verdict, inputs}
+use Rattle.verdict.specs.Verdict.{verdict}
+use Rattle.verdict.specs.Scopes.{inputs}
 use Rattle.verdict.specs.Widths.{Widths}
 use Rattle.verdict.specs.declared.Verdict.the-variants.{Accepted}
 use Rattle.meaning.specs.Undecided.{undecidedRule}
 use Rattle.meaning.specs.Evaluation.{next}
 use Rattle.behaviour.specs.Terms.{circuitTerm}
 use Rattle.behaviour.specs.Delays.{store}
-use Rattle.behaviour.specs.Firing.{firedAt}
+use Rattle.behaviour.specs.Midway.{firedAt}
 use Rattle.behaviour.specs.Cycle.{output, sheetAfterCycle}
 
 -- a table is copied to a sheet, along chains of the first one

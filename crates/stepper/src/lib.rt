@@ -6,8 +6,9 @@ ghost use Rattle.records.specs.Words.{wordB};
 ghost use Rattle.records.specs.Kinds.{leafs};
 ghost use Rattle.records.specs.Says.{kindAt, sortAt};
 ghost use Rattle.records.specs.Trees.{chain};
-ghost use Rattle.behaviour.specs.Copies.{copied, leavesOf, delayChains};
+ghost use Rattle.behaviour.specs.Copies.{copied, leavesByKind, delayChains};
 ghost use Rattle.stepper.specs.Cycling.{Copying, Cycling, Looked, Cycled};
+ghost use Rattle.records.specs.Limits.{mostRecords, environmentBytes};
 use evaluator::eval;
 use records::KIND_DELAY;
 use records::RECORDS;
@@ -18,13 +19,21 @@ use records::WORD_NEXT;
 use records::WidthTable;
 use records::offset;
 use records::word;
+use values::Environment;
 use values::Fired;
 use values::NextValues;
 use values::enter_value;
 
-// The names' bytes: room for 64 values of 64 leaves. It also makes the table of delay values.
-pub fn no_names() -> [u8; RECORDS]
-    ensures { λ r. ⌜ length r ≡ 4096 ⌝ }
+// The names' bytes: room for 64 values of 64 leaves.
+pub fn no_names() -> Environment
+    ensures { λ r. ⌜ length r ≡ environmentBytes ⌝ }
+{
+    [0; 4096]
+}
+
+// The table of the delays' next values.
+pub fn no_next_values() -> NextValues
+    ensures { λ r. ⌜ length r ≡ mostRecords ⌝ }
 {
     [0; RECORDS]
 }
@@ -46,7 +55,7 @@ fn copy_chain(sheet: &[u8], n: usize, first: usize, held: &NextValues, current: 
 // Copies a table's entries to the leaves of rec, where that is a delay.
 fn copy_record(sheet: &[u8], n: usize, rec: usize, held: &NextValues, current: &mut [u8])
     requires { ⌜ Copying (now sheet) n (now current) × (rec < n) ⌝ }
-    ensures { λ _. ⌜ now (current .exit) ≡ copied (now (held .entry)) (leavesOf (kindAt (now (sheet .entry)) rec) (chain (now (sheet .entry)) (wordB (now (sheet .entry)) rec))) (now (current .entry)) ⌝ }
+    ensures { λ _. ⌜ now (current .exit) ≡ copied (now (held .entry)) (leavesByKind (kindAt (now (sheet .entry)) rec) (chain (now (sheet .entry)) (wordB (now (sheet .entry)) rec))) (now (current .entry)) ⌝ }
 {
     if word(sheet, n, rec, WORD_KIND) != KIND_DELAY {
         return;

@@ -24,7 +24,8 @@ use Rattle.accepted.specs.Accepting.{Accepting}
 use Rattle.meaning.specs.Values.{AllOf, all-more}
 use Rattle.stimulus.specs.Stimulus.{inputType, inputLeaves, cycleCount, cycles, wrongStimulus, wrongByte}
 use Rattle.stimulus.specs.Holding.{Held}
-use Rattle.stimulus.specs.OneCycle.{notOneCycle, oneCycleChecks, HeldToOne}
+use Rattle.stimulus.specs.OneCycle.{notOneCycle, oneCycleChecks}
+use Rattle.stimulus.specs.Holding.{HeldToOne}
 use Rattle.stimulus.proofs.Stimulus.{cycles-typed}
 use Rattle.stimulus.proofs.Holding.{takes}
 

@@ -26,17 +26,20 @@ use Rattle.answers.proofs.First.{
   same-length-by,
   place-or,
 }
-use Rattle.verdict.specs.Verdict.{verdictAnswer, sheetChecks, outputType, verdict}
+use Rattle.verdict.specs.Verdict.{sheetChecks, outputType, verdict}
+use Rattle.verdict.specs.Scopes.{verdictAnswer}
 use Rattle.verdict.specs.declared.Verdict.{Verdict}
 use Rattle.verdict.specs.declared.Verdict.the-variants.{Accepted}
 use Rattle.accepted.proofs.Calls.{accepted-output, sheet-refused, sheet-accepted, call-place}
 use Rattle.accepted.proofs.Laws.{first-accepted, Refusing, refusing-answer}
 use Rattle.stimulus.specs.Stimulus.{wrongByte}
-use Rattle.stimulus.specs.OneCycle.{notOneCycle, oneCycleChecks, HeldToOne}
+use Rattle.stimulus.specs.OneCycle.{notOneCycle, oneCycleChecks}
+use Rattle.stimulus.specs.Holding.{HeldToOne}
 use Rattle.stimulus.specs.OneCycleCalls.{FormedOneCycle, SaysOfOneCycle}
 use Rattle.stimulus.proofs.Stimulus.{stimulus-whole}
 use Rattle.stimulus.proofs.OneCycle.{one-cycle-whole, one-cycle-passes}
 
+-- no signature here determines the sheet or the stimulus
 module _ (c needed : ℕ) (s stim lent : List ℕ) where
   -- the check of the slice's length
   abbrev lengthCheck : List Check
@@ -48,36 +51,6 @@ module _ (c needed : ℕ) (s stim lent : List ℕ) where
 
   abbrev allChecks : List Check
   allChecks = sheetChecks s ++ ownChecks
-
-  pub one-cycle-formed : NoneApplies allChecks → FormedOneCycle s stim lent needed
-  one-cycle-formed h =
-      let p = none-split (sheetChecks s) ownChecks h in
-      record {
-        accepted = first-accepted s (p .0);
-        one-cycle = when-none (notOneCycle s stim) 0 (p .1 .0);
-        fitting = p .1 .1 .0;
-        room = same-length-by (length lent) needed needed (p .1 .1 .1 .0);
-      }
-
-  pub one-cycle-done : FormedOneCycle s stim lent needed → firstApplying allChecks (Done 0) ≡ Done 0
-  one-cycle-done h =
-      sheet-accepted s ownChecks (Done 0) (outputType s) (h .accepted)
-      ∙ rw (h .one-cycle, h .fitting, eq-eqb (length lent) needed (h .room)) refl
-
-  -- each answer says what its checks say, and no other does
-  says-of-one-cycle : (a : Answer) → SaysOf allChecks 0 a → SaysOfOneCycle allChecks s stim lent needed a
-  says-of-one-cycle (Done p) h = (one-cycle-formed (h .0), h .1)
-  says-of-one-cycle (Refused k p) h = h
-
-  one-cycle-says : (a : Answer) → SaysOfOneCycle allChecks s stim lent needed a → firstApplying allChecks (Done 0) ≡ a
-  one-cycle-says (Done p) h = one-cycle-done (h .0) ∙ ap Done (sym (h .1))
-  one-cycle-says (Refused k p) h = says-first allChecks 0 (Refused k p) h
-
-  pub one-cycle-lowest-first : (a : Answer) → firstApplying allChecks (Done 0) ≡ a ↔ SaysOfOneCycle allChecks s stim lent needed a
-  one-cycle-lowest-first a = (
-    λ e. says-of-one-cycle a (subst (λ (b : Answer). SaysOf allChecks 0 b) e (first-says allChecks 0)),
-    one-cycle-says a,
-  )
 
   byte-small : (i : ℕ) → notOneCycle s stim ≡ false → lowest (wrongByte s stim) (length stim) ≡ some i → i < 2 ^ 32
   byte-small i e f =
@@ -105,30 +78,69 @@ module _ (c needed : ℕ) (s stim lent : List ℕ) where
       let f : verdictAnswer (verdict s) ≡ Refused (r .0) (r .1) = ap verdictAnswer (sym e) ∙ r .2 in
       (r .0, r .1, r .2, sheet-refused s ownChecks (Done 0) (r .0) (r .1) f)
 
-  module _ (t : ℕ) (v : verdict s ≡ Accepted t) (a : Answer) (h : HeldToOne s stim a) where
-    by-length : firstApplying allChecks (Done 0) ≡ onDone a (λ k. firstApplying lengthCheck (Done 0))
-    by-length =
-        let rest : ℕ → Answer = λ k. firstApplying lengthCheck (Done 0) in
-        sheet-accepted s ownChecks (Done 0) t v
-        ∙ first-both (oneCycleChecks s stim) lengthCheck (Done 0)
-        ∙ first-then (oneCycleChecks s stim) 1 rest
-        ∙ ap (λ (b : Answer). onDone b rest) (sym (h .answered))
+module _ (c : ℕ) {needed : ℕ} {s stim lent : List ℕ} where
+  pub one-cycle-formed : NoneApplies (allChecks c needed s stim lent) → FormedOneCycle s stim lent needed
+  one-cycle-formed h =
+      let p = none-split (sheetChecks s) (ownChecks c needed s stim lent) h in
+      record {
+        accepted = first-accepted s (p .0);
+        one-cycle = when-none (notOneCycle s stim) 0 (p .1 .0);
+        fitting = p .1 .1 .0;
+        room = same-length-by (length lent) needed needed (p .1 .1 .1 .0);
+      }
 
-    -- 8 and 9
-    pub one-cycle-input : (k p : ℕ) → a ≡ Refused k p → firstApplying allChecks (Done 0) ≡ Refused k p
-    one-cycle-input k p e = by-length ∙ rw e refl
+  pub one-cycle-done : FormedOneCycle s stim lent needed → firstApplying (allChecks c needed s stim lent) (Done 0) ≡ Done 0
+  one-cycle-done h =
+      sheet-accepted s (ownChecks c needed s stim lent) (Done 0) (outputType s) (h .accepted)
+      ∙ rw (h .one-cycle, h .fitting, eq-eqb (length lent) needed (h .room)) refl
 
-    -- the slice's length
-    pub one-cycle-length : (k : ℕ) → a ≡ Done k → length lent ≢ needed → firstApplying allChecks (Done 0) ≡ Refused c needed
-    one-cycle-length k e d = by-length ∙ rw (e, ne-eqb (length lent) needed d) refl
+-- nor here: what an answer says is by its cases
+module _ (c needed : ℕ) (s stim lent : List ℕ) where
+  -- each answer says what its checks say, and no other does
+  says-of-one-cycle : (a : Answer) → SaysOf (allChecks c needed s stim lent) 0 a
+      → SaysOfOneCycle (allChecks c needed s stim lent) s stim lent needed a
+  says-of-one-cycle (Done p) h = (one-cycle-formed c (h .0), h .1)
+  says-of-one-cycle (Refused k p) h = h
 
-    -- and where none applies
-    pub one-cycle-good : (k : ℕ) → a ≡ Done k → length lent ≡ needed → FormedOneCycle s stim lent needed
-    one-cycle-good k e l =
-        let passes = one-cycle-passes s stim h e in
-        record {
-          accepted = v ∙ ap Accepted (accepted-output s t v);
-          one-cycle = when-none (notOneCycle s stim) 0 (passes .0);
-          fitting = passes .1 .0;
-          room = l;
-        }
+  one-cycle-says : (a : Answer) → SaysOfOneCycle (allChecks c needed s stim lent) s stim lent needed a
+      → firstApplying (allChecks c needed s stim lent) (Done 0) ≡ a
+  one-cycle-says (Done p) h = one-cycle-done c (h .0) ∙ ap Done (sym (h .1))
+  one-cycle-says (Refused k p) h = says-first (allChecks c needed s stim lent) 0 (Refused k p) h
+
+  pub one-cycle-lowest-first : (a : Answer)
+      → firstApplying (allChecks c needed s stim lent) (Done 0) ≡ a ↔ SaysOfOneCycle (allChecks c needed s stim lent) s stim lent needed a
+  one-cycle-lowest-first a = (
+    λ e. says-of-one-cycle a (subst (λ (b : Answer). SaysOf (allChecks c needed s stim lent) 0 b) e (first-says (allChecks c needed s stim lent) 0)),
+    one-cycle-says a,
+  )
+
+module _ (c needed : ℕ) {s stim : List ℕ} (lent : List ℕ) {t : ℕ} (v : verdict s ≡ Accepted t) {a : Answer} (h : HeldToOne s stim a) where
+  by-length : firstApplying (allChecks c needed s stim lent) (Done 0)
+      ≡ onDone a (λ k. firstApplying (lengthCheck c needed s stim lent) (Done 0))
+  by-length =
+      let rest : ℕ → Answer = λ k. firstApplying (lengthCheck c needed s stim lent) (Done 0) in
+      sheet-accepted s (ownChecks c needed s stim lent) (Done 0) t v
+      ∙ first-both (oneCycleChecks s stim) (lengthCheck c needed s stim lent) (Done 0)
+      ∙ first-then (oneCycleChecks s stim) 1 rest
+      ∙ ap (λ (b : Answer). onDone b rest) (sym (h .answered))
+
+  -- 8 and 9
+  pub one-cycle-input : (k p : ℕ) → a ≡ Refused k p → firstApplying (allChecks c needed s stim lent) (Done 0) ≡ Refused k p
+  one-cycle-input k p e = by-length ∙ rw e refl
+
+  -- the slice's length
+  pub one-cycle-length : (k : ℕ) → a ≡ Done k → length lent ≢ needed
+      → firstApplying (allChecks c needed s stim lent) (Done 0) ≡ Refused c needed
+  one-cycle-length k e d = by-length ∙ rw (e, ne-eqb (length lent) needed d) refl
+
+module _ {needed : ℕ} {s stim lent : List ℕ} {t : ℕ} (v : verdict s ≡ Accepted t) {a : Answer} (h : HeldToOne s stim a) where
+  -- and where none applies
+  pub one-cycle-good : (k : ℕ) → a ≡ Done k → length lent ≡ needed → FormedOneCycle s stim lent needed
+  one-cycle-good k e l =
+      let passes = one-cycle-passes s stim h e in
+      record {
+        accepted = v ∙ ap Accepted (accepted-output s t v);
+        one-cycle = when-none (notOneCycle s stim) 0 (passes .0);
+        fitting = passes .1 .0;
+        room = l;
+      }

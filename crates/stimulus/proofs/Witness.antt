@@ -68,7 +68,7 @@ paired-full = refl
 
 paired-accepting : (widths : List ℕ) × Accepting paired (count paired) widths
 paired-accepting =
-    let p : Passes paired = accepted-passes paired paired-accepted in
+    let p : Passes paired = accepted-passes paired-accepted in
     let t = Requirements.widths p paired-full in (
       t .0,
       record {

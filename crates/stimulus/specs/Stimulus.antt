@@ -1,6 +1,6 @@
--- The stimulus (docs/SHEETS.md, "The run", "Codes" and "After a run"): its bytes taken in pieces of the input type's leaves, and
--- when the run refuses it. Code 8: over 65,535 bytes, or not whole cycles; code 9: "byte above its leaf's
--- constructor count", at the first such byte, from 0.
+-- The stimulus (docs/SHEETS.md, "The run", "Codes" and "After a run"): its bytes taken in pieces of the input type's leaves, and when
+-- the run refuses it. Code 8: over 65,535 bytes, or not whole cycles; code 9: "the byte is above the number of constructors of its
+-- leaf", at the first such byte, from 0.
 use Prim.Native.Nat.{ℕ, zero, suc, _%_, _/_}
 use mathlib.Core.Bool.{Bool, not, _||_}
 use mathlib.Core.List.{List, [], _∷_, _++_}
@@ -18,7 +18,7 @@ inputType s = typeAt s (wordA s 0)
 abbrev pub inputLeaves : List ℕ → ℕ
 inputLeaves s = leaves (inputType s)
 
--- "the number of cycles in the list is the stimulus's length divided by the input type's leaves"
+-- there are "as many cycles as the length of the stimulus, divided by those leaves", the input type's
 abbrev pub cycleCount : (sheet stimulus : List ℕ) → ℕ
 cycleCount s stim = length stim / inputLeaves s
 
@@ -32,7 +32,7 @@ abbrev pub endToEnd : List (List ℕ) → List ℕ
 endToEnd [] = []
 endToEnd (v ∷ vs) = v ++ endToEnd vs
 
--- "The list of cycles is the stimulus in pieces of the input type's leaves": each cycle's input
+-- the list "comes from cutting the stimulus into pieces, each as long as the input type has leaves": each cycle's input
 unfoldable pub cycles : (sheet stimulus : List ℕ) → List (List ℕ)
 cycles s stim = pieces (inputLeaves s) (cycleCount s stim) stim
 

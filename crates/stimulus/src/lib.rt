@@ -9,12 +9,13 @@ ghost use Rattle.answers.specs.Searches.{found};
 ghost use Rattle.accepted.specs.Accepting.{Accepting};
 ghost use Rattle.stimulus.specs.Tests.{notWhole, above};
 ghost use Rattle.stimulus.specs.Holding.{Held};
-ghost use Rattle.stimulus.specs.OneCycle.{HeldToOne};
+ghost use Rattle.stimulus.specs.Holding.{HeldToOne};
 use accepted::fill_bounds;
 use answers::Answer;
 use answers::Found;
 use answers::WRONG_BYTE;
 use answers::WRONG_STIMULUS;
+use records::VALUE_BYTES;
 use records::WORD_A;
 use records::WidthTable;
 use records::word;
@@ -22,11 +23,11 @@ use records::word;
 // The most bytes of a stimulus.
 pub const STIMULUS_BYTES: usize = 65535;
 
-// Room for the counts of a type's leaves.
-fn no_counts() -> [u8; 64]
+// Room for the counts of a type's leaves, a byte each.
+fn no_counts() -> [u8; VALUE_BYTES]
     ensures { λ r. ⌜ length r ≡ 64 ⌝ }
 {
-    [0; 64]
+    [0; VALUE_BYTES]
 }
 
 // Whether a stimulus of so many bytes is too long or not whole cycles of w bytes.

@@ -79,7 +79,7 @@ the-first [] e = absurd (false≢true e)
 the-first (x ∷ ns) e = record { naming = x; rest = ns; is = refl; entry = rw e }
 
 -- what is known of the record that names rec
-pub record NamedBy (s : List ℕ) (rec v : ℕ) : Type 0 where
+pub record ItsNaming (s : List ℕ) (rec v : ℕ) : Type 0 where
   pub by : ℕ
   pub at : ℕ
   pub value : v ≡ 8 * by + at + 1
@@ -89,13 +89,13 @@ pub record NamedBy (s : List ℕ) (rec v : ℕ) : Type 0 where
   pub nested : nesting s rec ≡ cond (ofDefiningPart s (record { by = by; at = at })) (suc (nesting s by)) (nesting s by)
 
 module _ {s : List ℕ} {n rec : ℕ} {namers depths nestings : List ℕ} (p : Placing s n rec namers depths nestings) (h : rec < n) where
-  pub named-by : NamedBy s rec (getD namers rec 0)
+  pub named-by : ItsNaming s rec (getD namers rec 0)
   named-by = from-first (the-first (namings s rec) (p .well rec (p .some) below))
     where
       below : rec < count s
       below = let c = p .sized .counted in omega arith
 
-      from-first : First (namings s rec) → NamedBy s rec (getD namers rec 0)
+      from-first : First (namings s rec) → ItsNaming s rec (getD namers rec 0)
       from-first f =
           let few = p .sized .few in
           let x = f .naming in
@@ -143,7 +143,7 @@ module _ {s : List ℕ} {n rec : ℕ} {namers depths nestings : List ℕ} (p : P
     nested = capped-set 4 (nesting s) rec nestings w (p .placed .nested) small (ew ∙ nested);
   }
     where
-      b : NamedBy s rec (getD namers rec 0)
+      b : ItsNaming s rec (getD namers rec 0)
       b = named-by
 
       small : rec < 4096

@@ -36,7 +36,7 @@ use Rattle.records.proofs.CodeTable.{flat-number, pair-number}
 use Rattle.records.proofs.Types.{flat-type, pair-type, pair-parts}
 use Rattle.structure.specs.Rules.{wrongType}
 use Rattle.structure.proofs.PairRecords.{above-zero}
-use Rattle.structure.specs.LeafTable.{typeLeaves, Counts}
+use Rattle.structure.specs.LeafTable.{typeLeaves, LeavesCounted}
 use Rattle.structure.specs.PairIndex.{lowerPair}
 
 -- a type is flat or a pair
@@ -55,15 +55,15 @@ pair-kind s r k ek e = is-pair (kindAt s r) (pair-number _ ∙ eq-eqb _ 17 (sym 
 flat-kind : (s : List ℕ) (r k : ℕ) → k ≡ word s r 0 → k ≡ 16 → kindAt s r ≡ typeOf flat
 flat-kind s r k ek e = is-flat (kindAt s r) (flat-number _ ∙ eq-eqb _ 16 (sym ek ∙ e))
 
-pub counts-none : (s : List ℕ) → Counts s 0 (replicate 4096 0)
+pub counts-none : (s : List ℕ) → LeavesCounted s 0 (replicate 4096 0)
 counts-none s = record {
   long = length-replicate {A = ℕ} 4096 0;
   below = λ r h. absurd (omega arith);
   rest = λ r h l. getD-replicate {A = ℕ} 4096 r 0 0 l;
 }
 
-module _ {s : List ℕ} {rec : ℕ} {table : List ℕ} (counts : Counts s rec table) (few : rec < 4096) where
-  counts-set : (v : ℕ) → v ≡ typeLeaves s rec → Counts s (rec + 1) (set table rec v)
+module _ {s : List ℕ} {rec : ℕ} {table : List ℕ} (counts : LeavesCounted s rec table) (few : rec < 4096) where
+  counts-set : (v : ℕ) → v ≡ typeLeaves s rec → LeavesCounted s (rec + 1) (set table rec v)
   counts-set v e = record {
     long = length-set table rec v ∙ counts .long;
     below = λ r h. go r h (ℕ-discrete r rec);
@@ -76,7 +76,7 @@ module _ {s : List ℕ} {rec : ℕ} {table : List ℕ} (counts : Counts s rec ta
           rw q (getD-set-same table rec v 0 (omega arith) ∙ e)
       go r h (no q) = getD-set-other table rec r v 0 q ∙ counts .below r (omega arith)
 
-  pub counts-other : {k : ℕ} → k ≡ word s rec 0 → (k ≡ 16 → ⊥) → (k ≡ 17 → ⊥) → Counts s (rec + 1) table
+  pub counts-other : {k : ℕ} → k ≡ word s rec 0 → (k ≡ 16 → ⊥) → (k ≡ 17 → ⊥) → LeavesCounted s (rec + 1) table
   counts-other {k} ek f g = record {
     long = counts .long;
     below = λ r h. go r h (ℕ-discrete r rec);
@@ -90,7 +90,7 @@ module _ {s : List ℕ} {rec : ℕ} {table : List ℕ} (counts : Counts s rec ta
       go r h (yes q) = rw q (counts .rest rec (omega arith) few ∙ sym none)
       go r h (no q) = counts .below r (omega arith)
 
-  pub counts-flat : {k : ℕ} → k ≡ word s rec 0 → k ≡ 16 → Counts s (rec + 1) (set table rec 1)
+  pub counts-flat : {k : ℕ} → k ≡ word s rec 0 → k ≡ 16 → LeavesCounted s (rec + 1) (set table rec 1)
   counts-flat {k} ek e =
       let f = flat-kind s rec k ek e in
       counts-set 1 (rw (f, flat-type s rec f))
@@ -110,7 +110,7 @@ module _ {s : List ℕ} {rec : ℕ} {table : List ℕ} (counts : Counts s rec ta
     second-counted ex = let p = pair-parts w rec h (pair-kind s rec k ek e) in rw ex (part-of (wordB s rec) (p .2) (p .3))
 
     pub counts-pair : {x y v : ℕ} → x ≡ word s rec 2 → y ≡ word s rec 3 → v ≡ min 65 (getD table x 0 + getD table y 0)
-        → Counts s (rec + 1) (set table rec v)
+        → LeavesCounted s (rec + 1) (set table rec v)
     counts-pair {x} {y} {v} ex ey ev = counts-set v (ev ∙ sum)
       where
         f : kindAt s rec ≡ typeOf pair
@@ -124,7 +124,7 @@ module _ {s : List ℕ} {rec : ℕ} {table : List ℕ} (counts : Counts s rec ta
             capped : (a b : ℕ) → min 65 (min 65 a + min 65 b) ≡ min 65 (a + b)
             capped a b = omega arith
 
-module _ {s : List ℕ} {n : ℕ} {table : List ℕ} (counts : Counts s n table) (r : ℕ) {k : ℕ} (h : r < n) (ek : k ≡ word s r 0) where
+module _ {s : List ℕ} {n : ℕ} {table : List ℕ} (counts : LeavesCounted s n table) (r : ℕ) {k : ℕ} (h : r < n) (ek : k ≡ word s r 0) where
   pub no-pair-fits : (k ≡ 17 → ⊥) → false ≡ wrongType s r
   unfolding wrongType
   no-pair-fits f = rw (pair-number, ← ek, ne-eqb k 17 f)

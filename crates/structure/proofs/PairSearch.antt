@@ -16,7 +16,7 @@ use Rattle.records.specs.Trees.{isPairOf, pairBelow}
 use Rattle.records.proofs.CodeTable.{pair-number}
 use Rattle.records.proofs.Pairs.{pair-with-parts}
 use Rattle.structure.proofs.PairRecords.{another-kind}
-use Rattle.structure.specs.PairIndex.{another, onwards, Ends, EndsAt, Linked, Indexed, lowerPair}
+use Rattle.structure.specs.PairIndex.{another, onwards, Ends, SlotFound, Linked, Indexed, lowerPair}
 
 -- no slot holds anything
 empty : (n i : ℕ) → _≡_ {A = ℕ} (getD (replicate n 0) i 0) 0
@@ -100,7 +100,7 @@ indexed-more ix same = record {
 
 -- Record r goes into the slot `end`, which is empty and at which the search for the parts of r ended.
 module _ {s index : List ℕ} {r end : ℕ} (ix : Indexed s r index) (few : r < 4096) (past : 0 < r)
-    (reached : EndsAt s index (wordA s r) (wordB s r) end) (free : getD index end 0 ≡ 0) where
+    (reached : SlotFound s index (wordA s r) (wordB s r) end) (free : getD index end 0 ≡ 0) where
   abbrev after : List ℕ
   after = set index end r
 
@@ -159,7 +159,7 @@ module _ {s index : List ℕ} {r end : ℕ} (ix : Indexed s r index) (few : r < 
         go (as-before l q g) (no d) = as-before (suc l) (on d, rw (elsewhere slot d) at q) g
         go (at-new l q v) (no d) = at-new (suc l) (on d, rw (elsewhere slot d) at q) v
 
-    found-now : (f : ℕ) → EndsAt s after a b f → getD after f 0 ≡ pairBelow s a b (suc r)
+    found-now : (f : ℕ) → SlotFound s after a b f → getD after f 0 ≡ pairBelow s a b (suc r)
     found-now f p = go (walk (p .steps) (a % 4096) b f (p .ends))
       where
         go : Changed a b (a % 4096) b f → getD after f 0 ≡ pairBelow s a b (suc r)
@@ -213,7 +213,7 @@ module _ {s index : List ℕ} {r k : ℕ} (ix : Indexed s r index) (ek : k ≡ w
     indexed-more ix (λ a b. next-pair s a b r (λ e. absurd (false≢true (another-kind s a b r ek f ∙ e)))),
   )
 
-  module _ (e : k ≡ 17) {x y end : ℕ} (ex : x ≡ word s r 2) (ey : y ≡ word s r 3) (reached : EndsAt s index x y end) where
+  module _ (e : k ≡ 17) {x y end : ℕ} (ex : x ≡ word s r 2) (ey : y ≡ word s r 3) (reached : SlotFound s index x y end) where
     lower-found : getD index end 0 ≡ lowerPair s r
     lower-found = ix .finds x y end reached ∙ rw (ex, ey, pair-number, ← ek, e)
 

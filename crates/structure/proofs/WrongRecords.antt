@@ -11,9 +11,9 @@ use Rattle.records.proofs.CodeTable.{header-number}
 use Rattle.structure.specs.Rules.{wrongHeader, wrongRecord}
 
 module _ (s : List ℕ) {k : ℕ} (said : Bool) where
-  pub header-said : k ≡ word s 0 0 → k ≡ 1 → said ≡ wellSaid s 0 → not said ≡ wrongHeader s
+  pub header-tested : k ≡ word s 0 0 → k ≡ 1 → said ≡ wellSaid s 0 → not said ≡ wrongHeader s
   unfolding wrongHeader
-  header-said ek e1 es = rw (header-number, ← ek, e1, es)
+  header-tested ek e1 es = rw (header-number, ← ek, e1, es)
 
   pub no-header : k ≡ word s 0 0 → (k ≡ 1 → ⊥) → true ≡ wrongHeader s
   unfolding wrongHeader
@@ -23,9 +23,9 @@ module _ (s : List ℕ) {k : ℕ} (said : Bool) where
   unfolding wrongRecord
   second-header r h ek e1 = rw (lt-ltb 0 r h, header-number, ← ek, e1)
 
-  pub record-said : (r : ℕ) → 0 < r → k ≡ word s r 0 → (k ≡ 1 → ⊥) → said ≡ wellSaid s r → not said ≡ wrongRecord s r
+  pub record-tested : (r : ℕ) → 0 < r → k ≡ word s r 0 → (k ≡ 1 → ⊥) → said ≡ wellSaid s r → not said ≡ wrongRecord s r
   unfolding wrongRecord
-  record-said r h ek n1 es = rw (lt-ltb 0 r h, header-number, ← ek, ne-eqb k 1 n1, es)
+  record-tested r h ek n1 es = rw (lt-ltb 0 r h, header-number, ← ek, ne-eqb k 1 n1, es)
 
 -- the header is no record that code 3 speaks of
 pub not-the-header : (s : List ℕ) (q : ℕ) → q < 1 → wrongRecord s q ≡ false

@@ -8,7 +8,7 @@ use Rattle.records.specs.Sized.{Sized}
 use Rattle.records.specs.Says.{namings}
 use Rattle.records.specs.Written.{Written, WellNamed}
 use Rattle.structure.specs.Rules.{depth, nesting}
-use Rattle.structure.specs.NamerTable.{Holds}
+use Rattle.structure.specs.NamerTable.{NamingsHeld}
 
 -- the table holds f of each record below m, no more than the cap
 pub record Capped (cap : ℕ) (f : ℕ → ℕ) (m : ℕ) (table : List ℕ) : Type 0 where
@@ -24,6 +24,6 @@ pub record Placing (s : List ℕ) (n m : ℕ) (namers depths nestings : List ℕ
   pub sized : Sized s n
   pub written : Written s
   pub well : WellNamed s
-  pub named : Holds (namings s) namers
+  pub named : NamingsHeld (namings s) namers
   pub some : 0 < m
   pub placed : Placed s m depths nestings

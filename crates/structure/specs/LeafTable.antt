@@ -13,7 +13,7 @@ use Rattle.records.specs.Trees.{typeAt}
 abbrev pub typeLeaves : List ℕ → ℕ → ℕ
 typeLeaves s r = cond (sameSort (sortAt s r) types) (min 65 (leaves (typeAt s r))) 0
 
-pub record Counts (s : List ℕ) (m : ℕ) (table : List ℕ) : Type 0 where
+pub record LeavesCounted (s : List ℕ) (m : ℕ) (table : List ℕ) : Type 0 where
   pub long : length table ≡ 4096
   pub below : (r : ℕ) → r < m → getD table r 0 ≡ typeLeaves s r
   pub rest : (r : ℕ) → m ≤ r → r < 4096 → getD table r 0 ≡ 0

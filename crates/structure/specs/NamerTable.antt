@@ -17,12 +17,12 @@ ByWords [] = Unit {0}
 ByWords (n ∷ ns) = (n .at < 6) × ByWords ns
 
 -- each record's entry has the namings `more` beside those that it had
-pub record Adds (more : ℕ → List Naming) (before after : List ℕ) : Type 0 where
+pub record NamingsAdded (more : ℕ → List Naming) (before after : List ℕ) : Type 0 where
   pub long : length before ≡ 4096 → length after ≡ 4096
   pub entries : (r : ℕ) (ns : List Naming) → r < 4096 → ByWords ns → getD before r 0 ≡ summary ns
       → getD after r 0 ≡ summary (ns ++ more r)
 
 -- the table holds each record's namings
-pub record Holds (all : ℕ → List Naming) (table : List ℕ) : Type 0 where
+pub record NamingsHeld (all : ℕ → List Naming) (table : List ℕ) : Type 0 where
   pub long : length table ≡ 4096
   pub entries : (r : ℕ) → r < 4096 → getD table r 0 ≡ summary (all r)

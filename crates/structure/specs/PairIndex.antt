@@ -13,6 +13,10 @@ use Rattle.records.specs.Kinds.{isPair}
 use Rattle.records.specs.Says.{kindAt}
 use Rattle.records.specs.Trees.{isPairOf, pairBelow}
 
+-- the slots: one for each first part and two for each pair type
+abbrev pub pairSlots : ℕ
+pairSlots = 12288
+
 -- a slot holds a pair type of other parts
 abbrev pub another : (s index : List ℕ) (a b slot : ℕ) → Bool
 another s index a b slot = not (eqb (getD index slot 0) 0) && not (isPairOf s a b (getD index slot 0))
@@ -27,7 +31,7 @@ Ends s index a b zero slot bits end = (another s index a b slot ≡ false) × (s
 Ends s index a b (suc k) slot bits end =
     (another s index a b slot ≡ true) × Ends s index a b k (onwards index slot bits) (bits / 2) end
 
-pub record EndsAt (s index : List ℕ) (a b end : ℕ) : Type 0 where
+pub record SlotFound (s index : List ℕ) (a b end : ℕ) : Type 0 where
   pub steps : ℕ
   pub ends : Ends s index a b steps (a % 4096) b end
 
@@ -41,7 +45,7 @@ pub record Linked (m : ℕ) (index : List ℕ) : Type 0 where
 pub record Indexed (s : List ℕ) (m : ℕ) (index : List ℕ) : Type 0 where
   pub linked : Linked m index
   pub unused : (slot : ℕ) → 4096 + 2 * m ≤ slot → getD index slot 0 ≡ 0
-  pub finds : (a b end : ℕ) → EndsAt s index a b end → getD index end 0 ≡ pairBelow s a b m
+  pub finds : (a b end : ℕ) → SlotFound s index a b end → getD index end 0 ≡ pairBelow s a b m
 
 -- the lowest pair type below record r with the parts of r, 0 where there is none
 abbrev pub lowerPair : List ℕ → ℕ → ℕ

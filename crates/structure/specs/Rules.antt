@@ -34,11 +34,11 @@ use mathlib.Core.Path.{_≡_}
 use mathlib.Core.Option.{none}
 use Rattle.answers.specs.Answers.{lowest}
 
--- How deep an expression lies, and in how many feedbacks' defining parts (docs/SHEETS.md, "Limits": "An expression may lie at most
--- 64 deep, the root being at depth 1 .. No expression lies in the defining parts of more than three feedbacks"). Both are read off
--- the namings that lead from a record up to the header. A record that names is lower than the one it names, so as many steps as
--- the record's number are enough. From a pattern that several IFs share they go up by the first, which no rule asks about: no
--- expression is a part of a pattern.
+-- How deep an expression lies, and in how many feedbacks' defining parts (docs/SHEETS.md, "Limits": the root has depth 1, "and an
+-- expression that is a part of another one more than that other"; a defining part, "with all that is in it", lies in its feedback).
+-- Both are read off the namings that lead from a record up to the header. A record that names is lower than the one it names, so as
+-- many steps as the record's number are enough. From a pattern that several IFs share they go up by the first, which no rule asks
+-- about: no expression is a part of a pattern.
 
 abbrev pub climb : (ℕ → List Naming) → List Naming → List Naming
 climb go [] = []

@@ -11,7 +11,8 @@ ghost use Rattle.records.specs.Says.{Naming, namings, namingsIn, namesAt, ifNam
 ghost use Rattle.answers.specs.Answers.{lowest};
 ghost use Rattle.answers.specs.Searches.{found};
 ghost use Rattle.structure.specs.Rules.{wrongNaming};
-ghost use Rattle.structure.specs.NamerTable.{summary, ByWords, Adds, Holds};
+ghost use Rattle.structure.specs.NamerTable.{summary, ByWords, NamingsAdded, NamingsHeld};
+ghost use Rattle.records.specs.Limits.{mostRecords};
 use answers::Found;
 use records::NAMED_SEVERAL;
 use records::NAMES;
@@ -32,14 +33,14 @@ pub const NAMER_STEP: usize = 8;
 
 // A table of namings with no naming in it.
 pub fn no_namings() -> Namers
-    ensures { λ r. ⌜ Holds (λ _. []) r ⌝ }
+    ensures { λ r. ⌜ NamingsHeld (λ _. []) r ⌝ }
 {
     [0; RECORDS]
 }
 
 // A record's entry where word k of record q names it too: several words d share a pattern and leave the first one's entry.
 fn with_naming(entry: u16, q: usize, k: usize) -> u16
-    requires { ⌜ (q < 4096) × (k < 6) ⌝ }
+    requires { ⌜ (q < mostRecords) × (k < 6) ⌝ }
     ensures { λ r. ⌜ ((ns : List Naming) → ByWords ns → entry ≡ summary ns → r ≡ summary (ns ++ (record { by = q; at = k } ∷ []))) ⌝ }
 {
     if entry == 0 {
@@ -56,8 +57,8 @@ fn with_naming(entry: u16, q: usize, k: usize) -> u16
 
 // Adds to the table what word k of record q names, where `asks` is what the words of its kind ask.
 fn note_word(sheet: &[u8], n: usize, q: usize, asks: &[usize; WORDS], k: usize, namers: &mut Namers)
-    requires { ⌜ Sized (now sheet) n × (q < n) × (now asks ≡ askNumbers (rowOf (kindWord (now sheet) q))) × (0 < k) × (k < 6) × (length (now namers) ≡ 4096) ⌝ }
-    ensures { λ _. ⌜ Adds (λ r. ifNamed (namesAt (now (sheet .entry)) r q k) q k) (now (namers .entry)) (now (namers .exit)) ⌝ }
+    requires { ⌜ Sized (now sheet) n × (q < n) × (now asks ≡ askNumbers (rowOf (kindWord (now sheet) q))) × (0 < k) × (k < 6) × (length (now namers) ≡ mostRecords) ⌝ }
+    ensures { λ _. ⌜ NamingsAdded (λ r. ifNamed (namesAt (now (sheet .entry)) r q k) q k) (now (namers .entry)) (now (namers .exit)) ⌝ }
 {
     if NAMES <= asks[k] {
         let w = word(sheet, n, q, k);
@@ -69,8 +70,8 @@ fn note_word(sheet: &[u8], n: usize, q: usize, asks: &[usize; WORDS], k: usize, 
 
 // Adds to the table what the words of record q name.
 fn note_record(sheet: &[u8], n: usize, q: usize, namers: &mut Namers)
-    requires { ⌜ Sized (now sheet) n × (q < n) × (length (now namers) ≡ 4096) ⌝ }
-    ensures { λ _. ⌜ Adds (λ r. namingsIn (now (sheet .entry)) r q 5) (now (namers .entry)) (now (namers .exit)) ⌝ }
+    requires { ⌜ Sized (now sheet) n × (q < n) × (length (now namers) ≡ mostRecords) ⌝ }
+    ensures { λ _. ⌜ NamingsAdded (λ r. namingsIn (now (sheet .entry)) r q 5) (now (namers .entry)) (now (namers .exit)) ⌝ }
 {
     let asks = asks(word(sheet, n, q, WORD_KIND));
     note_word(sheet, n, q, &asks, WORD_NEXT, namers);
@@ -82,8 +83,8 @@ fn note_record(sheet: &[u8], n: usize, q: usize, namers: &mut Namers)
 
 // Fills an empty table with what every record names.
 pub fn note_all(sheet: &[u8], n: usize, namers: &mut Namers)
-    requires { ⌜ Sized (now sheet) n × Holds (λ _. []) (now namers) ⌝ }
-    ensures { λ _. ⌜ Holds (namings (now (sheet .entry))) (now (namers .exit)) ⌝ }
+    requires { ⌜ Sized (now sheet) n × NamingsHeld (λ _. []) (now namers) ⌝ }
+    ensures { λ _. ⌜ NamingsHeld (namings (now (sheet .entry))) (now (namers .exit)) ⌝ }
 {
     let mut q = 0;
     while q < n {
@@ -94,8 +95,8 @@ pub fn note_all(sheet: &[u8], n: usize, namers: &mut Namers)
 
 // The lowest record that is not well named: code 4.
 pub fn first_wrong_naming(n: usize, namers: &Namers) -> Found
-    requires { ⌜ (n ≤ 4096) × (length (now namers) ≡ 4096) ⌝ }
-    ensures { λ r. ⌜ ((s : List ℕ) → Holds (namings s) (now (namers .entry)) → found r ≡ lowest (wrongNaming s) n) ⌝ }
+    requires { ⌜ (n ≤ mostRecords) × (length (now namers) ≡ mostRecords) ⌝ }
+    ensures { λ r. ⌜ ((s : List ℕ) → NamingsHeld (namings s) (now (namers .entry)) → found r ≡ lowest (wrongNaming s) n) ⌝ }
 {
     let mut rec = 1;
     while rec < n {

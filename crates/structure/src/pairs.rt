@@ -6,7 +6,7 @@ ghost use Prim.Native.Nat.{ℕ, _+_, _<_};
 ghost use mathlib.Core.List.{List};
 ghost use Rattle.records.specs.Sized.{Sized};
 ghost use Rattle.records.specs.Trees.{isPairOf, pairBelow};
-ghost use Rattle.structure.specs.PairIndex.{Linked, Indexed, EndsAt, another, lowerPair};
+ghost use Rattle.structure.specs.PairIndex.{Linked, Indexed, SlotFound, another, lowerPair, pairSlots};
 use records::KIND_PAIR_TYPE;
 use records::RECORDS;
 use records::WORD_A;
@@ -42,7 +42,7 @@ fn is_pair_of(sheet: &[u8], n: usize, a: usize, b: usize, q: usize) -> bool
 
 // Whether a slot holds a pair type with other parts.
 fn holds_another(sheet: &[u8], n: usize, index: &PairIndex, a: usize, b: usize, slot: usize) -> bool
-    requires { ⌜ Sized (now sheet) n × Linked n (now index) × (slot < 12288) ⌝ }
+    requires { ⌜ Sized (now sheet) n × Linked n (now index) × (slot < pairSlots) ⌝ }
     ensures { λ r. ⌜ r ≡ another (now (sheet .entry)) (now (index .entry)) a b slot ⌝ }
 {
     let q = index[slot] as usize;
@@ -55,7 +55,7 @@ fn holds_another(sheet: &[u8], n: usize, index: &PairIndex, a: usize, b: usize, 
 // The slot at which the search for the pair type of a and b ends: that type's, or an empty one.
 fn slot_of(sheet: &[u8], n: usize, index: &PairIndex, a: usize, b: usize) -> usize
     requires { ⌜ Sized (now sheet) n × Linked n (now index) ⌝ }
-    ensures { λ r. ⌜ EndsAt (now (sheet .entry)) (now (index .entry)) a b r × (r < 12288) ⌝ }
+    ensures { λ r. ⌜ SlotFound (now (sheet .entry)) (now (index .entry)) a b r × (r < pairSlots) ⌝ }
 {
     let mut slot = a % RECORDS;
     let mut rest = b;

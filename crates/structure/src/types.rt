@@ -4,7 +4,7 @@ ghost use Prim.Native.Nat.{ℕ, _+_, min, _≤_, _<_};
 ghost use mathlib.Core.List.{List};
 ghost use Rattle.records.specs.Sized.{Sized};
 ghost use Rattle.records.specs.Written.{Written};
-ghost use Rattle.structure.specs.LeafTable.{Counts};
+ghost use Rattle.structure.specs.LeafTable.{LeavesCounted};
 ghost use Rattle.structure.specs.PairIndex.{Indexed};
 ghost use Rattle.answers.specs.Answers.{lowest};
 ghost use Rattle.answers.specs.Searches.{found};
@@ -28,7 +28,7 @@ const TOO_WIDE: u8 = MOST_LEAVES + 1;
 
 // A table of leaf counts with no count in it.
 pub fn no_leaves() -> WidthTable
-    ensures { λ r. ⌜ ((s : List ℕ) → Counts s 0 r) ⌝ }
+    ensures { λ r. ⌜ ((s : List ℕ) → LeavesCounted s 0 r) ⌝ }
 {
     [0; RECORDS]
 }
@@ -43,8 +43,8 @@ pub fn capped_sum(x: u8, y: u8) -> u8
 
 // Adds record rec to a table that has the leaf counts of the types below it.
 fn count_type(sheet: &[u8], n: usize, rec: usize, table: &mut WidthTable)
-    requires { ⌜ Sized (now sheet) n × (rec < n) × Written (now sheet) × Counts (now sheet) rec (now table) ⌝ }
-    ensures { λ _. ⌜ Counts (now (sheet .entry)) (rec + 1) (now (table .exit)) ⌝ }
+    requires { ⌜ Sized (now sheet) n × (rec < n) × Written (now sheet) × LeavesCounted (now sheet) rec (now table) ⌝ }
+    ensures { λ _. ⌜ LeavesCounted (now (sheet .entry)) (rec + 1) (now (table .exit)) ⌝ }
 {
     let kind = word(sheet, n, rec, WORD_KIND);
     if kind == KIND_FLAT_TYPE {
@@ -60,8 +60,8 @@ fn count_type(sheet: &[u8], n: usize, rec: usize, table: &mut WidthTable)
 
 // Fills an empty table with the leaf counts of all types.
 pub fn count_types(sheet: &[u8], n: usize, table: &mut WidthTable)
-    requires { ⌜ Sized (now sheet) n × Written (now sheet) × Counts (now sheet) 0 (now table) ⌝ }
-    ensures { λ _. ⌜ Counts (now (sheet .entry)) n (now (table .exit)) ⌝ }
+    requires { ⌜ Sized (now sheet) n × Written (now sheet) × LeavesCounted (now sheet) 0 (now table) ⌝ }
+    ensures { λ _. ⌜ LeavesCounted (now (sheet .entry)) n (now (table .exit)) ⌝ }
 {
     let mut rec = 0;
     while rec < n {
@@ -72,7 +72,7 @@ pub fn count_types(sheet: &[u8], n: usize, table: &mut WidthTable)
 
 // Whether a pair type has the parts of a lower one, or over 64 leaves: code 5. The index of the pair types below rec gets rec.
 fn wrong_type(sheet: &[u8], n: usize, rec: usize, table: &WidthTable, index: &mut PairIndex) -> bool
-    requires { ⌜ Sized (now sheet) n × (rec < n) × Counts (now sheet) n (now table) × Indexed (now sheet) rec (now index) ⌝ }
+    requires { ⌜ Sized (now sheet) n × (rec < n) × LeavesCounted (now sheet) n (now table) × Indexed (now sheet) rec (now index) ⌝ }
     ensures { λ r. ⌜ (r ≡ wrongType (now (sheet .entry)) rec) × Indexed (now (sheet .entry)) (rec + 1) (now (index .exit)) ⌝ }
 {
     let lower = note_pair(sheet, n, rec, index);
@@ -86,7 +86,7 @@ fn wrong_type(sheet: &[u8], n: usize, rec: usize, table: &WidthTable, index: &mu
 }
 
 pub fn first_wrong_type(sheet: &[u8], n: usize, table: &WidthTable) -> Found
-    requires { ⌜ Sized (now sheet) n × Counts (now sheet) n (now table) ⌝ }
+    requires { ⌜ Sized (now sheet) n × LeavesCounted (now sheet) n (now table) ⌝ }
     ensures { λ r. ⌜ found r ≡ lowest (wrongType (now (sheet .entry))) n ⌝ }
 {
     let mut index = no_pairs();

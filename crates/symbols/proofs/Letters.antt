@@ -70,10 +70,10 @@ module _ (text : List ℕ) (p q n i : ℕ) (h : i < n) (l : p + n ≤ length tex
       (sameName (lettersFrom text (p + (i + 1)) (n - (i + 1))) (lettersFrom text (q + (i + 1)) (n - (i + 1)))) false
   two-letters = ap₂ sameName (next-letter text p n i h l) (next-letter text q n i h m)
 
-  pub same-next : getD text (p + i) 0 ≡ getD text (q + i) 0
+  pub letter-same-next : getD text (p + i) 0 ≡ getD text (q + i) 0
       → sameName (lettersFrom text (p + i) (n - i)) (lettersFrom text (q + i) (n - i))
       ≡ sameName (lettersFrom text (p + (i + 1)) (n - (i + 1))) (lettersFrom text (q + (i + 1)) (n - (i + 1)))
-  same-next e =
+  letter-same-next e =
       two-letters
       ∙ ap
       (λ x. cond x (sameName (lettersFrom text (p + (i + 1)) (n - (i + 1))) (lettersFrom text (q + (i + 1)) (n - (i + 1)))) false)

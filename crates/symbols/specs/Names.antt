@@ -9,6 +9,10 @@ use lib.Dec.{eqb, leb}
 use Rattle.naming.specs.Declared.{Role, aType, aConstructor, DeclaredName, declaredAs, sameName, atFirst}
 use Rattle.naming.specs.TokenWalk.{roleIn}
 
+-- how many hashes there are
+abbrev pub hashes : ℕ
+hashes = 4096
+
 -- a span is the place of a name's first letter and the number of its letters in one number
 abbrev pub placeOf : ℕ → ℕ
 placeOf span = span / 32

@@ -6,7 +6,8 @@ ghost use Prim.Native.Nat.{ℕ, _+_, _-_, _/_, _%_, _≤_, _<_};
 ghost use mathlib.Core.List.{List};
 ghost use lib.ListN.{length, set};
 ghost use Rattle.naming.specs.Declared.{sameName, input};
-ghost use Rattle.symbols.specs.Names.{lettersAt, Inside, hashOf, nearest, Hashed, Roles, roleAmong, declaredRole, BoundRoles};
+ghost use Rattle.symbols.specs.Names.{lettersAt, Inside, hashOf, nearest, Hashed, Roles, roleAmong, declaredRole, BoundRoles, hashes};
+ghost use Rattle.grammar.specs.Sizes.{textTable};
 
 // One more than the bytes of a text, and so than its names.
 pub const SYMBOLS: usize = 65536;
@@ -38,13 +39,13 @@ pub const ROLE_BOUND: u8 = 3;
 pub const ROLE_NONE: u8 = 4;
 
 pub fn no_spans() -> Spans
-    ensures { λ r. ⌜ length r ≡ 65536 ⌝ }
+    ensures { λ r. ⌜ length r ≡ textTable ⌝ }
 {
     [0; SYMBOLS]
 }
 
 pub fn no_heads() -> Heads
-    ensures { λ r. ⌜ ((text spans links : List ℕ) → length spans ≡ 65536 → length links ≡ 65536 → Hashed text 0 spans links r) ⌝ }
+    ensures { λ r. ⌜ ((text spans links : List ℕ) → length spans ≡ textTable → length links ≡ textTable → Hashed text 0 spans links r) ⌝ }
 {
     [0; HASHES]
 }
@@ -82,7 +83,7 @@ fn count(span: u32) -> usize
 // The hash of a name.
 fn hash(text: &[u8], span: u32) -> usize
     requires { ⌜ Inside (now text) span ⌝ }
-    ensures { λ r. ⌜ (r ≡ hashOf (lettersAt (now (text .entry)) span)) × (r < 4096) ⌝ }
+    ensures { λ r. ⌜ (r ≡ hashOf (lettersAt (now (text .entry)) span)) × (r < hashes) ⌝ }
 {
     let p = place(span);
     let letters = count(span);
@@ -174,7 +175,7 @@ pub fn push_name(
     links: &mut Links,
     heads: &mut Heads,
 )
-    requires { ⌜ Hashed (now text) n (now spans) (now links) (now heads) × Inside (now text) span × (n < 65536) ⌝ }
+    requires { ⌜ Hashed (now text) n (now spans) (now links) (now heads) × Inside (now text) span × (n < textTable) ⌝ }
     ensures { λ _. ⌜ Hashed (now (text .entry)) (n + 1) (now (spans .exit)) (now (links .exit)) (now (heads .exit)) × (now (spans .exit) ≡ set (now (spans .entry)) n span) ⌝ }
 {
     let h = hash(text, span);

@@ -16,7 +16,7 @@ use Rattle.behaviour.specs.Terms.{circuitTerm}
 use Rattle.behaviour.specs.Sheets.{write}
 use Rattle.behaviour.specs.Cycle.{outputBy, afterBy}
 use Rattle.stimulus.specs.Stimulus.{cycles, wrongStimulus, wrongByte}
-use Rattle.behaviour.specs.Run.{bySlices, answer, finalOut, finalNext, Gives}
+use Rattle.behaviour.specs.Run.{bySlices, answer, finalOut, finalNext, RunGiven}
 use Rattle.behaviour.specs.Afterwards.{WellFormed}
 use Rattle.translation.specs.Layout.{sheetOfText}
 use Rattle.translator.specs.Promises.{WroteSheet}
@@ -37,7 +37,7 @@ run-means bytes entry n exit h stim out next τ result out′ next′ w g =
       reading = o .reading;
       meant =
           Meaning.kept .run-gives-meaning (o .tokens) (o .source) (o .reading .parsed) (o .good) stim out next τ result out′ next′
-          (subst (λ s. WellFormed s stim out next τ) e w) (subst (λ s. Gives s stim out next result out′ next′) e g);
+          (subst (λ s. WellFormed s stim out next τ) e w) (subst (λ s. RunGiven s stim out next result out′ next′) e g);
     } in
     subst (λ s. RanAsMeant bytes s stim τ out′) (sym e) on-text
 

@@ -67,8 +67,8 @@ textSeconds = 0 ∷ 0 ∷ 0 ∷ 0 ∷ 0 ∷ 0 ∷ 2 ∷ 0 ∷ 0 ∷ 0 ∷ 0 ∷ 
 abbrev pub ops : ℕ → List ℕ
 ops n = padded (take n textOps)
 
-abbrev pub firsts : ℕ → List ℕ
-firsts n = padded (take n textFirsts)
+abbrev pub firstsTable : ℕ → List ℕ
+firstsTable n = padded (take n textFirsts)
 
-abbrev pub seconds : ℕ → List ℕ
-seconds n = padded (take n textSeconds)
+abbrev pub secondsTable : ℕ → List ℕ
+secondsTable n = padded (take n textSeconds)

@@ -27,17 +27,17 @@ use Rattle.instructions.proofs.Instructed.{instructed}
 use Rattle.assembling.specs.Assembled.{typesIn, codeIn, Assembled}
 use Rattle.emitting.specs.Tables.{heldStack, SomeLeaves}
 use Rattle.emitting.specs.Emitting.{Stacking, Advancing, Emitting}
-use Rattle.emitting.proofs.TypeLaws.{some-leaves}
-use Rattle.translator.specs.LayingOut.{LayingOut, WritingOut}
-use Rattle.translator.proofs.BadPlaces.{none-bad}
+use Rattle.emitting.proofs.TypeLaws.{types-have-leaves}
+use Rattle.translator.specs.LayingOut.{TranslatingResolved, TranslatingAssembled}
+use Rattle.naming.proofs.First.{none-bad}
 use Rattle.translator.proofs.LaysOut.{laid-out}
 use Rattle.text_table.specs.SheetRows.{sheetRows}
 use Rattle.text_table.specs.Lexer.{tokensIn}
 use Rattle.text_table.specs.Computed.{assembledFrom}
 use Rattle.text_table.proofs.Lexed.{tokens-are}
 use Rattle.text_calls.specs.RunRows.{textAt}
-use Rattle.text_calls.proofs.TextTables.{toggleText, parityText, padded, padded-long, taken-long, ops, firsts, seconds}
-use Rattle.text_calls.proofs.WitnessOrder.{one-long, pairs, parts, others, leaves, bit-held, codeOps, codeFirsts, codeSeconds, coded}
+use Rattle.text_calls.proofs.TextTables.{toggleText, parityText, padded, padded-long, taken-long, ops, firstsTable, secondsTable}
+use Rattle.text_calls.proofs.WitnessOrder.{one-long, pairsTable, partsTable, others, leavesTable, bit-held, codeOps, codeFirsts, codeSeconds, coded}
 
 -- Crate `emitting`. The slice, and the stack before the inner IF's record, number 7, is written: its parts are 8, 9, 11 and 13.
 abbrev slice : List ℕ
@@ -75,7 +75,7 @@ put-choice-asks = advancing 8 11 (omega arith) (omega arith)
 -- after so many instructions, from the last on
 abbrev emittedAfter : ℕ → Emission
 emittedAfter k =
-    emitAll (heldTypes pairs (parts 2) others 1) (emission [] 17 [] 0) (take k (heldCode (codeOps 20) (codeFirsts 20) (codeSeconds 20) 20))
+    emitAll (heldTypes pairsTable (partsTable 2) others 1) (emission [] 17 [] 0) (take k (heldCode (codeOps 20) (codeFirsts 20) (codeSeconds 20) 20))
 
 choice-next : emission (writtenOf (emittedAfter 13)) 8 (heldStack (kinds 11) (values 11) 11) 0 ≡ emittedAfter 13
 choice-next = refl
@@ -137,14 +137,14 @@ part-next = refl
 step-part-asks : Advancing (replicate 252 255) partKinds partValues 19 5 × (21 ≤ 21) × (21 < 24)
 step-part-asks = (five-advancing 252 19 1 0 1 1 0 0 20 0 0 0 (omega arith), omega arith, omega arith)
 
-bit-counted : (k : ℕ) → k < 1 → getD leaves k 0 ≡ leavesNumbered (heldTypes pairs (parts 2) others 1) (suc k)
+bit-counted : (k : ℕ) → k < 1 → getD leavesTable k 0 ≡ leavesNumbered (heldTypes pairsTable (partsTable 2) others 1) (suc k)
 bit-counted zero h = refl
 bit-counted (suc k) h = absurd (omega arith)
 
-write-code-asks : (20 ≤ 65535) × (12 * 17 ≤ length slice) × SomeLeaves leaves 1
-write-code-asks = (omega arith, omega arith, some-leaves pairs (parts 2) others {leaves = leaves} {types = 1} bit-counted)
+write-code-asks : (20 ≤ 65535) × (12 * 17 ≤ length slice) × SomeLeaves leavesTable 1
+write-code-asks = (omega arith, omega arith, types-have-leaves pairsTable (partsTable 2) others {leaves = leavesTable} {types = 1} bit-counted)
 
-write-sheet-asks : Emitting (heldTypes pairs (parts 2) others 1) (codeOps 20) (codeFirsts 20) (codeSeconds 20) 20 leaves 1 17 slice
+write-sheet-asks : Emitting (heldTypes pairsTable (partsTable 2) others 1) (codeOps 20) (codeFirsts 20) (codeSeconds 20) 20 leavesTable 1 17 slice
 write-sheet-asks = record {
   few = omega arith;
   sheet-long = omega arith;
@@ -164,14 +164,14 @@ names-good : firstBadPlace (walkChecks begins firstScope (tokensIn toggleText)) 
 unfolding toggleText
 names-good = refl
 
-said : heldFrom (ops 24) (firsts 24) (seconds 24) 0 24 ≡ walkInstructions begins firstScope (tokensIn toggleText)
+said : heldFrom (ops 24) (firstsTable 24) (secondsTable 24) 0 24 ≡ walkInstructions begins firstScope (tokensIn toggleText)
 unfolding toggleText
 said = refl
 
-lay-out-asks : LayingOut toggleText (ops 24) (firsts 24) (seconds 24) 24
+lay-out-asks : TranslatingResolved toggleText (ops 24) (firstsTable 24) (secondsTable 24) 24
 lay-out-asks = of-reading (translate-legal-asks .legal .0) (translate-legal-asks .legal .1) (translate-legal-asks .legal .2)
   where
-    of-reading : (ts : List Token) (t : Text) → Reading toggleText ts t → LayingOut toggleText (ops 24) (firsts 24) (seconds 24) 24
+    of-reading : (ts : List Token) (t : Text) → Reading toggleText ts t → TranslatingResolved toggleText (ops 24) (firstsTable 24) (secondsTable 24) 24
     of-reading ts t r =
         let good : firstBadPlace (nameChecks t) ≡ none =
         sym (ap (λ l. firstBadPlace (walkChecks begins firstScope l)) (tokens-are (r .lexed)) ∙ ap firstBadPlace (by-tokens (r .parsed))) ∙ names-good in
@@ -185,7 +185,7 @@ lay-out-asks = of-reading (translate-legal-asks .legal .0) (translate-legal-asks
           few = omega arith;
         }
 
-toggle-assembled : Assembled (assembleAll nothingAssembled (heldFrom (ops 24) (firsts 24) (seconds 24) 0 24)) 24 pairs (parts 2) others leaves
+toggle-assembled : Assembled (assembleAll nothingAssembled (heldFrom (ops 24) (firstsTable 24) (secondsTable 24) 0 24)) 24 pairsTable (partsTable 2) others leavesTable
     (codeOps 20) (codeFirsts 20) (codeSeconds 20) 1 1 20 15 true 0
 toggle-assembled = record {
   types-given = refl;
@@ -202,5 +202,5 @@ toggle-assembled = record {
   code-tables = coded 20;
 }
 
-write-out-asks : WritingOut toggleText pairs (parts 2) others leaves (codeOps 20) (codeFirsts 20) (codeSeconds 20) 1 1 20 15 true 0
-write-out-asks = laid-out (ops 24) (firsts 24) (seconds 24) 24 lay-out-asks toggle-assembled
+write-out-asks : TranslatingAssembled toggleText pairsTable (partsTable 2) others leavesTable (codeOps 20) (codeFirsts 20) (codeSeconds 20) 1 1 20 15 true 0
+write-out-asks = laid-out (ops 24) (firstsTable 24) (secondsTable 24) 24 lay-out-asks toggle-assembled

@@ -7,24 +7,24 @@ use mathlib.Core.List.{List, [], _∷_, _++_}
 use native.Mathlib.Omega.{arith}
 use lib.ListN.{length, getD, take, drop}
 use Rattle.grammar.specs.Machine.{live, noWord, begins}
-use Rattle.reading.specs.Coded.{stateOf, stackOf, letterTable, nextTable, waitsTable, wordTable, Ready, Tables}
+use Rattle.reading.specs.Coded.{stateOf, stackOf, letterTable, nextTable, waitsTable, wordTable, Stepping, Tables}
 use Rattle.naming.specs.TokenWalk.{NameScope}
 use Rattle.naming.proofs.ByTokens.{firstScope}
 use Rattle.symbols.specs.Names.{Inside}
 use Rattle.scoping.specs.Scoped.{admissionTable, effectTable, heldScope}
 use Rattle.instructions.specs.Instruction.{heldFrom}
 use Rattle.instructions.specs.TokenOrder.{walkInstructions}
-use Rattle.resolving.specs.Said.{sayingTable, CodeSized, typesBelow, ranksBelow, Numbered, Speaking}
-use Rattle.resolving.specs.Walked.{Walking}
+use Rattle.resolving.specs.Said.{sayingTable, CodeSized, typesBelow, ranksBelow, Numbered, Saying}
+use Rattle.resolving.specs.Walked.{TakingToken}
 use Rattle.text_table.specs.Lexer.{tokensIn}
-use Rattle.text_calls.proofs.TextTables.{toggleText, parityText, short, inside, padded, taken-long, four-long, textOps, textFirsts, textSeconds, ops, firsts, seconds}
+use Rattle.text_calls.proofs.TextTables.{toggleText, parityText, short, inside, padded, taken-long, four-long, textOps, textFirsts, textSeconds, ops, firstsTable, secondsTable}
 use Rattle.text_calls.proofs.WitnessNames.{spans₀, spans₂, spans₄, links₄, heads₄, roles₂, roles₃, roles₄, pendings, paritySpans, twoPending, hashed₄, roles-of, x-bound, scoping-at-x}
 
 -- Crate `reading`. Four states wait at x: in a REC's part, a delayed expression, a THEN and a tested expression.
 abbrev stack : List ℕ
 stack = padded (28 ∷ 42 ∷ 35 ∷ 30 ∷ [])
 
-ready-at-x : (state word : ℕ) → state < 47 → word < 60 → Ready state word 4 stack
+ready-at-x : (state word : ℕ) → state < 47 → word < 60 → Stepping state word 4 stack
 ready-at-x state word h l = record {
   few-states = h;
   few-words = l;
@@ -43,23 +43,23 @@ ready-at-x state word h l = record {
 tables : Tables nextTable waitsTable wordTable
 tables = record { nexts-right = refl; waits-right = refl; words-right = refl }
 
-resume-asks : Ready 0 1 4 stack
+resume-asks : Stepping 0 1 4 stack
 resume-asks = ready-at-x 0 1 (omega arith) (omega arith)
 
-take-row-asks : Ready 13 1 4 stack × (48 ≤ 48) × (0 ≤ 47)
+take-row-asks : Stepping 13 1 4 stack × (48 ≤ 48) × (0 ≤ 47)
 take-row-asks = (ready-at-x 13 1 (omega arith) (omega arith), omega arith, omega arith)
 
-begin-asks : Ready 13 0 4 stack × (10 < 18) × Tables nextTable waitsTable wordTable
+begin-asks : Stepping 13 0 4 stack × (10 < 18) × Tables nextTable waitsTable wordTable
 begin-asks = (ready-at-x 13 0 (omega arith) (omega arith), omega arith, tables)
 
-follow-asks : Ready 13 0 4 stack × (10 < 21) × Tables nextTable waitsTable wordTable
+follow-asks : Stepping 13 0 4 stack × (10 < 21) × Tables nextTable waitsTable wordTable
 follow-asks = (begin-asks .0, omega arith, tables)
 
-reading-step-asks : Ready 13 0 4 stack × Tables nextTable waitsTable wordTable × (letterTable ≡ letterTable)
+reading-step-asks : Stepping 13 0 4 stack × Tables nextTable waitsTable wordTable × (letterTable ≡ letterTable)
 reading-step-asks = (begin-asks .0, tables, refl)
 
 -- Crate `resolving`. The first 13 instructions of T are said before x.
-code-sized : (n : ℕ) → n ≤ 65536 → CodeSized (ops n) (firsts n) (seconds n) n
+code-sized : (n : ℕ) → n ≤ 65536 → CodeSized (ops n) (firstsTable n) (secondsTable n) n
 code-sized n h = record {
   ops-long = taken-long n textOps (omega arith);
   firsts-long = taken-long n textFirsts (omega arith);
@@ -115,19 +115,19 @@ numbered-two = record {
 number-names-asks : Numbered roles₃ (types 2) (ranks 2) 2 × (2 ≤ 3) × (3 ≤ 65535) × (length roles₃ ≡ 65536)
 number-names-asks = (numbered-two, omega arith, omega arith, four-long 0 1 1 0)
 
-resolve-asks : (length toggleText ≤ 65535) × CodeSized (ops 0) (firsts 0) (seconds 0) 0
+resolve-asks : (length toggleText ≤ 65535) × CodeSized (ops 0) (firstsTable 0) (secondsTable 0) 0
 resolve-asks = (short, code-sized 0 (omega arith))
 
-say-asks : CodeSized (ops 13) (firsts 13) (seconds 13) 13
+say-asks : CodeSized (ops 13) (firstsTable 13) (secondsTable 13) 13
 say-asks = code-sized 13 (omega arith)
 
-say-pair-asks : CodeSized (ops 13) (firsts 13) (seconds 13) 13 × (13 < 47)
+say-pair-asks : CodeSized (ops 13) (firstsTable 13) (secondsTable 13) 13 × (13 < 47)
 say-pair-asks = (say-asks, omega arith)
 
-say-other-asks : CodeSized (ops 12) (firsts 12) (seconds 12) 12 × (98 ≤ 65535)
+say-other-asks : CodeSized (ops 12) (firstsTable 12) (secondsTable 12) 12 × (98 ≤ 65535)
 say-other-asks = (code-sized 12 (omega arith), omega arith)
 
-speaking-at-x : Speaking toggleText 3 4 spans₄ links₄ heads₄ roles₄ (types 3) (ranks 3) 13 (ops 13) (firsts 13) (seconds 13)
+speaking-at-x : Saying toggleText 3 4 spans₄ links₄ heads₄ roles₄ (types 3) (ranks 3) 13 (ops 13) (firstsTable 13) (secondsTable 13)
 speaking-at-x = record {
   hashed = hashed₄;
   named = roles-of 1 4 3 (omega arith) (omega arith);
@@ -139,15 +139,15 @@ speaking-at-x = record {
 }
 
 -- so ask `say_name` and `say_declared` too
-say-value-asks : Speaking toggleText 3 4 spans₄ links₄ heads₄ roles₄ (types 3) (ranks 3) 13 (ops 13) (firsts 13) (seconds 13)
+say-value-asks : Saying toggleText 3 4 spans₄ links₄ heads₄ roles₄ (types 3) (ranks 3) 13 (ops 13) (firstsTable 13) (secondsTable 13)
     × Inside toggleText 3233
 say-value-asks = (speaking-at-x, inside 3233 tt)
 
-say-token-asks : Speaking toggleText 3 4 spans₄ links₄ heads₄ roles₄ (types 3) (ranks 3) 13 (ops 13) (firsts 13) (seconds 13)
+say-token-asks : Saying toggleText 3 4 spans₄ links₄ heads₄ roles₄ (types 3) (ranks 3) 13 (ops 13) (firstsTable 13) (secondsTable 13)
     × Inside toggleText 3233 × (13 < 47) × (101 ≤ 65535)
 say-token-asks = (speaking-at-x, inside 3233 tt, omega arith, omega arith)
 
-walking-at-x : Walking toggleText 101 13 4 3 4 0 13 stack spans₄ links₄ heads₄ roles₄ pendings (types 3) (ranks 3) (ops 13) (firsts 13) (seconds 13)
+walking-at-x : TakingToken toggleText 101 13 4 3 4 0 13 stack spans₄ links₄ heads₄ roles₄ pendings (types 3) (ranks 3) (ops 13) (firstsTable 13) (secondsTable 13)
 walking-at-x = record {
   short = short;
   scoping = scoping-at-x 101 (omega arith) (omega arith);
@@ -158,7 +158,7 @@ walking-at-x = record {
 }
 
 take-token-asks
-    : Walking toggleText 101 13 4 3 4 0 13 stack spans₄ links₄ heads₄ roles₄ pendings (types 3) (ranks 3) (ops 13) (firsts 13) (seconds 13)
+    : TakingToken toggleText 101 13 4 3 4 0 13 stack spans₄ links₄ heads₄ roles₄ pendings (types 3) (ranks 3) (ops 13) (firstsTable 13) (secondsTable 13)
     × (101 < length toggleText) × Tables nextTable waitsTable wordTable × (effectTable ≡ effectTable) × (admissionTable ≡ admissionTable)
     × (sayingTable ≡ sayingTable)
 unfolding toggleText
@@ -183,7 +183,7 @@ goes-on-at-x : GoesOn toggleText 30 13 13 4 stack (heldScope toggleText 3 4 0 sp
 unfolding toggleText
 goes-on-at-x = refl
 
-said-before-x : heldFrom (ops 13) (firsts 13) (seconds 13) 0 13 ≡ take 13 (walkInstructions begins firstScope (tokensIn toggleText))
+said-before-x : heldFrom (ops 13) (firstsTable 13) (secondsTable 13) 0 13 ≡ take 13 (walkInstructions begins firstScope (tokensIn toggleText))
 unfolding toggleText
 said-before-x = refl
 

@@ -9,7 +9,7 @@ use Rattle.grammar.specs.Tokens.{Token}
 use Rattle.grammar.specs.Source.{Text}
 use Rattle.grammar.specs.Legal.{Reading}
 use Rattle.stimulus.specs.Stimulus.{inputType, cycleCount, cycles, pieces}
-use Rattle.behaviour.specs.Run.{Gives}
+use Rattle.behaviour.specs.Run.{RunGiven}
 use Rattle.behaviour.specs.Afterwards.{WellFormed}
 use Rattle.translator.specs.Translation.{Translated}
 use Rattle.text_meaning.specs.NamedValues.{valueOf}
@@ -26,13 +26,14 @@ pub record RanAsMeant (bytes sheet stim : List ℕ) (type : ℕ) (outputs : List
       (map (valueOf (declarations source) (inputType sheet)) (cycles sheet stim))
       (map (valueOf (declarations source) (typeAt sheet type)) (pieces (leaves (typeAt sheet type)) (cycleCount sheet stim) outputs))
 
--- "A run of its accepted sheet gives, cycle for cycle, that meaning's outputs": a call translated the bytes and gave 0 with length n, and
--- whatever a well-formed call of the run on the first n bytes of the slice gave by its contract, its outputs are the meaning's.
+-- "a run of the sheet puts out, cycle for cycle, what the text means over its names" (docs/SHEETS.md, "The sheet of a text"): a call
+-- translated the bytes and gave 0 with length n, and whatever a well-formed call of the run on the first n bytes of the slice gave by
+-- its contract, its outputs are the meaning's.
 abbrev pub TranslatedRunMeans : Type 0
 TranslatedRunMeans =
     (bytes entry : List ℕ) (n : ℕ) (exit : List ℕ) → Translated bytes entry (Done n) exit
     → (stim out next : List ℕ) (τ result : ℕ) (out′ next′ : List ℕ)
-    → WellFormed (take n exit) stim out next τ → Gives (take n exit) stim out next result out′ next′
+    → WellFormed (take n exit) stim out next τ → RunGiven (take n exit) stim out next result out′ next′
     → RanAsMeant bytes (take n exit) stim τ out′
 
 pub record TextCallPromises : Type 0 where

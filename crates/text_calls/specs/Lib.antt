@@ -1,4 +1,4 @@
 -- Calls on a text and on its sheet.
--- To believe:
+-- The rows are examples; to believe:
 pub mod RunRows
 pub mod CallPromises

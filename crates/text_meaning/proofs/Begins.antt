@@ -57,8 +57,8 @@ use Rattle.translation.specs.Distances.{asConstant, nameMeant, byDistances, unp
 use Rattle.translation.proofs.ConstructorTables.{pass-both, passes, pass-rest, after-new}
 use Rattle.text_meaning.specs.Circuits.{Circuit, Uses, circuitOf}
 use Rattle.text_meaning.proofs.Naming.{KnownType}
-use Rattle.text_meaning.proofs.Related.{At, at-input, at-here, at-there, NotIn, not-input, not-here, Related, related-name, related-constructor, related-always, related-pair, related-first, related-second, related-let, related-feedback, related-if, related-delay}
-use Rattle.text_meaning.proofs.NamesStand.{all-differ, numbered, type-known, unknown-is}
+use Rattle.text_meaning.proofs.Related.{BoundAt, at-input, at-here, at-there, NotIn, not-input, not-here, Related, related-name, related-constructor, related-always, related-pair, related-first, related-second, related-let, related-feedback, related-if, related-delay}
+use Rattle.text_meaning.proofs.NamesStand.{all-differ, constructor-has-number, type-known, unknown-is}
 use Rattle.text_meaning.proofs.TakenNames.{new-name}
 use Rattle.text_meaning.proofs.ConstantsStand.{constructor-stands, constructor-known, unknown-stands, held-stands}
 
@@ -133,21 +133,21 @@ not-the-input D h w c = go (sameName w input) (same-equal w input)
         absurd (let no : _≡_ {A = ℕ} 0 1 = cc in omega arith)
 
 -- where a name is in scope
-at-distance : (w : List ℕ) (bound : List (List ℕ)) → isAmong w bound ≡ true → At bound w (distance w bound)
+at-distance : (w : List ℕ) (bound : List (List ℕ)) → isAmong w bound ≡ true → BoundAt bound w (distance w bound)
 at-distance w [] h = absurd (let no : _≡_ {A = ℕ} 0 1 = cc in omega arith)
 at-distance w (v ∷ bound) h = go (sameName w v) refl (at-distance w bound) h
   where
-    go : (b : Bool) → sameName w v ≡ b → (isAmong w bound ≡ true → At bound w (distance w bound)) → cond b true (isAmong w bound) ≡ true
-        → At (v ∷ bound) w (cond b 0 (suc (distance w bound)))
+    go : (b : Bool) → sameName w v ≡ b → (isAmong w bound ≡ true → BoundAt bound w (distance w bound)) → cond b true (isAmong w bound) ≡ true
+        → BoundAt (v ∷ bound) w (cond b 0 (suc (distance w bound)))
     go true e f h = at-here e
     go false e f h = at-there e (f h)
 
-input-at : (w : List ℕ) (bound : List (List ℕ)) → isAmong w bound ≡ false → sameName w input ≡ true → At bound w (distance w bound)
+input-at : (w : List ℕ) (bound : List (List ℕ)) → isAmong w bound ≡ false → sameName w input ≡ true → BoundAt bound w (distance w bound)
 input-at w [] h i = at-input i
 input-at w (v ∷ bound) h i = go (sameName w v) refl (λ n. input-at w bound n i) h
   where
-    go : (b : Bool) → sameName w v ≡ b → (isAmong w bound ≡ false → At bound w (distance w bound)) → cond b true (isAmong w bound) ≡ false
-        → At (v ∷ bound) w (cond b 0 (suc (distance w bound)))
+    go : (b : Bool) → sameName w v ≡ b → (isAmong w bound ≡ false → BoundAt bound w (distance w bound)) → cond b true (isAmong w bound) ≡ false
+        → BoundAt (v ∷ bound) w (cond b 0 (suc (distance w bound)))
     go true e f h = absurd (let no : _≡_ {A = ℕ} 0 1 = cc in omega arith)
     go false e f h = at-there e (f h)
 
@@ -173,54 +173,54 @@ module _ {ds : List Declaration} (good : AllPass (declarationsChecks atFirst ds)
           let m = constructorMeant (constructorEntries ds) w in
           related-constructor
           (not-in w bound e (not-the-input (afterAll atFirst ds) (input-taken atFirst ds good taken-at-first) w f)) f
-          (constructor-stands ds good w m (numbered ds w f) (constructor-known ds good w f))
+          (constructor-stands good w m (constructor-has-number ds w f) (constructor-known good w f))
       go false false e f h = related-name (input-at w bound e (only-input atFirst ds only-at-first .only w h f))
 
-  pub begins : (bound : List (List ℕ)) (e : Expression) → AllPass (expressionChecks (afterAll atFirst ds) bound e)
+  pub circuit-related : (bound : List (List ℕ)) (e : Expression) → AllPass (expressionChecks (afterAll atFirst ds) bound e)
       → AllPass (constantChecks ds e) → Related ds bound (byDistances ds bound e) (circuitOf ds e)
-  begins bound (NameUse (identifier w p)) h k = name-related bound w (passes h)
-  begins bound (UndefinedOf (identifier w p)) h k =
-      related-always (unknown-stands ds good w (min 64 (leaves (typeMeant (typeEntries ds) w))))
-  begins bound (PairExpression e f) h k =
+  circuit-related bound (NameUse (identifier w p)) h k = name-related bound w (passes h)
+  circuit-related bound (UndefinedOf (identifier w p)) h k =
+      related-always (unknown-stands good w (min 64 (leaves (typeMeant (typeEntries ds) w))))
+  circuit-related bound (PairExpression e f) h k =
       let D = afterAll atFirst ds in
       let x = pass-both (expressionChecks D bound e) (expressionChecks D bound f) h in
       let y = pass-both (constantChecks ds e) (constantChecks ds f) k in
-      related-pair (begins bound e (x .0) (y .0)) (begins bound f (x .1) (y .1))
-  begins bound (FirstOf e) h k = related-first (begins bound e h k)
-  begins bound (SecondOf e) h k = related-second (begins bound e h k)
-  begins bound (LetExpression (identifier w p) e f) h k =
+      related-pair (circuit-related bound e (x .0) (y .0)) (circuit-related bound f (x .1) (y .1))
+  circuit-related bound (FirstOf e) h k = related-first (circuit-related bound e h k)
+  circuit-related bound (SecondOf e) h k = related-second (circuit-related bound e h k)
+  circuit-related bound (LetExpression (identifier w p) e f) h k =
       let D = afterAll atFirst ds in
       let x = pass-both (expressionChecks D bound e) (expressionChecks D (w ∷ bound) f) (pass-rest h) in
       let y = pass-both (constantChecks ds e) (constantChecks ds f) k in
-      related-let (begins bound e (x .0) (y .0)) (begins (w ∷ bound) f (x .1) (y .1))
-  begins bound (LetRecExpression (identifier t q) (identifier w p) e f) h k =
+      related-let (circuit-related bound e (x .0) (y .0)) (circuit-related (w ∷ bound) f (x .1) (y .1))
+  circuit-related bound (LetRecExpression (identifier t q) (identifier w p) e f) h k =
       let D = afterAll atFirst ds in
       let x = pass-both (expressionChecks D (w ∷ bound) e) (expressionChecks D (w ∷ bound) f) (pass-rest (pass-rest h)) in
       let y = pass-both (constantChecks ds e) (constantChecks ds f) k in
       related-feedback (type-known ds (all-differ atFirst ds good) t) (unknown-is ds (all-differ atFirst ds good) t)
-      (begins (w ∷ bound) e (x .0) (y .0)) (begins (w ∷ bound) f (x .1) (y .1))
-  begins bound (IfExpression e m f g) h k =
+      (circuit-related (w ∷ bound) e (x .0) (y .0)) (circuit-related (w ∷ bound) f (x .1) (y .1))
+  circuit-related bound (IfExpression e m f g) h k =
       let D = afterAll atFirst ds in
       let one = pass-both ((expressionChecks D bound e ++ patternChecks D m) ++ expressionChecks D bound f) (expressionChecks D bound g) h in
       let two = pass-both (expressionChecks D bound e ++ patternChecks D m) (expressionChecks D bound f) (one .0) in
       let three = pass-both (expressionChecks D bound e) (patternChecks D m) (two .0) in
       let last = pass-both (constantChecks ds e ++ constantChecks ds f) (constantChecks ds g) k in
       let both = pass-both (constantChecks ds e) (constantChecks ds f) (last .0) in
-      related-if refl (begins bound e (three .0) (both .0)) (three .1) (begins bound f (two .1) (both .1))
-      (begins bound g (one .1) (last .1))
-  begins bound (DelayExpression c e) h k =
+      related-if refl (circuit-related bound e (three .0) (both .0)) (three .1) (circuit-related bound f (two .1) (both .1))
+      (circuit-related bound g (one .1) (last .1))
+  circuit-related bound (DelayExpression c e) h k =
       let D = afterAll atFirst ds in
       let x = pass-both (constantNames D c) (expressionChecks D bound e) h in
-      related-delay (held-stands ds good c (x .0) (passes k)) (begins bound e (x .1) (pass-rest k))
+      related-delay (held-stands good c (x .0) (passes k)) (circuit-related bound e (x .1) (pass-rest k))
 
 -- the places that delays carry do not matter
-pub placed : {ds : List Declaration} {bound : List (List ℕ)} {c : Circuit} (e : Expr) → Related ds bound (unplaced e) c → Related ds bound e c
-placed (Const τ v) h = h
-placed (Var n) h = h
-placed (Tuple e f) (related-pair x y) = related-pair (placed e x) (placed f y)
-placed (Index1 e) (related-first x) = related-first (placed e x)
-placed (Index2 e) (related-second x) = related-second (placed e x)
-placed (Let e f) (related-let x y) = related-let (placed e x) (placed f y)
-placed (LetRec σ e f) (related-feedback k i x y) = related-feedback k i (placed e x) (placed f y)
-placed (If e p f g) (related-if q x h y z) = related-if q (placed e x) h (placed f y) (placed g z)
-placed (Delay q τ v e) (related-delay s x) = related-delay s (placed e x)
+pub unplaced-related : {ds : List Declaration} {bound : List (List ℕ)} {c : Circuit} (e : Expr) → Related ds bound (unplaced e) c → Related ds bound e c
+unplaced-related (Const τ v) h = h
+unplaced-related (Var n) h = h
+unplaced-related (Tuple e f) (related-pair x y) = related-pair (unplaced-related e x) (unplaced-related f y)
+unplaced-related (Index1 e) (related-first x) = related-first (unplaced-related e x)
+unplaced-related (Index2 e) (related-second x) = related-second (unplaced-related e x)
+unplaced-related (Let e f) (related-let x y) = related-let (unplaced-related e x) (unplaced-related f y)
+unplaced-related (LetRec σ e f) (related-feedback k i x y) = related-feedback k i (unplaced-related e x) (unplaced-related f y)
+unplaced-related (If e p f g) (related-if q x h y z) = related-if q (unplaced-related e x) h (unplaced-related f y) (unplaced-related g z)
+unplaced-related (Delay q τ v e) (related-delay s x) = related-delay s (unplaced-related e x)

@@ -41,7 +41,7 @@ use Rattle.text_meaning.proofs.Naming.{nameTree, KnownType, known-flat,
 use Rattle.text_meaning.proofs.Matched.{IsNumber}
 use Rattle.text_meaning.proofs.Related.{StandsFor}
 use Rattle.text_meaning.proofs.InScope.{bottom-of-type}
-use Rattle.text_meaning.proofs.NamesStand.{all-differ, numbered, type-known, unknown-is}
+use Rattle.text_meaning.proofs.NamesStand.{all-differ, constructor-has-number, type-known, unknown-is}
 use Rattle.text_meaning.proofs.TakenNames.{AllTaken, after-taken, later-same, first-entry, among-entry, not-among-entry}
 
 module _ (w u : List ℕ) where
@@ -146,13 +146,39 @@ apart a b c d l e = (
   sym (drop-at a c (length a) refl) ∙ ap (drop (length a)) e ∙ drop-at b d (length a) (sym l),
 )
 
-module _ (ds : List Declaration) (good : AllPass (declarationsChecks atFirst ds)) where
-  T : List TypeEntry
-  T = typeEntries ds
+none-taken : AllTaken atFirst []
+none-taken = record { taken = λ w e. absurd (let no : _≡_ {A = ℕ} 0 1 = cc in omega arith) }
 
-  none-taken : AllTaken atFirst []
-  none-taken = record { taken = λ w e. absurd (let no : _≡_ {A = ℕ} 0 1 = cc in omega arith) }
+one-leaf : (τ : Ty) → 1 ≤ leaves τ
+one-leaf (Flat r n) = omega arith
+one-leaf (TyTuple σ τ) = let h = one-leaf σ in omega arith
 
+-- no signature here determines the declarations
+module _ (ds : List Declaration) where
+  -- a typed constant: its type's name, that it stands for its value, and that it has no more leaves than its type
+  record TypedConstant (c : SourceConstant) : Type 0 where
+    type : List ℕ
+    type-is : constantType ds c ≡ some type
+    stands : StandsFor ds (typeMeant (typeEntries ds) type) (constantValues ds c) (constantValue ds c)
+    few : length (constantValues ds c) ≤ leaves (typeMeant (typeEntries ds) type)
+
+  parts-typed : (a b : Option (List ℕ)) → isTyped (pairTypeOf ds a b) ≡ true → (isTyped a ≡ true) × (isTyped b ≡ true)
+  parts-typed none b h = absurd (let no : _≡_ {A = ℕ} 0 1 = cc in omega arith)
+  parts-typed (some v) none h = absurd (let no : _≡_ {A = ℕ} 0 1 = cc in omega arith)
+  parts-typed (some v) (some w) h = (refl, refl)
+
+  module _ (good : AllPass (declarationsChecks atFirst ds)) where
+    -- the type of a constant: what its name means
+    constructor-of : (w u : List ℕ) → typeOfConstructor ds w ≡ some u
+        → typeMeant (typeEntries ds) u
+        ≡ Flat (constructorMeant (constructorEntries ds) w .type) (constructorMeant (constructorEntries ds) w .constructors)
+    constructor-of w u e = constructor-type w u 1 atFirst [] ds none-taken good e
+
+    pair-of : (v w u : List ℕ) → firstPairType ds v w ≡ some u
+        → typeMeant (typeEntries ds) u ≡ TyTuple (typeMeant (typeEntries ds) v) (typeMeant (typeEntries ds) w)
+    pair-of v w u e = pair-type v w u 1 atFirst [] ds none-taken no-type good e
+
+module _ {ds : List Declaration} (good : AllPass (declarationsChecks atFirst ds)) where
   -- a constructor as a constant of its type
   pub constructor-stands : (w : List ℕ) (m : Meant) → IsNumber ds w m → KnownType ds (Flat (m .type) (m .constructors))
       → StandsFor ds (Flat (m .type) (m .constructors)) (m .number ∷ []) (Made w)
@@ -170,38 +196,17 @@ module _ (ds : List Declaration) (good : AllPass (declarationsChecks atFirst ds)
         known = type-known ds (all-differ atFirst ds good) w;
       }
 
-  -- the type of a constant: what its name means
-  constructor-of : (w u : List ℕ) → typeOfConstructor ds w ≡ some u
-      → typeMeant (typeEntries ds) u
-      ≡ Flat (constructorMeant (constructorEntries ds) w .type) (constructorMeant (constructorEntries ds) w .constructors)
-  constructor-of w u e = constructor-type w u 1 atFirst [] ds none-taken good e
-
-  pair-of : (v w u : List ℕ) → firstPairType ds v w ≡ some u
-      → typeMeant (typeEntries ds) u ≡ TyTuple (typeMeant (typeEntries ds) v) (typeMeant (typeEntries ds) w)
-  pair-of v w u e = pair-type v w u 1 atFirst [] ds none-taken no-type good e
-
-  -- a typed constant: its type's name, that it stands for its value, and that it has no more leaves than its type
-  record TypedConstant (c : SourceConstant) : Type 0 where
-    type : List ℕ
-    type-is : constantType ds c ≡ some type
-    stands : StandsFor ds (typeMeant (typeEntries ds) type) (constantValues ds c) (constantValue ds c)
-    few : length (constantValues ds c) ≤ leaves (typeMeant (typeEntries ds) type)
-
-  one-leaf : (τ : Ty) → 1 ≤ leaves τ
-  one-leaf (Flat r n) = omega arith
-  one-leaf (TyTuple σ τ) = let h = one-leaf σ in omega arith
-
   of-constructor : (w : List ℕ) (p : ℕ) → isDeclared constructorRole w (afterAll atFirst ds) ≡ true → (o : Option (List ℕ))
-      → typeOfConstructor ds w ≡ o → isTyped o ≡ true → TypedConstant (OfConstructor (identifier w p))
+      → typeOfConstructor ds w ≡ o → isTyped o ≡ true → TypedConstant ds (OfConstructor (identifier w p))
   of-constructor w p h none e t = absurd (let no : _≡_ {A = ℕ} 0 1 = cc in omega arith)
   of-constructor w p h (some u) e t =
       let m = constructorMeant (constructorEntries ds) w in
-      let is = constructor-of w u e in
+      let is = constructor-of ds good w u e in
       record {
         type = u;
         type-is = e;
         stands = subst (λ τ. StandsFor ds τ (m .number ∷ []) (Made w)) (sym is)
-            (constructor-stands w m (numbered ds w h) (subst (KnownType ds) is (type-known ds (all-differ atFirst ds good) u)));
+            (constructor-stands w m (constructor-has-number ds w h) (subst (KnownType ds) is (type-known ds (all-differ atFirst ds good) u)));
         few = one-leaf (typeMeant (typeEntries ds) u);
       }
 
@@ -210,7 +215,7 @@ module _ (ds : List Declaration) (good : AllPass (declarationsChecks atFirst ds)
       → KnownType ds (Flat (constructorMeant (constructorEntries ds) w .type) (constructorMeant (constructorEntries ds) w .constructors))
   constructor-known w h =
       let m = constructorMeant (constructorEntries ds) w in
-      known-flat (numbered ds w h .many) (all-differ atFirst ds good (m .type))
+      known-flat (constructor-has-number ds w h .many) (all-differ atFirst ds good (m .type))
 
   two-stand : (σ τ : Ty) (v w : List ℕ) (x y : NamedValue) → StandsFor ds σ v x → StandsFor ds τ w y → length v ≤ leaves σ
       → length w ≤ leaves τ → StandsFor ds (TyTuple σ τ) (v ++ w) (Couple x y)
@@ -225,12 +230,12 @@ module _ (ds : List Declaration) (good : AllPass (declarationsChecks atFirst ds)
           let parts = apart (flatten c) v (flatten d) w (omega arith) e in
           ap₂ Couple (a .value c f (parts .0)) (b .value d g (parts .1))
 
-  of-pair : (p : ℕ) (c d : SourceConstant) → TypedConstant c → TypedConstant d → (o : Option (List ℕ)) → constantType ds (ConstantPair p c d) ≡ o
-      → isTyped o ≡ true → TypedConstant (ConstantPair p c d)
+  of-pair : (p : ℕ) (c d : SourceConstant) → TypedConstant ds c → TypedConstant ds d → (o : Option (List ℕ)) → constantType ds (ConstantPair p c d) ≡ o
+      → isTyped o ≡ true → TypedConstant ds (ConstantPair p c d)
   of-pair p c d x y none e t = absurd (let no : _≡_ {A = ℕ} 0 1 = cc in omega arith)
   of-pair p c d x y (some u) e t =
       let first : firstPairType ds (x .type) (y .type) ≡ some u = rw (x .type-is, y .type-is) at e in
-      let is = pair-of (x .type) (y .type) u first in
+      let is = pair-of ds good (x .type) (y .type) u first in
       let l = length-append (constantValues ds c) (constantValues ds d) in
       let fx = x .few in
       let fy = y .few in
@@ -245,12 +250,7 @@ module _ (ds : List Declaration) (good : AllPass (declarationsChecks atFirst ds)
         few = omega arith;
       }
 
-  parts-typed : (a b : Option (List ℕ)) → isTyped (pairTypeOf ds a b) ≡ true → (isTyped a ≡ true) × (isTyped b ≡ true)
-  parts-typed none b h = absurd (let no : _≡_ {A = ℕ} 0 1 = cc in omega arith)
-  parts-typed (some v) none h = absurd (let no : _≡_ {A = ℕ} 0 1 = cc in omega arith)
-  parts-typed (some v) (some w) h = (refl, refl)
-
-  constant-stands : (c : SourceConstant) → AllPass (constantNames (afterAll atFirst ds) c) → isTyped (constantType ds c) ≡ true → TypedConstant c
+  constant-stands : (c : SourceConstant) → AllPass (constantNames (afterAll atFirst ds) c) → isTyped (constantType ds c) ≡ true → TypedConstant ds c
   constant-stands (OfConstructor (identifier w p)) h t = of-constructor w p (passes h) (typeOfConstructor ds w) refl t
   constant-stands (Undefined (identifier w p)) h t =
       let l = length-replicate {A = ℕ} (min 64 (leaves (typeMeant (typeEntries ds) w))) 0 in
@@ -262,7 +262,7 @@ module _ (ds : List Declaration) (good : AllPass (declarationsChecks atFirst ds)
       }
   constant-stands (ConstantPair p c d) h t =
       let both = pass-both (constantNames (afterAll atFirst ds) c) (constantNames (afterAll atFirst ds) d) h in
-      let typed = parts-typed (constantType ds c) (constantType ds d) t in
+      let typed = parts-typed ds (constantType ds c) (constantType ds d) t in
       of-pair p c d (constant-stands c (both .0) (typed .0)) (constant-stands d (both .1) (typed .1))
       (constantType ds (ConstantPair p c d)) refl t
 

@@ -20,7 +20,7 @@ use Rattle.text_meaning.proofs.Related.{
   Scoped,
   scoped-input,
   scoped-name,
-  At,
+  BoundAt,
   at-input,
   at-here,
   at-there,
@@ -65,11 +65,11 @@ elem-known here (of-more h hs) (one-known x xs) elem-here = (h, x)
 elem-known (there n) (of-more h hs) (one-known x xs) (elem-there e) = elem-known n hs xs e
 
 -- what is at a distance is the nearest of its name
-pub found : {ds : List Declaration} {bound : List (List ℕ)} {l : List ConstantTree} {ρ : List Binding} {w : List ℕ} {n : ℕ} {k : ConstantTree}
-    → At bound w n → Scoped ds bound l ρ → Elem l n k → nearestBinding ρ w ≡ some (nameTree ds k)
-found (at-input e) scoped-input elem-here = rw e
-found (at-here e) (scoped-name s) elem-here = rw e
-found (at-there e a) (scoped-name s) (elem-there x) = rw e (found a s x)
+pub binding-found : {ds : List Declaration} {bound : List (List ℕ)} {l : List ConstantTree} {ρ : List Binding} {w : List ℕ} {n : ℕ} {k : ConstantTree}
+    → BoundAt bound w n → Scoped ds bound l ρ → Elem l n k → nearestBinding ρ w ≡ some (nameTree ds k)
+binding-found (at-input e) scoped-input elem-here = rw e
+binding-found (at-here e) (scoped-name s) elem-here = rw e
+binding-found (at-there e a) (scoped-name s) (elem-there x) = rw e (binding-found a s x)
 
 pub not-found : {ds : List Declaration} {bound : List (List ℕ)} {l : List ConstantTree} {ρ : List Binding} {w : List ℕ}
     → NotIn bound w → Scoped ds bound l ρ → nearestBinding ρ w ≡ none

@@ -24,7 +24,7 @@ use Rattle.meaning.proofs.Order.{value-length}
 use Rattle.meaning.proofs.FlattenOneToOne.{flatten-typed}
 use Rattle.stimulus.specs.Stimulus.{inputType, cycleCount, cycles, pieces, endToEnd}
 use Rattle.answers.specs.Answers.{packed}
-use Rattle.behaviour.specs.Run.{answer, finalOut, finalNext, Gives, RunsByRules}
+use Rattle.behaviour.specs.Run.{answer, finalOut, finalNext, RunGiven, RunsByRules}
 use Rattle.behaviour.specs.Afterwards.{WellFormed}
 use Rattle.behaviour.proofs.ByRules.{call-by-rules}
 use Rattle.translation.specs.Layout.{sheetOfText}
@@ -39,9 +39,9 @@ use Rattle.text_meaning.specs.TextPromises.{declarations, Means, OneMean
 use Rattle.text_meaning.proofs.OneMeaning.{run-one}
 use Rattle.text_meaning.proofs.Naming.{nameTree, KnownType, value-of}
 use Rattle.text_meaning.proofs.Related.{Related, scoped-input, none-known, one-known}
-use Rattle.text_meaning.proofs.Simulates.{follows}
-use Rattle.text_meaning.proofs.NamesStand.{all-differ, numbered, type-known}
-use Rattle.text_meaning.proofs.Begins.{begins, placed}
+use Rattle.text_meaning.proofs.Simulates.{rules-follow}
+use Rattle.text_meaning.proofs.NamesStand.{all-differ, constructor-has-number, type-known}
+use Rattle.text_meaning.proofs.Begins.{circuit-related, unplaced-related}
 
 one-meaning : OneMeaning
 one-meaning t inputs outputs others x y = run-one (x .1) (y .1) .0
@@ -76,7 +76,7 @@ runs : (ds : List Declaration) (declared : Ty → Type 0) {e f : Expr} {c : Circ
     → (after : Circuit) × GivesSeq (afterAll atFirst ds) c (map (nameTree ds) is) (map (nameTree ds) os) after
 runs ds declared {c = c} s-end t env k r = (c, no-cycle)
 runs ds declared (s-cycle x y) t (of-all-more h hs) k r =
-    let u = follows ds declared (numbered ds) x t (of-more h of-none) (one-known k none-known) scoped-input r in
+    let u = rules-follow (constructor-has-number ds) x t (of-more h of-none) (one-known k none-known) scoped-input r in
     let v = runs ds declared y (u .typed) hs k (u .related) in
     (v .0, one-cycle (u .gives) (v .1))
 
@@ -99,9 +99,9 @@ run-gives-meaning ts (text d ds (identifier w p) e) rd h stim out next τ result
     let same : typed .0 ≡ rules .expression = same-expression (typed .1) (rules .decoded) in
     let also : meant .0 ≡ rules .expression = same-expression (meant .1) (rules .decoded) in
     let related =
-    placed (rules .expression)
+    unplaced-related (rules .expression)
     (subst (λ f. Related (d ∷ ds) [] f (circuitOf (d ∷ ds) e)) (sym (ap unplaced (sym also) ∙ meant .2))
-    (begins (good .0) [] e (good .1) (constants-good d ds (identifier w p) e h))) in
+    (circuit-related (good .0) [] e (good .1) (constants-good d ds (identifier w p) e h))) in
     let known =
     subst (KnownType (d ∷ ds)) (sym (Translation.kept .input-as-declared t h))
     (type-known (d ∷ ds) (all-differ atFirst (d ∷ ds) (good .0)) w) in

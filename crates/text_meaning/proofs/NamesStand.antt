@@ -148,9 +148,9 @@ names-of-all : (ds : List Declaration) → NamesFrom (constructorsOf ds) 1 ds
 names-of-all ds = record { at = λ t. let z : 1 + t ≡ suc t = omega arith in rw z }
 
 -- each constructor is the one of its number
-pub numbered : (ds : List Declaration) (w : List ℕ) → isDeclared constructorRole w (afterAll atFirst ds) ≡ true
+pub constructor-has-number : (ds : List Declaration) (w : List ℕ) → isDeclared constructorRole w (afterAll atFirst ds) ≡ true
     → IsNumber ds w (constructorMeant (constructorEntries ds) w)
-numbered ds w h = looked-up w (all-numbered (constructorsOf ds) 1 ds (names-of-all ds)) (a-constructor w ds h)
+constructor-has-number ds w h = looked-up w (all-numbered (constructorsOf ds) 1 ds (names-of-all ds)) (a-constructor w ds h)
 
 -- the type that a name stands for is known, and its undefined constant is what `?` says
 record Stand (ds : List Declaration) (T : List TypeEntry) (U : List UnknownOf) : Type 0 where

@@ -34,10 +34,10 @@ pub data Scoped (ds : List Declaration) : List (List ℕ) → List ConstantTree 
       → Scoped ds bound l ρ → Scoped ds (w ∷ bound) (c ∷ l) (binding w (nameTree ds c) ∷ ρ)
 
 -- a name is in scope at this distance
-pub data At : List (List ℕ) → List ℕ → ℕ → Type 0 where
-  at-input : {w : List ℕ} → sameName w input ≡ true → At [] w 0
-  at-here : {w v : List ℕ} {bound : List (List ℕ)} → sameName w v ≡ true → At (v ∷ bound) w 0
-  at-there : {w v : List ℕ} {bound : List (List ℕ)} {k : ℕ} → sameName w v ≡ false → At bound w k → At (v ∷ bound) w (suc k)
+pub data BoundAt : List (List ℕ) → List ℕ → ℕ → Type 0 where
+  at-input : {w : List ℕ} → sameName w input ≡ true → BoundAt [] w 0
+  at-here : {w v : List ℕ} {bound : List (List ℕ)} → sameName w v ≡ true → BoundAt (v ∷ bound) w 0
+  at-there : {w v : List ℕ} {bound : List (List ℕ)} {k : ℕ} → sameName w v ≡ false → BoundAt bound w k → BoundAt (v ∷ bound) w (suc k)
 
 -- a name is not in scope
 pub data NotIn : List (List ℕ) → List ℕ → Type 0 where
@@ -51,7 +51,7 @@ pub record StandsFor (ds : List Declaration) (τ : Ty) (v : List ℕ) (x : Named
 
 -- a circuit over names, and its form with distances
 pub data Related (ds : List Declaration) : List (List ℕ) → Expr → Circuit → Type 0 where
-  related-name : {bound : List (List ℕ)} {w : List ℕ} {k : ℕ} → At bound w k → Related ds bound (Var k) (Uses w)
+  related-name : {bound : List (List ℕ)} {w : List ℕ} {k : ℕ} → BoundAt bound w k → Related ds bound (Var k) (Uses w)
   related-constructor : {bound : List (List ℕ)} {w v : List ℕ} {τ : Ty}
       → NotIn bound w → isDeclared constructorRole w (afterAll atFirst ds) ≡ true → StandsFor ds τ v (Made w)
       → Related ds bound (Const τ v) (Uses w)
@@ -98,7 +98,7 @@ pub record Followed
     pub related : Related ds bound f after
 
 -- and an iteration
-pub record Settled
+pub record FeedbackFollowed
     (ds : List Declaration)
     (Declared : Ty → Type 0)
     (Γ : List Ty)

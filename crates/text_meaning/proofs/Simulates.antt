@@ -78,7 +78,7 @@ use Rattle.text_meaning.proofs.Related.{
   AllKnown,
   one-known,
   Followed,
-  Settled,
+  FeedbackFollowed,
 }
 use Rattle.text_meaning.proofs.InScope.{
   bottom-of-type,
@@ -90,26 +90,27 @@ use Rattle.text_meaning.proofs.InScope.{
   second-known,
   branch-of-type,
   elem-known,
-  found,
+  binding-found,
   not-found,
 }
 
+module _ {ds : List Declaration} where
+  -- the constant of a delay after the cycle
+  stands-for : {τ : Ty} {k : ConstantTree} {v : List ℕ} → KnownType ds τ → ConstantOf τ k → flatten k ≡ v → StandsFor ds τ v (nameTree ds k)
+  stands-for {τ} {k} {v} known of e =
+      record { value = λ c of-c e-c. ap (nameTree ds) (flatten-one of-c of (e-c ∙ sym e)); known = known }
+
 module _
-    (ds : List Declaration)
-    (Declared : Ty → Type 0)
+    {ds : List Declaration}
+    {Declared : Ty → Type 0}
     (numbered : (w : List ℕ) → isDeclared constructorRole w (afterAll atFirst ds) ≡ true
     → IsNumber ds w (constructorMeant (constructorEntries ds) w))
   where
-    -- the constant of a delay after the cycle
-    stands-for : {τ : Ty} {k : ConstantTree} {v : List ℕ} → KnownType ds τ → ConstantOf τ k → flatten k ≡ v → StandsFor ds τ v (nameTree ds k)
-    stands-for {τ} {k} {v} known of e =
-        record { value = λ c of-c e-c. ap (nameTree ds) (flatten-one of-c of (e-c ∙ sym e)); known = known }
-
     mutual
-      pub follows : {Γ : List Ty} {bound : List (List ℕ)} {l : List ConstantTree} {ρ : List Binding} {e f : Expr} {c : Circuit} {τ : Ty}
+      pub rules-follow : {Γ : List Ty} {bound : List (List ℕ)} {l : List ConstantTree} {ρ : List Binding} {e f : Expr} {c : Circuit} {τ : Ty}
           {k : ConstantTree} → Reduces undecidedConstant l e k f → Typed Declared Γ e τ → ConstantsOf Γ l → AllKnown ds Γ
           → Scoped ds bound l ρ → Related ds bound e c → Followed ds Declared Γ bound ρ c τ k f
-      follows (r-const {c = k} of p) (t-const h) env types scope (related-constructor {w = w} n d s) =
+      rules-follow (r-const {c = k} of p) (t-const h) env types scope (related-constructor {w = w} n d s) =
           record {
             of-type = of;
             known = s .known;
@@ -118,7 +119,7 @@ module _
             gives = rw (s .value k of p) (gives-constructor (not-found n scope) d);
             related = related-constructor n d s;
           }
-      follows (r-const {c = k} of p) (t-const h) env types scope (related-always {x = x} s) =
+      rules-follow (r-const {c = k} of p) (t-const h) env types scope (related-always {x = x} s) =
           record {
             of-type = of;
             known = s .known;
@@ -127,9 +128,9 @@ module _
             gives = rw (s .value k of p) gives-always;
             related = related-always s;
           }
-      follows (r-tuple x y) (t-tuple s t d) env types scope (related-pair a b) =
-          let u = follows x s env types scope a in
-          let v = follows y t env types scope b in
+      rules-follow (r-tuple x y) (t-tuple s t d) env types scope (related-pair a b) =
+          let u = rules-follow x s env types scope a in
+          let v = rules-follow y t env types scope b in
           record {
             of-type = of-tuple (u .of-type) (v .of-type);
             known = known-pair (u .known) (v .known);
@@ -138,9 +139,9 @@ module _
             gives = gives-pair (u .gives) (v .gives);
             related = related-pair (u .related) (v .related);
           }
-      follows (r-let x y) (t-let s t) env types scope (related-let {w = w} a b) =
-          let u = follows x s env types scope a in
-          let v = follows y t (of-more (u .of-type) env) (one-known (u .known) types) (scoped-name scope) b in
+      rules-follow (r-let x y) (t-let s t) env types scope (related-let {w = w} a b) =
+          let u = rules-follow x s env types scope a in
+          let v = rules-follow y t (of-more (u .of-type) env) (one-known (u .known) types) (scoped-name scope) b in
           record {
             of-type = v .of-type;
             known = v .known;
@@ -149,18 +150,18 @@ module _
             gives = gives-let (u .gives) (v .gives);
             related = related-let (u .related) (v .related);
           }
-      follows (r-var x) (t-var n) env types scope (related-name {w = w} a) =
+      rules-follow (r-var x) (t-var n) env types scope (related-name {w = w} a) =
           let h = elem-known n env types x in
           record {
             of-type = h .0;
             known = h .1;
             typed = t-var n;
             after = Uses w;
-            gives = gives-bound (found a scope x);
+            gives = gives-bound (binding-found a scope x);
             related = related-name a;
           }
-      follows (r-delay {c = k} {d = j} of p x q) (t-delay {τ = τ} h t) env types scope (related-delay {x = held} s a) =
-          let u = follows x t env types scope a in
+      rules-follow (r-delay {c = k} {d = j} of p x q) (t-delay {τ = τ} h t) env types scope (related-delay {x = held} s a) =
+          let u = rules-follow x t env types scope a in
           record {
             of-type = of;
             known = s .known;
@@ -169,8 +170,8 @@ module _
             gives = rw (s .value k of p) (gives-delay (u .gives));
             related = related-delay (stands-for (u .known) (u .of-type) q) (u .related);
           }
-      follows (r-index1 {c = k} {d = j} x) (t-index1 t) env types scope (related-first a) =
-          let u = follows x t env types scope a in
+      rules-follow (r-index1 {c = k} {d = j} x) (t-index1 t) env types scope (related-first a) =
+          let u = rules-follow x t env types scope a in
           record {
             of-type = first-of-type (u .of-type);
             known = first-known (u .known);
@@ -179,8 +180,8 @@ module _
             gives = gives-first (u .gives);
             related = related-first (u .related);
           }
-      follows (r-index2 x) (t-index2 t) env types scope (related-second a) =
-          let u = follows x t env types scope a in
+      rules-follow (r-index2 x) (t-index2 t) env types scope (related-second a) =
+          let u = rules-follow x t env types scope a in
           record {
             of-type = second-of-type (u .of-type);
             known = second-known (u .known);
@@ -189,10 +190,10 @@ module _
             gives = gives-second (u .gives);
             related = related-second (u .related);
           }
-      follows (r-if {c = k} {d = j} {b = i} x y z e) (t-if {p = p} t h s r) env types scope (related-if {m = m} q a checked b g) =
-          let u = follows x t env types scope a in
-          let v = follows y s env types scope b in
-          let w = follows z r env types scope g in
+      rules-follow (r-if {c = k} {d = j} {b = i} x y z e) (t-if {p = p} t h s r) env types scope (related-if {m = m} q a checked b g) =
+          let u = rules-follow x t env types scope a in
+          let v = rules-follow y s env types scope b in
+          let w = rules-follow z r env types scope g in
           record {
             of-type = subst (ConstantOf _) e (branch-of-type (match p k) (v .of-type) (w .of-type));
             known = v .known;
@@ -207,9 +208,9 @@ module _
                 ∙ e));
             related = related-if q (u .related) checked (v .related) (w .related);
           }
-      follows (r-letrec x y) (t-letrec {σ = σ} s t) env types scope (related-feedback {w = w} {i = i} k e a b) =
+      rules-follow (r-letrec x y) (t-letrec {σ = σ} s t) env types scope (related-feedback {w = w} {i = i} k e a b) =
           let u = settles x s env types k (bottom-of-type σ) scope a in
-          let v = follows y t (of-more (u .of-type) env) (one-known k types) (scoped-name scope) b in
+          let v = rules-follow y t (of-more (u .of-type) env) (one-known k types) (scoped-name scope) b in
           record {
             of-type = v .of-type;
             known = v .known;
@@ -222,9 +223,9 @@ module _
       settles : {Γ : List Ty} {bound : List (List ℕ)} {l : List ConstantTree} {ρ : List Binding} {w : List ℕ} {e f : Expr} {c : Circuit}
           {σ : Ty} {j k : ConstantTree} → Iterates undecidedConstant l e j k f → Typed Declared (σ ∷ Γ) e σ → ConstantsOf Γ l → AllKnown ds Γ
           → KnownType ds σ → ConstantOf σ j → Scoped ds bound l ρ → Related ds (w ∷ bound) e c
-          → Settled ds Declared (σ ∷ Γ) (w ∷ bound) ρ w c σ j k f
+          → FeedbackFollowed ds Declared (σ ∷ Γ) (w ∷ bound) ρ w c σ j k f
       settles (i-unchanged x) t env types known of scope a =
-          let u = follows x t (of-more of env) (one-known known types) (scoped-name scope) a in
+          let u = rules-follow x t (of-more of env) (one-known known types) (scoped-name scope) a in
           record {
             of-type = of;
             typed = u .typed;
@@ -233,7 +234,7 @@ module _
             related = u .related;
           }
       settles (i-again x differs y) t env types known of scope a =
-          let u = follows x t (of-more of env) (one-known known types) (scoped-name scope) a in
+          let u = rules-follow x t (of-more of env) (one-known known types) (scoped-name scope) a in
           let v = settles y t env types known (u .of-type) scope a in
           record {
             of-type = v .of-type;

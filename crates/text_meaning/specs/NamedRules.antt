@@ -27,7 +27,7 @@ use Rattle.text_meaning.specs.Circuits.{
 pub data Binding : Type 0 where
   binding : (letters : List ℕ) (value : NamedValue) → Binding
 
--- "a nearer name hides a farther one"
+-- "A nearer name hides a farther one"
 abbrev pub nearestBinding : List Binding → List ℕ → Option NamedValue
 nearestBinding [] w = none
 nearestBinding (binding u v ∷ ρ) w = cond (sameName w u) (some v) (nearestBinding ρ w)

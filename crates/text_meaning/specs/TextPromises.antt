@@ -11,7 +11,7 @@ use Rattle.naming.specs.Declared.{DeclaredName, atFirst}
 use Rattle.naming.specs.Checks.{AllPass}
 use Rattle.naming.specs.Names.{afterAll, textChecks}
 use Rattle.stimulus.specs.Stimulus.{inputType, cycleCount, cycles, pieces}
-use Rattle.behaviour.specs.Run.{Gives}
+use Rattle.behaviour.specs.Run.{RunGiven}
 use Rattle.behaviour.specs.Afterwards.{WellFormed}
 use Rattle.translation.specs.Layout.{sheetOfText}
 use Rattle.text_meaning.specs.NamedValues.{NamedValue, valueOf}
@@ -28,7 +28,7 @@ namesOf t = afterAll atFirst (declarations t)
 abbrev pub textCircuit : Text → Circuit
 textCircuit (text d ds t e) = circuitOf (d ∷ ds) e
 
--- "The meaning of a text is defined over its names": over these inputs it gives these outputs, cycle for cycle
+-- the meaning of a text over its names: over these inputs it gives these outputs, cycle for cycle
 abbrev pub Means : Text → (inputs outputs : List NamedValue) → Type 0
 Means t inputs outputs = (after : Circuit) × Rules.GivesSeq (namesOf t) (textCircuit t) inputs outputs after
 
@@ -36,13 +36,14 @@ Means t inputs outputs = (after : Circuit) × Rules.GivesSeq (namesOf t) (textCi
 abbrev pub OneMeaning : Type 0
 OneMeaning = (t : Text) (inputs outputs others : List NamedValue) → Means t inputs outputs → Means t inputs others → outputs ≡ others
 
--- 2. "A run of its accepted sheet gives, cycle for cycle, that meaning's outputs": whatever a well-formed call on the sheet of a text gave by the
--- contract, its outputs are the meaning's for the stimulus, both read as values.
+-- 2. "a run of the sheet puts out, cycle for cycle, what the text means over its names" (docs/SHEETS.md, "The sheet of a text"):
+-- whatever a well-formed call on the sheet of a text gave by the contract, its outputs are the meaning's for the stimulus, both read as
+-- values.
 abbrev pub RunGivesMeaning : Type 0
 RunGivesMeaning =
     (ts : List Token) (t : Text) → ReadsText ts t → AllPass (textChecks t)
     → (stim out next : List ℕ) (τ result : ℕ) (out′ next′ : List ℕ)
-    → WellFormed (sheetOfText t) stim out next τ → Gives (sheetOfText t) stim out next result out′ next′
+    → WellFormed (sheetOfText t) stim out next τ → RunGiven (sheetOfText t) stim out next result out′ next′
     → Means t (map (valueOf (declarations t) (inputType (sheetOfText t))) (cycles (sheetOfText t) stim))
     (map (valueOf (declarations t) (typeAt (sheetOfText t) τ))
     (pieces (leaves (typeAt (sheetOfText t) τ)) (cycleCount (sheetOfText t) stim) out′))

@@ -15,7 +15,8 @@ use Rattle.answers.specs.declared.Answer.the-variants.{Done, Refused}
 use Rattle.grammar.specs.Tokens.{Token}
 use Rattle.grammar.specs.Source.{identifier, Text, text}
 use Rattle.grammar.specs.Grammar.{ReadsText}
-use Rattle.grammar.specs.Legal.{Reading, Keeps, Told}
+use Rattle.grammar.specs.Legal.{Reading, Keeps}
+use Rattle.grammar.specs.Walk.{Told}
 use Rattle.grammar.specs.Machine.{begins}
 use Rattle.grammar.specs.Walk.{firstIllegal}
 use Rattle.grammar.proofs.Exact.{first-illegal-exact}
@@ -37,7 +38,7 @@ use Rattle.instructions.proofs.Written.{declared-many, emitted, records-written
 use Rattle.translator.specs.Translation.{lengthNeeded, noRoom, textAnswer, finalSheet, Translated, outside-grammar, in-grammar}
 use Rattle.translator.proofs.Answered.{answerBy, answered}
 use Rattle.translator.proofs.Kept as Translator
-use Rattle.translator.proofs.BadPlaces.{none-bad}
+use Rattle.naming.proofs.First.{none-bad}
 use Rattle.text_table.specs.Lexer.{tokensIn}
 use Rattle.text_table.specs.Computed.{assembledFrom, roomAnswer, untypedAnswer, assemblyAnswer, namesAnswer, tokensAnswer, illegalAnswer, computedAnswer, assemblyRecords, computedRecords}
 use Rattle.instructions.specs.Emission.{writtenOf}

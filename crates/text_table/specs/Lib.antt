@@ -1,5 +1,5 @@
 -- Texts with what their translation gives.
--- To believe:
+-- The rows are examples; to believe:
 pub mod Rows
 pub mod SheetRows
 pub mod Promises

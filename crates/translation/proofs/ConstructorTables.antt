@@ -90,10 +90,10 @@ entry-right w (constructorEntry v t n k ∷ C) C′ h = go (sameName w v) (entry
     go false e = e
 
 -- the table has the count of each of its constructors
-pub counted : {s : List ℕ} (w : List ℕ) {C : List ConstructorEntry} → AllFlat s C → isEntry w C ≡ true
+pub constructors-counted : {s : List ℕ} (w : List ℕ) {C : List ConstructorEntry} → AllFlat s C → isEntry w C ≡ true
     → wordA s (constructorMeant C w .type) ≡ constructorMeant C w .constructors
-counted w none-flat h = let no : _≡_ {A = ℕ} 0 1 = cc in let none : ⊥ = omega arith in elim none [ ]
-counted {s} w (one-flat {v} {t} {n} {k} {C} x a rest) h = go (sameName w v) (counted w rest) h
+constructors-counted w none-flat h = let no : _≡_ {A = ℕ} 0 1 = cc in let none : ⊥ = omega arith in elim none [ ]
+constructors-counted {s} w (one-flat {v} {t} {n} {k} {C} x a rest) h = go (sameName w v) (constructors-counted w rest) h
   where
     go : (b : Bool)
         → (isEntry w C ≡ true → wordA s (constructorMeant C w .type) ≡ constructorMeant C w .constructors)
@@ -104,10 +104,10 @@ counted {s} w (one-flat {v} {t} {n} {k} {C} x a rest) h = go (sameName w v) (cou
     go false f h = f h
 
 -- and its type
-pub flat-type : {s : List ℕ} → Headed s → (w : List ℕ) {C : List ConstructorEntry} → AllFlat s C
+pub says-flat-type : {s : List ℕ} → Headed s → (w : List ℕ) {C : List ConstructorEntry} → AllFlat s C
     → SaysType s (constructorMeant C w .type) (Flat (constructorMeant C w .type) (constructorMeant C w .constructors))
-flat-type h w none-flat = header-says h
-flat-type {s} h w (one-flat {v} {t} {n} {k} {C} x a rest) = go (sameName w v) (flat-type h w rest)
+says-flat-type h w none-flat = header-says h
+says-flat-type {s} h w (one-flat {v} {t} {n} {k} {C} x a rest) = go (sameName w v) (says-flat-type h w rest)
   where
     go : (b : Bool)
         → SaysType s (constructorMeant C w .type) (Flat (constructorMeant C w .type) (constructorMeant C w .constructors))

@@ -60,7 +60,7 @@ use Rattle.translation.specs.Distances.{constantValues, typeOr, asConsta
 use Rattle.translation.specs.Layout.{leavesLaid, constantLaid, nameLaid, patternLaid, numberOr, roomOf, laid}
 use Rattle.translation.proofs.Standing.{RecordIs, Stands, none-stand, one-stands, stands-append}
 use Rattle.translation.proofs.ConstructorTables.{pass-both, passes, pass-rest, after-new}
-use Rattle.translation.proofs.Tables.{Tables}
+use Rattle.translation.proofs.Tables.{TablesMeant}
 use Rattle.translation.proofs.Sizes.{leaves-length, pattern-length, constant-length, expression-length}
 use Rattle.translation.proofs.PatternsRead.{chain-read, SaysPattern, pattern-read}
 
@@ -174,7 +174,7 @@ module _ (ds : List Declaration) where
   values-some (ConstantPair p c d) =
       let h = values-some c in let e = length-append (constantValues ds c) (constantValues ds d) in omega arith
 
-module _ {s : List ℕ} {ds : List Declaration} (T : Tables s ds) where
+module _ {s : List ℕ} {ds : List Declaration} (T : TablesMeant s ds) where
   -- a name: one that a LET takes, a constructor, or `input`
   named-read : (f r : ℕ) (bound : List (List ℕ)) (w : List ℕ) → 1 ≤ count s → Stands s r (nameLaid ds bound r w)
       → SaysExpression s (treeWithin s (suc f) r) (nameMeant ds bound w)

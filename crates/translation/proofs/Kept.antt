@@ -24,16 +24,16 @@ use Rattle.translation.specs.Resolved.{typeNumber, typeEntries}
 use Rattle.translation.specs.Distances.{expressionMeant, unplaced}
 use Rattle.translation.specs.Layout.{typesLaid, roomOf, laid, textRecords, sheetOfText}
 use Rattle.translation.specs.Promises.{AsManyRecords, DecodesToText, TypesAsDeclared, InputAsDeclared, TranslationPromises}
-use Rattle.translation.proofs.Standing.{Stands, one-stands, stands, stands-append, sheet-count}
+use Rattle.translation.proofs.Standing.{Stands, one-stands, sheet-stands, stands-append, sheet-count}
 use Rattle.translation.proofs.TypesMeant.{Headed}
 use Rattle.translation.proofs.ConstructorTables.{pass-both, pass-rest}
-use Rattle.translation.proofs.Tables.{Tables, tables}
+use Rattle.translation.proofs.Tables.{TablesMeant, tables-meant}
 use Rattle.translation.proofs.Sizes.{types-length, expression-length}
 use Rattle.translation.proofs.Decodes.{SaysExpression, expression-read}
 
 -- a text as it stands in a sheet: the tables hold, and the expression stands after the types, where the header says
 pub record Laid (s : List ℕ) (d : Declaration) (ds : List Declaration) (n : Identifier) (e : Expression) : Type 0 where
-  pub held : Tables s (d ∷ ds)
+  pub held : TablesMeant s (d ∷ ds)
   pub there : Stands s (suc (length (d ∷ ds))) (laid (d ∷ ds) [] (suc (length (d ∷ ds))) e)
   pub takes : wordA s 0 ≡ typeNumber (typeEntries (d ∷ ds)) (letters n)
   pub root : wordB s 0 ≡ suc (length (d ∷ ds))
@@ -55,7 +55,7 @@ text-laid s d ds n e (one-stands x st) good =
     let l = types-length 1 [] (d ∷ ds) in
     let after : 1 + length (d ∷ ds) ≡ suc (length (d ∷ ds)) = omega arith in
     record {
-      held = tables (record { kind-one = x .kind-is }) (d ∷ ds) (parted .0) good;
+      held = tables-meant (record { kind-one = x .kind-is }) (d ∷ ds) (parted .0) good;
       there = rw (l, after) at (parted .1);
       takes = x .a-is;
       root = x .b-is;
@@ -66,7 +66,7 @@ pub in-its-sheet : (d : Declaration) (ds : List Declaration) (w : List ℕ) (p :
     → Laid (sheetOf (textRecords (text d ds (identifier w p) e))) d ds (identifier w p) e
 in-its-sheet d ds w p e h =
     let t = text d ds (identifier w p) e in
-    text-laid (sheetOf (textRecords t)) d ds (identifier w p) e (stands (textRecords t)) (names-good d ds w p e h .0)
+    text-laid (sheetOf (textRecords t)) d ds (identifier w p) e (sheet-stands (textRecords t)) (names-good d ds w p e h .0)
 
 as-many : AsManyRecords
 as-many ts (text d ds (identifier w p) e) rd h =

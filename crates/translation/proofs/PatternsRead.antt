@@ -62,7 +62,7 @@ use Rattle.translation.specs.Distances.{patternMeant}
 use Rattle.translation.specs.Layout.{leavesLaid, patternLaid}
 use Rattle.translation.proofs.Standing.{RecordIs, Stands, none-stand, one-stands, stands-append}
 use Rattle.translation.proofs.ConstructorTables.{pass-both, passes, pass-rest, type-or-constructor}
-use Rattle.translation.proofs.Tables.{Tables}
+use Rattle.translation.proofs.Tables.{TablesMeant}
 use Rattle.translation.proofs.Sizes.{leaves-length, pattern-length}
 
 -- a chain of one or more leaves
@@ -88,23 +88,23 @@ pattern-some (reads-alone-or x) = omega arith
 pattern-some (reads-parts-or x y z) = omega arith
 
 -- what follows an alternative whose next is this makes `then` of its pattern
-pub record Followed (s : List ℕ) (f next : ℕ) (then : Language.Pattern → Language.Pattern) : Type 0 where
+pub record AlternativesFollowed (s : List ℕ) (f next : ℕ) (then : Language.Pattern → Language.Pattern) : Type 0 where
   pub all : allPatterns (follow end (alternativesWithin s f) next) ≡ true
   pub reads : (p : Language.Pattern)
       → orElse p (follow end (alternativesWithin s f) next) (patternOf s (follow end (alternativesWithin s f) next)) ≡ then p
 
-none-follow : {s : List ℕ} {f : ℕ} → Followed s f 0 (λ p. p)
+none-follow : {s : List ℕ} {f : ℕ} → AlternativesFollowed s f 0 (λ p. p)
 none-follow = record { all = refl; reads = λ p. refl }
 
 some-follow : {s : List ℕ} {f next r : ℕ} {q : Language.Pattern} → next ≡ suc r → SaysPattern s (alternativesWithin s f (suc r)) q
-    → Followed s f next (λ p. Language.Bar p q)
+    → AlternativesFollowed s f next (λ p. Language.Bar p q)
 some-follow e x = rw e (record { all = x .all; reads = λ p. x .proper p _ ∙ ap (Language.Bar p) (x .reads) })
 
-module _ {s : List ℕ} {ds : List Declaration} (T : Tables s ds) where
+module _ {s : List ℕ} {ds : List Declaration} (T : TablesMeant s ds) where
   -- an alternative that is a name
   alone : {then : Language.Pattern → Language.Pattern} (f r next p : ℕ) (w : List ℕ)
       → Stands s r (patternLaid ds next r (Alone (identifier w p)))
-      → AllPass (patternChecks (afterAll atFirst ds) (Alone (identifier w p))) → Followed s f next then
+      → AllPass (patternChecks (afterAll atFirst ds) (Alone (identifier w p))) → AlternativesFollowed s f next then
       → SaysPattern s (alternativesWithin s (suc f) r) (then (patternMeant ds (Alone (identifier w p))))
   unfolding alternativesWithin kindOf rowOf
   alone {then} f r next p w st h after =
@@ -143,7 +143,7 @@ module _ {s : List ℕ} {ds : List Declaration} (T : Tables s ds) where
 
   -- one that is a pair, from its parts
   parts : {then : Language.Pattern → Language.Pattern} {p q : Language.Pattern} (f r next a b : ℕ) → RecordIs s r 50 next a b 0 0
-      → SaysPattern s (alternativesWithin s f a) p → SaysPattern s (alternativesWithin s f b) q → Followed s f next then
+      → SaysPattern s (alternativesWithin s f a) p → SaysPattern s (alternativesWithin s f b) q → AlternativesFollowed s f next then
       → SaysPattern s (alternativesWithin s (suc f) r) (then (Language.Parts p q))
   unfolding alternativesWithin kindOf rowOf
   parts f r next a b x y z after =
@@ -155,7 +155,7 @@ module _ {s : List ℕ} {ds : List Declaration} (T : Tables s ds) where
 
   paired : {then : Language.Pattern → Language.Pattern} (f r next : ℕ) (m n : SourcePattern)
       → Stands s r (patternLaid ds next r (PatternPair m n)) → AllPass (patternChecks (afterAll atFirst ds) (PatternPair m n))
-      → Followed s f next then
+      → AlternativesFollowed s f next then
       → (Stands s (suc r) (patternLaid ds 0 (suc r) m) → AllPass (patternChecks (afterAll atFirst ds) m)
       → SaysPattern s (alternativesWithin s f (suc r)) (patternMeant ds m))
       → (Stands s (suc r + patternRecords m) (patternLaid ds 0 (suc r + patternRecords m) n)

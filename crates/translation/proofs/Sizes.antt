@@ -31,7 +31,7 @@ use Rattle.translation.specs.Resolved.{TypeEntry, typeMeant, typeEntries
 use Rattle.translation.specs.Distances.{constantValues}
 use Rattle.translation.specs.Layout.{typesLaid, leavesLaid, roomOf, patternLaid, nameLaid, constantLaid, laid}
 use Rattle.translation.proofs.ConstructorTables.{pass-both, passes, pass-rest, after-new}
-use Rattle.translation.proofs.Tables.{Tables}
+use Rattle.translation.proofs.Tables.{TablesMeant}
 
 pub types-length : (i : ℕ) (T : List TypeEntry) (ds : List Declaration) → length (typesLaid i T ds) ≡ length ds
 types-length i T [] = refl
@@ -65,7 +65,7 @@ module _ (ds : List Declaration) where
       let g = pattern-length next (r + patternRecords m) n in
       rw (length-append, f, g)
 
-module _ {s : List ℕ} {ds : List Declaration} (T : Tables s ds) where
+module _ {s : List ℕ} {ds : List Declaration} (T : TablesMeant s ds) where
   pub constant-length : (c : SourceConstant) → AllPass (constantNames (afterAll atFirst ds) c)
       → length (constantValues ds c) ≡ constantLeaves (leafCounts [] ds) c
   constant-length (OfConstructor n) h = refl

@@ -67,9 +67,9 @@ at-first kind next a b c d rs =
       d-is = both-bytes d;
     }
 
-pub stands : (rs : List Record) → Stands (sheetOf rs) 0 rs
-stands [] = none-stand
-stands (words kind next a b c d ∷ rs) = one-stands (at-first kind next a b c d rs) (all-later (words kind next a b c d) rs (stands rs))
+pub sheet-stands : (rs : List Record) → Stands (sheetOf rs) 0 rs
+sheet-stands [] = none-stand
+sheet-stands (words kind next a b c d ∷ rs) = one-stands (at-first kind next a b c d rs) (all-later (words kind next a b c d) rs (sheet-stands rs))
 
 pub stands-append : {s : List ℕ} (r : ℕ) (xs ys : List Record) → Stands s r (xs ++ ys)
     → Stands s r xs × Stands s (r + length xs) ys

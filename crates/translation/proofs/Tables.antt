@@ -31,9 +31,9 @@ use Rattle.translation.specs.Distances.{typeOr}
 use Rattle.translation.specs.Layout.{typesLaid, numberOr}
 use Rattle.translation.proofs.Standing.{Stands}
 use Rattle.translation.proofs.TypesMeant.{SaysType, Headed, none-say, number-says, or-says, entries-say, constructors-flat}
-use Rattle.translation.proofs.ConstructorTables.{pass-both, passes, pass-rest, counted, flat-type, a-constructor}
+use Rattle.translation.proofs.ConstructorTables.{pass-both, passes, pass-rest, constructors-counted, says-flat-type, a-constructor}
 
-pub record Tables (s : List ℕ) (ds : List Declaration) : Type 0 where
+pub record TablesMeant (s : List ℕ) (ds : List Declaration) : Type 0 where
   pub types : (w : List ℕ) → typeAt s (typeNumber (typeEntries ds) w) ≡ typeMeant (typeEntries ds) w
   pub perhaps : (w : Option (List ℕ)) → typeAt s (numberOr (typeEntries ds) w) ≡ typeOr (typeEntries ds) w
   pub constructors : (w : List ℕ)
@@ -129,16 +129,16 @@ at-record : {s : List ℕ} {j : ℕ} {τ : Ty} → SaysType s j τ → typeAt s 
 unfolding typeAt
 at-record {s} {j} x = x .within (suc j) (omega arith)
 
-pub tables : {s : List ℕ} → Headed s → (ds : List Declaration) → Stands s 1 (typesLaid 1 [] ds) → AllPass (declarationsChecks atFirst ds)
-    → Tables s ds
-tables {s} h ds st good =
+pub tables-meant : {s : List ℕ} → Headed s → (ds : List Declaration) → Stands s 1 (typesLaid 1 [] ds) → AllPass (declarationsChecks atFirst ds)
+    → TablesMeant s ds
+tables-meant {s} h ds st good =
     let say = entries-say h (omega arith) none-say ds st in
     let flat = constructors-flat h [] ds st in
     let known = types-known 1 atFirst [] [] ds no-type none-matched good in
     record {
       types = λ w. at-record (number-says h (omega arith) say w .1);
       perhaps = λ w. at-record (or-says h (omega arith) say w);
-      constructors = λ w. at-record (flat-type h w flat);
-      counts = λ w c. counted w flat (a-constructor w ds c);
+      constructors = λ w. at-record (says-flat-type h w flat);
+      counts = λ w c. constructors-counted w flat (a-constructor w ds c);
       leaf-counts = λ w d. matched-count w (known .1) (known .0 .named w d);
     }

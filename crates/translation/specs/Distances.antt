@@ -1,6 +1,6 @@
--- The expression of a text in the language of the check, with names as distances. "Pairs in brackets are pair expressions, except the
--- constant of a DELAY, whose pairs have the first declared pair type of their parts." "An undefined constant of a type over 64 leaves gets
--- 64 leaves." A delay is annotated by nothing.
+-- The expression of a text in the language of the check, with names as distances (docs/SHEETS.md, "Names" and "The sheet of a text"). A
+-- pair is a pair of two expressions; in the constant of a DELAY it "is one constant, and its type is the first declared pair type of
+-- its parts' types". "`?t` gets as many leaves as `t` has, but never more than 64." A delay is annotated by nothing.
 use Prim.Native.Nat.{ℕ, min}
 use mathlib.Core.Bool.{Bool, true, false, cond}
 use mathlib.Core.List.{List, [], _∷_, _++_}

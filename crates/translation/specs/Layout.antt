@@ -1,7 +1,7 @@
--- The records of a text: "header, types as declared, then each expression before its parts, parts by the order of their words, each, with
--- its whole chain, before the one after it, a next after the record's own parts". An IF's parts are tested, then, else and last its
--- pattern; a delay's are its leaves and then its part. Where the part after another begins is told by how many records that one needs
--- (`recordsOfExpression`, `patternRecords`).
+-- The records of a text (docs/SHEETS.md, "The sheet of a text"): "Record 0 is the header, record `i` the declaration `i`, counted from
+-- 1. Then comes the expression: each before its parts, and these in the order of the words that name them, each with all that belongs
+-- to it before the next." An IF's parts are tested, then, else and last its pattern; a delay's are its leaves and then its part. Where
+-- the part after another begins is told by how many records that one needs (`recordsOfExpression`, `patternRecords`).
 use Prim.Native.Nat.{ℕ, suc, _+_}
 use mathlib.Core.Bool.{cond}
 use mathlib.Core.List.{List, [], _∷_, _++_}
@@ -18,7 +18,7 @@ use Rattle.naming.specs.Records.{leafCountOf, leafCounts, patternRecords, const
 use Rattle.translation.specs.Resolved.{TypeEntry, afterEntry, typeNumber, typeEntries, constructorMeant, constructorEntries, distance}
 use Rattle.translation.specs.Distances.{constantValues}
 
--- "types as declared": record i is declaration i, and its next the one after it, 0 at the last
+-- record i is declaration i, and its next the one after it, 0 at the last
 abbrev pub nextType : ℕ → List Declaration → ℕ
 nextType i [] = 0
 nextType i (d ∷ ds) = suc i

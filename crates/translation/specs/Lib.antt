@@ -1,4 +1,4 @@
--- A text as a sheet (request (a), codes 0 and 15): what the names stand for, the records, and the expression with distances.
+-- A text as a sheet (docs/SHEETS.md, "The sheet of a text"): what the names stand for, the records, and the expression with distances.
 -- To believe:
 pub mod Resolved
 pub mod Distances

@@ -62,7 +62,7 @@ constructorMeant [] w = record { type = 0; constructors = 0; number = 0 }
 constructorMeant (constructorEntry v t n k ∷ more) w =
     cond (sameName w v) (record { type = t; constructors = n; number = k }) (constructorMeant more w)
 
--- "numbers names by distance", 0 the nearest; a name that no LET around it takes is `input`, the outermost
+-- "Names become distances", 0 the nearest; a name that no LET around it takes is `input`, the outermost
 abbrev pub distance : List ℕ → List (List ℕ) → ℕ
 distance w [] = 0
 distance w (v ∷ more) = cond (sameName w v) 0 (suc (distance w more))

@@ -36,7 +36,7 @@ use Rattle.translator.specs.Translation.{
   in-grammar,
 }
 use Rattle.translator.specs.Promises.{EveryTranslated, OneTranslation, TextFirstThatApplies, TranslationPlacesSmall, TranslationUnaltered, WroteSheet, WritesSheet, TranslatorPromises}
-use Rattle.translator.proofs.BadPlaces.{none-bad, both-pass}
+use Rattle.naming.proofs.First.{none-bad, both-pass}
 use Rattle.translator.proofs.PlacesWithin.{names-within, constants-within}
 
 every : EveryTranslated

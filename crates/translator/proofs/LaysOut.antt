@@ -14,7 +14,8 @@ use Rattle.answers.specs.Answers.{inOne}
 use Rattle.answers.specs.declared.Answer.the-variants.{Done, Refused}
 use Rattle.grammar.specs.Tokens.{Token}
 use Rattle.grammar.specs.Source.{identifier, Text, text}
-use Rattle.grammar.specs.Legal.{Reading, Leaves, Keeps, Told}
+use Rattle.grammar.specs.Legal.{Reading, Leaves, Keeps}
+use Rattle.grammar.specs.Walk.{Told}
 use Rattle.grammar.proofs.Kept as Grammar
 use Rattle.naming.specs.Checks.{AllPass, firstBadPlace}
 use Rattle.naming.specs.Constants.{constantsOfText}
@@ -25,11 +26,11 @@ use Rattle.instructions.specs.Instruction.{heldFrom, heldCode}
 use Rattle.instructions.specs.TextOrder.{textInstructions}
 use Rattle.instructions.specs.Assembly.{DeclaredType, Assembly, nothingAssembled, assembleAll, leavesNumbered, heldTypes}
 use Rattle.instructions.specs.RecordOrder.{declaredTypes, textCode}
-use Rattle.instructions.specs.Emission.{Emission, emission, number, writtenOf, cursorOf, emitAll, recordsWritten}
+use Rattle.instructions.specs.Emission.{Emission, emission, ofNumber, writtenOf, cursorOf, emitAll, recordsWritten}
 use Rattle.instructions.proofs.Assembled.{assembled}
 use Rattle.instructions.proofs.Written.{declared-many, emitted, laid-many, records-written}
 use Rattle.assembling.specs.Held.{untypedAt}
-use Rattle.assembling.specs.Assembled.{typesIn, inputIn, codeIn, recordsIn, untypedIn, Assembled}
+use Rattle.assembling.specs.Assembled.{typesIn, inputIn, codeIn, recordsAssembled, untypedIn, Assembled}
 use Rattle.reading.specs.Coded.{illegal}
 use Rattle.reading.specs.declared.Illegal.{Illegal}
 use Rattle.reading.specs.declared.Illegal.the-variants.{At, Nowhere}
@@ -38,9 +39,9 @@ use Rattle.resolving.specs.declared.Resolved.{Resolved}
 use Rattle.resolving.specs.declared.Resolved.the-variants.{BadName, Sound}
 use Rattle.emitting.specs.Emitting.{emittedFrom, Emitting, Emitted}
 use Rattle.translator.specs.Translation.{lengthNeeded, noRoom, Translated, outside-grammar, TranslatedInOne}
-use Rattle.translator.specs.LayingOut.{LayingOut, WritingOut}
+use Rattle.translator.specs.LayingOut.{TranslatingResolved, TranslatingAssembled}
 use Rattle.translator.proofs.Answered.{bad-name, untyped-constant, no-room, sheet-written}
-use Rattle.translator.proofs.BadPlaces.{none-bad, both-pass}
+use Rattle.naming.proofs.First.{none-bad, both-pass}
 use Rattle.translator.proofs.PlacesWithin.{names-within, constants-within}
 
 types-held : (pairs parts others : List ℕ) (k : ℕ) → length (heldTypes pairs parts others k) ≡ k
@@ -51,13 +52,13 @@ module _ {bytes : List ℕ} (ops firsts seconds : List ℕ) {pairs parts others 
   of-text : {ts : List Token} (t : Text) → Keeps bytes → Reading bytes ts t → firstBadPlace (nameChecks t) ≡ none
       → heldFrom ops firsts seconds 0 n ≡ textInstructions t → n ≤ 65535
       → Assembled (assembleAll nothingAssembled (heldFrom ops firsts seconds 0 n)) n pairs parts others leaves codeOps codeFirsts codeSeconds types input code records ok place
-      → WritingOut bytes pairs parts others leaves codeOps codeFirsts codeSeconds types input code records ok place
+      → TranslatingAssembled bytes pairs parts others leaves codeOps codeFirsts codeSeconds types input code records ok place
   of-text {ts} (text d ds (identifier w p) e) k r g h f a =
       let t = text d ds (identifier w p) e in
       let q = ap (assembleAll nothingAssembled) h ∙ assembled d ds (identifier w p) e (none-bad (nameChecks t) g) in
       let T : heldTypes pairs parts others types ≡ declaredTypes (d ∷ ds) = a .types-given ∙ ap typesIn q in
       let many : types ≡ length (d ∷ ds) = sym (types-held pairs parts others types) ∙ ap length T ∙ declared-many (d ∷ ds) in
-      let R : records ≡ roomOf (d ∷ ds) [] e = a .records-given ∙ ap recordsIn q in
+      let R : records ≡ roomOf (d ∷ ds) [] e = a .records-given ∙ ap recordsAssembled q in
       let U : untypedAt ok place ≡ firstBadPlace (constantsOfText t) = a .untyped-given ∙ ap untypedIn q in
       let s = k .short in
       let u = a .types-bounded in
@@ -84,13 +85,13 @@ module _ {bytes : List ℕ} (ops firsts seconds : List ℕ) {pairs parts others 
         place-small = λ o. let l = constants-within (r .lexed) (r .parsed) place (sym U ∙ ap (λ b. untypedAt b place) o) in omega (arith, l, s);
       }
 
-  pub laid-out : LayingOut bytes ops firsts seconds n
+  pub laid-out : TranslatingResolved bytes ops firsts seconds n
       → Assembled (assembleAll nothingAssembled (heldFrom ops firsts seconds 0 n)) n pairs parts others leaves codeOps codeFirsts codeSeconds types input code records ok place
-      → WritingOut bytes pairs parts others leaves codeOps codeFirsts codeSeconds types input code records ok place
+      → TranslatingAssembled bytes pairs parts others leaves codeOps codeFirsts codeSeconds types input code records ok place
   laid-out l a = of-text (l .source) (l .keeps) (l .reading) (l .good) (l .held) (l .few) a
 
 module _ {bytes pairs parts others leaves ops firsts seconds : List ℕ} {types input code expression place : ℕ} {ok : Bool}
-    (w : WritingOut bytes pairs parts others leaves ops firsts seconds types input code expression ok place) where
+    (w : TranslatingAssembled bytes pairs parts others leaves ops firsts seconds types input code expression ok place) where
   abbrev source : Text
   source = text (w .first) (w .more) (identifier (w .name) (w .named-at)) (w .root)
 
@@ -141,7 +142,7 @@ module _ {bytes pairs parts others leaves ops firsts seconds : List ℕ} {types 
   emission-is : ok ≡ true
       → emittedFrom (heldTypes pairs parts others types) ops firsts seconds code all
       ≡ emission (laid (w .first ∷ w .more) [] (suc (length (w .first ∷ w .more))) (w .root)) (suc (length (w .first ∷ w .more)))
-      (number (suc (length (w .first ∷ w .more))) ∷ []) 0
+      (ofNumber (suc (length (w .first ∷ w .more))) ∷ []) 0
   emission-is o =
       ap (λ T. emitAll T (emission [] all [] 0) (heldCode ops firsts seconds code)) (w .types-are)
       ∙ ap₂ (λ k C. emitAll (declaredTypes (w .first ∷ w .more)) (emission [] k [] 0) C) needs (w .code-is)
@@ -166,11 +167,11 @@ module _ {bytes pairs parts others leaves ops firsts seconds : List ℕ} {types 
         fits = omega (arith, v, k, t, a);
       }
 
-  pub written : (entry exit : List ℕ) → ok ≡ true → 12 * all ≤ length entry → all ≤ 4096
+  pub out-written : (entry exit : List ℕ) → ok ≡ true → 12 * all ≤ length entry → all ≤ 4096
       → Emitted (heldTypes pairs parts others types) (emittedFrom (heldTypes pairs parts others types) ops firsts seconds code all) input all entry exit
       → TranslatedInOne bytes entry (12 * all) exit
   unfolding sheetOfText
-  written entry exit o l m x =
+  out-written entry exit o l m x =
       let room : noRoom source (length entry) ≡ false =
       ap (λ b. cond b true (ltb 4096 (recordsNeeded source)))
       (le-ltb (length entry) (lengthNeeded source) (subst (λ k. 12 * k ≤ length entry) needs l))
@@ -210,7 +211,7 @@ module _ {bytes : List ℕ} (ops firsts seconds : List ℕ) {r : Resolved} (k : 
         result-is = refl;
       }
 
-  pub laying : (n : ℕ) → r ≡ Sound n → LayingOut bytes ops firsts seconds n
+  pub laying : (n : ℕ) → r ≡ Sound n → TranslatingResolved bytes ops firsts seconds n
   laying n e =
       let l = k .legal in
       let s = k .short in

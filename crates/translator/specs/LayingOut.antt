@@ -20,7 +20,7 @@ use Rattle.instructions.specs.Assembly.{leavesNumbered, heldTypes}
 use Rattle.instructions.specs.RecordOrder.{declaredTypes, textCode}
 use Rattle.assembling.specs.Held.{untypedAt}
 
-pub record LayingOut (bytes ops firsts seconds : List ℕ) (n : ℕ) : Type 0 where
+pub record TranslatingResolved (bytes ops firsts seconds : List ℕ) (n : ℕ) : Type 0 where
   pub tokens : List Token
   pub source : Text
   pub keeps : Keeps bytes
@@ -29,7 +29,7 @@ pub record LayingOut (bytes ops firsts seconds : List ℕ) (n : ℕ) : Type 0 wh
   pub held : heldFrom ops firsts seconds 0 n ≡ textInstructions source
   pub few : n ≤ 65535
 
-pub record WritingOut (bytes pairs parts others leaves ops firsts seconds : List ℕ) (types input code expression : ℕ) (ok : Bool) (place : ℕ) : Type 0 where
+pub record TranslatingAssembled (bytes pairs parts others leaves ops firsts seconds : List ℕ) (types input code expression : ℕ) (ok : Bool) (place : ℕ) : Type 0 where
   pub tokens : List Token
   pub first : Declaration
   pub more : List Declaration

@@ -1,4 +1,4 @@
--- A text translated into a sheet (request (a), codes 13 to 15): what the call gives.
+-- A text translated into a sheet (docs/SHEETS.md, "Text"; codes 13 to 15): what the call gives.
 -- To believe:
 pub mod Translation
 pub mod Promises

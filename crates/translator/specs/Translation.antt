@@ -1,6 +1,7 @@
--- The translation of a text (docs/SHEETS.md, "Text"): "The call gives 0 with the sheet's length, or 13 (text outside the grammar ..),
--- then 14 (first name that breaks the rules .., or with none the first constant pair without a type ..), then 15 (slice too short, or over
--- 4,096 records, place: length needed)". "Writes the sheet into a lent slice, with zeros after it."
+-- The translation of a text (docs/SHEETS.md, "Text" and "Codes"): 0 with the sheet's length; or 13 for a text outside the grammar; then
+-- 14 for the first name that breaks a rule, or with none the first constant pair without a type; then 15, where "the slice is shorter
+-- than the sheet, or the sheet would have more than 4,096 records". "The sheet stands at the start of the lent slice, and zeros from
+-- there to its end."
 use Prim.Native.Nat.{ℕ, _*_, _-_}
 use mathlib.Core.Path.{_≡_}
 use mathlib.Core.Bool.{Bool, true, cond}
@@ -23,7 +24,7 @@ use Rattle.translation.specs.Layout.{sheetOfText}
 abbrev pub lengthNeeded : Text → ℕ
 lengthNeeded t = 12 * recordsNeeded t
 
--- "slice too short, or over 4,096 records"
+-- the slice is shorter than the sheet, or the sheet has more than 4,096 records
 abbrev pub noRoom : Text → ℕ → Bool
 noRoom t room = cond (ltb room (lengthNeeded t)) true (ltb 4096 (recordsNeeded t))
 

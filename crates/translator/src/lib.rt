@@ -5,7 +5,7 @@ ghost use mathlib.Core.List.{List};
 ghost use lib.ListN.{length};
 ghost use Rattle.grammar.specs.Legal.{Keeps};
 ghost use Rattle.translator.specs.Translation.{TranslatedInOne};
-ghost use Rattle.translator.specs.LayingOut.{LayingOut, WritingOut};
+ghost use Rattle.translator.specs.LayingOut.{TranslatingResolved, TranslatingAssembled};
 use answers::NO_ROOM;
 use answers::WRONG_NAME;
 use answers::WRONG_TEXT;
@@ -41,7 +41,7 @@ fn write_out(
     place: usize,
     sheet: &mut [u8],
 ) -> u64
-    requires { ⌜ WritingOut (now text) (now pairs) (now parts) (now others) (now leaves) (now ops) (now firsts) (now seconds) types input code expression ok place ⌝ }
+    requires { ⌜ TranslatingAssembled (now text) (now pairs) (now parts) (now others) (now leaves) (now ops) (now firsts) (now seconds) types input code expression ok place ⌝ }
     ensures { λ r. ⌜ TranslatedInOne (now (text .entry)) (now (sheet .entry)) r (now (sheet .exit)) ⌝ }
 {
     if !ok {
@@ -81,7 +81,7 @@ fn lay_out(
     n: usize,
     sheet: &mut [u8],
 ) -> u64
-    requires { ⌜ LayingOut (now text) (now ops) (now firsts) (now seconds) n ⌝ }
+    requires { ⌜ TranslatingResolved (now text) (now ops) (now firsts) (now seconds) n ⌝ }
     ensures { λ r. ⌜ TranslatedInOne (now (text .entry)) (now (sheet .entry)) r (now (sheet .exit)) ⌝ }
 {
     let mut code_ops = no_ops();

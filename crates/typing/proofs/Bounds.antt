@@ -21,13 +21,13 @@ use Rattle.records.proofs.Types.{leaves-of-bounds, flat-type, pair-type, few-le
 use Rattle.records.proofs.TypeRecords.{first-part, second-part}
 use Rattle.records.proofs.Types.{pair-parts}
 use Rattle.structure.specs.Rules.{Passes}
-use Rattle.structure.specs.LeafTable.{Counts}
+use Rattle.structure.specs.LeafTable.{LeavesCounted}
 use Rattle.structure.proofs.Passes.{written, types-fit}
 use Rattle.structure.proofs.LeafCounts.{pair-kind}
 use Rattle.typing.specs.Judging.{Ground}
 
 -- a table of leaf counts has the leaves of each type of a sheet that passes
-pub counts-leaves : (s : List ℕ) (n : ℕ) (table : List ℕ) → n ≡ count s → Passes s → Counts s n table
+pub counts-leaves : (s : List ℕ) (n : ℕ) (table : List ℕ) → n ≡ count s → Passes s → LeavesCounted s n table
     → (t : ℕ) → TypeRecord s t → getD table t 0 ≡ leaves (typeAt s t)
 counts-leaves s n table e p c t r =
     let few = few-leaves (types-fit p) t (r .there) (r .sort) in
@@ -55,15 +55,15 @@ module _ {s : List ℕ} {n : ℕ} {table : List ℕ} (g : Ground s n table) wher
   leaves-counted t r = g .leaves t r
 
   -- the leaf `at` of the type record `part` is leaf i of t
-  pub record Reached (t i part at : ℕ) : Type 0 where
+  pub record LeafReached (t i part at : ℕ) : Type 0 where
     pub typed : TypeRecord s part
     pub below : at < leaves (typeAt s part)
     pub same : getD (bounds (typeAt s t)) i 0 ≡ getD (bounds (typeAt s part)) at 0
 
-  pub reached-itself : (t i : ℕ) → TypeRecord s t → i < leaves (typeAt s t) → Reached t i t i
+  pub reached-itself : (t i : ℕ) → TypeRecord s t → i < leaves (typeAt s t) → LeafReached t i t i
   reached-itself t i r h = record { typed = r; below = h; same = refl }
 
-  module _ (t i part at k : ℕ) (r : Reached t i part at) (ek : k ≡ word s part 0) where
+  module _ (t i part at k : ℕ) (r : LeafReached t i part at) (ek : k ≡ word s part 0) where
     module _ (e : k ≡ 17) where
       is-pair-record : kindAt s part ≡ typeOf pair
       is-pair-record = pair-kind s part k ek e
@@ -77,7 +77,7 @@ module _ {s : List ℕ} {n : ℕ} {table : List ℕ} (g : Ground s n table) wher
       pub parts-lower : (wordA s part < part) × (wordB s part < part)
       parts-lower = let p = pair-parts ground-written part (r .typed .there) is-pair-record in (p .0, p .2)
 
-      pub reached-first : (x w : ℕ) → x ≡ word s part 2 → w ≡ getD table x 0 → at < w → Reached t i x at
+      pub reached-first : (x w : ℕ) → x ≡ word s part 2 → w ≡ getD table x 0 → at < w → LeafReached t i x at
       reached-first x w ex ew h =
           let m = leaves-counted (wordA s part) first-typed in
           let lw : w ≡ leaves (typeAt s (wordA s part)) = ew ∙ ap (λ (y : ℕ). getD table y 0) ex ∙ m in
@@ -92,7 +92,7 @@ module _ {s : List ℕ} {n : ℕ} {table : List ℕ} (g : Ground s n table) wher
                 (omega (arith, leaves-of-bounds (typeAt s (wordA s part))));
           })
 
-      pub reached-second : (x y w : ℕ) → x ≡ word s part 2 → y ≡ word s part 3 → w ≡ getD table x 0 → w ≤ at → Reached t i y (at - w)
+      pub reached-second : (x y w : ℕ) → x ≡ word s part 2 → y ≡ word s part 3 → w ≡ getD table x 0 → w ≤ at → LeafReached t i y (at - w)
       reached-second x y w ex ey ew h =
           let m = leaves-counted (wordA s part) first-typed in
           let lw : w ≡ leaves (typeAt s (wordA s part)) = ew ∙ ap (λ (z : ℕ). getD table z 0) ex ∙ m in

@@ -88,8 +88,8 @@ module _ {s : List ℕ} (w : Written s) {t : ℕ} (r : TypeRecord s t) (leaf : �
             let not-pair : false ≡ true = sym (ne-eqb (word s t 0) 17 (λ z. f (ek ∙ z))) ∙ sym (pair-number (word s t 0)) ∙ rw e in
             absurd (never-both false not-pair refl)
 
-    pub none-left : leaf ≡ 0 → TakenOff s t leaf Misfit
-    none-left z = record { goes-on = λ q e. absurd (misfit-from q e); same = λ ns. rw (one-bound, z) }
+    pub no-leaf-left : leaf ≡ 0 → TakenOff s t leaf Misfit
+    no-leaf-left z = record { goes-on = λ q e. absurd (misfit-from q e); same = λ ns. rw (one-bound, z) }
 
     module _ (there : LeafOrEnd s leaf) (g : leaf ≡ 0 → ⊥) {c v : ℕ} (ec : c ≡ word s t 2) (ev : v ≡ word s leaf 2) where
       past : 0 < leaf

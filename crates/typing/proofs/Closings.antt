@@ -52,22 +52,22 @@ module _ {s : List ℕ} {n : ℕ} {table : List ℕ} {rec : ℕ} {before : List 
   }
 
   -- the pair record of two types
-  pub pair-found : (t u p : ℕ) → p ≡ pairBelow s t u n → p ≡ pairOf s t u
+  pub pair-of-closing : (t u p : ℕ) → p ≡ pairBelow s t u n → p ≡ pairOf s t u
   unfolding pairOf
-  pair-found t u p e = e ∙ ap (λ (m : ℕ). pairBelow s t u m) (c .ground .sized .counted)
+  pair-of-closing t u p e = e ∙ ap (λ (m : ℕ). pairBelow s t u m) (c .ground .sized .counted)
 
   pub no-pair-closed : (t u p : ℕ) → p ≡ pairBelow s t u n → p ≡ 0 → Closed s (pairDeclared t u) rec (pairOf s t u) (Fault rec) before before
-  no-pair-closed t u p e z = fails-closed (pairDeclared t u) (pairOf s t u) (rw (← pair-found t u p e, z))
+  no-pair-closed t u p e z = fails-closed (pairDeclared t u) (pairOf s t u) (rw (← pair-of-closing t u p e, z))
 
   pub pair-is-type : (t u p : ℕ) → p ≡ pairBelow s t u n → (p ≡ 0 → ⊥) → TypeRecord s p
   pair-is-type t u p e f =
-      let q = pair-found t u p e in
+      let q = pair-of-closing t u p e in
       rw q (found-pair (ground-written (c .ground)) t u (rw (← q) (omega arith)))
 
   pub pair-closed : (t u p : ℕ) (answer : Outcome) (after : List ℕ) → p ≡ pairBelow s t u n → (p ≡ 0 → ⊥) → answer ≡ Sound p
       → after ≡ set before rec (leaves (typeAt s p)) → Closed s (pairDeclared t u) rec (pairOf s t u) answer before after
   pair-closed t u p answer after e f ea en =
-      let q = pair-found t u p e in
+      let q = pair-of-closing t u p e in
       noted-closed (pairDeclared t u) (pairOf s t u) answer after (rw (← q) (lt-ltb 0 p (omega arith))) (rw (← q) ea) (rw (← q) en)
 
   -- the part of a pair type in word k of its record

@@ -9,17 +9,17 @@ use mathlib.Core.Path.{_≡_, refl}
 use Rattle.typing.specs.Judgements.{Judgement, holds, judge, Rule, firstFailing}
 
 -- the first answer, or else the second
-abbrev pub orElse : Option ℕ → Option ℕ → Option ℕ
-orElse none o = o
-orElse (some r) o = some r
+abbrev pub orNextFailing : Option ℕ → Option ℕ → Option ℕ
+orNextFailing none o = o
+orNextFailing (some r) o = some r
 
 pub first-of-both :
-    (s : List ℕ) (js ks : List Judgement) → firstFailing s (js ++ ks) ≡ orElse (firstFailing s js) (firstFailing s ks)
+    (s : List ℕ) (js ks : List Judgement) → firstFailing s (js ++ ks) ≡ orNextFailing (firstFailing s js) (firstFailing s ks)
 first-of-both s [] ks = refl
 first-of-both s (j ∷ js) ks = go (holds s (j .rule)) (first-of-both s js ks)
   where
-    go : (b : Bool) → firstFailing s (js ++ ks) ≡ orElse (firstFailing s js) (firstFailing s ks)
-        → cond b (firstFailing s (js ++ ks)) (some (j .at)) ≡ orElse (cond b (firstFailing s js) (some (j .at))) (firstFailing s ks)
+    go : (b : Bool) → firstFailing s (js ++ ks) ≡ orNextFailing (firstFailing s js) (firstFailing s ks)
+        → cond b (firstFailing s (js ++ ks)) (some (j .at)) ≡ orNextFailing (cond b (firstFailing s js) (some (j .at))) (firstFailing s ks)
     go true e = e
     go false e = refl
 
@@ -28,7 +28,7 @@ pub none-in-both : (s : List ℕ) (js ks : List Judgement) → firstFailing s (j
     → (firstFailing s js ≡ none) × (firstFailing s ks ≡ none)
 none-in-both s js ks e = go (firstFailing s js) refl (rw first-of-both at e)
   where
-    go : (o : Option ℕ) → firstFailing s js ≡ o → orElse o (firstFailing s ks) ≡ none → (o ≡ none) × (firstFailing s ks ≡ none)
+    go : (o : Option ℕ) → firstFailing s js ≡ o → orNextFailing o (firstFailing s ks) ≡ none → (o ≡ none) × (firstFailing s ks ≡ none)
     go none q e = (refl, e)
     go (some r) q e = (e, cc)
 
@@ -36,8 +36,8 @@ pub none-of-both : (s : List ℕ) (js ks : List Judgement) → firstFailing s js
     → firstFailing s (js ++ ks) ≡ none
 none-of-both s js ks e f = rw (first-of-both s js ks, e, f)
 
-pub judged : (s : List ℕ) (r : ℕ) (rule : Rule) → firstFailing s (judge r rule) ≡ none → holds s rule ≡ true
-judged s r rule e = go (holds s rule) e
+pub failing-judged : (s : List ℕ) (r : ℕ) (rule : Rule) → firstFailing s (judge r rule) ≡ none → holds s rule ≡ true
+failing-judged s r rule e = go (holds s rule) e
   where
     go : (b : Bool) → cond b none (some r) ≡ none → b ≡ true
     go true e = refl

@@ -22,11 +22,11 @@ use Rattle.typing.specs.Judgements.{
   judgements,
   firstFailing,
 }
-use Rattle.typing.proofs.Failing.{none-in-both, none-of-both, judged, judgement-holds}
+use Rattle.typing.proofs.Failing.{none-in-both, none-of-both, failing-judged, judgement-holds}
 
 -- no judgement of the tree fails
-abbrev pub Passed : List ℕ → List ℕ → Tree → Type 0
-Passed s Γ e = firstFailing s (judgements s Γ e) ≡ none
+abbrev pub NoneFails : List ℕ → List ℕ → Tree → Type 0
+NoneFails s Γ e = firstFailing s (judgements s Γ e) ≡ none
 
 abbrev pub RuleHolds : List ℕ → Rule → Type 0
 RuleHolds s rule = holds s rule ≡ true
@@ -49,21 +49,21 @@ RulesHold s Γ (ifOf r a p b c) =
     × RuleHolds s (sameType (typeRecordOf s Γ b) (typeRecordOf s Γ c))
 RulesHold s Γ (delayOf r t ls a) = RulesHold s Γ a × RuleHolds s (leavesFit t ls) × RuleHolds s (sameType (typeRecordOf s Γ a) t)
 
-pub passed-judged : (s Γ : List ℕ) (e : Tree) → Passed s Γ e → RulesHold s Γ e
-passed-judged s Γ noExpression p = judged s 0 noRule p
-passed-judged s Γ (constantOf r t ls) p = judged s r (leavesFit t ls) p
-passed-judged s Γ (nameOf r k) p = judged s r (inScope k (length Γ)) p
+pub passed-judged : (s Γ : List ℕ) (e : Tree) → NoneFails s Γ e → RulesHold s Γ e
+passed-judged s Γ noExpression p = failing-judged s 0 noRule p
+passed-judged s Γ (constantOf r t ls) p = failing-judged s r (leavesFit t ls) p
+passed-judged s Γ (nameOf r k) p = failing-judged s r (inScope k (length Γ)) p
 passed-judged s Γ (tupleOf r a b) p =
     let rule = pairDeclared (typeRecordOf s Γ a) (typeRecordOf s Γ b) in
     let q = none-in-both s (judgements s Γ a) (judgements s Γ b ++ judge r rule) p in
     let h = none-in-both s (judgements s Γ b) (judge r rule) (q .1) in
-    (passed-judged s Γ a (q .0), passed-judged s Γ b (h .0), judged s r rule (h .1))
+    (passed-judged s Γ a (q .0), passed-judged s Γ b (h .0), failing-judged s r rule (h .1))
 passed-judged s Γ (firstOf r a) p =
     let q = none-in-both s (judgements s Γ a) (judge r (pairType (typeRecordOf s Γ a))) p in
-    (passed-judged s Γ a (q .0), judged s r (pairType (typeRecordOf s Γ a)) (q .1))
+    (passed-judged s Γ a (q .0), failing-judged s r (pairType (typeRecordOf s Γ a)) (q .1))
 passed-judged s Γ (secondOf r a) p =
     let q = none-in-both s (judgements s Γ a) (judge r (pairType (typeRecordOf s Γ a))) p in
-    (passed-judged s Γ a (q .0), judged s r (pairType (typeRecordOf s Γ a)) (q .1))
+    (passed-judged s Γ a (q .0), failing-judged s r (pairType (typeRecordOf s Γ a)) (q .1))
 passed-judged s Γ (letOf r a b) p =
     let q = none-in-both s (judgements s Γ a) (judgements s (typeRecordOf s Γ a ∷ Γ) b) p in
     (passed-judged s Γ a (q .0), passed-judged s (typeRecordOf s Γ a ∷ Γ) b (q .1))
@@ -71,7 +71,7 @@ passed-judged s Γ (feedbackOf r t a b) p =
     let rule = sameType (typeRecordOf s (t ∷ Γ) a) t in
     let q = none-in-both s (judgements s (t ∷ Γ) a) (judgements s (t ∷ Γ) b ++ judge r rule) p in
     let h = none-in-both s (judgements s (t ∷ Γ) b) (judge r rule) (q .1) in
-    (passed-judged s (t ∷ Γ) a (q .0), passed-judged s (t ∷ Γ) b (h .0), judged s r rule (h .1))
+    (passed-judged s (t ∷ Γ) a (q .0), passed-judged s (t ∷ Γ) b (h .0), failing-judged s r rule (h .1))
 passed-judged s Γ (ifOf r a m b c) p =
     let has = patternHas (typeRecordOf s Γ a) m in
     let same = sameType (typeRecordOf s Γ b) (typeRecordOf s Γ c) in
@@ -80,19 +80,19 @@ passed-judged s Γ (ifOf r a m b c) p =
     let k = none-in-both s (judgements s Γ b) (judgements s Γ c ++ judge r same) (h .1) in
     let l = none-in-both s (judgements s Γ c) (judge r same) (k .1) in (
       passed-judged s Γ a (q .0),
-      judged s r has (h .0),
+      failing-judged s r has (h .0),
       passed-judged s Γ b (k .0),
       passed-judged s Γ c (l .0),
-      judged s r same (l .1),
+      failing-judged s r same (l .1),
     )
 passed-judged s Γ (delayOf r t ls a) p =
     let fit = leavesFit t ls in
     let same = sameType (typeRecordOf s Γ a) t in
     let q = none-in-both s (judgements s Γ a) (judge r fit ++ judge r same) p in
     let h = none-in-both s (judge r fit) (judge r same) (q .1) in
-    (passed-judged s Γ a (q .0), judged s r fit (h .0), judged s r same (h .1))
+    (passed-judged s Γ a (q .0), failing-judged s r fit (h .0), failing-judged s r same (h .1))
 
-pub judged-passed : (s Γ : List ℕ) (e : Tree) → RulesHold s Γ e → Passed s Γ e
+pub judged-passed : (s Γ : List ℕ) (e : Tree) → RulesHold s Γ e → NoneFails s Γ e
 judged-passed s Γ noExpression j = judgement-holds s 0 noRule j
 judged-passed s Γ (constantOf r t ls) j = judgement-holds s r (leavesFit t ls) j
 judged-passed s Γ (nameOf r k) j = judgement-holds s r (inScope k (length Γ)) j

@@ -10,7 +10,7 @@ use lib.Dec.{T, eqb, leb, leb→le}
 use Rattle.records.specs.Words.{word}
 use Rattle.records.specs.Kinds.{Kind, expression, delay, expressions, kindOf, sortOf, sortNumber}
 use Rattle.records.specs.Says.{kindAt, sortAt}
-use Rattle.records.proofs.CodeTable.{below, sort-above}
+use Rattle.records.proofs.CodeTable.{allBelow, sort-above}
 
 both-left : (a b : Bool) → T (a && b) → T a
 both-left true b t = tt
@@ -20,13 +20,13 @@ both-right : (a b : Bool) → T (a && b) → T b
 both-right true b t = t
 both-right false b t = absurd t
 
-all-below : (f : ℕ → Bool) (n : ℕ) → T (below f n) → (k : ℕ) → k < n → T (f k)
+all-below : (f : ℕ → Bool) (n : ℕ) → T (allBelow f n) → (k : ℕ) → k < n → T (f k)
 all-below f zero t k h = absurd (not-suc-le-zero h)
-all-below f (suc n) t k h = go (all-below f n (both-right (f n) (below f n) t) k) (decLt k n)
+all-below f (suc n) t k h = go (all-below f n (both-right (f n) (allBelow f n) t) k) (decLt k n)
   where
     go : (k < n → T (f k)) → Dec (k < n) → T (f k)
     go lower (yes l) = lower l
-    go lower (no l) = let e : n ≡ k = omega arith in subst (λ (x : ℕ). T (f x)) e (both-left (f n) (below f n) t)
+    go lower (no l) = let e : n ≡ k = omega arith in subst (λ (x : ℕ). T (f x)) e (both-left (f n) (allBelow f n) t)
 
 abbrev among : ℕ → Bool
 among k = cond (eqb (sortNumber (sortOf (kindOf k))) 3) (leb 32 k && leb k 40) true

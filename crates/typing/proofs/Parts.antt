@@ -44,13 +44,27 @@ use Rattle.typing.proofs.Outcomes.{Passed, faulted, fault-done, typed-d
 noted-last : (e : Tree) (s Γ : List ℕ) (rec : ℕ) (middle parts : List ℕ) → middle ≡ parts → set middle rec (width s Γ e) ≡ set parts rec (width s Γ e)
 noted-last e s Γ rec middle parts q = ap (λ (x : List ℕ). set x rec (width s Γ e)) q
 
-module _ (s Γ : List ℕ) (rec : ℕ) (ans : Outcome) where
+-- no signature here determines the record
+module _ (s Γ : List ℕ) (rec : ℕ) where
+  -- IF: what is judged after the pattern
+  abbrev last : (B C : Tree) → List Judgement
+  last B C = judge rec (sameType (typeRecordOf s Γ B) (typeRecordOf s Γ C))
+
+  abbrev branches : (B C : Tree) → List Judgement
+  branches B C = judgements s Γ B ++ (judgements s Γ C ++ last B C)
+
+matches : {s Γ : List ℕ} {A : Tree} {t : ℕ} {w0 w1 : List ℕ} (rec : ℕ) (m : Alternatives) → Passed s Γ A t w0 w1 → (o : Option ℕ)
+    → firstFailing s (judge rec (patternHas t m)) ≡ o → firstFailing s (judge rec (patternHas (typeRecordOf s Γ A) m)) ≡ o
+matches rec m pa o f = rw (pa .typed) f
+
+module _ {s Γ : List ℕ} {ans : Outcome} where
   -- a part faults: first, after one that passed
   pub first-faults : (Δ : List ℕ) (e A : Tree) (rest : List Judgement) (p : ℕ) (w0 w1 : List ℕ) → judgements s Γ e ≡ judgements s Δ A ++ rest
       → Judged s Δ A ans w0 w1 → ans ≡ Fault p → Judged s Γ e ans w0 w1
   first-faults Δ e A rest p w0 w1 q d a =
       fault-done p (rw q (fault-first s (judgements s Δ A) rest p (faulted p d a))) a (d .long)
 
+module _ {s Γ : List ℕ} {rec : ℕ} {ans : Outcome} where
   -- tuples
   module _ (A B : Tree) where
     pub tuple-second-faults : (t p : ℕ) (w0 w1 w2 : List ℕ) → Passed s Γ A t w0 w1 → Judged s Γ B ans w1 w2 → ans ≡ Fault p
@@ -140,46 +154,37 @@ module _ (s Γ : List ℕ) (rec : ℕ) (ans : Outcome) where
 
   -- IF
   module _ (A B C : Tree) (m : Alternatives) (t : ℕ) (w0 w1 : List ℕ) (pa : Passed s Γ A t w0 w1) where
-    abbrev last : List Judgement
-    last = judge rec (sameType (typeRecordOf s Γ B) (typeRecordOf s Γ C))
-
-    abbrev branches : List Judgement
-    branches = judgements s Γ B ++ (judgements s Γ C ++ last)
-
-    matches : (o : Option ℕ) → firstFailing s (judge rec (patternHas t m)) ≡ o → firstFailing s (judge rec (patternHas (typeRecordOf s Γ A) m)) ≡ o
-    matches o f = rw (pa .typed) f
-
     pub if-pattern-faults : (p : ℕ) → firstFailing s (judge rec (patternHas t m)) ≡ some p → ans ≡ Fault p → Judged s Γ (ifOf rec A m B C) ans w0 w1
     if-pattern-faults p f a =
         fault-done p
         (then-second s (judgements s Γ A) _ (some p) (pa .none-fails)
-        (fault-first s (judge rec (patternHas (typeRecordOf s Γ A) m)) branches p (matches (some p) f))) a (pa .long)
+        (fault-first s (judge rec (patternHas (typeRecordOf s Γ A) m)) (branches s Γ rec B C) p (matches rec m pa (some p) f))) a (pa .long)
 
     module _ (fm : firstFailing s (judge rec (patternHas t m)) ≡ none) where
       pub if-then-faults : (p : ℕ) (w2 : List ℕ) → Judged s Γ B ans w1 w2 → ans ≡ Fault p → Judged s Γ (ifOf rec A m B C) ans w0 w2
       if-then-faults p w2 d a =
           fault-done p
           (then-second s (judgements s Γ A) _ (some p) (pa .none-fails)
-          (then-second s (judge rec (patternHas (typeRecordOf s Γ A) m)) branches (some p) (matches none fm)
-          (fault-first s (judgements s Γ B) (judgements s Γ C ++ last) p (faulted p d a)))) a (d .long)
+          (then-second s (judge rec (patternHas (typeRecordOf s Γ A) m)) (branches s Γ rec B C) (some p) (matches rec m pa none fm)
+          (fault-first s (judgements s Γ B) (judgements s Γ C ++ last s Γ rec B C) p (faulted p d a)))) a (d .long)
 
       module _ (u : ℕ) (w2 : List ℕ) (pb : Passed s Γ B u w1 w2) where
         pub if-else-faults : (p : ℕ) (w3 : List ℕ) → Judged s Γ C ans w2 w3 → ans ≡ Fault p → Judged s Γ (ifOf rec A m B C) ans w0 w3
         if-else-faults p w3 d a =
             fault-done p
             (then-second s (judgements s Γ A) _ (some p) (pa .none-fails)
-            (then-second s (judge rec (patternHas (typeRecordOf s Γ A) m)) branches (some p) (matches none fm)
-            (then-second s (judgements s Γ B) (judgements s Γ C ++ last) (some p) (pb .none-fails)
-            (fault-first s (judgements s Γ C) last p (faulted p d a))))) a (d .long)
+            (then-second s (judge rec (patternHas (typeRecordOf s Γ A) m)) (branches s Γ rec B C) (some p) (matches rec m pa none fm)
+            (then-second s (judgements s Γ B) (judgements s Γ C ++ last s Γ rec B C) (some p) (pb .none-fails)
+            (fault-first s (judgements s Γ C) (last s Γ rec B C) p (faulted p d a))))) a (d .long)
 
         pub if-closes : (v : ℕ) (w3 w4 : List ℕ) → Passed s Γ C v w2 w3 → Closed s (sameType u v) rec u ans w3 w4
             → Judged s Γ (ifOf rec A m B C) ans w0 w4
         if-closes v w3 w4 pc c =
             closing-done rec (sameType (typeRecordOf s Γ B) (typeRecordOf s Γ C)) w3
             (then-second s (judgements s Γ A) _ _ (pa .none-fails)
-            (then-second s (judge rec (patternHas (typeRecordOf s Γ A) m)) branches _ (matches none fm)
-            (then-second s (judgements s Γ B) (judgements s Γ C ++ last) _ (pb .none-fails)
-            (then-second s (judgements s Γ C) last _ (pc .none-fails) refl))))
+            (then-second s (judge rec (patternHas (typeRecordOf s Γ A) m)) (branches s Γ rec B C) _ (matches rec m pa none fm)
+            (then-second s (judgements s Γ B) (judgements s Γ C ++ last s Γ rec B C) _ (pb .none-fails)
+            (then-second s (judgements s Γ C) (last s Γ rec B C) _ (pc .none-fails) refl))))
             (rw (pb .typed, pc .typed) c)
             (noted-last (ifOf rec A m B C) s Γ rec w3 _
             (pc .notes ∙ ap (noted s Γ C) (pb .notes ∙ ap (noted s Γ B) (pa .notes))))

@@ -27,29 +27,29 @@ use Rattle.typing.proofs.TypeRecordsOf.{type-of-record}
 use Rattle.typing.proofs.Outcomes.{Passed}
 
 module _ {s : List ℕ} {n : ℕ} {table stack : List ℕ} {names rec : ℕ} {widths : List ℕ} (r : Judging s n table stack names rec widths) where
-  pub ready-written : Written s
-  ready-written = written (r .ground .passes)
+  pub judging-written : Written s
+  judging-written = written (r .ground .passes)
 
-  pub ready-there : rec < count s
-  ready-there = let c = r .ground .sized .counted in let h = r .there in omega arith
+  pub judging-there : rec < count s
+  judging-there = let c = r .ground .sized .counted in let h = r .there in omega arith
 
   pub ready-closing : (after : List ℕ) → length after ≡ 4096 → Closing s n table rec after
   ready-closing after l = record { ground = r .ground; there = r .there; long = l }
 
   past : 0 < rec
-  past = past-header ready-written rec (rw (r .sort))
+  past = past-header judging-written rec (rw (r .sort))
 
   -- what is known of word j that asks for an expression
   module _ (k : Kind) (e : kindAt s rec ≡ k) (j : ℕ) (t : (ltb 0 j && ltb j 6) ≡ true) (a : askOfKind k j ≡ part expressions) (x : ℕ)
       (ex : x ≡ word s rec j) where
     deeper : depth s x ≡ suc (depth s rec)
-    deeper = rw ex (depth-of-part ready-written (well-named (r .ground .passes)) rec k expressions past ready-there e j t a refl)
+    deeper = rw ex (depth-of-part judging-written (well-named (r .ground .passes)) rec k expressions past judging-there e j t a refl)
 
     part-there : (rec < x) × (x < count s) × (sortAt s x ≡ expressions)
-    part-there = rw ex (part-of-kind ready-written rec k expressions ready-there e j t a)
+    part-there = rw ex (part-of-kind judging-written rec k expressions judging-there e j t a)
 
-    pub room : names < 64
-    room =
+    pub room-for-name : names < 64
+    room-for-name =
         let p = part-there in
         let d = not-deep (r .ground .passes) x (p .1) (p .2) in
         let m = deeper in
@@ -96,7 +96,7 @@ module _ {s : List ℕ} {n : ℕ} {table stack : List ℕ} {names rec : ℕ} {wi
   pub pattern-ready : (x u : ℕ) (k : Kind) → kindAt s rec ≡ k → (j : ℕ) → (ltb 0 j && ltb j 6) ≡ true → askOfKind k j ≡ part patterns
       → x ≡ word s rec j → TypeRecord s u → Fitting s n x u
   pattern-ready x u k e j t a ex typed =
-      let p = part-of-kind ready-written rec k patterns ready-there e j t a in
+      let p = part-of-kind judging-written rec k patterns judging-there e j t a in
       let c = r .ground .sized .counted in
       record {
         sized = r .ground .sized;
@@ -110,8 +110,8 @@ module _ {s : List ℕ} {n : ℕ} {table stack : List ℕ} {names rec : ℕ} {wi
   pub typed-record : (t : ℕ) (before after : List ℕ) → Passed s (scopeOf names stack) (treeAt s rec) t before after → TypeRecord s t
   typed-record t before after p =
       rw (p .typed) at
-      (type-of-record ready-written (scopeOf names stack) (treeAt s rec)
-      (grown-tree ready-written rec ready-there (r .sort)) (r .context)
+      (type-of-record judging-written (scopeOf names stack) (treeAt s rec)
+      (grown-tree judging-written rec judging-there (r .sort)) (r .context)
       (passed-judged s (scopeOf names stack) (treeAt s rec) (p .none-fails)))
 
 -- a chain of leaves in a word of a record
@@ -131,8 +131,8 @@ typed-word {rec = rec} c k e j t a x ex =
     rw ex (type-word (written (c .ground .passes)) rec k (omega arith) e j t a)
 
 module _ {s : List ℕ} {n : ℕ} {table stack : List ℕ} {names rec : ℕ} {widths : List ℕ} (r : Judging s n table stack names rec widths) where
-  pub few-names : names ≤ 64
-  few-names =
+  pub judging-names-few : names ≤ 64
+  judging-names-few =
       let c = r .ground .sized .counted in
       let h = r .there in
       let l = r .deep in

@@ -24,7 +24,7 @@ use Rattle.records.proofs.TypeRecords.{first-part, second-part, input-type}
 use Rattle.structure.proofs.Passes.{written, types-fit}
 use Rattle.typing.specs.Judgements.{patternFits}
 use Rattle.typing.specs.Judging.{Fitting}
-use Rattle.typing.specs.PatternTable.{TypeOfOne, TypeOfAll, PatternsTyped, TypingPattern}
+use Rattle.typing.specs.PatternTable.{TypedOne, TypedAll, PatternsTyped, TypingPattern}
 use Rattle.typing.proofs.Alternatives.{next-matching, fits-word, both-parts}
 use Rattle.typing.proofs.PatternNumbers.{pattern-kind}
 
@@ -68,7 +68,7 @@ module _ {s : List ℕ} {n : ℕ} {index types : List ℕ} {p : ℕ} (q : Typing
   fitting t u = record { sized = q .sized; passes = q .passes; there = q .there; sort = sort; typed = u }
 
   -- no pair pattern: the type in word a
-  pub word-type : {k x : ℕ} → k ≡ word s p 0 → (k ≡ 50 → ⊥) → x ≡ word s p 2 → TypeOfOne s p x
+  pub word-type : {k x : ℕ} → k ≡ word s p 0 → (k ≡ 50 → ⊥) → x ≡ word s p 2 → TypedOne s p x
   word-type {k} {x} ek f ex t u = fits-word (fitting t u) k ek x f ex
 
   -- a pair pattern
@@ -77,7 +77,7 @@ module _ {s : List ℕ} {n : ℕ} {index types : List ℕ} {p : ℕ} (q : Typing
     pair-pattern = pattern-kind s p k ek parts e
 
     part-entry : (j : ℕ) → (ltb 0 j && ltb j 6) ≡ true → askOfKind (pattern parts) j ≡ part patterns
-        → (word s p j < 4096) × TypeOfAll s (word s p j) (getD types (word s p j) 0)
+        → (word s p j < 4096) × TypedAll s (word s p j) (getD types (word s p j) 0)
     part-entry j h a =
         let c = q .sized .counted in
         let t = q .there in
@@ -85,10 +85,10 @@ module _ {s : List ℕ} {n : ℕ} {index types : List ℕ} {p : ℕ} (q : Typing
         let d = part-of-kind w p (pattern parts) patterns (omega arith) pair-pattern j h a in
         (omega (arith, d .1, few), q .above .typed (word s p j) (omega (arith, d .0)) (d .1) (d .2))
 
-    first-entry : (word s p 2 < 4096) × TypeOfAll s (word s p 2) (getD types (word s p 2) 0)
+    first-entry : (word s p 2 < 4096) × TypedAll s (word s p 2) (getD types (word s p 2) 0)
     first-entry = part-entry 2 refl (unfold askOfKind in refl)
 
-    second-entry : (word s p 3 < 4096) × TypeOfAll s (word s p 3) (getD types (word s p 3) 0)
+    second-entry : (word s p 3 < 4096) × TypedAll s (word s p 3) (getD types (word s p 3) 0)
     second-entry = part-entry 3 refl (unfold askOfKind in refl)
 
     pub first-low : {x : ℕ} → x ≡ word s p 2 → x < 4096
@@ -140,7 +140,7 @@ module _ {s : List ℕ} {n : ℕ} {index types : List ℕ} {p : ℕ} (q : Typing
           go (no f) _ (no h) = rw (ne-eqb a (wordA s t) f, ne-eqb r t h)
           go (yes f) (no g) (no h) = rw (eq-eqb a (wordA s t) f, ne-eqb b (wordB s t) g, ne-eqb r t h)
 
-      pub pair-type-of-parts : TypeOfOne s p r
+      pub pair-type-of-parts : TypedOne s p r
       pair-type-of-parts t u = both-parts (fitting t u) k ek e ∙ go (isPair (kindAt s t)) refl
         where
           rest : Bool
@@ -156,7 +156,7 @@ module _ {s : List ℕ} {n : ℕ} {index types : List ℕ} {p : ℕ} (q : Typing
 
   -- a chain of alternatives
   module _ {y : ℕ} (ey : y ≡ word s p 1) where
-    pub last-alternative : (x : ℕ) → TypeOfOne s p x → y ≡ 0 → TypeOfAll s p x
+    pub last-alternative : (x : ℕ) → TypedOne s p x → y ≡ 0 → TypedAll s p x
     last-alternative x one z t u = one t u ∙ rw (← ey, z) (with-true (eqb x t))
 
     module _ (f : y ≡ 0 → ⊥) where
@@ -170,7 +170,7 @@ module _ {s : List ℕ} {n : ℕ} {index types : List ℕ} {p : ℕ} (q : Typing
           let few = w .few in
           omega arith
 
-      goes-on : (x : ℕ) → TypeOfOne s p x → (t : ℕ) → TypeRecord s t
+      goes-on : (x : ℕ) → TypedOne s p x → (t : ℕ) → TypeRecord s t
           → patternFits s (alternatives s p) t ≡ (eqb x t && eqb (getD types y 0) t)
       goes-on x one t u =
           let d = next-fitting t u in
@@ -182,15 +182,15 @@ module _ {s : List ℕ} {n : ℕ} {index types : List ℕ} {p : ℕ} (q : Typing
           follows zero g = absurd (g refl)
           follows (suc z) g = refl
 
-      pub all-the-same : (x : ℕ) → TypeOfOne s p x → getD types y 0 ≡ x → TypeOfAll s p x
+      pub all-the-same : (x : ℕ) → TypedOne s p x → getD types y 0 ≡ x → TypedAll s p x
       all-the-same x one same t u = goes-on x one t u ∙ rw same (both-same (eqb x t))
 
-      pub no-common-type : (x : ℕ) → TypeOfOne s p x → (getD types y 0 ≡ x → ⊥) → TypeOfAll s p 0
+      pub no-common-type : (x : ℕ) → TypedOne s p x → (getD types y 0 ≡ x → ⊥) → TypedAll s p 0
       no-common-type x one differ t u = goes-on x one t u ∙ shared x (getD types y 0) t differ (u .past)
 
 -- the table with one more record
 module _ {s : List ℕ} {n : ℕ} {index types : List ℕ} {p : ℕ} (q : TypingPattern s n index types p) where
-  pub type-noted : {x : ℕ} → x < 65536 → TypeOfAll s p x → PatternsTyped s p (set types p x)
+  pub type-noted : {x : ℕ} → x < 65536 → TypedAll s p x → PatternsTyped s p (set types p x)
   type-noted {x} small t = record {
     long = length-set types p x ∙ q .above .long;
     small = λ r. all-small r (ℕ-discrete r p);
@@ -209,7 +209,7 @@ module _ {s : List ℕ} {n : ℕ} {index types : List ℕ} {p : ℕ} (q : Typing
       all-small r (yes e) = rw (e, here) small
       all-small r (no f) = rw (getD-set-other types p r x 0 f) (q .above .small r)
 
-      all-typed : (r : ℕ) → p ≤ r → r < count s → sortAt s r ≡ patterns → Dec (r ≡ p) → TypeOfAll s r (getD (set types p x) r 0)
+      all-typed : (r : ℕ) → p ≤ r → r < count s → sortAt s r ≡ patterns → Dec (r ≡ p) → TypedAll s r (getD (set types p x) r 0)
       all-typed r low there sort (yes e) = rw (e, here) t
       all-typed r low there sort (no f) = rw (getD-set-other types p r x 0 f) (q .above .typed r (omega arith) there sort)
 
@@ -220,7 +220,7 @@ module _ {s : List ℕ} {n : ℕ} {index types : List ℕ} {p : ℕ} (q : Typing
     typed = λ r low there sort. go r low there sort (ℕ-discrete r p);
   }
     where
-      go : (r : ℕ) → p ≤ r → r < count s → sortAt s r ≡ patterns → Dec (r ≡ p) → TypeOfAll s r (getD types r 0)
+      go : (r : ℕ) → p ≤ r → r < count s → sortAt s r ≡ patterns → Dec (r ≡ p) → TypedAll s r (getD types r 0)
       go r low there sort (yes e) = absurd (f (rw e at sort))
       go r low there sort (no g) = q .above .typed r (omega arith) there sort
 

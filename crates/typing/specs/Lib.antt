@@ -7,7 +7,7 @@ pub mod NameRows
 pub mod TypeRows
 pub mod PatternRows
 pub mod OrderRows
--- What functions ask and give, and their proofs need:
+-- What functions ask and give, and their proofs need; `width` of `Judging` is to be believed for `TableFixed` of `verdict`:
 pub mod Judging
 pub mod LeafChains
 pub mod PatternTable

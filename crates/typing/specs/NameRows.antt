@@ -1,6 +1,7 @@
--- Code 7, names and leaves (docs/SHEETS.md, "Type rules": "The input is the outermost name. A LET adds a name for its body; a
--- feedback adds one of its type for both parts. A name's number is below the count of names in scope. A constant or delay has as
--- many leaves as its type, each no greater than its flat type's count; 0 is undefined").
+-- Code 7, names and leaves (docs/SHEETS.md, "Type rules": "The input is the outermost, with the header's input type. In the body of a
+-- LET there is one name more, of the defining part's type. In both parts of a feedback there is one more, of the type in its word `a`."
+-- A name's "number is below the number of names in scope". A constant's or a delay's "chain is as long as its type has leaves, and no
+-- leaf is above the number of constructors of the flat type at that leaf; 0 stands for undefined").
 use mathlib.Core.List.{List, [], _∷_}
 use Rattle.records.specs.SheetOf.{words}
 use Rattle.typing.specs.declared.Outcome.the-variants.{Sound, Fault}

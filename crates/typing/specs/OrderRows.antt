@@ -1,6 +1,6 @@
--- Code 7, the order (docs/SHEETS.md, "Codes": "first such record, parts before whole" and "parts go in the order a, b, c; an IF's
--- pattern is judged after a and reported at the IF"): each sheet breaks two rules, the one that is judged later at a lower record
--- where it can be.
+-- Code 7, the order (docs/SHEETS.md, "Codes": "first such record, parts before the whole"; code 7 "goes through the expressions from
+-- the root, parts `a`, `b`, `c` first and then the whole. In an IF the pattern is judged after part `a` and before the branches, and is
+-- reported at the IF"): each sheet breaks two rules, the one that is judged later at a lower record where it can be.
 use mathlib.Core.List.{List, [], _∷_}
 use Rattle.records.specs.SheetOf.{words}
 use Rattle.typing.specs.declared.Outcome.the-variants.{Fault}

@@ -1,5 +1,6 @@
--- Code 7, patterns (docs/SHEETS.md, "Type rules": "each alternative of its pattern has the tested type, pair patterns part by
--- part").
+-- Code 7, patterns (docs/SHEETS.md, "Type rules": "every alternative of the pattern has the tested part's type"; a pair pattern has a
+-- pair type "where every alternative of its part `a` has the type of that pair's first part, and every alternative of its part `b` that
+-- of its second").
 use mathlib.Core.List.{List, [], _∷_}
 use Rattle.records.specs.SheetOf.{words}
 use Rattle.typing.specs.declared.Outcome.the-variants.{Sound, Fault}

@@ -16,18 +16,18 @@ use Rattle.typing.specs.Judgements.{patternFits}
 use Rattle.typing.specs.Judging.{FittedOne}
 
 -- the alternative at p has type record x and no other
-abbrev pub TypeOfOne : List ℕ → ℕ → ℕ → Type 0
-TypeOfOne s p x = (t : ℕ) → TypeRecord s t → FittedOne s p t (eqb x t)
+abbrev pub TypedOne : List ℕ → ℕ → ℕ → Type 0
+TypedOne s p x = (t : ℕ) → TypeRecord s t → FittedOne s p t (eqb x t)
 
 -- and so have all alternatives from p
-abbrev pub TypeOfAll : List ℕ → ℕ → ℕ → Type 0
-TypeOfAll s p x = (t : ℕ) → TypeRecord s t → patternFits s (alternatives s p) t ≡ eqb x t
+abbrev pub TypedAll : List ℕ → ℕ → ℕ → Type 0
+TypedAll s p x = (t : ℕ) → TypeRecord s t → patternFits s (alternatives s p) t ≡ eqb x t
 
 -- the table has the types of the patterns from a record on
 pub record PatternsTyped (s : List ℕ) (from : ℕ) (types : List ℕ) : Type 0 where
   pub long : length types ≡ 4096
   pub small : (p : ℕ) → getD types p 0 < 65536
-  pub typed : (p : ℕ) → from ≤ p → p < count s → sortAt s p ≡ patterns → TypeOfAll s p (getD types p 0)
+  pub typed : (p : ℕ) → from ≤ p → p < count s → sortAt s p ≡ patterns → TypedAll s p (getD types p 0)
 
 -- what finding the type of record p is called with
 pub record TypingPattern (s : List ℕ) (n : ℕ) (index types : List ℕ) (p : ℕ) : Type 0 where

@@ -1,6 +1,7 @@
--- Code 7, types (docs/SHEETS.md, "Type rules": "First and second part need a pair type; a pair needs a pair record of exactly
--- those two types. A feedback's defining part has its named type, a delay's part likewise. An IF's two branches have one type;
--- (..) A type is the same only as the same record").
+-- Code 7, types (docs/SHEETS.md, "Type rules": "there is a pair type of exactly the two parts' types, in this order"; of first and
+-- second part "the part's type is a pair type"; of a feedback "the defining part has the type in word `a`", of a delay "the delayed
+-- part has the type in word `a`"; of an IF "the two branches have one type"; "Two types are the same only if they are the same
+-- record.").
 use mathlib.Core.List.{List, [], _∷_}
 use Rattle.records.specs.SheetOf.{words}
 use Rattle.typing.specs.declared.Outcome.the-variants.{Sound, Fault}

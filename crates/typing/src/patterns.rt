@@ -11,7 +11,8 @@ ghost use Rattle.structure.specs.PairIndex.{Indexed};
 ghost use Rattle.structure.specs.Rules.{Passes};
 ghost use Rattle.typing.specs.Judgements.{holds, patternHas};
 ghost use Rattle.typing.specs.Judging.{Fitting, lastly};
-ghost use Rattle.typing.specs.PatternTable.{TypeOfOne, TypeOfAll, PatternsTyped, TypingPattern};
+ghost use Rattle.typing.specs.PatternTable.{TypedOne, TypedAll, PatternsTyped, TypingPattern};
+ghost use Rattle.records.specs.Limits.{wordBound};
 use crate::Outcome;
 use records::KIND_PAIR_PATTERN;
 use records::KIND_WHOLE_PATTERN;
@@ -37,7 +38,7 @@ pub fn no_types() -> PatternTypes
 // The type of the alternative at p, or 0: a pair pattern's is the pair type of its parts' types.
 fn one_type(sheet: &[u8], n: usize, index: &PairIndex, types: &PatternTypes, p: usize) -> usize
     requires { ⌜ TypingPattern (now sheet) n (now index) (now types) p × (sortAt (now sheet) p ≡ patterns) ⌝ }
-    ensures { λ r. ⌜ TypeOfOne (now (sheet .entry)) p r × (r < 65536) ⌝ }
+    ensures { λ r. ⌜ TypedOne (now (sheet .entry)) p r × (r < wordBound) ⌝ }
 {
     let a = word(sheet, n, p, WORD_A);
     if word(sheet, n, p, WORD_KIND) != KIND_PAIR_PATTERN {
@@ -50,7 +51,7 @@ fn one_type(sheet: &[u8], n: usize, index: &PairIndex, types: &PatternTypes, p: 
 // The type that all alternatives from p have, or 0.
 fn common_type(sheet: &[u8], n: usize, index: &PairIndex, types: &PatternTypes, p: usize) -> usize
     requires { ⌜ TypingPattern (now sheet) n (now index) (now types) p × (sortAt (now sheet) p ≡ patterns) ⌝ }
-    ensures { λ r. ⌜ TypeOfAll (now (sheet .entry)) p r × (r < 65536) ⌝ }
+    ensures { λ r. ⌜ TypedAll (now (sheet .entry)) p r × (r < wordBound) ⌝ }
 {
     let one = one_type(sheet, n, index, types, p);
     let following = word(sheet, n, p, WORD_NEXT);

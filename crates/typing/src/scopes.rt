@@ -4,12 +4,13 @@ ghost use mathlib.Core.List.{[], _∷_};
 ghost use Prim.Native.Nat.{_+_, _<_};
 ghost use lib.ListN.{length};
 ghost use Rattle.typing.specs.Judging.{scopeOf};
+ghost use Rattle.records.specs.Limits.{wordBound};
 use records::MOST_NAMES;
 use records::ScopeTable;
 
 // The names in scope with one more, of type t.
 pub fn with_name(scope: &ScopeTable, names: usize, t: usize) -> ScopeTable
-    requires { ⌜ (names < 64) × (t < 65536) × (length (now scope) ≡ 64) ⌝ }
+    requires { ⌜ (names < 64) × (t < wordBound) × (length (now scope) ≡ 64) ⌝ }
     ensures { λ r. ⌜ (length r ≡ 64) × (scopeOf (names + 1) r ≡ t ∷ scopeOf names (now (scope .entry))) ⌝ }
 {
     let mut inner = *scope;
@@ -19,7 +20,7 @@ pub fn with_name(scope: &ScopeTable, names: usize, t: usize) -> ScopeTable
 
 // The names in scope of the whole circuit: the input alone, of the type in the header's word a.
 pub fn input_scope(t: usize) -> ScopeTable
-    requires { ⌜ t < 65536 ⌝ }
+    requires { ⌜ t < wordBound ⌝ }
     ensures { λ r. ⌜ (length r ≡ 64) × (scopeOf 1 r ≡ t ∷ []) ⌝ }
 {
     let mut scope = [0u16; MOST_NAMES];

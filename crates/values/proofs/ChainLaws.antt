@@ -59,10 +59,10 @@ yes-stays s (oneConstructor r t k m) v = refl
 yes-stays s (pairOfPatterns r p q m) v = refl
 
 -- what is matched next follows, unless it is nothing
-pub goes-on : (a : Match) {x y : ℕ} → x ≡ orAfter (decisionOf a) 0 y → (x ≡ 0 → ⊥) → x ≡ y
-goes-on (Matched′.Yes r) e f = absurd (f e)
-goes-on Matched′.No e f = e
-goes-on Matched′.Undecided e f = e
+pub alternative-goes-on : (a : Match) {x y : ℕ} → x ≡ orAfter (decisionOf a) 0 y → (x ≡ 0 → ⊥) → x ≡ y
+alternative-goes-on (Matched′.Yes r) e f = absurd (f e)
+alternative-goes-on Matched′.No e f = e
+alternative-goes-on Matched′.Undecided e f = e
 
 -- the first of some alternatives, with the rest of them
 pub one-with-rest : (s : List ℕ) (p : Pattern) (m : Alternatives) (v : List ℕ)
@@ -89,10 +89,10 @@ width-of-first p (oneConstructor r t k m) q = refl
 width-of-first p (pairOfPatterns r a b m) q = refl
 
 -- a pattern that is there has the leaves of its first alternative
-pub width-leaves : (s : List ℕ) (m : Alternatives) → GrownPattern s m → patternWidth (patternOf s m) ≡ patternLeaves s m
-width-leaves s end g = absurd g
-width-leaves s noPattern g = absurd g
-width-leaves s (wholeType r t m) g = width-of-first (Whole (typeAt s t)) m (patternOf s m)
-width-leaves s (oneConstructor r t k m) g = width-of-first (Constructor t (wordA s t) k) m (patternOf s m)
-width-leaves s (pairOfPatterns r a b m) g =
-    width-of-first (Parts (patternOf s a) (patternOf s b)) m (patternOf s m) ∙ rw (width-leaves s a (g .0), width-leaves s b (g .1)) refl
+pub alternatives-width : (s : List ℕ) (m : Alternatives) → GrownPattern s m → patternWidth (patternOf s m) ≡ patternLeaves s m
+alternatives-width s end g = absurd g
+alternatives-width s noPattern g = absurd g
+alternatives-width s (wholeType r t m) g = width-of-first (Whole (typeAt s t)) m (patternOf s m)
+alternatives-width s (oneConstructor r t k m) g = width-of-first (Constructor t (wordA s t) k) m (patternOf s m)
+alternatives-width s (pairOfPatterns r a b m) g =
+    width-of-first (Parts (patternOf s a) (patternOf s b)) m (patternOf s m) ∙ rw (alternatives-width s a (g .0), alternatives-width s b (g .1)) refl

@@ -25,9 +25,9 @@ pub record Gathered (s : List ℕ) (p : ℕ) (v : List ℕ) (a : Match) (x : ℕ
   pub few : told a < 4096
 
 -- at first nothing is matched, and the whole chain is left
-pub begun : {s : List ℕ} {n : ℕ} {widths : List ℕ} {p : ℕ} {v : List ℕ} → Matching s n widths p v → Gathered s p v Matched′.No p
-begun {p = zero} m = absurd (let h = past m in omega arith)
-begun {p = suc p} m = record { decides = sym (rest-is m No); tells = refl; few = omega arith }
+pub gathering-begun : {s : List ℕ} {n : ℕ} {widths : List ℕ} {p : ℕ} {v : List ℕ} → Matching s n widths p v → Gathered s p v Matched′.No p
+gathering-begun {p = zero} m = absurd (let h = past m in omega arith)
+gathering-begun {p = suc p} m = record { decides = sym (rest-is m No); tells = refl; few = omega arith }
 
 module _ {s : List ℕ} {p : ℕ} {v : List ℕ} where
   pub gone-on : {n : ℕ} {widths : List ℕ} {at : ℕ} → Matching s n widths at v → (a b c : Match) {x : ℕ} → (at ≡ 0 → ⊥)

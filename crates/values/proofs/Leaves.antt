@@ -45,8 +45,8 @@ module _ {s : List ℕ} (w : Written s) where
           tail [] = []
           tail (x ∷ xs) = xs
 
-      pub here : drop i (chain s first) ≡ l ∷ drop (suc i) (chain s first)
-      here = after ∙ ap (λ ls. l ∷ ls) (sym rest-after)
+      pub leaf-here : drop i (chain s first) ≡ l ∷ drop (suc i) (chain s first)
+      leaf-here = after ∙ ap (λ ls. l ∷ ls) (sym rest-after)
 
       pub along-next : {x : ℕ} → x ≡ nextWord s l → Along (i + 1) x
       along-next e = rw (e, add-one i) (go (nextWord s l) refl)
@@ -78,7 +78,7 @@ module _ {s : List ℕ} (w : Written s) where
             so-far =
                 rw (add-one i, take-suc-set out i x (let m = r .long in omega arith))
                 (append-snoc (take i out) x (leafValues s (drop (suc i) (chain s first)))
-                ∙ rw e (rw (here a h) at (r .so-far)));
+                ∙ rw e (rw (leaf-here a h) at (r .so-far)));
           }
 
     pub all-read : (i : ℕ) (out : List ℕ) → length out ≤ i → i ≤ length out → Read i out → out ≡ leafValues s (chain s first)
@@ -87,16 +87,16 @@ module _ {s : List ℕ} (w : Written s) where
         rw (e, take-length out, r .long, drop-length (chain s first), append-nil out) at (r .so-far)
 
     -- the value is held at the leaves before i
-    abbrev pub Held : (value held₀ : List ℕ) (i : ℕ) (held : List ℕ) → Type 0
-    Held value held₀ i held =
+    abbrev pub HeldLeaves : (value held₀ : List ℕ) (i : ℕ) (held : List ℕ) → Type 0
+    HeldLeaves value held₀ i held =
         putAll enter (assigned (drop i (chain s first)) (drop i value)) held ≡ putAll enter (assigned (chain s first) value) held₀
 
     pub held-next : (value held₀ : List ℕ) (i l : ℕ) → Along i l → length (chain s first) ≡ length value
-        → i < length value → (held : List ℕ) → Held value held₀ i held → Held value held₀ (i + 1) (set held l (getD value i 0))
+        → i < length value → (held : List ℕ) → HeldLeaves value held₀ i held → HeldLeaves value held₀ (i + 1) (set held l (getD value i 0))
     held-next value held₀ i l a e h held r =
-        rw (add-one i) (rw (here a (omega arith), drop-cons value i 0 h) at r)
+        rw (add-one i) (rw (leaf-here a (omega arith), drop-cons value i 0 h) at r)
 
     pub all-held : (value held₀ : List ℕ) (i : ℕ) → length (chain s first) ≡ length value → i ≤ length value → length value ≤ i
-        → (held : List ℕ) → Held value held₀ i held → held ≡ putAll enter (assigned (chain s first) value) held₀
+        → (held : List ℕ) → HeldLeaves value held₀ i held → held ≡ putAll enter (assigned (chain s first) value) held₀
     all-held value held₀ i e h k held r =
         let f : i ≡ length (chain s first) = omega arith in rw (f, drop-length (chain s first)) at r

@@ -37,7 +37,7 @@ use Rattle.behaviour.specs.Firing.{firstYes}
 use Rattle.values.specs.Answers.{decisionOf, Own}
 use Rattle.values.specs.declared.Match.{Match}
 use Rattle.values.specs.declared.Match.the-variants as Matched′
-use Rattle.values.proofs.ChainLaws.{own-told, few-told, one-with-rest, chain-with-rest, width-leaves}
+use Rattle.values.proofs.ChainLaws.{own-told, few-told, one-with-rest, chain-with-rest, alternatives-width}
 
 module _ {s : List ℕ} {n : ℕ} {widths : List ℕ} {p : ℕ} {value : List ℕ} (m : Matching s n widths p value) where
   w : Written s
@@ -69,8 +69,8 @@ module _ {s : List ℕ} {n : ℕ} {widths : List ℕ} {p : ℕ} {value : List �
       go (Flat r n) = omega arith
       go (TyTuple a b) = let h = go a in omega arith
 
-  pub to-the-end : length value ≤ length value
-  to-the-end = omega arith
+  pub value-to-the-end : length value ≤ length value
+  value-to-the-end = omega arith
 
   -- what follows fits too
   rest-fits : patternFits s (follow end (alternatives s) (nextWord s p)) (m .type) ≡ true
@@ -196,8 +196,8 @@ module _ {s : List ℕ} {n : ℕ} {widths : List ℕ} {p : ℕ} {value : List �
               let few = few-leaves (types-fit (m .against .passes)) (wordA s t) (first-against .1 .typed .there) (first-against .1 .typed .sort) in
               omega arith
 
-          pub from-none : 0 ≤ c
-          from-none = omega arith
+          pub count-from-none : 0 ≤ c
+          count-from-none = omega arith
 
           pub cut-inside : c ≤ length value
           cut-inside = let e = cut in let l = m .long in let f = leaves-of-pair in omega arith
@@ -253,7 +253,7 @@ module _ {s : List ℕ} {n : ℕ} {widths : List ℕ} {p : ℕ} {value : List �
               }
             where
               wide : patternWidth (patternOf s (alternatives s (wordA s p))) ≡ c
-              wide = rw (← ex) (width-leaves s (alternatives s x) (grown-pattern w x first-in (first-against .1 .sort)) ∙ first-leaves ∙ sym cut)
+              wide = rw (← ex) (alternatives-width s (alternatives s x) (grown-pattern w x first-in (first-against .1 .sort)) ∙ first-leaves ∙ sym cut)
 
               parts-match : matches (Parts (patternOf s (alternatives s (wordA s p))) (patternOf s (alternatives s (wordB s p)))) value
                   ≡ pairDecision (decisionOf a) d

@@ -15,7 +15,7 @@ use Rattle.records.proofs.Tests.{never-both}
 use Rattle.meaning.specs.Matching.{Yes, No, constructorDecision, pairDecision}
 use Rattle.meaning.specs.Evaluation.{choose}
 use Rattle.meaning.specs.Undecided.{undecidedRule}
-use Rattle.values.specs.Answers.{decisionOf, told, Own, Agrees}
+use Rattle.values.specs.Answers.{decisionOf, told, Own, ValuesCompared}
 use Rattle.values.specs.declared.Match.{Match}
 use Rattle.values.specs.declared.Match.the-variants as Matches
 
@@ -53,21 +53,21 @@ module _ (value slot : List ℕ) (room : length value ≤ length slot) where
     pub few : i ≤ length value
     pub so-far : take i value ≡ take i slot
 
-  pub same-next : (i : ℕ) → i < length value → Same i → getD slot i 0 ≡ getD value i 0 → Same (i + 1)
-  same-next i h c e =
+  pub slot-same-next : (i : ℕ) → i < length value → Same i → getD slot i 0 ≡ getD value i 0 → Same (i + 1)
+  slot-same-next i h c e =
       record {
         few = omega arith;
         so-far = rw (add-one i, take-suc value i 0 h, take-suc slot i 0 (omega arith), c .so-far, e) refl;
       }
 
-  pub all-same : (i : ℕ) → length value ≤ i → Same i → Agrees value (take (length value) slot) true
+  pub all-same : (i : ℕ) → length value ≤ i → Same i → ValuesCompared value (take (length value) slot) true
   all-same i h c =
       let f = c .few in
       let e : i ≡ length value = omega arith in
       record { same = λ _. rw (e, take-length value) at (c .so-far); other = λ e. absurd (never-both true refl e) }
 
-  pub one-differs : (i : ℕ) → i < length value → getD slot i 0 ≢ getD value i 0 → Agrees value (take (length value) slot) false
-  one-differs i h d =
+  pub slot-differs : (i : ℕ) → i < length value → getD slot i 0 ≢ getD value i 0 → ValuesCompared value (take (length value) slot) false
+  slot-differs i h d =
       record {
         same = λ e. absurd (never-both false e refl);
         other = λ _ e. d (sym (ap (λ v. getD v i 0) e ∙ getD-take (length value) slot i 0 h));
@@ -113,7 +113,7 @@ module _ (n a : ℕ) (env r : List ℕ) (e : r ≡ take n (drop a env)) where
   pub looked-up-long : a + n ≤ length env → length r ≡ n
   looked-up-long h = let l = length-drop a env in rw e (length-take-le n (drop a env) (omega arith))
 
-  pub looked-up-stands : (v : List ℕ) (b : Bool) → length v ≡ n → Agrees v (take (length v) r) b → Agrees v (take n (drop a env)) b
+  pub looked-up-stands : (v : List ℕ) (b : Bool) → length v ≡ n → ValuesCompared v (take (length v) r) b → ValuesCompared v (take n (drop a env)) b
   looked-up-stands v b k g = rw (e, k, take-take n n (drop a env) (omega arith)) at g
 
   pub looked-up-copied : (out out′ : List ℕ) → length out ≡ n → a + n ≤ length env → out′ ≡ r ++ drop (length r) out

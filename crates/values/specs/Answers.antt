@@ -26,6 +26,6 @@ pub record Own (p : ℕ) (answer : Match) (decision : Decision) : Type 0 where
   pub tells : told answer ≡ orAfter decision p 0
 
 -- a test of whether two values are the same
-pub record Agrees (v w : List ℕ) (answer : Bool) : Type 0 where
+pub record ValuesCompared (v w : List ℕ) (answer : Bool) : Type 0 where
   pub same : answer ≡ true → v ≡ w
   pub other : answer ≡ false → v ≡ w → ⊥

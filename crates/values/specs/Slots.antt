@@ -1,5 +1,5 @@
--- The names' bytes as a stack of values (docs/SHEETS.md, "Limits": "At most 64 names are in scope, each of at most 64 leaves"):
--- the name at a level, 0 for the outermost, has a slot of 64 bytes, with its value in front.
+-- The names' bytes as a stack of values (docs/SHEETS.md, "Limits": of names in scope there are at most "64, of 64 leaves each"): the
+-- name at a level, 0 for the outermost, has a slot of 64 bytes, with its value in front.
 use Prim.Native.Nat.{ℕ, _+_, _*_}
 use mathlib.Core.List.{List, [], _∷_, _++_}
 use lib.ListN.{length, take, drop}

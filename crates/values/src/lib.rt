@@ -9,21 +9,27 @@ ghost use Rattle.behaviour.specs.Delays.{assigned, putAll, enter};
 ghost use mathlib.Core.List.{List, [], _∷_, _++_};
 ghost use Rattle.meaning.specs.Matching.{constructorDecision, pairDecision, chainDecision};
 ghost use Rattle.values.specs.Chained.{Chained};
-ghost use Rattle.values.specs.Answers.{decisionOf, told, Own, Agrees};
+ghost use Rattle.values.specs.Answers.{decisionOf, told, Own, ValuesCompared};
 ghost use Rattle.values.specs.Matchings.{Matching, MatchedAll, MatchedOne, Chosen};
 ghost use Rattle.values.specs.Slots.{slot, entered};
 ghost use Rattle.meaning.specs.Evaluation.{choose};
 ghost use Rattle.meaning.specs.Undecided.{undecidedRule};
 ghost use Rattle.behaviour.specs.Firing.{orAfter};
+ghost use Rattle.records.specs.Limits.{mostRecords, environmentBytes};
+use records::ENVIRONMENT;
 use records::KIND_CONSTRUCTOR_PATTERN;
 use records::KIND_WHOLE_PATTERN;
 use records::RECORDS;
+use records::VALUE_BYTES;
 use records::WORD_A;
 use records::WORD_B;
 use records::WORD_KIND;
 use records::WORD_NEXT;
 use records::WidthTable;
 use records::word;
+
+// The values of the names in scope, a slot each.
+pub type Environment = [u8; ENVIRONMENT];
 
 // A table of the delays' next values, one byte a record.
 pub type NextValues = [u8; RECORDS];
@@ -34,9 +40,9 @@ pub type Fired = [u16; RECORDS];
 
 // The table in which none has fired.
 pub fn none_fired() -> Fired
-    ensures { λ r. ⌜ r ≡ replicate 4096 0 ⌝ }
+    ensures { λ r. ⌜ r ≡ replicate mostRecords 0 ⌝ }
 {
-    [0; 4096]
+    [0; RECORDS]
 }
 
 // Reads the leaves from `first`.
@@ -71,10 +77,10 @@ pub fn hold_leaves(sheet: &[u8], n: usize, first: usize, value: &[u8], held: &mu
 
 // The value of the name at this level, in the lent environment: w bytes from the start of its slot.
 pub fn look_up(env: &[u8], level: usize, w: usize) -> &[u8]
-    requires { ⌜ (64 * level + w ≤ length (now env)) × (length (now env) ≤ 4096) ⌝ }
+    requires { ⌜ (64 * level + w ≤ length (now env)) × (length (now env) ≤ environmentBytes) ⌝ }
     ensures { λ r. ⌜ now r ≡ take w (drop (64 * level) (now (env .entry))) ⌝ }
 {
-    let at = 64 * level;
+    let at = VALUE_BYTES * level;
     &env[at..at + w]
 }
 
@@ -94,7 +100,7 @@ pub fn put(value: &[u8], slot: &mut [u8])
 // Whether a value stands at the front of a slot.
 pub fn stands(value: &[u8], slot: &[u8]) -> bool
     requires { ⌜ length (now value) ≤ length (now slot) ⌝ }
-    ensures { λ r. ⌜ Agrees (now (value .entry)) (take (length (now (value .entry))) (now (slot .entry))) r ⌝ }
+    ensures { λ r. ⌜ ValuesCompared (now (value .entry)) (take (length (now (value .entry))) (now (slot .entry))) r ⌝ }
 {
     let all = value.len();
     let mut i = 0;
@@ -109,34 +115,34 @@ pub fn stands(value: &[u8], slot: &[u8]) -> bool
 
 // Enters a value into the slot of the name at this level.
 pub fn enter_value(env: &mut [u8], level: usize, value: &[u8])
-    requires { ⌜ (64 * level + length (now value) ≤ length (now env)) × (length (now env) ≤ 4096) ⌝ }
+    requires { ⌜ (64 * level + length (now value) ≤ length (now env)) × (length (now env) ≤ environmentBytes) ⌝ }
     ensures { λ _. ⌜ now (env .exit) ≡ entered level (now (value .entry)) (now (env .entry)) ⌝ }
 {
-    let at = 64 * level;
+    let at = VALUE_BYTES * level;
     put(value, &mut env[at..]);
 }
 
 // Whether a value stands in the slot of the name at this level.
 pub fn stands_at(env: &[u8], level: usize, value: &[u8]) -> bool
-    requires { ⌜ (64 * level + length (now value) ≤ length (now env)) × (length (now env) ≤ 4096) ⌝ }
-    ensures { λ r. ⌜ Agrees (now (value .entry)) (slot level (length (now (value .entry))) (now (env .entry))) r ⌝ }
+    requires { ⌜ (64 * level + length (now value) ≤ length (now env)) × (length (now env) ≤ environmentBytes) ⌝ }
+    ensures { λ r. ⌜ ValuesCompared (now (value .entry)) (slot level (length (now (value .entry))) (now (env .entry))) r ⌝ }
 {
     stands(value, look_up(env, level, value.len()))
 }
 
 // Copies the value of the name at this level.
 pub fn copy_value(env: &[u8], level: usize, out: &mut [u8])
-    requires { ⌜ (64 * level + length (now out) ≤ length (now env)) × (length (now env) ≤ 4096) ⌝ }
+    requires { ⌜ (64 * level + length (now out) ≤ length (now env)) × (length (now env) ≤ environmentBytes) ⌝ }
     ensures { λ _. ⌜ now (out .exit) ≡ slot level (length (now (out .entry))) (now (env .entry)) ⌝ }
 {
     put(look_up(env, level, out.len()), out);
 }
 
 // Room for a value, undefined in every leaf.
-pub fn room() -> [u8; 64]
+pub fn room() -> [u8; VALUE_BYTES]
     ensures { λ r. ⌜ r ≡ replicate 64 0 ⌝ }
 {
-    [0; 64]
+    [0; VALUE_BYTES]
 }
 
 // The leaf of an undecided IF, from those of its branches: the one that both give, or 0.

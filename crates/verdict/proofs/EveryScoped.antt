@@ -54,11 +54,11 @@ use Rattle.records.specs.Trees.{treeAt, typeRecordOf}
 use Rattle.records.specs.Written.{Written}
 use Rattle.records.proofs.Tests.{never-both, both-left, both-right}
 use Rattle.records.proofs.Table.{askOfKind, ask-by-kind}
-use Rattle.records.proofs.Asked.{Means, as-asked, past-header}
+use Rattle.records.proofs.Asked.{AskMeans, as-asked, past-header}
 use Rattle.records.proofs.Namings.{in-namings-names, namer-lower}
 use Rattle.structure.specs.Rules.{Passes}
 use Rattle.structure.proofs.Passes.{written, well-named}
-use Rattle.verdict.specs.Verdict.{inputs}
+use Rattle.verdict.specs.Scopes.{inputs}
 use Rattle.verdict.specs.Scopes.{
   Scope,
   root,
@@ -99,7 +99,7 @@ abbrev asksExpression : Ask → Bool
 asksExpression a = eqb (askNumber a) (askNumber (part expressions)) || eqb (askNumber a) (askNumber (nextOf expressions))
 
 -- a word that names an expression asks for one
-names-expression : (s : List ℕ) (q w : ℕ) (a : Ask) → names a ≡ true → Means s q a w → 0 < w → sortAt s w ≡ expressions
+names-expression : (s : List ℕ) (q w : ℕ) (a : Ask) → names a ≡ true → AskMeans s q a w → 0 < w → sortAt s w ≡ expressions
     → asksExpression a ≡ true
 names-expression s q w (nextOf σ) e m h f = rw (sym (m h .2) ∙ f)
 names-expression s q w (part σ) e m h f = rw (sym (m .2) ∙ f)

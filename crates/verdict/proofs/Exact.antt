@@ -14,19 +14,20 @@ use Rattle.records.proofs.Grown.{grown-circuit}
 use Rattle.records.proofs.Decoding.{decodes}
 use Rattle.typing.specs.Judgements.{judgements, firstFailing}
 use Rattle.structure.specs.Rules.{Passes}
-use Rattle.verdict.specs.Verdict.{inputs, refusing, byTypes, verdict}
+use Rattle.verdict.specs.Verdict.{refusing, byTypes, verdict}
+use Rattle.verdict.specs.Scopes.{inputs}
 use Rattle.verdict.specs.Promises.{WellTyped, Exact}
 use Rattle.verdict.specs.declared.Verdict.the-variants.{Accepted, IllTyped}
 use Rattle.structure.proofs.Passes.{written, types-fit}
 use Rattle.verdict.proofs.Places.{accepted-by-types}
-use Rattle.typing.proofs.Judged.{RulesHold, Passed, passed-judged, judged-passed}
+use Rattle.typing.proofs.Judged.{RulesHold, NoneFails, passed-judged, judged-passed}
 use Rattle.typing.specs.Judging.{Context}
 use Rattle.typing.proofs.TypeRecordsOf.{type-of-record}
 use Rattle.typing.proofs.Typings.{judged-typed, typed-judged}
 
 -- the type rules accept exactly where no judgement of the circuit fails, with the type of the circuit
 pub types-accept : (s : List ℕ) (t : ℕ)
-    → byTypes s ≡ Accepted t ↔ (Passed s (inputs s) (circuit s) × (typeRecordOf s (inputs s) (circuit s) ≡ t))
+    → byTypes s ≡ Accepted t ↔ (NoneFails s (inputs s) (circuit s) × (typeRecordOf s (inputs s) (circuit s) ≡ t))
 unfolding byTypes
 types-accept s t = (go (firstFailing s (judgements s (inputs s) (circuit s))), λ p. rw (p .0, p .1))
   where

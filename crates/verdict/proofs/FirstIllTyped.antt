@@ -36,7 +36,7 @@ use Rattle.records.proofs.Trees.{from-above, tree-of}
 use Rattle.structure.specs.Rules.{Passes}
 use Rattle.structure.proofs.Passes.{written}
 use Rattle.typing.specs.Judgements.{Judgement, Rule, leavesFit, inScope, pairDeclared, pairType, sameType, holds, judge, judgements, firstFailing}
-use Rattle.typing.proofs.Failing.{orElse, first-of-both, judged, judgement-holds}
+use Rattle.typing.proofs.Failing.{orNextFailing, first-of-both, failing-judged, judgement-holds}
 use Rattle.verdict.specs.Scopes.{
   WellTypedAt,
   PartsTyped,
@@ -67,7 +67,7 @@ module _ (s : List ℕ) where
       → (firstFailing s js ≡ none → firstFailing s ks ≡ some r → A) → A
   split {A} js ks r e left right = go (firstFailing s js) refl (rw first-of-both at e)
     where
-      go : (o : Option ℕ) → firstFailing s js ≡ o → orElse o (firstFailing s ks) ≡ some r → A
+      go : (o : Option ℕ) → firstFailing s js ≡ o → orNextFailing o (firstFailing s ks) ≡ some r → A
       go none f g = right f g
       go (some x) f g = left (f ∙ g)
 
@@ -176,7 +176,7 @@ find-first {s} p =
             (λ passed f. let ta = typed (wordA s q) Γ a passed in
             split s (judge q has) (B ++ (C ++ judge q last)) r f
             (λ g. here (expression ifMatches) e (ta, λ m. some-is-none g (judgement-holds s q has (tested-fits p o e m))) (own-fails s q has r g))
-            (λ held f. let m = fits-tested p o e ta (judged s q has held) in
+            (λ held f. let m = fits-tested p o e ta (failing-judged s q has held) in
             let b = in-if-then e c m in
             split s B (C ++ judge q last) r f (at ifMatches e 3 refl (unfold askOfKind in refl) Γ b)
             (λ passed f. let tb = typed (wordB s q) Γ b passed in

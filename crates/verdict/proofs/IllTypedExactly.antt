@@ -34,7 +34,8 @@ use Rattle.structure.proofs.Passes.{written}
 use Rattle.typing.specs.Judgements.{Judgement, Rule, leavesFit, inScope, pairDeclared, pairType, sameType, holds, judge, judgements, firstFailing}
 use Rattle.typing.proofs.Failing.{first-of-both, judgement-holds}
 use Rattle.typing.proofs.Outcomes.{fault-first}
-use Rattle.verdict.specs.Verdict.{inputs, byTypes, verdict}
+use Rattle.verdict.specs.Verdict.{byTypes, verdict}
+use Rattle.verdict.specs.Scopes.{inputs}
 use Rattle.verdict.specs.Promises.{IllTypedExactly}
 use Rattle.verdict.specs.Scopes.{
   IllTypedAt,
@@ -56,7 +57,7 @@ use Rattle.verdict.specs.Scopes.{
   in-delay,
 }
 use Rattle.verdict.specs.declared.Verdict.the-variants.{IllTyped}
-use Rattle.verdict.proofs.Places.{places, passes-by-types}
+use Rattle.verdict.proofs.Places.{places-right, passes-by-types}
 use Rattle.verdict.proofs.SaysExactly.{failing-first}
 use Rattle.verdict.proofs.Reached.{
   Standing,
@@ -248,7 +249,7 @@ ill-typed-exactly s r = (there, λ f. back (f .0) (f .1))
   where
     there : verdict s ≡ IllTyped r → Passes s × FirstIllTyped s r
     there e =
-        let says = rw e at (places s) in
+        let says = rw e at (places-right s) in
         let p = says .0 in
         (p, find-first p (wordB s 0) (root-is (written p) .1) (inputs s) at-root r (failing-first s (judgements s (inputs s) (circuit s)) r (says .1)))
 

@@ -2,7 +2,7 @@
 -- without a term is refused here.
 -- Assumes nothing.
 use Rattle.verdict.specs.Promises.{CheckPromises}
-use Rattle.verdict.proofs.Places.{places}
+use Rattle.verdict.proofs.Places.{places-right}
 use Rattle.verdict.proofs.SaysExactly.{says-exactly}
 use Rattle.verdict.proofs.VerdictFirst.{verdict-first}
 use Rattle.verdict.proofs.PlacesSmall.{verdict-place}
@@ -13,7 +13,7 @@ use Rattle.verdict.proofs.TableFixed.{table-fixed}
 
 pub kept : CheckPromises
 kept = record {
-  places = places;
+  places = places-right;
   says-exactly = says-exactly;
   verdict-first = verdict-first;
   places-below = verdict-place;

@@ -12,10 +12,11 @@ use Rattle.records.specs.Words.{count}
 use Rattle.records.specs.Sized.{Sized}
 use Rattle.records.specs.Trees.{circuit}
 use Rattle.structure.specs.Rules.{Passes, wrongLength, wrongHeader}
-use Rattle.structure.specs.LeafTable.{Counts}
+use Rattle.structure.specs.LeafTable.{LeavesCounted}
 use Rattle.typing.specs.Judging.{noted}
-use Rattle.verdict.specs.Stages.{CheckingRecords, Tabled}
-use Rattle.verdict.specs.Verdict.{inputs, verdict, unless, byRecords}
+use Rattle.verdict.specs.Stages.{CheckingRecords, StagesChecked}
+use Rattle.verdict.specs.Verdict.{verdict, unless, byRecords}
+use Rattle.verdict.specs.Scopes.{inputs}
 use Rattle.verdict.specs.Widths.{PatternsFrom, Widths, Checked, accepts}
 use Rattle.verdict.specs.declared.Verdict.{Verdict}
 use Rattle.verdict.specs.declared.Verdict.the-variants.{
@@ -31,7 +32,7 @@ use Rattle.verdict.specs.declared.Verdict.the-variants.{
 use Rattle.verdict.proofs.Exact.{exact}
 use Rattle.verdict.proofs.Widths.{judged-widths}
 
-module _ (s before : List ℕ) where
+module _ {s before : List ℕ} where
   wrong-lent : wrongLength s ≡ true → Checked s WrongLength before before
   unfolding verdict
   wrong-lent e = record {
@@ -55,6 +56,7 @@ module _ (s before : List ℕ) where
       wrong-lent
       (rw (ne-eqb (length s % 12) 0 z, or-true (ltb 49152 (length s))) (or-true (ltb (length s) 12)))
 
+-- no signature here determines the sheet
 module _ (s : List ℕ) (low : 12 ≤ length s) (high : length s ≤ 49152) (even : 12 * (length s / 12) ≡ length s) where
   right-length : wrongLength s ≡ false
   unfolding wrongLength
@@ -62,20 +64,21 @@ module _ (s : List ℕ) (low : 12 ≤ length s) (high : length s ≤ 49152) (eve
       let z : length s % 12 ≡ 0 = omega arith in
       rw (le-ltb (length s) 12 low, le-ltb 49152 (length s) high, eq-eqb (length s % 12) 0 z)
 
+module _ {s : List ℕ} (low : 12 ≤ length s) (high : length s ≤ 49152) (even : 12 * (length s / 12) ≡ length s) where
   pub measured : CheckingRecords s (length s / 12)
   unfolding count
   measured = record {
     sized = record { counted = refl; whole = sym even; some = omega arith; few = omega arith };
-    length = right-length;
+    length = right-length s low high even;
   }
 
-  stages : (answer : Verdict) (after : List ℕ) → Tabled s (length s / 12) (unless (wrongHeader s) WrongHeader (byRecords s)) answer after
+  stages : (answer : Verdict) (after : List ℕ) → StagesChecked s (length s / 12) (unless (wrongHeader s) WrongHeader (byRecords s)) answer after
       → answer ≡ verdict s
   unfolding verdict
-  stages answer after t = t .answered ∙ rw right-length
+  stages answer after t = t .answered ∙ rw (right-length s low high even)
 
-  module _ (answer : Verdict) (after : List ℕ)
-      (t : Tabled s (length s / 12) (unless (wrongHeader s) WrongHeader (byRecords s)) answer after) where
+  module _ {answer : Verdict} {after : List ℕ}
+      (t : StagesChecked s (length s / 12) (unless (wrongHeader s) WrongHeader (byRecords s)) answer after) where
     pub refused-lent : (before : List ℕ) (b : Bool) → b ≡ accepts answer → not b ≡ true → Checked s answer before before
     refused-lent before b e f =
         let z : accepts answer ≡ false = sym e ∙ not-so b f in
@@ -99,7 +102,7 @@ module _ (s : List ℕ) (low : 12 ≤ length s) (high : length s ≤ 49152) (eve
     some-type (TooDeep r) q = let x : _≡_ {A = ℕ} 0 1 = cc in absurd (omega arith)
     some-type (IllTyped r) q = let x : _≡_ {A = ℕ} 0 1 = cc in absurd (omega arith)
 
-    module _ (b : Bool) (e : b ≡ accepts answer) (f : not b ≡ false) where
+    module _ {b : Bool} (e : b ≡ accepts answer) (f : not b ≡ false) where
       is-so : accepts answer ≡ true
       is-so = sym e ∙ go b f
         where

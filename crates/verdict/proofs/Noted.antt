@@ -45,7 +45,7 @@ use Rattle.records.proofs.Asked.{part-of-kind, root-is}
 use Rattle.records.proofs.Trees.{from-above, tree-of}
 use Rattle.records.proofs.Distinct.{circuit-distinct}
 use Rattle.typing.specs.Judging.{width, noted}
-use Rattle.verdict.specs.Verdict.{inputs}
+use Rattle.verdict.specs.Scopes.{inputs}
 use Rattle.verdict.specs.Scopes.{
   Scope,
   root,

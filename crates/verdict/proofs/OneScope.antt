@@ -21,7 +21,7 @@ use Rattle.records.specs.Kinds.{
 use Rattle.records.specs.Trees.{treeAt, typeRecordOf}
 use Rattle.records.proofs.Table.{askOfKind}
 use Rattle.structure.specs.Rules.{Passes}
-use Rattle.verdict.specs.Verdict.{inputs}
+use Rattle.verdict.specs.Scopes.{inputs}
 use Rattle.verdict.specs.Scopes.{
   Scope,
   root,

@@ -17,7 +17,7 @@ use Rattle.typing.specs.Judgements.{Rule, patternHas, holds}
 use Rattle.typing.proofs.PatternTypes.{fits-typed, typed-fits}
 use Rattle.typing.proofs.Typings.{typed-judged}
 use Rattle.verdict.specs.Scopes.{WellTypedAt, PatternHasTested}
-use Rattle.verdict.proofs.Reached.{Standing, part-standing, typed-type, typed-record}
+use Rattle.verdict.proofs.Reached.{Standing, part-standing, typed-type, standing-typed}
 
 -- the rule on the pattern of the IF at record q
 abbrev pub patternRule : List ℕ → List ℕ → ℕ → Rule
@@ -38,11 +38,11 @@ module _ {s : List ℕ} (p : Passes s) {q : ℕ} {Γ : List ℕ} (o : Standing s
       let t = typeRecordOf s Γ (treeAt s (wordA s q)) in
       let j = typed-judged (written p) (types-fit p) Γ (treeAt s (wordA s q)) (grown-tree (written p) (wordA s q) (a .there) (a .sort))
       (a .context) σ d in
-      typed-fits (written p) (types-fit p) (alternatives s (wordD s q)) t (typed-record p a (σ, d)) pattern-there (rw (j .1) h)
+      typed-fits (written p) (types-fit p) (alternatives s (wordD s q)) t (standing-typed p a (σ, d)) pattern-there (rw (j .1) h)
 
   pub fits-tested : (t : WellTypedAt s Γ (wordA s q)) → holds s (patternRule s Γ q) ≡ true → PatternHasTested s Γ q
   fits-tested t h =
       let a = tested-standing in
-      let r = typed-record p a t in
+      let r = standing-typed p a t in
       let u = typed-type p a t in
       (typeAt s (typeRecordOf s Γ (treeAt s (wordA s q))), u, fits-typed (written p) (alternatives s (wordD s q)) (typeRecordOf s Γ (treeAt s (wordA s q))) r pattern-there h)

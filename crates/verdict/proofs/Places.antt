@@ -12,7 +12,8 @@ use Rattle.records.specs.Trees.{circuit, typeRecordOf}
 use Rattle.answers.specs.Answers.{lowest}
 use Rattle.structure.specs.Rules.{wrongLength, wrongHeader, wrongRecord, wrongNaming, wrongType, tooDeep, Passes}
 use Rattle.typing.specs.Judgements.{judgements, firstFailing}
-use Rattle.verdict.specs.Verdict.{unless, refusing, inputs, byTypes, byRecords, verdict}
+use Rattle.verdict.specs.Verdict.{unless, refusing, byTypes, byRecords, verdict}
+use Rattle.verdict.specs.Scopes.{inputs}
 use Rattle.verdict.specs.Promises.{Says, Places}
 use Rattle.verdict.specs.declared.Verdict.{Verdict}
 use Rattle.verdict.specs.declared.Verdict.the-variants.{
@@ -62,9 +63,9 @@ records-say s l h =
     (λ r e. (l, h, records, namings, types, lowest-some-passes (tooDeep s) (count s) r e))
     (λ depths. types-say s (record { length = l; header = h; records = records; namings = namings; types = types; depths = depths })))))
 
-pub places : Places
+pub places-right : Places
 unfolding verdict
-places s =
+places-right s =
     tested (Says s) (wrongLength s) WrongLength (unless (wrongHeader s) WrongHeader (byRecords s)) (λ e. e)
     (λ l. tested (Says s) (wrongHeader s) WrongHeader (byRecords s) (λ e. (l, e)) (λ h. records-say s l h))
 
@@ -78,4 +79,4 @@ pub accepted-by-types : (s : List ℕ) (t : ℕ) → verdict s ≡ Accepted t �
 accepted-by-types s t = (there, λ p. passes-by-types (p .0) ∙ p .1)
   where
     there : verdict s ≡ Accepted t → Passes s × (byTypes s ≡ Accepted t)
-    there e = let p = (rw e at (places s)) .0 in (p, sym (passes-by-types p) ∙ e)
+    there e = let p = (rw e at (places-right s)) .0 in (p, sym (passes-by-types p) ∙ e)

@@ -29,7 +29,7 @@ use Rattle.records.proofs.Grown.{grown-tree}
 use Rattle.structure.specs.Rules.{Passes}
 use Rattle.structure.proofs.Passes.{written, types-fit}
 use Rattle.typing.specs.Judging.{Context}
-use Rattle.typing.proofs.Judged.{RulesHold, Passed, passed-judged, judged-passed}
+use Rattle.typing.proofs.Judged.{RulesHold, NoneFails, passed-judged, judged-passed}
 use Rattle.typing.proofs.TypeRecordsOf.{type-of-record}
 use Rattle.typing.proofs.Typings.{judged-typed, typed-judged}
 use Rattle.verdict.specs.Scopes.{
@@ -93,10 +93,10 @@ module _ {s : List ℕ} (p : Passes s) where
   typed-rules {q} {Γ} o (τ, d) =
       typed-judged (written p) (types-fit p) Γ (treeAt s q) (grown-tree (written p) q (o .there) (o .sort)) (o .context) τ d .0
 
-  pub typed-passes : {q : ℕ} {Γ : List ℕ} → Standing s q Γ → WellTypedAt s Γ q → Passed s Γ (treeAt s q)
+  pub typed-passes : {q : ℕ} {Γ : List ℕ} → Standing s q Γ → WellTypedAt s Γ q → NoneFails s Γ (treeAt s q)
   typed-passes {q} {Γ} o t = judged-passed s Γ (treeAt s q) (typed-rules o t)
 
-  pub passes-typed : {q : ℕ} {Γ : List ℕ} → Standing s q Γ → Passed s Γ (treeAt s q) → WellTypedAt s Γ q
+  pub passes-typed : {q : ℕ} {Γ : List ℕ} → Standing s q Γ → NoneFails s Γ (treeAt s q) → WellTypedAt s Γ q
   passes-typed {q} {Γ} o f = (
     typeAt s (typeRecordOf s Γ (treeAt s q)),
     judged-typed (written p) Γ (treeAt s q) (grown-tree (written p) q (o .there) (o .sort)) (o .context)
@@ -109,8 +109,8 @@ module _ {s : List ℕ} (p : Passes s) where
   typed-type {q} {Γ} o t =
       judged-typed (written p) Γ (treeAt s q) (grown-tree (written p) q (o .there) (o .sort)) (o .context) (typed-rules o t)
 
-  pub typed-record : {q : ℕ} {Γ : List ℕ} → Standing s q Γ → WellTypedAt s Γ q → TypeRecord s (typeRecordOf s Γ (treeAt s q))
-  typed-record {q} {Γ} o t =
+  pub standing-typed : {q : ℕ} {Γ : List ℕ} → Standing s q Γ → WellTypedAt s Γ q → TypeRecord s (typeRecordOf s Γ (treeAt s q))
+  standing-typed {q} {Γ} o t =
       type-of-record (written p) Γ (treeAt s q) (grown-tree (written p) q (o .there) (o .sort)) (o .context) (typed-rules o t)
 
   -- the part in word j, in a scope whose names have type records
@@ -139,7 +139,7 @@ module _ {s : List ℕ} (p : Passes s) where
   reached-standing (in-let-body e c t) =
       let o = reached-standing c in
       let a = part-standing o letIn e 2 refl (unfold askOfKind in refl) (o .context) in
-      part-standing o letIn e 3 refl (unfold askOfKind in refl) (typed-record a t, o .context)
+      part-standing o letIn e 3 refl (unfold askOfKind in refl) (standing-typed a t, o .context)
   reached-standing (in-feedback-defining e c) =
       let o = reached-standing c in part-standing o feedback e 3 refl (unfold askOfKind in refl) (feedback-context o e)
   reached-standing (in-feedback-body e c t) =

@@ -10,7 +10,8 @@ use mathlib.Core.Path.{_≡_, refl, ap, _∙_}
 use Rattle.records.specs.Trees.{circuit}
 use Rattle.answers.proofs.Lowest.{lowest-is}
 use Rattle.typing.specs.Judgements.{Judgement, holds, judgements, firstFailing}
-use Rattle.verdict.specs.Verdict.{inputs, verdict, byRecords, byTypes}
+use Rattle.verdict.specs.Verdict.{verdict, byRecords, byTypes}
+use Rattle.verdict.specs.Scopes.{inputs}
 use Rattle.verdict.specs.Promises.{AllHold, FailsFirst, Says, SaysExactly}
 use Rattle.verdict.specs.declared.Verdict.{Verdict}
 use Rattle.verdict.specs.declared.Verdict.the-variants.{
@@ -23,7 +24,7 @@ use Rattle.verdict.specs.declared.Verdict.the-variants.{
   TooDeep,
   IllTyped,
 }
-use Rattle.verdict.proofs.Places.{places, passes-by-types}
+use Rattle.verdict.proofs.Places.{places-right, passes-by-types}
 
 pub all-hold-none : (s : List ℕ) (js : List Judgement) → AllHold s js → firstFailing s js ≡ none
 all-hold-none s [] f = refl
@@ -52,4 +53,4 @@ said-only s (TooDeep r) (l, h, a, b, c, f) = rw (l, h, a, b, c, lowest-is _ _ r 
 said-only s (IllTyped r) (p, f) = passes-by-types p ∙ rw (failing-first s (judgements s (inputs s) (circuit s)) r f)
 
 pub says-exactly : SaysExactly
-says-exactly s v = (λ e. rw e at (places s), said-only s v)
+says-exactly s v = (λ e. rw e at (places-right s), said-only s v)

@@ -16,8 +16,8 @@ use Rattle.records.proofs.TypeRecords.{input-type}
 use Rattle.answers.specs.Answers.{lowest, code}
 use Rattle.answers.specs.Searches.{found}
 use Rattle.structure.specs.Rules.{Passes, wrongHeader, wrongRecord, wrongNaming, wrongType, tooDeep, depth, nesting}
-use Rattle.structure.specs.NamerTable.{Holds}
-use Rattle.structure.specs.LeafTable.{Counts}
+use Rattle.structure.specs.NamerTable.{NamingsHeld}
+use Rattle.structure.specs.LeafTable.{LeavesCounted}
 use Rattle.structure.specs.DepthTable.{Capped, Placed, Placing}
 use Rattle.answers.specs.declared.Found.{Found}
 use Rattle.answers.specs.declared.Found.the-variants.{At, Nothing}
@@ -26,8 +26,9 @@ use Rattle.structure.proofs.Depths.{depth-of-root}
 use Rattle.structure.proofs.DepthCounts.{depth-of-header, nesting-of-header}
 use Rattle.typing.specs.Judgements.{judgements, firstFailing}
 use Rattle.typing.specs.Judging.{Ground, Judging, Judged, Context, scopeOf, noted}
-use Rattle.verdict.specs.Stages.{CheckingRecords, CheckingNamings, CheckingTypes, CheckingDepths, RulesChecked, Tabled}
-use Rattle.verdict.specs.Verdict.{inputs, refusing, unless, byTypes, byDepths, byTypeRecords, byNamings, byRecords, verdictAnswer}
+use Rattle.verdict.specs.Stages.{CheckingRecords, CheckingNamings, CheckingTypes, CheckingDepths, RulesChecked, StagesChecked}
+use Rattle.verdict.specs.Verdict.{refusing, unless, byTypes, byDepths, byTypeRecords, byNamings, byRecords}
+use Rattle.verdict.specs.Scopes.{inputs, verdictAnswer}
 use Rattle.typing.specs.declared.Outcome.{Outcome}
 use Rattle.typing.specs.declared.Outcome.the-variants.{Sound, Fault}
 use Rattle.verdict.specs.declared.Verdict.{Verdict}
@@ -95,7 +96,7 @@ module _ {s : List ℕ} {n : ℕ} (f : CheckingDepths s n) where
   fitted-written : Written s
   fitted-written = written-by (recorded .measured .length) (recorded .header) (recorded .records)
 
-  pub placing : (namers depths nestings : List ℕ) → Holds (namings s) namers
+  pub placing : (namers depths nestings : List ℕ) → NamingsHeld (namings s) namers
       → ((cap : ℕ) (g : ℕ → ℕ) → g 0 ≡ 0 → Capped cap g 1 depths) → ((cap : ℕ) (g : ℕ → ℕ) → g 0 ≡ 0 → Capped cap g 1 nestings)
       → Placing s n 1 namers depths nestings
   placing namers depths nestings h d m = record {
@@ -107,7 +108,7 @@ module _ {s : List ℕ} {n : ℕ} (f : CheckingDepths s n) where
     placed = record { deep = d 65 (depth s) (depth-of-header s); nested = m 4 (nesting s) (nesting-of-header s) };
   }
 
-  pub ground-of : (table : List ℕ) → lowest (tooDeep s) (count s) ≡ none → Counts s n table → Ground s n table
+  pub ground-of : (table : List ℕ) → lowest (tooDeep s) (count s) ≡ none → LeavesCounted s n table → Ground s n table
   ground-of table e c =
       let z = recorded .measured .sized in
       let p : Passes s =
@@ -130,7 +131,7 @@ module _ {s : List ℕ} (n : ℕ) where
       → RulesChecked s v answer before after
   checked-refused v answer before after e l f = record { answered = e; long = l; notes = λ t q. absurd (f t q) }
 
-  pub tabled-refused : (v answer : Verdict) (after : List ℕ) → answer ≡ v → ((t : ℕ) → answer ≡ Accepted t → ⊥) → Tabled s n v answer after
+  pub tabled-refused : (v answer : Verdict) (after : List ℕ) → answer ≡ v → ((t : ℕ) → answer ≡ Accepted t → ⊥) → StagesChecked s n v answer after
   tabled-refused v answer after e f = record { answered = e; notes = λ t q. absurd (f t q) }
 
   -- the verdict is the next stage's where the search found nothing
@@ -138,11 +139,11 @@ module _ {s : List ℕ} (n : ℕ) where
       → RulesChecked s (refusing o g v) answer before after
   checked-on o g v answer before after e c = rw e c
 
-  pub tabled-on : (o : Option ℕ) (g : ℕ → Verdict) (v answer : Verdict) (after : List ℕ) → o ≡ none → Tabled s n v answer after
-      → Tabled s n (refusing o g v) answer after
+  pub tabled-on : (o : Option ℕ) (g : ℕ → Verdict) (v answer : Verdict) (after : List ℕ) → o ≡ none → StagesChecked s n v answer after
+      → StagesChecked s n (refusing o g v) answer after
   tabled-on o g v answer after e c = rw e c
 
-  pub tabled-by : (table : List ℕ) (v answer : Verdict) (after : List ℕ) → Counts s n table → RulesChecked s v answer table after → Tabled s n v answer after
+  pub tabled-by : (table : List ℕ) (v answer : Verdict) (after : List ℕ) → LeavesCounted s n table → RulesChecked s v answer table after → StagesChecked s n v answer after
   tabled-by table v answer after counts c = record { answered = c .answered; notes = λ t q. (table, counts, c .notes t q) }
 
 not-accepted : (v : Verdict) → 0 < code (verdictAnswer v) → (t : ℕ) → v ≡ Accepted t → ⊥
@@ -160,18 +161,18 @@ module _ (s : List ℕ) {n : ℕ} (c : n ≡ count s) (p : ℕ → Bool) (o : Fo
     pub found-checked : (before after : List ℕ) → length after ≡ 4096 → RulesChecked s (refusing (lowest p (count s)) g v) (g r) before after
     found-checked before after l = checked-refused n _ (g r) before after found-answer l (not-accepted (g r) h)
 
-    pub found-tabled : (after : List ℕ) → Tabled s n (refusing (lowest p (count s)) g v) (g r) after
+    pub found-tabled : (after : List ℕ) → StagesChecked s n (refusing (lowest p (count s)) g v) (g r) after
     found-tabled after = tabled-refused n _ (g r) after found-answer (not-accepted (g r) h)
 
-pub header-refused : (s : List ℕ) (n : ℕ) (v : Verdict) (after : List ℕ) → wrongHeader s ≡ true → Tabled s n (unless (wrongHeader s) WrongHeader v) WrongHeader after
+pub header-refused : (s : List ℕ) (n : ℕ) (v : Verdict) (after : List ℕ) → wrongHeader s ≡ true → StagesChecked s n (unless (wrongHeader s) WrongHeader v) WrongHeader after
 header-refused s n v after e = tabled-refused n _ WrongHeader after (rw e) (not-accepted WrongHeader (omega arith))
 
 pub records-on : (s : List ℕ) (n : ℕ) (answer : Verdict) (after : List ℕ) → wrongHeader s ≡ false → lowest (wrongRecord s) (count s) ≡ none
-    → Tabled s n (byNamings s) answer after → Tabled s n (unless (wrongHeader s) WrongHeader (byRecords s)) answer after
+    → StagesChecked s n (byNamings s) answer after → StagesChecked s n (unless (wrongHeader s) WrongHeader (byRecords s)) answer after
 unfolding byRecords
 records-on s n answer after e f t = rw (e, f) t
 
 pub record-refused : (s : List ℕ) (n : ℕ) (o : Found) (r : ℕ) (after : List ℕ) → n ≡ count s → found o ≡ lowest (wrongRecord s) n → o ≡ At r
-    → wrongHeader s ≡ false → Tabled s n (unless (wrongHeader s) WrongHeader (byRecords s)) (WrongRecord r) after
+    → wrongHeader s ≡ false → StagesChecked s n (unless (wrongHeader s) WrongHeader (byRecords s)) (WrongRecord r) after
 unfolding byRecords
 record-refused s n o r after c e q h = rw h (found-tabled s c (wrongRecord s) o e r q WrongRecord (omega arith) (byNamings s) after)

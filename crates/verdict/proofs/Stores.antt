@@ -113,15 +113,15 @@ both-stored {rs} {ls} {ns} {ks} {w} {t} {u} o p apart = record {
     stored n (inr m) = p .stored n m
 
 -- all of these records are in the table
-abbrev pub InTable : List ℕ → List ℕ → Type 0
-InTable rs w = (x : ℕ) → List·Memᴰ x rs → x < length w
+abbrev pub AllInTable : List ℕ → List ℕ → Type 0
+AllInTable rs w = (x : ℕ) → List·Memᴰ x rs → x < length w
 
-in-table : {rs ls : List ℕ} {ns : List Note} {w t : List ℕ} → Stored ls ns w t → InTable rs w → InTable rs t
+in-table : {rs ls : List ℕ} {ns : List Note} {w t : List ℕ} → Stored ls ns w t → AllInTable rs w → AllInTable rs t
 in-table o h = λ x m. let l = o .long in let b = h x m in omega arith
 
 -- A tree's records distinct and in the table are stored: the claim of the law below, for a tree that stores `ns`.
 abbrev Stores : List ℕ → List Note → List ℕ → List ℕ → Type 0
-Stores rs ns w t = Distinct rs → InTable rs w → Stored rs ns w t
+Stores rs ns w t = Distinct rs → AllInTable rs w → Stored rs ns w t
 
 own-stores : {rs : List ℕ} {ns : List Note} {w t : List ℕ} (r v : ℕ) → Stores rs ns w t
     → Stores (r ∷ rs) (note r v ∷ ns) w (set t r v)

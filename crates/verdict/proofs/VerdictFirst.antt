@@ -14,20 +14,8 @@ use Rattle.records.specs.Words.{count}
 use Rattle.records.specs.Trees.{circuit}
 use Rattle.structure.specs.Rules.{wrongLength, wrongHeader, wrongRecord, wrongNaming, wrongType, tooDeep}
 use Rattle.typing.specs.Judgements.{judgements, firstFailing}
-use Rattle.verdict.specs.Verdict.{
-  inputs,
-  outputType,
-  sheetChecks,
-  unless,
-  refusing,
-  verdictAnswer,
-  byTypes,
-  byDepths,
-  byTypeRecords,
-  byNamings,
-  byRecords,
-  verdict,
-}
+use Rattle.verdict.specs.Verdict.{outputType, sheetChecks, unless, refusing, byTypes, byDepths, byTypeRecords, byNamings, byRecords, verdict}
+use Rattle.verdict.specs.Scopes.{inputs, verdictAnswer}
 use Rattle.verdict.specs.Promises.{VerdictFirst}
 use Rattle.verdict.specs.declared.Verdict.{Verdict}
 use Rattle.verdict.specs.declared.Verdict.the-variants.{

@@ -39,11 +39,11 @@ use Rattle.records.proofs.Asked.{part-of-kind}
 use Rattle.records.proofs.Trees.{alternatives-of}
 use Rattle.records.proofs.Types.{few-leaves}
 use Rattle.records.proofs.TypeRecords.{type-word}
-use Rattle.structure.specs.LeafTable.{Counts}
+use Rattle.structure.specs.LeafTable.{LeavesCounted}
 use Rattle.structure.specs.Rules.{Passes}
 use Rattle.structure.proofs.Passes.{written, well-named, types-fit}
 use Rattle.typing.specs.Judging.{width, noted}
-use Rattle.verdict.specs.Verdict.{inputs}
+use Rattle.verdict.specs.Scopes.{inputs}
 use Rattle.verdict.specs.Widths.{patternLeaves, patternEntry, hasEntry, Widths, PatternsFrom}
 use Rattle.typing.proofs.PatternNumbers.{pattern-kind, no-pattern}
 use Rattle.verdict.proofs.Stores.{notes, Stored}
@@ -69,7 +69,7 @@ few-of : {s : List ℕ} → Passes s → (t : ℕ) → TypeRecord s t → leaves
 few-of p t r = few-leaves (types-fit p) t (r .there) (r .sort)
 
 -- after judging
-module _ {s : List ℕ} {n : ℕ} {w : List ℕ} (p : Passes s) (counted : n ≡ count s) (c : Counts s n w) where
+module _ {s : List ℕ} {n : ℕ} {w : List ℕ} (p : Passes s) (counted : n ≡ count s) (c : LeavesCounted s n w) where
   stored : Stored (expressionRecords (circuit s)) (notes s (inputs s) (circuit s)) w (noted s (inputs s) (circuit s) w)
   stored = circuit-stored (written p) (well-named p) w (c .long)
 
@@ -210,11 +210,11 @@ module _ {s : List ℕ} (n m : ℕ) {table : List ℕ} (p : Passes s) (counted :
         pub second-in-table : (y : ℕ) → y ≡ word s m 3 → y < 4096
         second-in-table y ey = part-in-table y (second-part y ey)
 
-        pub first-few : (x : ℕ) → x ≡ word s m 2 → getD table x 0 ≤ 65
-        first-few x ex = part-few x (first-part x ex)
+        pub first-width-few : (x : ℕ) → x ≡ word s m 2 → getD table x 0 ≤ 65
+        first-width-few x ex = part-few x (first-part x ex)
 
-        pub second-few : (y : ℕ) → y ≡ word s m 3 → getD table y 0 ≤ 65
-        second-few y ey = part-few y (second-part y ey)
+        pub second-width-few : (y : ℕ) → y ≡ word s m 3 → getD table y 0 ≤ 65
+        second-width-few y ey = part-few y (second-part y ey)
 
         pub parts-widths : (x y : ℕ) → x ≡ word s m 2 → y ≡ word s m 3
             → PatternsFrom s m (set table m (min 65 (getD table x 0 + getD table y 0)))

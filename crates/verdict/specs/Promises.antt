@@ -17,7 +17,8 @@ use Rattle.answers.specs.Promises.{LowestBreaking}
 use Rattle.answers.specs.declared.Answer.the-variants.{Done}
 use Rattle.structure.specs.Rules.{wrongLength, wrongHeader, wrongRecord, wrongNaming, wrongType, tooDeep, Passes}
 use Rattle.typing.specs.Judgements.{Judgement, holds, judgements}
-use Rattle.verdict.specs.Verdict.{inputs, outputType, sheetChecks, verdictAnswer, verdict}
+use Rattle.verdict.specs.Verdict.{outputType, sheetChecks, verdict}
+use Rattle.verdict.specs.Scopes.{inputs, verdictAnswer}
 use Rattle.verdict.specs.Scopes.{Scope, FirstIllTyped}
 use Rattle.verdict.specs.Widths.{Widths}
 use Rattle.verdict.specs.declared.Verdict.{Verdict}

@@ -1,7 +1,7 @@
--- The names in scope at an expression, and the first expression that has no type.
+-- The code and the place of each verdict; the names in scope at an expression, and the first expression that has no type.
 use Prim.Native.Nat.{ℕ, _<_}
 use mathlib.Core.Path.{_≡_}
-use mathlib.Core.List.{List, _∷_, map}
+use mathlib.Core.List.{List, [], _∷_, map}
 use Rattle.records.specs.Words.{wordA, wordB, wordC, count, wordD}
 use Rattle.records.specs.Kinds.{
   tuple,
@@ -24,13 +24,40 @@ use Rattle.records.specs.Kinds.{
 }
 use Rattle.records.specs.Says.{kindAt, sortAt}
 use Rattle.records.specs.Trees.{treeAt, typeRecordOf, typeAt, Declared, alternatives}
-use Rattle.verdict.specs.Verdict.{inputs}
+use Rattle.answers.specs.declared.Answer.{Answer}
+use Rattle.answers.specs.declared.Answer.the-variants.{Done, Refused}
+use Rattle.verdict.specs.declared.Verdict.{Verdict}
+use Rattle.verdict.specs.declared.Verdict.the-variants.{
+  Accepted,
+  WrongLength,
+  WrongHeader,
+  WrongRecord,
+  WrongNaming,
+  WrongType,
+  TooDeep,
+  IllTyped,
+}
 use Rattle.picoella.specs.Language.{Ty, HasType, Typed}
 use Rattle.records.specs.Decoding.{patternOf, expressionOf}
 
--- Which names are in scope at an expression of the circuit (docs/SHEETS.md, "Type rules": "The input is the outermost name. A LET
--- adds a name for its body; a feedback adds one of its type for both parts"). A scope lists the names' type records, the innermost
--- first.
+-- the number and the place of each case
+abbrev pub verdictAnswer : Verdict → Answer
+verdictAnswer (Accepted t) = Done t
+verdictAnswer WrongLength = Refused 1 0
+verdictAnswer WrongHeader = Refused 2 0
+verdictAnswer (WrongRecord r) = Refused 3 r
+verdictAnswer (WrongNaming r) = Refused 4 r
+verdictAnswer (WrongType r) = Refused 5 r
+verdictAnswer (TooDeep r) = Refused 6 r
+verdictAnswer (IllTyped r) = Refused 7 r
+
+-- Which names are in scope at an expression of the circuit (docs/SHEETS.md, "Type rules": "The input is the outermost, with the
+-- header's input type. In the body of a LET there is one name more, of the defining part's type. In both parts of a feedback there is
+-- one more, of the type in its word `a`."). A scope lists the names' type records, the innermost first.
+
+-- the context of the whole circuit: the input alone, of the type in the header's word a
+abbrev pub inputs : List ℕ → List ℕ
+inputs s = wordA s 0 ∷ []
 
 -- record q is an expression of the circuit, with the names of Γ in scope there: the root, or a part of such a record
 pub data Scope (s : List ℕ) : ℕ → List ℕ → Type 0 where
@@ -51,8 +78,9 @@ pub data Scope (s : List ℕ) : ℕ → List ℕ → Type 0 where
   if-else : {q : ℕ} {Γ : List ℕ} → kindAt s q ≡ expression ifMatches → Scope s q Γ → Scope s (wordC s q) Γ
   of-delay : {q : ℕ} {Γ : List ℕ} → kindAt s q ≡ expression delay → Scope s q Γ → Scope s (wordC s q) Γ
 
--- Where code 7 is reported, in the terms of the typing relation alone (docs/SHEETS.md, "Codes": "first such record, parts before
--- whole" and "parts go in the order a, b, c; an IF's pattern is judged after a and reported at the IF").
+-- Where code 7 is reported, in the terms of the typing relation alone (docs/SHEETS.md, "Codes": "first such record, parts before the
+-- whole"; code 7 "goes through the expressions from the root, parts `a`, `b`, `c` first and then the whole. In an IF the pattern is
+-- judged after part `a` and before the branches, and is reported at the IF").
 
 -- the expression at record q has the type τ by the rules of picoELLA, where the names of Γ are in scope
 abbrev pub TypedAt : List ℕ → List ℕ → ℕ → Ty → Type 0

@@ -9,12 +9,12 @@ use Rattle.records.specs.Words.{count}
 use Rattle.records.specs.Sized.{Sized}
 use Rattle.answers.specs.Answers.{lowest}
 use Rattle.records.specs.Trees.{circuit}
-use Rattle.structure.specs.LeafTable.{Counts}
+use Rattle.structure.specs.LeafTable.{LeavesCounted}
 use Rattle.structure.specs.Rules.{wrongLength, wrongHeader, wrongRecord, wrongNaming, wrongType}
 use Rattle.typing.specs.Judging.{noted}
 use Rattle.verdict.specs.declared.Verdict.{Verdict}
 use Rattle.verdict.specs.declared.Verdict.the-variants.{Accepted}
-use Rattle.verdict.specs.Verdict.{inputs}
+use Rattle.verdict.specs.Scopes.{inputs}
 
 -- not code 1
 pub record CheckingRecords (s : List ℕ) (n : ℕ) : Type 0 where
@@ -45,7 +45,7 @@ pub record RulesChecked (s : List ℕ) (v answer : Verdict) (before after : List
   pub notes : (t : ℕ) → answer ≡ Accepted t → after ≡ noted s (inputs s) (circuit s) before
 
 -- the same where the table is first filled with the leaf counts of types
-pub record Tabled (s : List ℕ) (n : ℕ) (v answer : Verdict) (after : List ℕ) : Type 0 where
+pub record StagesChecked (s : List ℕ) (n : ℕ) (v answer : Verdict) (after : List ℕ) : Type 0 where
   pub answered : answer ≡ v
   pub notes : (t : ℕ) → answer ≡ Accepted t
-      → (table : List ℕ) × Counts s n table × (after ≡ noted s (inputs s) (circuit s) table)
+      → (table : List ℕ) × LeavesCounted s n table × (after ≡ noted s (inputs s) (circuit s) table)

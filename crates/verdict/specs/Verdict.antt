@@ -1,38 +1,16 @@
--- The verdict on a byte string (docs/SHEETS.md, "Codes", 0 to 7): the lowest code that applies, with its
--- place; and the numbers that stand for a verdict.
+-- The verdict on a byte string (docs/SHEETS.md, "Codes", 0 to 7): the lowest code that applies, with its place.
 use Prim.Native.Nat.{ℕ}
 use mathlib.Core.Bool.{Bool, true, false}
 use mathlib.Core.List.{List, [], _∷_}
 use mathlib.Core.Option.{Option, none, some}
-use Rattle.records.specs.Words.{count, wordA}
+use Rattle.records.specs.Words.{count}
 use Rattle.records.specs.Trees.{circuit, typeRecordOf}
-use Rattle.answers.specs.declared.Answer.{Answer}
-use Rattle.answers.specs.declared.Answer.the-variants.{Done, Refused}
 use Rattle.answers.specs.Answers.{Check, check, when, lowest}
 use Rattle.structure.specs.Rules.{wrongLength, wrongHeader, wrongRecord, wrongNaming, wrongType, tooDeep}
 use Rattle.typing.specs.Judgements.{judgements, firstFailing}
 use Rattle.verdict.specs.declared.Verdict.{Verdict}
-use Rattle.verdict.specs.declared.Verdict.the-variants.{
-  Accepted,
-  WrongLength,
-  WrongHeader,
-  WrongRecord,
-  WrongNaming,
-  WrongType,
-  TooDeep,
-  IllTyped,
-}
-
--- the number and the place of each case
-abbrev pub verdictAnswer : Verdict → Answer
-verdictAnswer (Accepted t) = Done t
-verdictAnswer WrongLength = Refused 1 0
-verdictAnswer WrongHeader = Refused 2 0
-verdictAnswer (WrongRecord r) = Refused 3 r
-verdictAnswer (WrongNaming r) = Refused 4 r
-verdictAnswer (WrongType r) = Refused 5 r
-verdictAnswer (TooDeep r) = Refused 6 r
-verdictAnswer (IllTyped r) = Refused 7 r
+use Rattle.verdict.specs.Scopes.{inputs}
+use Rattle.verdict.specs.declared.Verdict.the-variants.{Accepted, WrongLength, WrongHeader, WrongRecord, WrongNaming, WrongType, TooDeep, IllTyped}
 
 -- a test or a search that refuses, or else what comes after it
 abbrev pub unless : Bool → Verdict → Verdict → Verdict
@@ -42,10 +20,6 @@ unless false v w = w
 abbrev pub refusing : Option ℕ → (ℕ → Verdict) → Verdict → Verdict
 refusing (some r) f v = f r
 refusing none f v = v
-
--- the context of the whole circuit: the input alone, of the type in the header's word a
-abbrev pub inputs : List ℕ → List ℕ
-inputs s = wordA s 0 ∷ []
 
 -- the output type's record
 abbrev pub outputType : List ℕ → ℕ

@@ -5,14 +5,17 @@ ghost use lib.ListN.{length};
 ghost use Rattle.records.specs.Sized.{Sized};
 ghost use Rattle.records.specs.Says.{namings};
 ghost use Rattle.structure.specs.Rules.{wrongHeader, Passes};
-ghost use Rattle.structure.specs.NamerTable.{Holds};
-ghost use Rattle.structure.specs.LeafTable.{Counts};
+ghost use Rattle.structure.specs.NamerTable.{NamingsHeld};
+ghost use Rattle.structure.specs.LeafTable.{LeavesCounted};
 ghost use Rattle.typing.specs.Judging.{Ground};
-ghost use Rattle.verdict.specs.Verdict.{verdict, byTypes, byDepths, byTypeRecords, byNamings, byRecords, unless, verdictAnswer};
-ghost use Rattle.verdict.specs.Stages.{RulesChecked, Tabled, CheckingRecords, CheckingNamings, CheckingTypes, CheckingDepths};
+ghost use Rattle.verdict.specs.Verdict.{verdict, byTypes, byDepths, byTypeRecords, byNamings, byRecords, unless};
+ghost use Rattle.verdict.specs.Scopes.{verdictAnswer};
+ghost use Rattle.verdict.specs.Stages.{RulesChecked, StagesChecked, CheckingRecords, CheckingNamings, CheckingTypes, CheckingDepths};
 ghost use Rattle.answers.specs.Answers.{place, packed};
 ghost use Rattle.verdict.specs.Widths.{PatternsFrom, Widths, Checked, accepts};
 ghost use Rattle.verdict.specs.declared.Verdict.the-variants.{WrongHeader};
+ghost use Rattle.answers.specs.Searches.{placeBound};
+ghost use Rattle.records.specs.Limits.{mostRecords};
 use answers::Found;
 use answers::ILL_TYPED;
 use answers::TOO_DEEP;
@@ -67,7 +70,7 @@ pub enum Verdict {
 
 // By the type rules: code 7.
 fn check_rules(sheet: &[u8], n: usize, table: &WidthTable, widths: &mut WidthTable) -> Verdict
-    requires { ⌜ Ground (now sheet) n (now table) × (length (now widths) ≡ 4096) ⌝ }
+    requires { ⌜ Ground (now sheet) n (now table) × (length (now widths) ≡ mostRecords) ⌝ }
     ensures { λ r. ⌜ RulesChecked (now (sheet .entry)) (byTypes (now (sheet .entry))) r (now (widths .entry)) (now (widths .exit)) ⌝ }
 {
     let scope = input_scope(word(sheet, n, 0, WORD_A));
@@ -94,7 +97,7 @@ fn check_depths(
     table: &WidthTable,
     widths: &mut WidthTable,
 ) -> Verdict
-    requires { ⌜ CheckingDepths (now sheet) n × Holds (namings (now sheet)) (now namers) × Counts (now sheet) n (now table) × (length (now widths) ≡ 4096) ⌝ }
+    requires { ⌜ CheckingDepths (now sheet) n × NamingsHeld (namings (now sheet)) (now namers) × LeavesCounted (now sheet) n (now table) × (length (now widths) ≡ mostRecords) ⌝ }
     ensures { λ r. ⌜ RulesChecked (now (sheet .entry)) (byDepths (now (sheet .entry))) r (now (widths .entry)) (now (widths .exit)) ⌝ }
 {
     let mut depths = no_depths();
@@ -109,8 +112,8 @@ fn check_depths(
 
 // By the type records: code 5, and then by what comes after it. The leaf counts of types go to the table.
 fn check_types(sheet: &[u8], n: usize, namers: &Namers, widths: &mut WidthTable) -> Verdict
-    requires { ⌜ CheckingTypes (now sheet) n × Holds (namings (now sheet)) (now namers) ⌝ }
-    ensures { λ r. ⌜ Tabled (now (sheet .entry)) n (byTypeRecords (now (sheet .entry))) r (now (widths .exit)) ⌝ }
+    requires { ⌜ CheckingTypes (now sheet) n × NamingsHeld (namings (now sheet)) (now namers) ⌝ }
+    ensures { λ r. ⌜ StagesChecked (now (sheet .entry)) n (byTypeRecords (now (sheet .entry))) r (now (widths .exit)) ⌝ }
 {
     let mut table = no_leaves();
     count_types(sheet, n, &mut table);
@@ -125,7 +128,7 @@ fn check_types(sheet: &[u8], n: usize, namers: &Namers, widths: &mut WidthTable)
 // By the namings: code 4, and then by what comes after it.
 fn check_names(sheet: &[u8], n: usize, widths: &mut WidthTable) -> Verdict
     requires { ⌜ CheckingNamings (now sheet) n ⌝ }
-    ensures { λ r. ⌜ Tabled (now (sheet .entry)) n (byNamings (now (sheet .entry))) r (now (widths .exit)) ⌝ }
+    ensures { λ r. ⌜ StagesChecked (now (sheet .entry)) n (byNamings (now (sheet .entry))) r (now (widths .exit)) ⌝ }
 {
     let mut namers = no_namings();
     note_all(sheet, n, &mut namers);
@@ -139,7 +142,7 @@ fn check_names(sheet: &[u8], n: usize, widths: &mut WidthTable) -> Verdict
 // By the header and the records: codes 2 and 3, and then by what comes after them.
 fn check_records(sheet: &[u8], n: usize, widths: &mut WidthTable) -> Verdict
     requires { ⌜ CheckingRecords (now sheet) n ⌝ }
-    ensures { λ r. ⌜ Tabled (now (sheet .entry)) n (unless (wrongHeader (now (sheet .entry))) WrongHeader (byRecords (now (sheet .entry)))) r (now (widths .exit)) ⌝ }
+    ensures { λ r. ⌜ StagesChecked (now (sheet .entry)) n (unless (wrongHeader (now (sheet .entry))) WrongHeader (byRecords (now (sheet .entry)))) r (now (widths .exit)) ⌝ }
 {
     if wrong_header(sheet, n) {
         return Verdict::WrongHeader;
@@ -202,7 +205,7 @@ fn is_accepted(v: Verdict) -> bool
 
 // Room for a table of widths.
 pub fn no_widths() -> WidthTable
-    ensures { λ r. ⌜ length r ≡ 4096 ⌝ }
+    ensures { λ r. ⌜ length r ≡ mostRecords ⌝ }
 {
     [0; RECORDS]
 }
@@ -234,7 +237,7 @@ pub fn check_into(sheet: &[u8], n: usize, table: &mut WidthTable) -> Verdict
 
 // The code and the place of a verdict in one number.
 pub fn packed_verdict(v: Verdict) -> u64
-    requires { ⌜ place (verdictAnswer v) < 4294967296 ⌝ }
+    requires { ⌜ place (verdictAnswer v) < placeBound ⌝ }
     ensures { λ r. ⌜ r ≡ packed (verdictAnswer v) ⌝ }
 {
     match v {

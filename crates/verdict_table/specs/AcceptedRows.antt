@@ -9,7 +9,7 @@ acceptedRows =
     gives "one type, and the input as the root"
     (words 1 1 1 2 3 0 ∷ words 16 0 2 0 0 0 ∷ words 33 0 0 0 0 0 ∷ [])
     (Accepted 1)
-    ∷ gives "the sheet T of document 01"
+    ∷ gives "the sheet T"
     (words 1 1 1 2 17 0 ∷ words 16 0 2 0 0 0 ∷ words 38 0 1 3 16 0 ∷ words 40 0 1 4 5 0 ∷ words 64 0 2 0 0 0
     ∷ words 39 0 6 8 15 7 ∷ words 33 0 1 0 0 0 ∷ words 49 0 1 1 0 0 ∷ words 39 0 9 11 13 10 ∷ words 33 0 0 0 0 0
     ∷ words 49 0 1 2 0 0 ∷ words 32 0 1 12 0 0 ∷ words 64 0 1 0 0 0 ∷ words 32 0 1 14 0 0 ∷ words 64 0 2 0 0 0

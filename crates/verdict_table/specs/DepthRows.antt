@@ -1,5 +1,5 @@
--- Code 6 (docs/SHEETS.md, "Limits": "An expression may lie at most 64 deep, the root being at depth 1; patterns and leaves don't
--- count. No expression lies in the defining parts of more than three feedbacks").
+-- Code 6 (docs/SHEETS.md, "Codes": "an expression that lies deeper than 64, or in four feedbacks or more"; "Limits": "Patterns and
+-- leaves have no depth").
 use Prim.Native.Nat.{ℕ, zero, suc, _+_}
 use mathlib.Core.List.{List, [], _∷_}
 use Rattle.records.specs.SheetOf.{Record, words}

@@ -1,5 +1,5 @@
--- Code 2 (docs/SHEETS.md, "Codes": "header kind, count, d, or a named record's sort or number wrong"): each row breaks one word of
--- the header of an accepted sheet, `smallest`.
+-- Code 2 (docs/SHEETS.md, "Codes": "the header's kind, count or `d` is wrong, or a record that it names has the wrong number or sort"):
+-- each row breaks one word of the header of an accepted sheet, `smallest`.
 use mathlib.Core.List.{List, [], _∷_}
 use Rattle.records.specs.SheetOf.{words}
 use Rattle.verdict.specs.declared.Verdict.the-variants.{WrongHeader}

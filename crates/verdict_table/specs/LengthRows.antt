@@ -1,5 +1,5 @@
--- Code 1 (docs/SHEETS.md, "Codes": "length under 12, over 49,152 or no multiple of 12"). A sheet of zeros that passes the length
--- is refused for its header.
+-- Code 1 (docs/SHEETS.md, "Codes": "the sheet has fewer than 12 bytes, more than 49,152, or ends within a record"). A sheet of zeros
+-- that passes the length is refused for its header.
 use mathlib.Core.List.{List, [], _∷_, _++_}
 use lib.ListN.{replicate}
 use Rattle.records.specs.SheetOf.{words, sheetOf}

@@ -1,5 +1,5 @@
--- Code 4 (docs/SHEETS.md, "Numbering and naming": "Every record but 0 is named exactly once; type words that aren't next do not
--- count as naming"). `SharingRows` has what IFs may share.
+-- Code 4 (docs/SHEETS.md, "Numbering and naming": "Every record but 0 is named by exactly one word"; "Type words are not counted,
+-- `next` words are"). `SharingRows` has what IFs may share.
 use mathlib.Core.List.{List, [], _∷_}
 use Rattle.records.specs.SheetOf.{words}
 use Rattle.verdict.specs.declared.Verdict.the-variants.{Accepted, WrongNaming}

@@ -1,7 +1,7 @@
--- Code 3, the numbering rule and the sorts (docs/SHEETS.md, "Numbering and naming": "Outside the header a type word names a type
--- record with a lower number; each other named record, and every next that isn't zero, has a higher number than the record naming
--- it. A named record is of the sort its word asks for (..); a number at or past the count names no record and breaks the numbering
--- rule").
+-- Code 3, the numbering rule and the sorts (docs/SHEETS.md, "Numbering and naming": "A type word, unless it is the header's, names a
+-- record whose number is lower than that of its own record." "Every other word that names a record, and every `next` that is not 0, has
+-- a number higher than its own record's." "A number at or above the number of records names nothing, and breaks the numbering." "What a
+-- word names is of the sort that the word asks for.").
 use mathlib.Core.List.{List, [], _∷_}
 use Rattle.records.specs.SheetOf.{words}
 use Rattle.verdict.specs.declared.Verdict.the-variants.{WrongRecord}

@@ -1,6 +1,6 @@
--- Shared patterns and code 4 (docs/SHEETS.md, "Numbering and naming": "The first record of a pattern may now be named by the d word of
--- several IFs. A pattern record named by a next word or by a pair pattern is still named once and by nothing else"). Each IF judges
--- the pattern by its own tested type.
+-- Shared patterns and code 4 (docs/SHEETS.md, "Numbering and naming": "several IFs may name the first record of one pattern, each by
+-- its `d`. A pattern record that a `next` or a pair pattern names is named by nothing else."). Each IF judges the pattern by its own
+-- tested type.
 use mathlib.Core.List.{List, [], _∷_}
 use Rattle.records.specs.SheetOf.{words}
 use Rattle.verdict.specs.declared.Verdict.the-variants.{Accepted, WrongNaming, IllTyped}

@@ -1,5 +1,4 @@
--- Code 5 (docs/SHEETS.md: "No two pair types have the same two parts in the same order. A flat type has one leaf, a pair type
--- the leaves of its first part and then its second; at most 64").
+-- Code 5 (docs/SHEETS.md, "Codes": "a pair type whose two parts a lower pair type has, or that has more than 64 leaves").
 use mathlib.Core.List.{List, [], _∷_}
 use Rattle.records.specs.SheetOf.{words}
 use Rattle.verdict.specs.declared.Verdict.the-variants.{Accepted, WrongType}

@@ -1,5 +1,5 @@
--- Code 3 (docs/SHEETS.md, "Codes": "unknown kind, kind 1, or a word against the table"): the kind, words that a kind does not
--- mention, and numbers out of the table's bounds.
+-- Code 3 (docs/SHEETS.md, "Codes": "unknown kind, or kind 1, or a word that the table of kinds, the numbering or the sort asked for
+-- does not allow"): the kind, words that a kind does not mention, and numbers out of the table's bounds.
 use mathlib.Core.List.{List, [], _∷_}
 use Rattle.records.specs.SheetOf.{words}
 use Rattle.verdict.specs.declared.Verdict.the-variants.{Accepted, WrongRecord}

@@ -12,7 +12,7 @@ use second::generate::circuits::circuit;
 use second::generate::network::network;
 use second::generate::small::small;
 use second::layout::sheet;
-use second::listing::{listing, refusal};
+use second::printout::{listing, refusal};
 use second::random::Random;
 use second::run_mistakes::RunMistake;
 use second::stimulus::MAX_STIMULUS;

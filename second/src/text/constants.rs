@@ -3,7 +3,7 @@
 use std::collections::HashMap;
 
 use super::mistakes::TextMistake;
-use super::names::Names;
+use super::naming::Names;
 use super::syntax::{Constant, Definition, Expression, Syntax};
 
 /// The type of each constant, if it has one.

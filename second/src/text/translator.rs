@@ -1,12 +1,12 @@
 //! The translation of a text into a lent slice: codes 13, 14, 15 and 0.
 
 use super::constants;
-use super::layout;
-use super::lexer;
 use super::mistakes::TextMistake;
-use super::names;
+use super::naming;
 use super::parser::parse;
+use super::reading;
 use super::syntax::Syntax;
+use super::translation;
 use crate::answers::Answer;
 use crate::records::{bytes, Record, MAX_RECORDS, RECORD_BYTES};
 
@@ -23,16 +23,16 @@ fn answer(code: u8, place: usize) -> Answer {
 
 /// The abstract syntax of a text, or 13.
 pub fn syntax(text: &[u8], mistake: Option<TextMistake>) -> Result<Syntax, Answer> {
-    let tokens = lexer::tokens(text, mistake).map_err(|illegal| answer(13, illegal.place))?;
+    let tokens = reading::tokens(text, mistake).map_err(|illegal| answer(13, illegal.place))?;
     Ok(parse(text, &tokens, mistake))
 }
 
 /// The records of a text, however many, or 14.
 pub fn records(syntax: &Syntax, mistake: Option<TextMistake>) -> Result<Vec<Record>, Answer> {
     let bad = |place: usize| answer(14, place);
-    let names = names::resolve(syntax, mistake).map_err(bad)?;
+    let names = naming::resolve(syntax, mistake).map_err(bad)?;
     let types = constants::all_types(syntax, &names, mistake).map_err(bad)?;
-    Ok(layout::records(syntax, &names, &types, mistake))
+    Ok(translation::records(syntax, &names, &types, mistake))
 }
 
 /// Translates a text into a slice of a length.

@@ -11,10 +11,10 @@ use crate::stimulus;
 use crate::text::generate::faults::categories;
 use crate::text::generate::sentence::Sentence;
 use crate::text::generate::{circuits, damage, free, sizes};
-use crate::text::lexer::{positions_in, tokens, Way};
 use crate::text::long;
-use crate::text::meaning::outputs;
 use crate::text::mistakes::{self, TextMistake, MISTAKES};
+use crate::text::reading::{positions_in, tokens, Way};
+use crate::text::text_meaning::outputs;
 use crate::text::translator::{records, syntax, translate};
 use crate::verdict::check;
 

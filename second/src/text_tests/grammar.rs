@@ -2,8 +2,8 @@
 
 use super::expected::{answer, refused, BIT, LONG, TWO};
 use crate::text::grammar::{grammar, Symbol};
-use crate::text::lexer::{tokens, Way};
 use crate::text::positions::positions;
+use crate::text::reading::{tokens, Way};
 use crate::text::tokens::Token;
 
 /// A whole text is outside the grammar at the mark.

@@ -5,7 +5,7 @@ use second::text::constants;
 use second::text::generate::faults::Category;
 use second::text::generate::free;
 use second::text::generate::sentence::{Role, Sentence};
-use second::text::names;
+use second::text::naming;
 use second::text::syntax::Constant;
 use second::text::translator::{syntax, translate};
 
@@ -71,7 +71,7 @@ fn compare(
 /// Whether both parts of the constant pair at a place have a type.
 fn parts_typed(text: &[u8], place: usize) -> Option<bool> {
     let syntax = syntax(text, None).ok()?;
-    let names = names::resolve(&syntax, None).ok()?;
+    let names = naming::resolve(&syntax, None).ok()?;
     let types = constants::types(&syntax, &names, None);
     let typed = |constant: &Constant| match constant {
         Constant::Pair(first, second, at) if *at == place => {

@@ -10,8 +10,8 @@ use second::answers::Answer;
 use second::random::Random;
 use second::rule::IN_FORCE;
 use second::stimulus;
-use second::text::meaning::outputs;
 use second::text::mistakes::TextMistake;
+use second::text::text_meaning::outputs;
 use second::text::translator::{syntax, translate, Outcome};
 
 use super::features::features;

@@ -3,8 +3,8 @@
 use second::random::Random;
 use second::text::generate::damage::{any_byte, damage_anywhere, random_bytes};
 use second::text::generate::{free, sizes};
-use second::text::lexer::{positions_in, tokens, Way};
 use second::text::positions::{positions, Position};
+use second::text::reading::{positions_in, tokens, Way};
 
 use super::compare::{Case, Comparer, Ended};
 use super::legal::{good, share, SHARDS, TRIES};

@@ -3,8 +3,8 @@
 use std::collections::BTreeMap;
 
 use second::text::generate::faults::Category;
-use second::text::lexer::{Illegal, Way, WAYS};
 use second::text::positions::{positions, Position};
+use second::text::reading::{Illegal, Way, WAYS};
 
 use crate::workers::Count;
 

@@ -6,12 +6,12 @@ use denote.Ref.{now}
 use mathlib.Core.Path.{sym, _∙_}
 use Rattle.picoella.specs.Language.{bounds}
 use Rattle.records.specs.Trees.{typeAt}
-use Rattle.accepted.proofs.LeafBounds.{bound-small, accepting-ground, Filled, none-filled, fill-next, all-filled, type-bounds}
+use Rattle.accepted.proofs.LeafBounds.{bound-small, accepting-ground, BoundsFilled, none-filled, fill-next, all-filled, type-bounds}
 use Rattle.accepted.proofs.fill_bounds.Statement.{statement}
 use Rattle.accepted.proofs.fill_bounds.Tie as tie
 
 abbrev Inv-loop : tie.InvT-loop
-Inv-loop sheet n widths t out₀ all i₀ out i = Filled (bounds (typeAt sheet t)) i out
+Inv-loop sheet n widths t out₀ all i₀ out i = BoundsFilled (bounds (typeAt sheet t)) i out
 
 abbrev μ-loop : tie.MeasureT-loop
 μ-loop sheet n widths t out₀ all i₀ out i = all - i

@@ -3,7 +3,7 @@ use Prim.Native.Nat.{ℕ, _<_}
 use native.Mathlib.Omega.{arith}
 use borrow.Fn.Kinds.{In}
 use borrow.Fn.PlainCycle.{Measures, is, falls, and}
-use Rattle.carry.proofs.Shapes.{type-in, unlike, flats, firsts, seconds, firsts-unlike, pairs}
+use Rattle.carry.proofs.Shapes.{type-in, unlike, flats, first-shapes, second-shapes, firsts-unlike, pair-shapes}
 use Rattle.carry.proofs.same_shape.Reads as same-shape
 use Rattle.carry.proofs.same_shape.Kinds as same-shape-kinds
 use Rattle.carry.proofs.+same_shape.Lts-same_shape as same-shape-lts
@@ -42,7 +42,7 @@ returns-2 : (t : ℕ) → same-shape-lts.Need-returns-2 (claims t) (same-shape-a
 returns-2 t c = flats (c .before .before .before .before .before .before .before .before .pre .1) (c .before .before .before .before .before .word .ensures .0) (c .before .before .before .before .word2 .ensures .0) (c .before .before .before .if1 .left) _ (c .before .before .word3 .ensures .0) _ (c .before .word4 .ensures .0) (c .if2 .taken)
 
 same-shape-requires : (t : ℕ) → same-shape-lts.Need-same-shape-requires (claims t) (same-shape-at t) same-shape.Post
-same-shape-requires t c κs = let p = firsts (c .before .before .before .before .before .before .before .before .pre .1) (c .before .before .before .before .before .word .ensures .0) (c .before .before .before .before .word2 .ensures .0) (c .before .before .before .if1 .left) _ (c .before .before .word3 .ensures .0) _ (c .before .word4 .ensures .0) (c .if2 .left) in (omega (arith, c .before .before .before .before .before .before .before .before .pre .0, p .1), p .0)
+same-shape-requires t c κs = let p = first-shapes (c .before .before .before .before .before .before .before .before .pre .1) (c .before .before .before .before .before .word .ensures .0) (c .before .before .before .before .word2 .ensures .0) (c .before .before .before .if1 .left) _ (c .before .before .word3 .ensures .0) _ (c .before .word4 .ensures .0) (c .if2 .left) in (omega (arith, c .before .before .before .before .before .before .before .before .pre .0, p .1), p .0)
 
 returns-3 : (t : ℕ) → same-shape-lts.Need-returns-3 (claims t) (same-shape-at t) same-shape.Post
 returns-3 t c = firsts-unlike (c .before .before .before .before .before .before .before .before .before .before .pre .1) (c .before .before .before .before .before .before .before .word .ensures .0) (c .before .before .before .before .before .before .word2 .ensures .0) (c .before .before .before .before .before .if1 .left) _ (c .before .before .before .before .word3 .ensures .0) _ (c .before .before .before .word4 .ensures .0) (c .before .before .if2 .left) _ (c .before .same-shape .ensures) (c .if3 .taken)
@@ -54,10 +54,10 @@ word-requires-6 : (t : ℕ) → same-shape-lts.Need-word-requires-6 (claims t) (
 word-requires-6 t c κs = (c .before .before .before .before .before .before .before .before .before .before .before .pre .1 .after .sized, type-in (c .before .before .before .before .before .before .before .before .before .before .before .pre .1 .after), omega arith)
 
 same-shape-requires-2 : (t : ℕ) → same-shape-lts.Need-same-shape-requires-2 (claims t) (same-shape-at t) same-shape.Post
-same-shape-requires-2 t c κs = let p = seconds (c .before .before .before .before .before .before .before .before .before .before .before .before .pre .1) (c .before .before .before .before .before .before .before .before .before .word .ensures .0) (c .before .before .before .before .before .before .before .before .word2 .ensures .0) (c .before .before .before .before .before .before .before .if1 .left) _ (c .before .before .before .before .before .before .word3 .ensures .0) _ (c .before .before .before .before .before .word4 .ensures .0) (c .before .before .before .before .if2 .left) _ _ (c .before .word5 .ensures .0) (c .word6 .ensures .0) in (omega (arith, c .before .before .before .before .before .before .before .before .before .before .before .before .pre .0, p .1), p .0)
+same-shape-requires-2 t c κs = let p = second-shapes (c .before .before .before .before .before .before .before .before .before .before .before .before .pre .1) (c .before .before .before .before .before .before .before .before .before .word .ensures .0) (c .before .before .before .before .before .before .before .before .word2 .ensures .0) (c .before .before .before .before .before .before .before .if1 .left) _ (c .before .before .before .before .before .before .word3 .ensures .0) _ (c .before .before .before .before .before .word4 .ensures .0) (c .before .before .before .before .if2 .left) _ _ (c .before .word5 .ensures .0) (c .word6 .ensures .0) in (omega (arith, c .before .before .before .before .before .before .before .before .before .before .before .before .pre .0, p .1), p .0)
 
 returns-4 : (t : ℕ) → same-shape-lts.Need-returns-4 (claims t) (same-shape-at t) same-shape.Post
-returns-4 t c = pairs (c .before .before .before .before .before .before .before .before .before .before .before .before .before .pre .1) (c .before .before .before .before .before .before .before .before .before .before .word .ensures .0) (c .before .before .before .before .before .before .before .before .before .word2 .ensures .0) (c .before .before .before .before .before .before .before .before .if1 .left) _ (c .before .before .before .before .before .before .before .word3 .ensures .0) _ (c .before .before .before .before .before .before .word4 .ensures .0) (c .before .before .before .before .before .if2 .left) _ (c .before .before .before .before .same-shape .ensures) (c .before .before .before .if3 .left) _ _ (c .before .before .word5 .ensures .0) (c .before .word6 .ensures .0) _ (c .same-shape2 .ensures)
+returns-4 t c = pair-shapes (c .before .before .before .before .before .before .before .before .before .before .before .before .before .pre .1) (c .before .before .before .before .before .before .before .before .before .before .word .ensures .0) (c .before .before .before .before .before .before .before .before .before .word2 .ensures .0) (c .before .before .before .before .before .before .before .before .if1 .left) _ (c .before .before .before .before .before .before .before .word3 .ensures .0) _ (c .before .before .before .before .before .before .word4 .ensures .0) (c .before .before .before .before .before .if2 .left) _ (c .before .before .before .before .same-shape .ensures) (c .before .before .before .if3 .left) _ _ (c .before .before .word5 .ensures .0) (c .before .word6 .ensures .0) _ (c .same-shape2 .ensures)
 
 pub +same-shape-spec : {M : Type 1} → statement M
 +same-shape-spec =

@@ -1,12 +1,12 @@
 -- The invariant: the records below rec have taken what they take. Assumes nothing.
 use native.Mathlib.Omega.{arith}
 use Prim.Native.Nat.{_-_}
-use Rattle.carry.proofs.Takes.{Taken, none-taken, still-carrying, taken-next, all-taken}
+use Rattle.carry.proofs.Takes.{RecordsTaken, none-taken, still-carrying, taken-next, all-taken}
 use Rattle.carry.proofs.take_all.Statement.{statement}
 use Rattle.carry.proofs.take_all.Tie as tie
 
 abbrev Inv-loop : tie.InvT-loop
-Inv-loop old n new m table next₀ rec₀ next rec = Taken old new next₀ m rec next
+Inv-loop old n new m table next₀ rec₀ next rec = RecordsTaken old new next₀ m rec next
 
 abbrev μ-loop : tie.MeasureT-loop
 μ-loop old n new m table next₀ rec₀ next rec = m - rec

@@ -3,7 +3,7 @@ use native.Mathlib.Omega.{arith}
 use Rattle.values.proofs.Gathering.{left}
 use Rattle.carry.specs.Carrying.{Taking}
 use Rattle.carry.proofs.Taking.{
-  Remaining,
+  LeavesRemaining,
   allTaken,
   all-remain,
   taking-in,
@@ -20,7 +20,7 @@ use Rattle.carry.proofs.take_leaves.Tie as tie
 
 abbrev Inv-loop : tie.InvT-loop
 Inv-loop old n from new m to next₀ giving₀ taking₀ next giving taking =
-    (g : Taking old n from new m to next₀) → Remaining old new (allTaken g) next₀ giving taking next
+    (g : Taking old n from new m to next₀) → LeavesRemaining old new (allTaken g) next₀ giving taking next
 
 abbrev μ-loop : tie.MeasureT-loop
 μ-loop old n from new m to next₀ giving₀ taking₀ next giving taking = left m taking

@@ -1,7 +1,7 @@
 -- By the entry of its label, the two shapes, and then leaf by leaf. Assumes nothing.
 use borrow.Author.Needs.{needs}
 use native.Mathlib.Omega.{arith}
-use Rattle.carry.proofs.Takes.{entry-small, none-takes, giving-in, comparing, other-shape, taking, takes}
+use Rattle.carry.proofs.Takes.{entry-small, none-takes, bearer-in, comparing, other-shape, taking, takes-from-giver}
 use Rattle.carry.proofs.take_record.Statement.{statement}
 use Rattle.carry.proofs.take_record.Tie as tie
 
@@ -21,7 +21,7 @@ returns : tie.Need-returns
 returns c = none-takes (c .before .before .before .before .before .before .pre .0) (c .before .before .before .before .before .before .pre .1) (c .before .before .label-of .ensures .0) (c .before .before .label-of .ensures .1) (c .if1 .taken)
 
 word-requires : tie.Need-word-requires
-word-requires c κs = (c .before .before .before .before .before .before .pre .0 .before .sized, giving-in (c .before .before .before .before .before .before .pre .0) (c .before .before .before .before .before .before .pre .1) (c .before .before .label-of .ensures .0) (c .before .before .label-of .ensures .1) (c .if1 .left), omega arith)
+word-requires c κs = (c .before .before .before .before .before .before .pre .0 .before .sized, bearer-in (c .before .before .before .before .before .before .pre .0) (c .before .before .before .before .before .before .pre .1) (c .before .before .label-of .ensures .0) (c .before .before .label-of .ensures .1) (c .if1 .left), omega arith)
 
 word-requires-2 : tie.Need-word-requires-2
 word-requires-2 c κs = (c .before .before .before .before .before .before .before .pre .0 .after .sized, c .before .before .before .before .before .before .before .pre .1, omega arith)
@@ -33,7 +33,7 @@ returns-2 : tie.Need-returns-2
 returns-2 c = other-shape (c .before .before .before .before .before .before .before .before .before .before .pre .0) (c .before .before .before .before .before .before .before .before .before .before .pre .1) (c .before .before .before .before .before .before .label-of .ensures .0) (c .before .before .before .before .before .before .label-of .ensures .1) (c .before .before .before .before .if1 .left) (c .before .before .before .word .ensures .0) (c .before .before .word2 .ensures .0) (c .before .same-shape .ensures) (c .if2 .taken)
 
 word-requires-3 : tie.Need-word-requires-3
-word-requires-3 c κs = (c .before .before .before .before .before .before .before .before .before .before .pre .0 .before .sized, giving-in (c .before .before .before .before .before .before .before .before .before .before .pre .0) (c .before .before .before .before .before .before .before .before .before .before .pre .1) (c .before .before .before .before .before .before .label-of .ensures .0) (c .before .before .before .before .before .before .label-of .ensures .1) (c .before .before .before .before .if1 .left), omega arith)
+word-requires-3 c κs = (c .before .before .before .before .before .before .before .before .before .before .pre .0 .before .sized, bearer-in (c .before .before .before .before .before .before .before .before .before .before .pre .0) (c .before .before .before .before .before .before .before .before .before .before .pre .1) (c .before .before .before .before .before .before .label-of .ensures .0) (c .before .before .before .before .before .before .label-of .ensures .1) (c .before .before .before .before .if1 .left), omega arith)
 
 word-requires-4 : tie.Need-word-requires-4
 word-requires-4 c κs = (c .before .before .before .before .before .before .before .before .before .before .before .pre .0 .after .sized, c .before .before .before .before .before .before .before .before .before .before .before .pre .1, omega arith)
@@ -45,7 +45,7 @@ same-length : tie.Need-same-length
 same-length c = search needs
 
 returns-3 : tie.Need-returns-3
-returns-3 c = takes (c .before .before .before .before .before .before .before .before .before .before .before .before .before .before .before .before .pre .0) (c .before .before .before .before .before .before .before .before .before .before .before .before .before .before .before .before .pre .1) (c .before .before .before .before .before .before .before .before .before .before .before .before .label-of .ensures .0) (c .before .before .before .before .before .before .before .before .before .before .before .before .label-of .ensures .1) (c .before .before .before .before .before .before .before .before .before .before .if1 .left) (c .before .before .before .before .before .before .before .before .before .word .ensures .0) (c .before .before .before .before .before .before .before .before .word2 .ensures .0) (c .before .before .before .before .before .before .before .same-shape .ensures) (c .before .before .before .before .before .before .if2 .left) (c .before .before .before .before .before .word3 .ensures .0) (c .before .before .before .before .word4 .ensures .0) _ (c .before .before .take-leaves .ensures)
+returns-3 c = takes-from-giver (c .before .before .before .before .before .before .before .before .before .before .before .before .before .before .before .before .pre .0) (c .before .before .before .before .before .before .before .before .before .before .before .before .before .before .before .before .pre .1) (c .before .before .before .before .before .before .before .before .before .before .before .before .label-of .ensures .0) (c .before .before .before .before .before .before .before .before .before .before .before .before .label-of .ensures .1) (c .before .before .before .before .before .before .before .before .before .before .if1 .left) (c .before .before .before .before .before .before .before .before .before .word .ensures .0) (c .before .before .before .before .before .before .before .before .word2 .ensures .0) (c .before .before .before .before .before .before .before .same-shape .ensures) (c .before .before .before .before .before .before .if2 .left) (c .before .before .before .before .before .word3 .ensures .0) (c .before .before .before .before .word4 .ensures .0) _ (c .before .before .take-leaves .ensures)
 
 pub take-record-spec : {M : Type 1} → statement M
 take-record-spec =

@@ -21,7 +21,7 @@ no-values-requires : tie.Need-no-values-requires Inv-loop μ-loop
 no-values-requires c κs = search needs
 
 loop-holds : tie.Need-loop-holds Inv-loop μ-loop
-loop-holds c = nothing-emitted (c .before .before .before .args .ops .now) (c .before .before .before .args .firsts .now) (c .before .before .before .args .seconds .now) (c .before .before .before .args .m) (c .before .before .before .args .leaves .now) (c .before .before .before .args .types) (c .before .before .before .args .records) (c .before .before .before .args .sheet .now) (c .before .no-kinds .result) (c .no-values .result) (c .before .no-kinds .ensures) (c .no-values .ensures) (c .before .before .before .pre .0) (c .before .before .before .pre .1)
+loop-holds c = nothing-emitted (c .before .no-kinds .result) (c .no-values .result) (c .before .no-kinds .ensures) (c .no-values .ensures) (c .before .before .before .pre .0) (c .before .before .before .pre .1)
 
 sub-k : tie.Need-sub-k Inv-loop μ-loop
 sub-k c = search needs
@@ -42,19 +42,19 @@ element-copy-out-emission-step-3 : tie.Need-element-copy-out-emission-step-3 Inv
 element-copy-out-emission-step-3 c = (let f = c .before .before .before .before .before .before .loop .inv .few in omega arith)
 
 emission-step-requires : tie.Need-emission-step-requires Inv-loop μ-loop
-emission-step-requires c κs = can-advance (c .before .before .before .before .before .before .before .before .before .before .before .args .ops .now) (c .before .before .before .before .before .before .before .before .before .before .before .args .firsts .now) (c .before .before .before .before .before .before .before .before .before .before .before .args .seconds .now) (c .before .before .before .before .before .before .before .before .before .before .before .args .m) (c .before .before .before .before .before .before .before .before .before .before .before .args .leaves .now) (c .before .before .before .before .before .before .before .before .before .before .before .args .types) (c .before .before .before .before .before .before .before .before .before .before .before .args .records) (c .before .before .before .before .before .before .before .before .before .before .before .args .sheet .now) (c .before .before .before .before .before .before .before .loop .inv)
+emission-step-requires c κs = can-advance (c .before .before .before .before .before .before .before .loop .inv)
 
 loop-less : tie.Need-loop-less Inv-loop μ-loop
 loop-less c = search needs
 
 loop-again : tie.Need-loop-again Inv-loop μ-loop
-loop-again c = code-goes-on (c .before .before .before .before .before .before .before .before .before .before .before .before .before .before .args .ops .now) (c .before .before .before .before .before .before .before .before .before .before .before .before .before .before .args .firsts .now) (c .before .before .before .before .before .before .before .before .before .before .before .before .before .before .args .seconds .now) (c .before .before .before .before .before .before .before .before .before .before .before .before .before .before .args .m) (c .before .before .before .before .before .before .before .before .before .before .before .before .before .before .args .leaves .now) (c .before .before .before .before .before .before .before .before .before .before .before .before .before .before .args .types) (c .before .before .before .before .before .before .before .before .before .before .before .before .before .before .args .records) (c .before .before .before .before .before .before .before .before .before .before .before .before .before .before .args .sheet .now) (c .before .before .before .before .before .before .before .before .before .before .loop .sheet) (c .before .before .before .before .before .before .before .before .before .before .loop .kinds) (c .before .before .before .before .before .before .before .before .before .before .loop .values) (c .before .before .before .before .before .before .before .before .before .before .loop .cursor) (c .before .before .before .before .before .before .before .before .before .before .loop .height) (c .before .before .before .before .before .before .before .before .before .before .loop .next) (c .before .before .before .before .before .before .before .before .before .before .loop .k) _ _ _ _ _ _ (c .before .before .before .before .before .before .before .before .before .before .before .before .before .before .pre .2) (c .before .before .before .before .before .before .before .before .before .loop-test .taken) (c .before .before .before .before .before .before .before .before .before .before .loop .inv) (c .before .before .emission-step .ensures)
+loop-again c = code-goes-on (c .before .before .before .before .before .before .before .before .before .before .loop .sheet) (c .before .before .before .before .before .before .before .before .before .before .loop .kinds) (c .before .before .before .before .before .before .before .before .before .before .loop .values) (c .before .before .before .before .before .before .before .before .before .before .loop .cursor) (c .before .before .before .before .before .before .before .before .before .before .loop .height) (c .before .before .before .before .before .before .before .before .before .before .loop .next) (c .before .before .before .before .before .before .before .before .before .before .loop .k) _ _ _ _ _ _ (c .before .before .before .before .before .before .before .before .before .before .before .before .before .before .pre .2) (c .before .before .before .before .before .before .before .before .before .loop-test .taken) (c .before .before .before .before .before .before .before .before .before .before .loop .inv) (c .before .before .emission-step .ensures)
 
 same-length : tie.Need-same-length Inv-loop μ-loop
 same-length c = c .before .loop .inv .as-long
 
 returns : tie.Need-returns Inv-loop μ-loop
-returns c = code-ends (c .before .before .before .before .before .args .ops .now) (c .before .before .before .before .before .args .firsts .now) (c .before .before .before .before .before .args .seconds .now) (c .before .before .before .before .before .args .m) (c .before .before .before .before .before .args .leaves .now) (c .before .before .before .before .before .args .types) (c .before .before .before .before .before .args .records) (c .before .before .before .before .before .args .sheet .now) (c .loop-test .left) (c .before .loop .inv)
+returns c = code-ends (c .loop-test .left) (c .before .loop .inv)
 
 pub write-code-spec : {M : Type 1} → statement M
 write-code-spec =

@@ -1,6 +1,6 @@
 -- The parts of the sheet follow each other, from the last to the first.
 -- Assumes nothing.
-use Rattle.emitting.proofs.TypeLaws.{some-leaves, sheet-whole}
+use Rattle.emitting.proofs.TypeLaws.{types-have-leaves, sheet-whole}
 use borrow.Author.Needs.{needs}
 use Rattle.emitting.proofs.write_sheet.Statement.{statement}
 use Rattle.emitting.proofs.write_sheet.Tie as tie
@@ -15,7 +15,7 @@ cast-write-code : tie.Need-cast-write-code
 cast-write-code c = search needs
 
 write-code-requires : tie.Need-write-code-requires
-write-code-requires c κs = (search needs, search needs, some-leaves (c .before .before .before .before .before .before .args .pairs .now) (c .before .before .before .before .before .before .args .parts .now) (c .before .before .before .before .before .before .args .others .now) (c .before .before .before .before .before .before .pre .counted))
+write-code-requires c κs = (search needs, search needs, types-have-leaves (c .before .before .before .before .before .before .args .pairs .now) (c .before .before .before .before .before .before .args .parts .now) (c .before .before .before .before .before .before .args .others .now) (c .before .before .before .before .before .before .pre .counted))
 
 write-types-requires : tie.Need-write-types-requires
 write-types-requires c κs = search needs

@@ -55,18 +55,18 @@ use Prim.Native.Nat.{ℕ, _+_, _*_, _-_, _<_}
 use mathlib.Core.Path.{refl}
 use denote.Ref.{now}
 use lib.ListN.{length}
-use Rattle.meaning.specs.Values.{zeros}
+use Rattle.meaning.proofs.Order.{zeros}
 use Rattle.values.specs.Slots.{slot}
 use Rattle.records.specs.Kinds.{expression, constant, name, tuple, first, second, letIn, feedback, ifMatches, delay, kindOf}
 use Rattle.records.proofs.Table.{askOfKind}
 use Rattle.accepted.proofs.Laws.{numbered, last-kind}
-use Rattle.evaluator.proofs.Frames.{from-none, to-the-end}
-use Rattle.evaluator.proofs.Readiness.{ready-word, ready-low, ready-few, in-circuit, entry-few, entry-there, higher}
-use Rattle.evaluator.proofs.Parts.{constant-chained, constant-done, pair-small, pair-cut, pair-first-ready, pair-rest, pair-second-ready, pair-done, fits-room, room-ready, first-scope, first-fits, first-inside, first-done, second-scope, second-few, second-from, second-inside, second-fits, second-done}
+use Rattle.evaluator.proofs.Frames.{from-zero, to-the-end}
+use Rattle.evaluator.proofs.Readiness.{ready-word, ready-low, ready-few, in-circuit, entry-few, entry-there, part-higher}
+use Rattle.evaluator.proofs.Parts.{constant-chained, constant-done, pair-width-small, pair-cut, pair-first-ready, pair-rest, pair-second-ready, pair-done, fits-room, room-ready, first-scope, first-fits, first-inside, first-done, second-scope, second-few, second-from, second-inside, second-fits, second-done}
 use Rattle.evaluator.proofs.Names.{defining-scope, let-inside, let-room, let-body-ready, let-done}
 use Rattle.evaluator.proofs.Settling.{settle-few, settle-room, unchanged-settled, settling-again, fewer-undefined, changed-settled}
 use Rattle.evaluator.proofs.Feedbacks.{part-scope, feedback-fits, start-room, feedback-settling, few-undefined, feedback-body-ready, feedback-done}
-use Rattle.evaluator.proofs.Branches.{tested-scope, then-ready, else-fits, else-ready, tested-inside, otherwise-inside, as-long, pattern-matched, if-wide, if-done, delayed-ready, delay-chained, delay-done}
+use Rattle.evaluator.proofs.Branches.{tested-scope, then-ready, else-fits, else-ready, tested-inside, otherwise-inside, as-long, pattern-matching, if-wide, if-done, delayed-ready, delay-chained, delay-done}
 
 abbrev μ-eval : Measures 6 eval-kinds.ps ℕ
 μ-eval κs a = 68 * (a .1 .0 - a .1 .1 .1 .1 .1 .1 .0) + 1
@@ -347,7 +347,7 @@ of-delay-word-requires : (t : ℕ) → of-delay-lts.Need-word-requires (of-delay
 of-delay-word-requires t c κs = ready-word (c .before .before .before .pre .1 .0 .1) (omega arith)
 
 of-delay-eval-part-requires : (t : ℕ) → of-delay-lts.Need-eval-part-requires (of-delay-claims t) (of-delay-at t) of-delay.Post
-of-delay-eval-part-requires t c κs = let h = (higher (c .before .before .before .before .before .before .before .before .pre .1 .0 .1) delay (c .before .before .before .before .before .before .before .before .pre .1 .1) 4 refl (unfold askOfKind in refl) (c .before .before .before .before .word .ensures .0)) in (omega (arith, c .before .before .before .before .before .before .before .before .pre .0, h .0, h .1), (c .before .before .before .before .before .before .before .before .pre .1 .0 .0, delayed-ready (c .before .before .before .before .before .before .before .before .pre .1 .0 .1) (c .before .before .before .before .before .before .before .before .pre .1 .1) (c .before .before .before .before .word .ensures .0) refl))
+of-delay-eval-part-requires t c κs = let h = (part-higher (c .before .before .before .before .before .before .before .before .pre .1 .0 .1) delay (c .before .before .before .before .before .before .before .before .pre .1 .1) 4 refl (unfold askOfKind in refl) (c .before .before .before .before .word .ensures .0)) in (omega (arith, c .before .before .before .before .before .before .before .before .pre .0, h .0, h .1), (c .before .before .before .before .before .before .before .before .pre .1 .0 .0, delayed-ready (c .before .before .before .before .before .before .before .before .pre .1 .0 .1) (c .before .before .before .before .before .before .before .before .pre .1 .1) (c .before .before .before .before .word .ensures .0) refl))
 
 of-delay-word-requires-2 : (t : ℕ) → of-delay-lts.Need-word-requires-2 (of-delay-claims t) (of-delay-at t) of-delay.Post
 of-delay-word-requires-2 t c κs = ready-word (c .before .before .before .before .before .before .before .before .before .before .before .before .before .pre .1 .0 .1) (omega arith)
@@ -380,10 +380,10 @@ of-feedback-room-requires : (t : ℕ) → of-feedback-lts.Need-room-requires (of
 of-feedback-room-requires t c κs = tt
 
 of-feedback-sub-enter-value : (t : ℕ) → of-feedback-lts.Need-sub-enter-value (of-feedback-claims t) (of-feedback-at t) of-feedback.Post
-of-feedback-sub-enter-value t c = from-none _
+of-feedback-sub-enter-value t c = from-zero _
 
 of-feedback-part-enter-value-start : (t : ℕ) → of-feedback-lts.Need-part-enter-value-start (of-feedback-claims t) (of-feedback-at t) of-feedback.Post
-of-feedback-part-enter-value-start t c = from-none _
+of-feedback-part-enter-value-start t c = from-zero _
 
 of-feedback-part-enter-value-end : (t : ℕ) → of-feedback-lts.Need-part-enter-value-end (of-feedback-claims t) (of-feedback-at t) of-feedback.Post
 of-feedback-part-enter-value-end t c = feedback-fits (c .before .before .before .before .before .before .before .before .pre .1 .0 .1) (c .before .before .before .before .before .before .before .before .pre .1 .1) (c .before .before .before .before .word .ensures .0) refl refl (c .before .before .room .ensures)
@@ -392,16 +392,16 @@ of-feedback-enter-value-requires : (t : ℕ) → of-feedback-lts.Need-enter-valu
 of-feedback-enter-value-requires t c κs = start-room (c .before .before .before .before .before .before .before .before .before .pre .1 .0 .1) (c .before .before .before .before .before .before .before .before .before .pre .1 .1) (c .before .before .before .before .before .word .ensures .0) refl refl (c .before .before .before .room .ensures)
 
 of-feedback-sub-settle : (t : ℕ) → of-feedback-lts.Need-sub-settle (of-feedback-claims t) (of-feedback-at t) of-feedback.Post
-of-feedback-sub-settle t c = from-none _
+of-feedback-sub-settle t c = from-zero _
 
 of-feedback-part-settled-start : (t : ℕ) → of-feedback-lts.Need-part-settled-start (of-feedback-claims t) (of-feedback-at t) of-feedback.Post
-of-feedback-part-settled-start t c = from-none _
+of-feedback-part-settled-start t c = from-zero _
 
 of-feedback-part-settled-end : (t : ℕ) → of-feedback-lts.Need-part-settled-end (of-feedback-claims t) (of-feedback-at t) of-feedback.Post
 of-feedback-part-settled-end t c = feedback-fits (c .before .before .before .before .before .before .before .before .before .before .before .before .before .before .pre .1 .0 .1) (c .before .before .before .before .before .before .before .before .before .before .before .before .before .before .pre .1 .1) (c .before .before .before .before .before .before .before .before .before .before .word .ensures .0) refl refl (c .before .before .before .before .before .before .before .before .room .ensures)
 
 of-feedback-settle-requires : (t : ℕ) → of-feedback-lts.Need-settle-requires (of-feedback-claims t) (of-feedback-at t) of-feedback.Post
-of-feedback-settle-requires t c κs = let h = (higher (c .before .before .before .before .before .before .before .before .before .before .before .before .before .before .before .before .pre .1 .0 .1) feedback (c .before .before .before .before .before .before .before .before .before .before .before .before .before .before .before .before .pre .1 .1) 3 refl (unfold askOfKind in refl) (c .before .before .before .before .before .before .before .before .before .before .before .before .word .ensures .0)) in let z = few-undefined (c .before .before .before .before .before .before .before .before .before .before .before .before .before .before .before .before .pre .1 .0 .1) (c .before .before .before .before .before .before .before .before .before .before .before .before .before .before .before .before .pre .1 .1) (c .before .before .before .before .before .before .before .before .before .before .before .before .word .ensures .0) refl refl (c .before .before .before .before .before .before .before .before .before .before .room .ensures) (c .before .before .before .before .before .before .enter-value .ensures) in (omega (arith, c .before .before .before .before .before .before .before .before .before .before .before .before .before .before .before .before .pre .0, h .0, h .1), (_, _, feedback-settling (c .before .before .before .before .before .before .before .before .before .before .before .before .before .before .before .before .pre .1 .0 .1) (c .before .before .before .before .before .before .before .before .before .before .before .before .before .before .before .before .pre .1 .1) (c .before .before .before .before .before .before .before .before .before .before .before .before .word .ensures .0) refl refl (c .before .before .before .before .before .before .before .before .before .before .room .ensures) (c .before .before .before .before .before .before .enter-value .ensures)))
+of-feedback-settle-requires t c κs = let h = (part-higher (c .before .before .before .before .before .before .before .before .before .before .before .before .before .before .before .before .pre .1 .0 .1) feedback (c .before .before .before .before .before .before .before .before .before .before .before .before .before .before .before .before .pre .1 .1) 3 refl (unfold askOfKind in refl) (c .before .before .before .before .before .before .before .before .before .before .before .before .word .ensures .0)) in let z = few-undefined (c .before .before .before .before .before .before .before .before .before .before .before .before .before .before .before .before .pre .1 .0 .1) (c .before .before .before .before .before .before .before .before .before .before .before .before .before .before .before .before .pre .1 .1) (c .before .before .before .before .before .before .before .before .before .before .before .before .word .ensures .0) refl refl (c .before .before .before .before .before .before .before .before .before .before .room .ensures) (c .before .before .before .before .before .before .enter-value .ensures) in (omega (arith, c .before .before .before .before .before .before .before .before .before .before .before .before .before .before .before .before .pre .0, h .0, h .1), (_, _, feedback-settling (c .before .before .before .before .before .before .before .before .before .before .before .before .before .before .before .before .pre .1 .0 .1) (c .before .before .before .before .before .before .before .before .before .before .before .before .before .before .before .before .pre .1 .1) (c .before .before .before .before .before .before .before .before .before .before .before .before .word .ensures .0) refl refl (c .before .before .before .before .before .before .before .before .before .before .room .ensures) (c .before .before .before .before .before .before .enter-value .ensures)))
 
 of-feedback-word-requires-2 : (t : ℕ) → of-feedback-lts.Need-word-requires-2 (of-feedback-claims t) (of-feedback-at t) of-feedback.Post
 of-feedback-word-requires-2 t c κs = ready-word (c .before .before .before .before .before .before .before .before .before .before .before .before .before .before .before .before .before .before .before .before .pre .1 .0 .1) (omega arith)
@@ -410,7 +410,7 @@ of-feedback-add-eval-part : (t : ℕ) → of-feedback-lts.Need-add-eval-part (of
 of-feedback-add-eval-part t c = let f = ready-few (c .before .before .before .before .before .before .before .before .before .before .before .before .before .before .before .before .before .before .before .before .before .before .pre .1 .0 .1) in omega arith
 
 of-feedback-eval-part-requires : (t : ℕ) → of-feedback-lts.Need-eval-part-requires (of-feedback-claims t) (of-feedback-at t) of-feedback.Post
-of-feedback-eval-part-requires t c κs = let h = (higher (c .before .before .before .before .before .before .before .before .before .before .before .before .before .before .before .before .before .before .before .before .before .before .before .before .before .pre .1 .0 .1) feedback (c .before .before .before .before .before .before .before .before .before .before .before .before .before .before .before .before .before .before .before .before .before .before .before .before .before .pre .1 .1) 4 refl (unfold askOfKind in refl) (c .before .before .before .before .word2 .ensures .0)) in (omega (arith, c .before .before .before .before .before .before .before .before .before .before .before .before .before .before .before .before .before .before .before .before .before .before .before .before .before .pre .0, h .0, h .1), (_, feedback-body-ready (c .before .before .before .before .before .before .before .before .before .before .before .before .before .before .before .before .before .before .before .before .before .before .before .before .before .pre .1 .0 .1) (c .before .before .before .before .before .before .before .before .before .before .before .before .before .before .before .before .before .before .before .before .before .before .before .before .before .pre .1 .1) (c .before .before .before .before .before .before .before .before .before .before .before .before .before .before .before .before .before .before .before .before .before .word .ensures .0) (c .before .before .before .before .word2 .ensures .0) refl (c .before .before .before .before .before .before .before .before .before .before .before .before .before .before .before .before .before .before .before .room .ensures) (c .before .before .before .before .before .before .before .before .before .before .before .before .before .before .before .enter-value .ensures) (c .before .before .before .before .before .before .before .before .settle .ensures)))
+of-feedback-eval-part-requires t c κs = let h = (part-higher (c .before .before .before .before .before .before .before .before .before .before .before .before .before .before .before .before .before .before .before .before .before .before .before .before .before .pre .1 .0 .1) feedback (c .before .before .before .before .before .before .before .before .before .before .before .before .before .before .before .before .before .before .before .before .before .before .before .before .before .pre .1 .1) 4 refl (unfold askOfKind in refl) (c .before .before .before .before .word2 .ensures .0)) in (omega (arith, c .before .before .before .before .before .before .before .before .before .before .before .before .before .before .before .before .before .before .before .before .before .before .before .before .before .pre .0, h .0, h .1), (_, feedback-body-ready (c .before .before .before .before .before .before .before .before .before .before .before .before .before .before .before .before .before .before .before .before .before .before .before .before .before .pre .1 .0 .1) (c .before .before .before .before .before .before .before .before .before .before .before .before .before .before .before .before .before .before .before .before .before .before .before .before .before .pre .1 .1) (c .before .before .before .before .before .before .before .before .before .before .before .before .before .before .before .before .before .before .before .before .before .word .ensures .0) (c .before .before .before .before .word2 .ensures .0) refl (c .before .before .before .before .before .before .before .before .before .before .before .before .before .before .before .before .before .before .before .room .ensures) (c .before .before .before .before .before .before .before .before .before .before .before .before .before .before .before .enter-value .ensures) (c .before .before .before .before .before .before .before .before .settle .ensures)))
 
 of-feedback-same-length : (t : ℕ) → of-feedback-lts.Need-same-length (of-feedback-claims t) (of-feedback-at t) of-feedback.Post
 of-feedback-same-length t c = search needs
@@ -434,22 +434,22 @@ of-first-room-requires : (t : ℕ) → of-first-lts.Need-room-requires (of-first
 of-first-room-requires t c κs = tt
 
 of-first-sub-eval-part : (t : ℕ) → of-first-lts.Need-sub-eval-part (of-first-claims t) (of-first-at t) of-first.Post
-of-first-sub-eval-part t c = from-none _
+of-first-sub-eval-part t c = from-zero _
 
 of-first-part-whole-start : (t : ℕ) → of-first-lts.Need-part-whole-start (of-first-claims t) (of-first-at t) of-first.Post
-of-first-part-whole-start t c = from-none _
+of-first-part-whole-start t c = from-zero _
 
 of-first-part-whole-end : (t : ℕ) → of-first-lts.Need-part-whole-end (of-first-claims t) (of-first-at t) of-first.Post
 of-first-part-whole-end t c = fits-room (c .before .before .before .before .before .before .before .before .pre .1 .0 .1) (first-scope (c .before .before .before .before .before .before .before .before .pre .1 .0 .1) (c .before .before .before .before .before .before .before .before .pre .1 .1) (c .before .before .before .before .word .ensures .0) refl refl) refl (c .before .before .room .ensures)
 
 of-first-eval-part-requires : (t : ℕ) → of-first-lts.Need-eval-part-requires (of-first-claims t) (of-first-at t) of-first.Post
-of-first-eval-part-requires t c κs = let h = (higher (c .before .before .before .before .before .before .before .before .before .before .pre .1 .0 .1) first (c .before .before .before .before .before .before .before .before .before .before .pre .1 .1) 2 refl (unfold askOfKind in refl) (c .before .before .before .before .before .before .word .ensures .0)) in (omega (arith, c .before .before .before .before .before .before .before .before .before .before .pre .0, h .0, h .1), (c .before .before .before .before .before .before .before .before .before .before .pre .1 .0 .0, room-ready (c .before .before .before .before .before .before .before .before .before .before .pre .1 .0 .1) (first-scope (c .before .before .before .before .before .before .before .before .before .before .pre .1 .0 .1) (c .before .before .before .before .before .before .before .before .before .before .pre .1 .1) (c .before .before .before .before .before .before .word .ensures .0) refl refl) refl (c .before .before .before .before .room .ensures)))
+of-first-eval-part-requires t c κs = let h = (part-higher (c .before .before .before .before .before .before .before .before .before .before .pre .1 .0 .1) first (c .before .before .before .before .before .before .before .before .before .before .pre .1 .1) 2 refl (unfold askOfKind in refl) (c .before .before .before .before .before .before .word .ensures .0)) in (omega (arith, c .before .before .before .before .before .before .before .before .before .before .pre .0, h .0, h .1), (c .before .before .before .before .before .before .before .before .before .before .pre .1 .0 .0, room-ready (c .before .before .before .before .before .before .before .before .before .before .pre .1 .0 .1) (first-scope (c .before .before .before .before .before .before .before .before .before .before .pre .1 .0 .1) (c .before .before .before .before .before .before .before .before .before .before .pre .1 .1) (c .before .before .before .before .before .before .word .ensures .0) refl refl) refl (c .before .before .before .before .room .ensures)))
 
 of-first-sub-put : (t : ℕ) → of-first-lts.Need-sub-put (of-first-claims t) (of-first-at t) of-first.Post
-of-first-sub-put t c = from-none _
+of-first-sub-put t c = from-zero _
 
 of-first-part-put-start : (t : ℕ) → of-first-lts.Need-part-put-start (of-first-claims t) (of-first-at t) of-first.Post
-of-first-part-put-start t c = from-none _
+of-first-part-put-start t c = from-zero _
 
 of-first-part-put-end : (t : ℕ) → of-first-lts.Need-part-put-end (of-first-claims t) (of-first-at t) of-first.Post
 of-first-part-put-end t c = first-inside (c .before .before .before .before .before .before .before .before .before .before .before .before .before .before .before .pre .1 .0 .1) (c .before .before .before .before .before .before .before .before .before .before .before .before .before .before .before .pre .1 .1) (c .before .before .before .before .before .before .before .before .before .before .before .word .ensures .0) refl (c .before .before .before .before .before .before .before .before .before .room .ensures) (c .before .before .before .before .eval-part .ensures)
@@ -479,22 +479,22 @@ of-if-room-requires : (t : ℕ) → of-if-lts.Need-room-requires (of-if-claims t
 of-if-room-requires t c κs = tt
 
 of-if-sub-eval-part : (t : ℕ) → of-if-lts.Need-sub-eval-part (of-if-claims t) (of-if-at t) of-if.Post
-of-if-sub-eval-part t c = from-none _
+of-if-sub-eval-part t c = from-zero _
 
 of-if-part-tested-start : (t : ℕ) → of-if-lts.Need-part-tested-start (of-if-claims t) (of-if-at t) of-if.Post
-of-if-part-tested-start t c = from-none _
+of-if-part-tested-start t c = from-zero _
 
 of-if-part-tested-end : (t : ℕ) → of-if-lts.Need-part-tested-end (of-if-claims t) (of-if-at t) of-if.Post
 of-if-part-tested-end t c = fits-room (c .before .before .before .before .before .before .before .before .pre .1 .0 .1) (tested-scope (c .before .before .before .before .before .before .before .before .pre .1 .0 .1) (c .before .before .before .before .before .before .before .before .pre .1 .1) (c .before .before .before .before .word .ensures .0) refl refl refl refl refl) refl (c .before .before .room .ensures)
 
 of-if-eval-part-requires : (t : ℕ) → of-if-lts.Need-eval-part-requires (of-if-claims t) (of-if-at t) of-if.Post
-of-if-eval-part-requires t c κs = let h = (higher (c .before .before .before .before .before .before .before .before .before .before .pre .1 .0 .1) ifMatches (c .before .before .before .before .before .before .before .before .before .before .pre .1 .1) 2 refl (unfold askOfKind in refl) (c .before .before .before .before .before .before .word .ensures .0)) in (omega (arith, c .before .before .before .before .before .before .before .before .before .before .pre .0, h .0, h .1), (c .before .before .before .before .before .before .before .before .before .before .pre .1 .0 .0, room-ready (c .before .before .before .before .before .before .before .before .before .before .pre .1 .0 .1) (tested-scope (c .before .before .before .before .before .before .before .before .before .before .pre .1 .0 .1) (c .before .before .before .before .before .before .before .before .before .before .pre .1 .1) (c .before .before .before .before .before .before .word .ensures .0) refl refl refl refl refl) refl (c .before .before .before .before .room .ensures)))
+of-if-eval-part-requires t c κs = let h = (part-higher (c .before .before .before .before .before .before .before .before .before .before .pre .1 .0 .1) ifMatches (c .before .before .before .before .before .before .before .before .before .before .pre .1 .1) 2 refl (unfold askOfKind in refl) (c .before .before .before .before .before .before .word .ensures .0)) in (omega (arith, c .before .before .before .before .before .before .before .before .before .before .pre .0, h .0, h .1), (c .before .before .before .before .before .before .before .before .before .before .pre .1 .0 .0, room-ready (c .before .before .before .before .before .before .before .before .before .before .pre .1 .0 .1) (tested-scope (c .before .before .before .before .before .before .before .before .before .before .pre .1 .0 .1) (c .before .before .before .before .before .before .before .before .before .before .pre .1 .1) (c .before .before .before .before .before .before .word .ensures .0) refl refl refl refl refl) refl (c .before .before .before .before .room .ensures)))
 
 of-if-word-requires-2 : (t : ℕ) → of-if-lts.Need-word-requires-2 (of-if-claims t) (of-if-at t) of-if.Post
 of-if-word-requires-2 t c κs = ready-word (c .before .before .before .before .before .before .before .before .before .before .before .before .before .before .pre .1 .0 .1) (omega arith)
 
 of-if-eval-part-requires-2 : (t : ℕ) → of-if-lts.Need-eval-part-requires-2 (of-if-claims t) (of-if-at t) of-if.Post
-of-if-eval-part-requires-2 t c κs = let h = (higher (c .before .before .before .before .before .before .before .before .before .before .before .before .before .before .before .before .before .before .before .pre .1 .0 .1) ifMatches (c .before .before .before .before .before .before .before .before .before .before .before .before .before .before .before .before .before .before .before .pre .1 .1) 3 refl (unfold askOfKind in refl) (c .before .before .before .before .word2 .ensures .0)) in (omega (arith, c .before .before .before .before .before .before .before .before .before .before .before .before .before .before .before .before .before .before .before .pre .0, h .0, h .1), (c .before .before .before .before .before .before .before .before .before .before .before .before .before .before .before .before .before .before .before .pre .1 .0 .0, then-ready (c .before .before .before .before .before .before .before .before .before .before .before .before .before .before .before .before .before .before .before .pre .1 .0 .1) (c .before .before .before .before .before .before .before .before .before .before .before .before .before .before .before .before .before .before .before .pre .1 .1) (c .before .before .before .before .before .before .before .before .before .before .before .before .before .before .before .word .ensures .0) (c .before .before .before .before .word2 .ensures .0) refl refl refl (c .before .before .before .before .before .before .before .before .before .before .before .before .before .room .ensures) (c .before .before .before .before .before .before .before .before .eval-part .ensures)))
+of-if-eval-part-requires-2 t c κs = let h = (part-higher (c .before .before .before .before .before .before .before .before .before .before .before .before .before .before .before .before .before .before .before .pre .1 .0 .1) ifMatches (c .before .before .before .before .before .before .before .before .before .before .before .before .before .before .before .before .before .before .before .pre .1 .1) 3 refl (unfold askOfKind in refl) (c .before .before .before .before .word2 .ensures .0)) in (omega (arith, c .before .before .before .before .before .before .before .before .before .before .before .before .before .before .before .before .before .before .before .pre .0, h .0, h .1), (c .before .before .before .before .before .before .before .before .before .before .before .before .before .before .before .before .before .before .before .pre .1 .0 .0, then-ready (c .before .before .before .before .before .before .before .before .before .before .before .before .before .before .before .before .before .before .before .pre .1 .0 .1) (c .before .before .before .before .before .before .before .before .before .before .before .before .before .before .before .before .before .before .before .pre .1 .1) (c .before .before .before .before .before .before .before .before .before .before .before .before .before .before .before .word .ensures .0) (c .before .before .before .before .word2 .ensures .0) refl refl refl (c .before .before .before .before .before .before .before .before .before .before .before .before .before .room .ensures) (c .before .before .before .before .before .before .before .before .eval-part .ensures)))
 
 of-if-word-requires-3 : (t : ℕ) → of-if-lts.Need-word-requires-3 (of-if-claims t) (of-if-at t) of-if.Post
 of-if-word-requires-3 t c κs = ready-word (c .before .before .before .before .before .before .before .before .before .before .before .before .before .before .before .before .before .before .before .before .before .before .before .before .pre .1 .0 .1) (omega arith)
@@ -503,40 +503,40 @@ of-if-room-requires-2 : (t : ℕ) → of-if-lts.Need-room-requires-2 (of-if-clai
 of-if-room-requires-2 t c κs = tt
 
 of-if-sub-eval-part-2 : (t : ℕ) → of-if-lts.Need-sub-eval-part-2 (of-if-claims t) (of-if-at t) of-if.Post
-of-if-sub-eval-part-2 t c = from-none _
+of-if-sub-eval-part-2 t c = from-zero _
 
 of-if-part-otherwise-start : (t : ℕ) → of-if-lts.Need-part-otherwise-start (of-if-claims t) (of-if-at t) of-if.Post
-of-if-part-otherwise-start t c = from-none _
+of-if-part-otherwise-start t c = from-zero _
 
 of-if-part-otherwise-end : (t : ℕ) → of-if-lts.Need-part-otherwise-end (of-if-claims t) (of-if-at t) of-if.Post
 of-if-part-otherwise-end t c = else-fits (c .before .before .before .before .before .before .before .before .before .before .before .before .before .before .before .before .before .before .before .before .before .before .before .before .before .before .before .before .pre .1 .0 .1) (c .before .before .before .before .before .before .before .before .before .before .before .before .before .before .before .before .before .before .before .before .before .before .before .before .before .before .before .before .pre .1 .1) (c .before .before .before .before .before .before .before .before .before .before .before .before .before .before .before .before .before .before .before .before .before .before .before .before .word .ensures .0) (c .before .before .before .before .before .before .before .before .before .before .before .before .before .word2 .ensures .0) (c .before .before .before .word3 .ensures .0) refl refl (c .before .before .before .before .before .before .before .before .before .before .before .before .before .before .before .before .before .before .before .before .before .before .room .ensures) (c .before .before .before .before .before .before .before .before .before .before .before .before .before .before .before .before .before .eval-part .ensures) (c .before .before .before .before .before .before .before .before .eval-part2 .ensures) (c .before .before .room2 .ensures)
 
 of-if-eval-part-requires-3 : (t : ℕ) → of-if-lts.Need-eval-part-requires-3 (of-if-claims t) (of-if-at t) of-if.Post
-of-if-eval-part-requires-3 t c κs = let h = (higher (c .before .before .before .before .before .before .before .before .before .before .before .before .before .before .before .before .before .before .before .before .before .before .before .before .before .before .before .before .before .before .pre .1 .0 .1) ifMatches (c .before .before .before .before .before .before .before .before .before .before .before .before .before .before .before .before .before .before .before .before .before .before .before .before .before .before .before .before .before .before .pre .1 .1) 4 refl (unfold askOfKind in refl) (c .before .before .before .before .before .word3 .ensures .0)) in (omega (arith, c .before .before .before .before .before .before .before .before .before .before .before .before .before .before .before .before .before .before .before .before .before .before .before .before .before .before .before .before .before .before .pre .0, h .0, h .1), (c .before .before .before .before .before .before .before .before .before .before .before .before .before .before .before .before .before .before .before .before .before .before .before .before .before .before .before .before .before .before .pre .1 .0 .0, else-ready (c .before .before .before .before .before .before .before .before .before .before .before .before .before .before .before .before .before .before .before .before .before .before .before .before .before .before .before .before .before .before .pre .1 .0 .1) (c .before .before .before .before .before .before .before .before .before .before .before .before .before .before .before .before .before .before .before .before .before .before .before .before .before .before .before .before .before .before .pre .1 .1) (c .before .before .before .before .before .before .before .before .before .before .before .before .before .before .before .before .before .before .before .before .before .before .before .before .before .before .word .ensures .0) (c .before .before .before .before .before .before .before .before .before .before .before .before .before .before .before .word2 .ensures .0) (c .before .before .before .before .before .word3 .ensures .0) refl refl (c .before .before .before .before .before .before .before .before .before .before .before .before .before .before .before .before .before .before .before .before .before .before .before .before .room .ensures) (c .before .before .before .before .before .before .before .before .before .before .before .before .before .before .before .before .before .before .before .eval-part .ensures) (c .before .before .before .before .before .before .before .before .before .before .eval-part2 .ensures) (c .before .before .before .before .room2 .ensures)))
+of-if-eval-part-requires-3 t c κs = let h = (part-higher (c .before .before .before .before .before .before .before .before .before .before .before .before .before .before .before .before .before .before .before .before .before .before .before .before .before .before .before .before .before .before .pre .1 .0 .1) ifMatches (c .before .before .before .before .before .before .before .before .before .before .before .before .before .before .before .before .before .before .before .before .before .before .before .before .before .before .before .before .before .before .pre .1 .1) 4 refl (unfold askOfKind in refl) (c .before .before .before .before .before .word3 .ensures .0)) in (omega (arith, c .before .before .before .before .before .before .before .before .before .before .before .before .before .before .before .before .before .before .before .before .before .before .before .before .before .before .before .before .before .before .pre .0, h .0, h .1), (c .before .before .before .before .before .before .before .before .before .before .before .before .before .before .before .before .before .before .before .before .before .before .before .before .before .before .before .before .before .before .pre .1 .0 .0, else-ready (c .before .before .before .before .before .before .before .before .before .before .before .before .before .before .before .before .before .before .before .before .before .before .before .before .before .before .before .before .before .before .pre .1 .0 .1) (c .before .before .before .before .before .before .before .before .before .before .before .before .before .before .before .before .before .before .before .before .before .before .before .before .before .before .before .before .before .before .pre .1 .1) (c .before .before .before .before .before .before .before .before .before .before .before .before .before .before .before .before .before .before .before .before .before .before .before .before .before .before .word .ensures .0) (c .before .before .before .before .before .before .before .before .before .before .before .before .before .before .before .word2 .ensures .0) (c .before .before .before .before .before .word3 .ensures .0) refl refl (c .before .before .before .before .before .before .before .before .before .before .before .before .before .before .before .before .before .before .before .before .before .before .before .before .room .ensures) (c .before .before .before .before .before .before .before .before .before .before .before .before .before .before .before .before .before .before .before .eval-part .ensures) (c .before .before .before .before .before .before .before .before .before .before .eval-part2 .ensures) (c .before .before .before .before .room2 .ensures)))
 
 of-if-word-requires-4 : (t : ℕ) → of-if-lts.Need-word-requires-4 (of-if-claims t) (of-if-at t) of-if.Post
 of-if-word-requires-4 t c κs = ready-word (c .before .before .before .before .before .before .before .before .before .before .before .before .before .before .before .before .before .before .before .before .before .before .before .before .before .before .before .before .before .before .before .before .before .before .pre .1 .0 .1) (omega arith)
 
 of-if-sub-choose-value : (t : ℕ) → of-if-lts.Need-sub-choose-value (of-if-claims t) (of-if-at t) of-if.Post
-of-if-sub-choose-value t c = from-none _
+of-if-sub-choose-value t c = from-zero _
 
 of-if-part-choose-value-start : (t : ℕ) → of-if-lts.Need-part-choose-value-start (of-if-claims t) (of-if-at t) of-if.Post
-of-if-part-choose-value-start t c = from-none _
+of-if-part-choose-value-start t c = from-zero _
 
 of-if-part-choose-value-end : (t : ℕ) → of-if-lts.Need-part-choose-value-end (of-if-claims t) (of-if-at t) of-if.Post
 of-if-part-choose-value-end t c = tested-inside (c .before .before .before .before .before .before .before .before .before .before .before .before .before .before .before .before .before .before .before .before .before .before .before .before .before .before .before .before .before .before .before .before .before .before .before .before .pre .1 .0 .1) (c .before .before .before .before .before .before .before .before .before .before .before .before .before .before .before .before .before .before .before .before .before .before .before .before .before .before .before .before .before .before .before .before .before .before .before .before .pre .1 .1) (c .before .before .before .before .before .before .before .before .before .before .before .before .before .before .before .before .before .before .before .before .before .before .before .before .before .before .before .before .before .before .before .before .word .ensures .0) (c .before .before .before .before .before .before .before .before .before .before .before .before .before .before .before .before .before .before .before .before .before .word2 .ensures .0) (c .before .before .before .before .before .before .before .before .before .before .before .word3 .ensures .0) (c .before .word4 .ensures .0) refl (c .before .before .before .before .before .before .before .before .before .before .before .before .before .before .before .before .before .before .before .before .before .before .before .before .before .before .before .before .before .before .room .ensures) (c .before .before .before .before .before .before .before .before .before .before .before .before .before .before .before .before .before .before .before .before .before .before .before .before .before .eval-part .ensures) (c .before .before .before .before .before .before .before .before .before .before .before .before .before .before .before .before .eval-part2 .ensures) (c .before .before .before .before .before .before .before .before .before .before .room2 .ensures) (c .before .before .before .before .before .eval-part3 .ensures)
 
 of-if-sub-choose-value-2 : (t : ℕ) → of-if-lts.Need-sub-choose-value-2 (of-if-claims t) (of-if-at t) of-if.Post
-of-if-sub-choose-value-2 t c = from-none _
+of-if-sub-choose-value-2 t c = from-zero _
 
 of-if-part-choose-value-start-2 : (t : ℕ) → of-if-lts.Need-part-choose-value-start-2 (of-if-claims t) (of-if-at t) of-if.Post
-of-if-part-choose-value-start-2 t c = from-none _
+of-if-part-choose-value-start-2 t c = from-zero _
 
 of-if-part-choose-value-end-2 : (t : ℕ) → of-if-lts.Need-part-choose-value-end-2 (of-if-claims t) (of-if-at t) of-if.Post
 of-if-part-choose-value-end-2 t c = otherwise-inside (c .before .before .before .before .before .before .before .before .before .before .before .before .before .before .before .before .before .before .before .before .before .before .before .before .before .before .before .before .before .before .before .before .before .before .before .before .before .before .pre .1 .0 .1) (c .before .before .before .before .before .before .before .before .before .before .before .before .before .before .before .before .before .before .before .before .before .before .before .before .before .before .before .before .before .before .before .before .before .before .before .before .before .before .pre .1 .1) (c .before .before .before .before .before .before .before .before .before .before .before .before .before .before .before .before .before .before .before .before .before .before .before .before .before .before .before .before .before .before .before .before .before .before .word .ensures .0) (c .before .before .before .before .before .before .before .before .before .before .before .before .before .before .before .before .before .before .before .before .before .before .before .word2 .ensures .0) (c .before .before .before .before .before .before .before .before .before .before .before .before .before .word3 .ensures .0) (c .before .before .before .word4 .ensures .0) refl (c .before .before .before .before .before .before .before .before .before .before .before .before .before .before .before .before .before .before .before .before .before .before .before .before .before .before .before .before .before .before .before .before .room .ensures) (c .before .before .before .before .before .before .before .before .before .before .before .before .before .before .before .before .before .before .before .before .before .before .before .before .before .before .before .eval-part .ensures) (c .before .before .before .before .before .before .before .before .before .before .before .before .before .before .before .before .before .before .eval-part2 .ensures) (c .before .before .before .before .before .before .before .before .before .before .before .before .room2 .ensures) (c .before .before .before .before .before .before .before .eval-part3 .ensures)
 
 of-if-choose-value-requires : (t : ℕ) → of-if-lts.Need-choose-value-requires (of-if-claims t) (of-if-at t) of-if.Post
-of-if-choose-value-requires t c κs = (pattern-matched (c .before .before .before .before .before .before .before .before .before .before .before .before .before .before .before .before .before .before .before .before .before .before .before .before .before .before .before .before .before .before .before .before .before .before .before .before .before .before .before .before .pre .1 .0 .1) (c .before .before .before .before .before .before .before .before .before .before .before .before .before .before .before .before .before .before .before .before .before .before .before .before .before .before .before .before .before .before .before .before .before .before .before .before .before .before .before .before .pre .1 .1) (c .before .before .before .before .before .before .before .before .before .before .before .before .before .before .before .before .before .before .before .before .before .before .before .before .before .before .before .before .before .before .before .before .before .before .before .before .word .ensures .0) (c .before .before .before .before .before .before .before .before .before .before .before .before .before .before .before .before .before .before .before .before .before .before .before .before .before .word2 .ensures .0) (c .before .before .before .before .before .before .before .before .before .before .before .before .before .before .before .word3 .ensures .0) (c .before .before .before .before .before .word4 .ensures .0) refl (c .before .before .before .before .before .before .before .before .before .before .before .before .before .before .before .before .before .before .before .before .before .before .before .before .before .before .before .before .before .before .before .before .before .before .room .ensures) (c .before .before .before .before .before .before .before .before .before .before .before .before .before .before .before .before .before .before .before .before .before .before .before .before .before .before .before .before .before .eval-part .ensures) (c .before .before .before .before .before .before .before .before .before .before .before .before .before .before .before .before .before .before .before .before .eval-part2 .ensures) (c .before .before .before .before .before .before .before .before .before .before .before .before .before .before .room2 .ensures) (c .before .before .before .before .before .before .before .before .before .eval-part3 .ensures), as-long (c .before .before .before .before .before .before .before .before .before .before .before .before .before .before .before .before .before .before .before .before .before .before .before .before .before .before .before .before .before .before .before .before .before .before .before .before .before .before .before .before .pre .1 .0 .1) (c .before .before .before .before .before .before .before .before .before .before .before .before .before .before .before .before .before .before .before .before .before .before .before .before .before .before .before .before .before .before .before .before .before .before .before .before .before .before .before .before .pre .1 .1) (c .before .before .before .before .before .before .before .before .before .before .before .before .before .before .before .before .before .before .before .before .before .before .before .before .before .before .before .before .before .before .before .before .before .before .before .before .word .ensures .0) (c .before .before .before .before .before .before .before .before .before .before .before .before .before .before .before .before .before .before .before .before .before .before .before .before .before .word2 .ensures .0) (c .before .before .before .before .before .before .before .before .before .before .before .before .before .before .before .word3 .ensures .0) (c .before .before .before .before .before .word4 .ensures .0) refl (c .before .before .before .before .before .before .before .before .before .before .before .before .before .before .before .before .before .before .before .before .before .before .before .before .before .before .before .before .before .before .before .before .before .before .room .ensures) (c .before .before .before .before .before .before .before .before .before .before .before .before .before .before .before .before .before .before .before .before .before .before .before .before .before .before .before .before .before .eval-part .ensures) (c .before .before .before .before .before .before .before .before .before .before .before .before .before .before .before .before .before .before .before .before .eval-part2 .ensures) (c .before .before .before .before .before .before .before .before .before .before .before .before .before .before .room2 .ensures) (c .before .before .before .before .before .before .before .before .before .eval-part3 .ensures))
+of-if-choose-value-requires t c κs = (pattern-matching (c .before .before .before .before .before .before .before .before .before .before .before .before .before .before .before .before .before .before .before .before .before .before .before .before .before .before .before .before .before .before .before .before .before .before .before .before .before .before .before .before .pre .1 .0 .1) (c .before .before .before .before .before .before .before .before .before .before .before .before .before .before .before .before .before .before .before .before .before .before .before .before .before .before .before .before .before .before .before .before .before .before .before .before .before .before .before .before .pre .1 .1) (c .before .before .before .before .before .before .before .before .before .before .before .before .before .before .before .before .before .before .before .before .before .before .before .before .before .before .before .before .before .before .before .before .before .before .before .before .word .ensures .0) (c .before .before .before .before .before .before .before .before .before .before .before .before .before .before .before .before .before .before .before .before .before .before .before .before .before .word2 .ensures .0) (c .before .before .before .before .before .before .before .before .before .before .before .before .before .before .before .word3 .ensures .0) (c .before .before .before .before .before .word4 .ensures .0) refl (c .before .before .before .before .before .before .before .before .before .before .before .before .before .before .before .before .before .before .before .before .before .before .before .before .before .before .before .before .before .before .before .before .before .before .room .ensures) (c .before .before .before .before .before .before .before .before .before .before .before .before .before .before .before .before .before .before .before .before .before .before .before .before .before .before .before .before .before .eval-part .ensures) (c .before .before .before .before .before .before .before .before .before .before .before .before .before .before .before .before .before .before .before .before .eval-part2 .ensures) (c .before .before .before .before .before .before .before .before .before .before .before .before .before .before .room2 .ensures) (c .before .before .before .before .before .before .before .before .before .eval-part3 .ensures), as-long (c .before .before .before .before .before .before .before .before .before .before .before .before .before .before .before .before .before .before .before .before .before .before .before .before .before .before .before .before .before .before .before .before .before .before .before .before .before .before .before .before .pre .1 .0 .1) (c .before .before .before .before .before .before .before .before .before .before .before .before .before .before .before .before .before .before .before .before .before .before .before .before .before .before .before .before .before .before .before .before .before .before .before .before .before .before .before .before .pre .1 .1) (c .before .before .before .before .before .before .before .before .before .before .before .before .before .before .before .before .before .before .before .before .before .before .before .before .before .before .before .before .before .before .before .before .before .before .before .before .word .ensures .0) (c .before .before .before .before .before .before .before .before .before .before .before .before .before .before .before .before .before .before .before .before .before .before .before .before .before .word2 .ensures .0) (c .before .before .before .before .before .before .before .before .before .before .before .before .before .before .before .word3 .ensures .0) (c .before .before .before .before .before .word4 .ensures .0) refl (c .before .before .before .before .before .before .before .before .before .before .before .before .before .before .before .before .before .before .before .before .before .before .before .before .before .before .before .before .before .before .before .before .before .before .room .ensures) (c .before .before .before .before .before .before .before .before .before .before .before .before .before .before .before .before .before .before .before .before .before .before .before .before .before .before .before .before .before .eval-part .ensures) (c .before .before .before .before .before .before .before .before .before .before .before .before .before .before .before .before .before .before .before .before .eval-part2 .ensures) (c .before .before .before .before .before .before .before .before .before .before .before .before .before .before .room2 .ensures) (c .before .before .before .before .before .before .before .before .before .eval-part3 .ensures))
 
 of-if-cast-fired : (t : ℕ) → of-if-lts.Need-cast-fired (of-if-claims t) (of-if-at t) of-if.Post
 of-if-cast-fired t c = search needs
@@ -569,22 +569,22 @@ of-let-room-requires : (t : ℕ) → of-let-lts.Need-room-requires (of-let-claim
 of-let-room-requires t c κs = tt
 
 of-let-sub-eval-part : (t : ℕ) → of-let-lts.Need-sub-eval-part (of-let-claims t) (of-let-at t) of-let.Post
-of-let-sub-eval-part t c = from-none _
+of-let-sub-eval-part t c = from-zero _
 
 of-let-part-value-start : (t : ℕ) → of-let-lts.Need-part-value-start (of-let-claims t) (of-let-at t) of-let.Post
-of-let-part-value-start t c = from-none _
+of-let-part-value-start t c = from-zero _
 
 of-let-part-value-end : (t : ℕ) → of-let-lts.Need-part-value-end (of-let-claims t) (of-let-at t) of-let.Post
 of-let-part-value-end t c = fits-room (c .before .before .before .before .before .before .before .before .pre .1 .0 .1) (defining-scope (c .before .before .before .before .before .before .before .before .pre .1 .0 .1) (c .before .before .before .before .before .before .before .before .pre .1 .1) (c .before .before .before .before .word .ensures .0) refl refl refl) refl (c .before .before .room .ensures)
 
 of-let-eval-part-requires : (t : ℕ) → of-let-lts.Need-eval-part-requires (of-let-claims t) (of-let-at t) of-let.Post
-of-let-eval-part-requires t c κs = let h = (higher (c .before .before .before .before .before .before .before .before .before .before .pre .1 .0 .1) letIn (c .before .before .before .before .before .before .before .before .before .before .pre .1 .1) 2 refl (unfold askOfKind in refl) (c .before .before .before .before .before .before .word .ensures .0)) in (omega (arith, c .before .before .before .before .before .before .before .before .before .before .pre .0, h .0, h .1), (c .before .before .before .before .before .before .before .before .before .before .pre .1 .0 .0, room-ready (c .before .before .before .before .before .before .before .before .before .before .pre .1 .0 .1) (defining-scope (c .before .before .before .before .before .before .before .before .before .before .pre .1 .0 .1) (c .before .before .before .before .before .before .before .before .before .before .pre .1 .1) (c .before .before .before .before .before .before .word .ensures .0) refl refl refl) refl (c .before .before .before .before .room .ensures)))
+of-let-eval-part-requires t c κs = let h = (part-higher (c .before .before .before .before .before .before .before .before .before .before .pre .1 .0 .1) letIn (c .before .before .before .before .before .before .before .before .before .before .pre .1 .1) 2 refl (unfold askOfKind in refl) (c .before .before .before .before .before .before .word .ensures .0)) in (omega (arith, c .before .before .before .before .before .before .before .before .before .before .pre .0, h .0, h .1), (c .before .before .before .before .before .before .before .before .before .before .pre .1 .0 .0, room-ready (c .before .before .before .before .before .before .before .before .before .before .pre .1 .0 .1) (defining-scope (c .before .before .before .before .before .before .before .before .before .before .pre .1 .0 .1) (c .before .before .before .before .before .before .before .before .before .before .pre .1 .1) (c .before .before .before .before .before .before .word .ensures .0) refl refl refl) refl (c .before .before .before .before .room .ensures)))
 
 of-let-sub-enter-value : (t : ℕ) → of-let-lts.Need-sub-enter-value (of-let-claims t) (of-let-at t) of-let.Post
-of-let-sub-enter-value t c = from-none _
+of-let-sub-enter-value t c = from-zero _
 
 of-let-part-enter-value-start : (t : ℕ) → of-let-lts.Need-part-enter-value-start (of-let-claims t) (of-let-at t) of-let.Post
-of-let-part-enter-value-start t c = from-none _
+of-let-part-enter-value-start t c = from-zero _
 
 of-let-part-enter-value-end : (t : ℕ) → of-let-lts.Need-part-enter-value-end (of-let-claims t) (of-let-at t) of-let.Post
 of-let-part-enter-value-end t c = let-inside (c .before .before .before .before .before .before .before .before .before .before .before .before .before .before .before .before .pre .1 .0 .1) (c .before .before .before .before .before .before .before .before .before .before .before .before .before .before .before .before .pre .1 .1) (c .before .before .before .before .before .before .before .before .before .before .before .before .word .ensures .0) refl refl (c .before .before .before .before .before .before .before .before .before .before .room .ensures) (c .before .before .before .before .before .eval-part .ensures)
@@ -599,7 +599,7 @@ of-let-add-eval-part : (t : ℕ) → of-let-lts.Need-add-eval-part (of-let-claim
 of-let-add-eval-part t c = let f = ready-few (c .before .before .before .before .before .before .before .before .before .before .before .before .before .before .before .before .before .before .before .before .before .before .pre .1 .0 .1) in omega arith
 
 of-let-eval-part-requires-2 : (t : ℕ) → of-let-lts.Need-eval-part-requires-2 (of-let-claims t) (of-let-at t) of-let.Post
-of-let-eval-part-requires-2 t c κs = let h = (higher (c .before .before .before .before .before .before .before .before .before .before .before .before .before .before .before .before .before .before .before .before .before .before .before .before .before .pre .1 .0 .1) letIn (c .before .before .before .before .before .before .before .before .before .before .before .before .before .before .before .before .before .before .before .before .before .before .before .before .before .pre .1 .1) 3 refl (unfold askOfKind in refl) (c .before .before .before .before .word2 .ensures .0)) in (omega (arith, c .before .before .before .before .before .before .before .before .before .before .before .before .before .before .before .before .before .before .before .before .before .before .before .before .before .pre .0, h .0, h .1), (_, let-body-ready (c .before .before .before .before .before .before .before .before .before .before .before .before .before .before .before .before .before .before .before .before .before .before .before .before .before .pre .1 .0 .1) (c .before .before .before .before .before .before .before .before .before .before .before .before .before .before .before .before .before .before .before .before .before .before .before .before .before .pre .1 .1) (c .before .before .before .before .before .before .before .before .before .before .before .before .before .before .before .before .before .before .before .before .before .word .ensures .0) (c .before .before .before .before .word2 .ensures .0) refl (c .before .before .before .before .before .before .before .before .before .before .before .before .before .before .before .before .before .before .before .room .ensures) (c .before .before .before .before .before .before .before .before .before .before .before .before .before .before .eval-part .ensures) (c .before .before .before .before .before .before .before .enter-value .ensures)))
+of-let-eval-part-requires-2 t c κs = let h = (part-higher (c .before .before .before .before .before .before .before .before .before .before .before .before .before .before .before .before .before .before .before .before .before .before .before .before .before .pre .1 .0 .1) letIn (c .before .before .before .before .before .before .before .before .before .before .before .before .before .before .before .before .before .before .before .before .before .before .before .before .before .pre .1 .1) 3 refl (unfold askOfKind in refl) (c .before .before .before .before .word2 .ensures .0)) in (omega (arith, c .before .before .before .before .before .before .before .before .before .before .before .before .before .before .before .before .before .before .before .before .before .before .before .before .before .pre .0, h .0, h .1), (_, let-body-ready (c .before .before .before .before .before .before .before .before .before .before .before .before .before .before .before .before .before .before .before .before .before .before .before .before .before .pre .1 .0 .1) (c .before .before .before .before .before .before .before .before .before .before .before .before .before .before .before .before .before .before .before .before .before .before .before .before .before .pre .1 .1) (c .before .before .before .before .before .before .before .before .before .before .before .before .before .before .before .before .before .before .before .before .before .word .ensures .0) (c .before .before .before .before .word2 .ensures .0) refl (c .before .before .before .before .before .before .before .before .before .before .before .before .before .before .before .before .before .before .before .room .ensures) (c .before .before .before .before .before .before .before .before .before .before .before .before .before .before .eval-part .ensures) (c .before .before .before .before .before .before .before .enter-value .ensures)))
 
 of-let-same-length : (t : ℕ) → of-let-lts.Need-same-length (of-let-claims t) (of-let-at t) of-let.Post
 of-let-same-length t c = search needs
@@ -617,19 +617,19 @@ of-pair-element-copy-out-w : (t : ℕ) → of-pair-lts.Need-element-copy-out-w (
 of-pair-element-copy-out-w t c = entry-there (c .before .before .before .before .pre .1 .0 .1) tuple (c .before .before .before .before .pre .1 .1) 2 refl (unfold askOfKind in refl) (c .word .ensures .0)
 
 of-pair-cast-w : (t : ℕ) → of-pair-lts.Need-cast-w (of-pair-claims t) (of-pair-at t) of-pair.Post
-of-pair-cast-w t c = let f = pair-small (c .before .before .before .before .before .pre .1 .0 .1) (c .before .before .before .before .before .pre .1 .1) (c .before .word .ensures .0) refl in omega arith
+of-pair-cast-w t c = let f = pair-width-small (c .before .before .before .before .before .pre .1 .0 .1) (c .before .before .before .before .before .pre .1 .1) (c .before .word .ensures .0) refl in omega arith
 
 of-pair-sub-eval-part : (t : ℕ) → of-pair-lts.Need-sub-eval-part (of-pair-claims t) (of-pair-at t) of-pair.Post
-of-pair-sub-eval-part t c = from-none _
+of-pair-sub-eval-part t c = from-zero _
 
 of-pair-part-eval-part-start : (t : ℕ) → of-pair-lts.Need-part-eval-part-start (of-pair-claims t) (of-pair-at t) of-pair.Post
-of-pair-part-eval-part-start t c = from-none _
+of-pair-part-eval-part-start t c = from-zero _
 
 of-pair-part-eval-part-end : (t : ℕ) → of-pair-lts.Need-part-eval-part-end (of-pair-claims t) (of-pair-at t) of-pair.Post
 of-pair-part-eval-part-end t c = pair-cut (c .before .before .before .before .before .before .before .pre .1 .0 .1) (c .before .before .before .before .before .before .before .pre .1 .1) (c .before .before .before .word .ensures .0) refl refl
 
 of-pair-eval-part-requires : (t : ℕ) → of-pair-lts.Need-eval-part-requires (of-pair-claims t) (of-pair-at t) of-pair.Post
-of-pair-eval-part-requires t c κs = let h = (higher (c .before .before .before .before .before .before .before .before .before .pre .1 .0 .1) tuple (c .before .before .before .before .before .before .before .before .before .pre .1 .1) 2 refl (unfold askOfKind in refl) (c .before .before .before .before .before .word .ensures .0)) in (omega (arith, c .before .before .before .before .before .before .before .before .before .pre .0, h .0, h .1), (c .before .before .before .before .before .before .before .before .before .pre .1 .0 .0, pair-first-ready (c .before .before .before .before .before .before .before .before .before .pre .1 .0 .1) (c .before .before .before .before .before .before .before .before .before .pre .1 .1) (c .before .before .before .before .before .word .ensures .0) refl refl))
+of-pair-eval-part-requires t c κs = let h = (part-higher (c .before .before .before .before .before .before .before .before .before .pre .1 .0 .1) tuple (c .before .before .before .before .before .before .before .before .before .pre .1 .1) 2 refl (unfold askOfKind in refl) (c .before .before .before .before .before .word .ensures .0)) in (omega (arith, c .before .before .before .before .before .before .before .before .before .pre .0, h .0, h .1), (c .before .before .before .before .before .before .before .before .before .pre .1 .0 .0, pair-first-ready (c .before .before .before .before .before .before .before .before .before .pre .1 .0 .1) (c .before .before .before .before .before .before .before .before .before .pre .1 .1) (c .before .before .before .before .before .word .ensures .0) refl refl))
 
 of-pair-word-requires-2 : (t : ℕ) → of-pair-lts.Need-word-requires-2 (of-pair-claims t) (of-pair-at t) of-pair.Post
 of-pair-word-requires-2 t c κs = ready-word (c .before .before .before .before .before .before .before .before .before .before .before .before .before .before .pre .1 .0 .1) (omega arith)
@@ -644,7 +644,7 @@ of-pair-part-eval-part-end-2 : (t : ℕ) → of-pair-lts.Need-part-eval-part-end
 of-pair-part-eval-part-end-2 t c = to-the-end _
 
 of-pair-eval-part-requires-2 : (t : ℕ) → of-pair-lts.Need-eval-part-requires-2 (of-pair-claims t) (of-pair-at t) of-pair.Post
-of-pair-eval-part-requires-2 t c κs = let h = (higher (c .before .before .before .before .before .before .before .before .before .before .before .before .before .before .before .before .before .before .before .pre .1 .0 .1) tuple (c .before .before .before .before .before .before .before .before .before .before .before .before .before .before .before .before .before .before .before .pre .1 .1) 3 refl (unfold askOfKind in refl) (c .before .before .before .before .word2 .ensures .0)) in (omega (arith, c .before .before .before .before .before .before .before .before .before .before .before .before .before .before .before .before .before .before .before .pre .0, h .0, h .1), (c .before .before .before .before .before .before .before .before .before .before .before .before .before .before .before .before .before .before .before .pre .1 .0 .0, pair-second-ready (c .before .before .before .before .before .before .before .before .before .before .before .before .before .before .before .before .before .before .before .pre .1 .0 .1) (c .before .before .before .before .before .before .before .before .before .before .before .before .before .before .before .before .before .before .before .pre .1 .1) (c .before .before .before .before .before .before .before .before .before .before .before .before .before .before .before .word .ensures .0) (c .before .before .before .before .word2 .ensures .0) refl (c .before .before .before .before .before .before .before .before .before .eval-part .ensures)))
+of-pair-eval-part-requires-2 t c κs = let h = (part-higher (c .before .before .before .before .before .before .before .before .before .before .before .before .before .before .before .before .before .before .before .pre .1 .0 .1) tuple (c .before .before .before .before .before .before .before .before .before .before .before .before .before .before .before .before .before .before .before .pre .1 .1) 3 refl (unfold askOfKind in refl) (c .before .before .before .before .word2 .ensures .0)) in (omega (arith, c .before .before .before .before .before .before .before .before .before .before .before .before .before .before .before .before .before .before .before .pre .0, h .0, h .1), (c .before .before .before .before .before .before .before .before .before .before .before .before .before .before .before .before .before .before .before .pre .1 .0 .0, pair-second-ready (c .before .before .before .before .before .before .before .before .before .before .before .before .before .before .before .before .before .before .before .pre .1 .0 .1) (c .before .before .before .before .before .before .before .before .before .before .before .before .before .before .before .before .before .before .before .pre .1 .1) (c .before .before .before .before .before .before .before .before .before .before .before .before .before .before .before .word .ensures .0) (c .before .before .before .before .word2 .ensures .0) refl (c .before .before .before .before .before .before .before .before .before .eval-part .ensures)))
 
 of-pair-same-length : (t : ℕ) → of-pair-lts.Need-same-length (of-pair-claims t) (of-pair-at t) of-pair.Post
 of-pair-same-length t c = search needs
@@ -668,16 +668,16 @@ of-second-room-requires : (t : ℕ) → of-second-lts.Need-room-requires (of-sec
 of-second-room-requires t c κs = tt
 
 of-second-sub-eval-part : (t : ℕ) → of-second-lts.Need-sub-eval-part (of-second-claims t) (of-second-at t) of-second.Post
-of-second-sub-eval-part t c = from-none _
+of-second-sub-eval-part t c = from-zero _
 
 of-second-part-whole-start : (t : ℕ) → of-second-lts.Need-part-whole-start (of-second-claims t) (of-second-at t) of-second.Post
-of-second-part-whole-start t c = from-none _
+of-second-part-whole-start t c = from-zero _
 
 of-second-part-whole-end : (t : ℕ) → of-second-lts.Need-part-whole-end (of-second-claims t) (of-second-at t) of-second.Post
 of-second-part-whole-end t c = fits-room (c .before .before .before .before .before .before .before .before .pre .1 .0 .1) (second-scope (c .before .before .before .before .before .before .before .before .pre .1 .0 .1) (c .before .before .before .before .before .before .before .before .pre .1 .1) (c .before .before .before .before .word .ensures .0) refl refl) refl (c .before .before .room .ensures)
 
 of-second-eval-part-requires : (t : ℕ) → of-second-lts.Need-eval-part-requires (of-second-claims t) (of-second-at t) of-second.Post
-of-second-eval-part-requires t c κs = let h = (higher (c .before .before .before .before .before .before .before .before .before .before .pre .1 .0 .1) second (c .before .before .before .before .before .before .before .before .before .before .pre .1 .1) 2 refl (unfold askOfKind in refl) (c .before .before .before .before .before .before .word .ensures .0)) in (omega (arith, c .before .before .before .before .before .before .before .before .before .before .pre .0, h .0, h .1), (c .before .before .before .before .before .before .before .before .before .before .pre .1 .0 .0, room-ready (c .before .before .before .before .before .before .before .before .before .before .pre .1 .0 .1) (second-scope (c .before .before .before .before .before .before .before .before .before .before .pre .1 .0 .1) (c .before .before .before .before .before .before .before .before .before .before .pre .1 .1) (c .before .before .before .before .before .before .word .ensures .0) refl refl) refl (c .before .before .before .before .room .ensures)))
+of-second-eval-part-requires t c κs = let h = (part-higher (c .before .before .before .before .before .before .before .before .before .before .pre .1 .0 .1) second (c .before .before .before .before .before .before .before .before .before .before .pre .1 .1) 2 refl (unfold askOfKind in refl) (c .before .before .before .before .before .before .word .ensures .0)) in (omega (arith, c .before .before .before .before .before .before .before .before .before .before .pre .0, h .0, h .1), (c .before .before .before .before .before .before .before .before .before .before .pre .1 .0 .0, room-ready (c .before .before .before .before .before .before .before .before .before .before .pre .1 .0 .1) (second-scope (c .before .before .before .before .before .before .before .before .before .before .pre .1 .0 .1) (c .before .before .before .before .before .before .before .before .before .before .pre .1 .1) (c .before .before .before .before .before .before .word .ensures .0) refl refl) refl (c .before .before .before .before .room .ensures)))
 
 of-second-sub-put : (t : ℕ) → of-second-lts.Need-sub-put (of-second-claims t) (of-second-at t) of-second.Post
 of-second-sub-put t c = second-few (c .before .before .before .before .before .before .before .before .before .before .before .before .before .before .pre .1 .0 .1) (c .before .before .before .before .before .before .before .before .before .before .before .before .before .before .pre .1 .1) (c .before .before .before .before .before .before .before .before .before .before .word .ensures .0) refl (c .before .before .before .before .before .before .before .before .room .ensures) (c .before .before .before .eval-part .ensures)

@@ -1,6 +1,6 @@
 -- Assumes nothing.
 use native.Mathlib.Omega.{arith}
-use Rattle.firing.proofs.Telling.{output-there, output-few, told-looking, told-words}
+use Rattle.firing.proofs.Telling.{fired-output-there, fired-output-few, told-looking, told-words}
 use borrow.Author.Needs.{needs}
 use Rattle.firing.proofs.tell.Statement.{statement}
 use Rattle.firing.proofs.tell.Tie as tie
@@ -8,8 +8,8 @@ use Rattle.firing.proofs.tell.Tie as tie
 no-names-requires : tie.Need-no-names-requires
 no-names-requires c κs = search needs
 
-no-names-requires-2 : tie.Need-no-names-requires-2
-no-names-requires-2 c κs = search needs
+no-next-values-requires : tie.Need-no-next-values-requires
+no-next-values-requires c κs = search needs
 
 none-fired-requires : tie.Need-none-fired-requires
 none-fired-requires c κs = search needs
@@ -18,10 +18,10 @@ no-output-requires : tie.Need-no-output-requires
 no-output-requires c κs = search needs
 
 element-copy-out-wo : tie.Need-element-copy-out-wo
-element-copy-out-wo c = output-there (c .before .before .before .before .before .before .before .pre)
+element-copy-out-wo c = fired-output-there (c .before .before .before .before .before .before .before .pre)
 
 cast-wo : tie.Need-cast-wo
-cast-wo c = let f = output-few (c .before .before .before .before .before .before .before .before .pre) in omega arith
+cast-wo c = let f = fired-output-few (c .before .before .before .before .before .before .before .before .pre) in omega arith
 
 sub-look : tie.Need-sub-look
 sub-look c = search needs
@@ -39,10 +39,10 @@ part-out-start : tie.Need-part-out-start
 part-out-start c = search needs
 
 part-out-end : tie.Need-part-out-end
-part-out-end c = let f = output-few (c .before .before .before .before .before .before .before .before .before .before .before .pre) in let l = c .before .before .before .before .no-output .ensures in omega arith
+part-out-end c = let f = fired-output-few (c .before .before .before .before .before .before .before .before .before .before .before .pre) in let l = c .before .before .before .before .no-output .ensures in omega arith
 
 look-requires : tie.Need-look-requires
-look-requires c κs = told-looking (c .before .before .before .before .before .before .before .before .before .before .before .before .pre) (c .before .before .before .before .before .before .before .before .no-names .result) (c .before .before .before .before .before .before .before .no-names2 .result) (c .before .before .before .before .before .no-output .result) (c .before .before .before .before .before .before .before .before .no-names .ensures) (c .before .before .before .before .before .before .before .no-names2 .ensures) (c .before .before .before .before .before .no-output .ensures)
+look-requires c κs = told-looking (c .before .before .before .before .before .before .before .before .before .before .before .before .pre) (c .before .before .before .before .before .before .before .before .no-names .result) (c .before .before .before .before .before .before .before .no-next-values .result) (c .before .before .before .before .before .no-output .result) (c .before .before .before .before .before .before .before .before .no-names .ensures) (c .before .before .before .before .before .before .before .no-next-values .ensures) (c .before .before .before .before .before .no-output .ensures)
 
 copy-words-requires : tie.Need-copy-words-requires
 copy-words-requires c κs = search needs
@@ -58,7 +58,7 @@ tell-spec =
     tie.close
     (tie.spec
     no-names-requires
-    no-names-requires-2
+    no-next-values-requires
     none-fired-requires
     no-output-requires
     element-copy-out-wo

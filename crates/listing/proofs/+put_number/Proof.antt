@@ -31,21 +31,21 @@ add-last : (t : ℕ) → put-number-lts.Need-add-last (claims t) (put-number-at 
 add-last t c = search needs
 
 put-byte-requires : (t : ℕ) → put-number-lts.Need-put-byte-requires (claims t) (put-number-at t) put-number.Post
-put-byte-requires t c κs = one-room _ _ _ (c .before .before .before .pre .1) (c .before .if1 .taken)
+put-byte-requires t c κs = one-room (c .before .before .before .pre .1) (c .before .if1 .taken)
 
 same-length : (t : ℕ) → put-number-lts.Need-same-length (claims t) (put-number-at t) put-number.Post
 same-length t c = search needs
 
 returns : (t : ℕ) → put-number-lts.Need-returns (claims t) (put-number-at t) put-number.Post
-returns t c = one-digit _ (c .before .before .before .before .if1 .taken) (c .before .before .put-byte .ensures)
+returns t c = one-digit (c .before .before .before .before .if1 .taken) (c .before .before .put-byte .ensures)
 
 put-number-requires : (t : ℕ) → put-number-lts.Need-put-number-requires (claims t) (put-number-at t) put-number.Post
 put-number-requires t c κs =
-    let front = front-room _ _ _ (c .before .before .before .pre .1) (c .before .if1 .left) in (omega arith, omega arith)
+    let front = front-room _ (c .before .before .before .pre .1) (c .before .if1 .left) in (omega arith, omega arith)
 
 put-byte-requires-2 : (t : ℕ) → put-number-lts.Need-put-byte-requires-2 (claims t) (put-number-at t) put-number.Post
 put-byte-requires-2 t c κs =
-    let front = front-room _ _ _ (c .before .before .before .before .before .before .before .pre .1) (c .before .before .before .before .before .if1 .left) in
+    let front = front-room _ (c .before .before .before .before .before .before .before .pre .1) (c .before .before .before .before .before .if1 .left) in
     let place = c .before .before .before .put-number .ensures .place in
     let long = c .before .before .before .put-number .kept .0 in
     omega arith
@@ -55,7 +55,7 @@ same-length-2 t c = search needs
 
 returns-2 : (t : ℕ) → put-number-lts.Need-returns-2 (claims t) (put-number-at t) put-number.Post
 returns-2 t c =
-    last-digit _ (c .before .before .before .before .before .before .before .before .if1 .left) (c .before .before .before .before .before .before .put-number .ensures) (c .before .before .put-byte2 .ensures)
+    last-digit (c .before .before .before .before .before .before .before .before .if1 .left) (c .before .before .before .before .before .before .put-number .ensures) (c .before .before .put-byte2 .ensures)
 
 pub +put-number-spec : {M : Type 1} → statement M
 +put-number-spec = close μ-put-number λ t. put-number-lts.spec (claims t)

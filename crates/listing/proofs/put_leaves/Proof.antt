@@ -5,7 +5,7 @@ use native.Mathlib.Omega.{arith}
 use lib.ListN.{length}
 use Rattle.listing.specs.Lines.{leafTexts}
 use Rattle.listing.proofs.Written.{wrote-long}
-use Rattle.listing.proofs.Items.{Begun, each-leaf, begin, next-room, next-item, all-written}
+use Rattle.listing.proofs.Items.{Begun, each-leaf, items-begun, next-room, next-item, all-written}
 use Rattle.listing.proofs.put_leaves.Statement.{statement}
 use Rattle.listing.proofs.put_leaves.Tie as tie
 
@@ -16,7 +16,7 @@ abbrev μ-loop : tie.MeasureT-loop
 μ-loop buffer₀ at leaves place₀ i₀ buffer place i = length leaves - i
 
 loop-holds : tie.Need-loop-holds Inv-loop μ-loop
-loop-holds c = begin each-leaf _ _ _ (search needs)
+loop-holds c = items-begun each-leaf _ _ _ (search needs)
 
 shared-slice-read-put-leaf : tie.Need-shared-slice-read-put-leaf Inv-loop μ-loop
 shared-slice-read-put-leaf c = search needs

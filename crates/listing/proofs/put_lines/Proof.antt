@@ -5,7 +5,7 @@ use Prim.Native.Nat.{_-_}
 use native.Mathlib.Omega.{arith}
 use lib.ListN.{length, length-take}
 use Rattle.listing.specs.Fills.{Filling}
-use Rattle.listing.proofs.Filling.{none-filled, one-filled}
+use Rattle.listing.proofs.Filling.{no-line-filled, one-filled}
 use Rattle.listing.proofs.Written.{wrote-long}
 use Rattle.listing.proofs.put_lines.Statement.{statement}
 use Rattle.listing.proofs.put_lines.Tie as tie
@@ -18,7 +18,7 @@ abbrev μ-loop : tie.MeasureT-loop
 μ-loop buffer₀ at k w outputs first count₀ next₀ end₀ buffer count next end = length outputs - next
 
 loop-holds : tie.Need-loop-holds Inv-loop μ-loop
-loop-holds c = none-filled (c .before .before .pre)
+loop-holds c = no-line-filled (c .before .before .pre)
 
 sub-loop : tie.Need-sub-loop Inv-loop μ-loop
 sub-loop c = search needs

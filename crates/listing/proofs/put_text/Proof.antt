@@ -4,7 +4,7 @@ use Prim.Native.Nat.{_-_}
 use native.Mathlib.Omega.{arith}
 use lib.ListN.{length}
 use Rattle.listing.proofs.Written.{wrote-long}
-use Rattle.listing.proofs.Items.{Begun, each-byte, begin, next-room, next-item, all-written}
+use Rattle.listing.proofs.Items.{Begun, each-byte, items-begun, next-room, next-item, all-written}
 use Rattle.listing.proofs.put_text.Statement.{statement}
 use Rattle.listing.proofs.put_text.Tie as tie
 
@@ -15,7 +15,7 @@ abbrev μ-loop : tie.MeasureT-loop
 μ-loop buffer₀ at text place₀ i₀ buffer place i = length text - i
 
 loop-holds : tie.Need-loop-holds Inv-loop μ-loop
-loop-holds c = begin each-byte _ _ _ (search needs)
+loop-holds c = items-begun each-byte _ _ _ (search needs)
 
 shared-slice-read-put-byte : tie.Need-shared-slice-read-put-byte Inv-loop μ-loop
 shared-slice-read-put-byte c = search needs

@@ -7,8 +7,8 @@ use Rattle.preview.proofs.show.Tie as tie
 no-names-requires : tie.Need-no-names-requires
 no-names-requires c κs = search needs
 
-no-names-requires-2 : tie.Need-no-names-requires-2
-no-names-requires-2 c κs = search needs
+no-next-values-requires : tie.Need-no-next-values-requires
+no-next-values-requires c κs = search needs
 
 none-fired-requires : tie.Need-none-fired-requires
 none-fired-requires c κs = search needs
@@ -36,7 +36,7 @@ show-spec =
     tie.close
     (tie.spec
     no-names-requires
-    no-names-requires-2
+    no-next-values-requires
     none-fired-requires
     sub-look
     part-env-start

@@ -3,15 +3,15 @@
 use Prim.Native.Nat.{_-_, _≤_}
 use borrow.Author.Needs.{needs}
 use native.Mathlib.Omega.{arith}
-use Rattle.reading.proofs.Loop.{LeftToRead, left-at-first, ready-first, ready-next, byte-after, byte-refused, all-read}
+use Rattle.reading.proofs.Loop.{LeftToRead, left-at-first, ready-first, ready-next, byte-after, byte-refused, text-read}
 use Rattle.reading.proofs.Steps.{letter-read}
 use Rattle.reading.proofs.first_illegal.Statement.{statement}
 use Rattle.reading.proofs.first_illegal.Tie as tie
-use Rattle.reading.specs.Coded.{Ready}
+use Rattle.reading.specs.Coded.{Stepping}
 
 abbrev Inv-loop : tie.InvT-loop
 Inv-loop text all stop nexts waits words letters stack₀ state₀ word₀ depth₀ i₀ stack state word depth i =
-    LeftToRead text i state word depth stack × (i ≤ stop) × (depth ≤ i) × Ready state word depth stack
+    LeftToRead text i state word depth stack × (i ≤ stop) × (depth ≤ i) × Stepping state word depth stack
 
 abbrev μ-loop : tie.MeasureT-loop
 μ-loop text all stop nexts waits words letters stack₀ state₀ word₀ depth₀ i₀ stack state word depth i =
@@ -66,7 +66,7 @@ conclude-requires : tie.Need-conclude-requires Inv-loop μ-loop
 conclude-requires c κs = search needs
 
 returns-2 : tie.Need-returns-2 Inv-loop μ-loop
-returns-2 c = all-read (c .before .before .before .loop .inv .0) (search needs) (c .before .before .before .loop .inv .3) _ (letter-read _ _ _ (c .before .before .before .before .before .letter-table .ensures) (c .before .wide .ensures)) _ (c .conclude .ensures)
+returns-2 c = text-read (c .before .before .before .loop .inv .0) (search needs) (c .before .before .before .loop .inv .3) _ (letter-read _ _ _ (c .before .before .before .before .before .letter-table .ensures) (c .before .wide .ensures)) _ (c .conclude .ensures)
 
 pub first-illegal-spec : {M : Type 1} → statement M
 first-illegal-spec =

@@ -14,7 +14,7 @@ element-copy-out-letter : tie.Need-element-copy-out-letter
 element-copy-out-letter c = search needs
 
 spell-requires : tie.Need-spell-requires
-spell-requires c κs = not-last (c .before .before .before .args .word) (c .before .before .before .pre .0 .few-words) (λ z. c .if1 .taken (sym (letter-read (c .before .before .before .args .letters .now) _ _ (c .before .before .before .pre .2) (c .before .before .wide .ensures)) ∙ z))
+spell-requires c κs = not-last (c .before .before .before .pre .0 .few-words) (λ z. c .if1 .taken (sym (letter-read (c .before .before .before .args .letters .now) _ _ (c .before .before .before .pre .2) (c .before .before .wide .ensures)) ∙ z))
 
 returns : tie.Need-returns
 returns c = worded _ _ _ _ _ _ (c .before .before .before .before .pre .0) (spelled-byte (c .before .before .before .before .pre .0) (c .before .before .before .before .args .b) _ (letter-read (c .before .before .before .before .args .letters .now) _ _ (c .before .before .before .before .pre .2) (c .before .before .before .wide .ensures)) (c .before .if1 .taken)) (c .spell .ensures)

@@ -12,7 +12,7 @@ use Rattle.grammar.specs.Source.{Text}
 use Rattle.grammar.specs.Legal.{Reading}
 use Rattle.reading.specs.Coded.{stateOf, stackOf}
 use Rattle.scoping.specs.Scoped.{heldScope}
-use Rattle.resolving.specs.Walked.{Walking, WalksHeld}
+use Rattle.resolving.specs.Walked.{TakingToken, WalksHeld}
 use Rattle.resolving.proofs.SayingLaws.{emptied}
 use Rattle.resolving.proofs.Walks.{walks-done}
 use Rattle.resolving.proofs.TakenLaws.{walks-begin, walking-first, walking-at, token-on, token-refused}
@@ -21,7 +21,7 @@ use Rattle.resolving.proofs.resolve.Tie as tie
 
 abbrev Inv-loop : tie.InvT-loop
 Inv-loop text ops₀ firsts₀ seconds₀ nexts waits words effects admissions sayings stack₀ spans₀ links₀ heads₀ roles₀ pendings₀ types₀ ranks₀ state₀ depth₀ base₀ all₀ waiting₀ count₀ i₀ ops firsts seconds stack spans links heads roles pendings types ranks state depth base all waiting count i =
-    Walking text i state depth base all waiting count stack spans links heads roles pendings types ranks ops firsts seconds × (i ≤ length text)
+    TakingToken text i state depth base all waiting count stack spans links heads roles pendings types ranks ops firsts seconds × (i ≤ length text)
     × ((ts : List Token) (t : Text) → Reading text ts t
     → WalksHeld text ts t i (stateOf state) (stackOf depth stack) (heldScope text base all waiting spans roles pendings) ops firsts seconds count)
 

@@ -3,7 +3,7 @@ use native.Mathlib.Omega.{arith}
 use Rattle.records.specs.Trees.{chain}
 use Rattle.values.proofs.Gathering.{left}
 use Rattle.stepper.specs.Cycling.{Copying}
-use Rattle.stepper.proofs.Copies.{Left, all-left, leaf-there, leaf-bytes, high-byte, next-left, next-falls, none-left}
+use Rattle.stepper.proofs.Copies.{Left, all-left, copied-leaf-there, leaf-bytes, leaf-high-byte, next-left, next-falls, none-left}
 use Rattle.stepper.proofs.copy_chain.Statement.{statement}
 use Rattle.stepper.proofs.copy_chain.Tie as tie
 
@@ -17,22 +17,22 @@ loop-holds : tie.Need-loop-holds Inv-loop μ-loop
 loop-holds c = λ g. all-left _ g (c .before .before .pre .1) (c .before .before .pre .2)
 
 offset-requires : tie.Need-offset-requires Inv-loop μ-loop
-offset-requires c κs = let h = leaf-there _ (c .before .before .before .before .pre .0) (c .before .loop .inv (c .before .before .before .before .pre .0)) (c .loop-test .taken) in let f = c .before .before .before .before .pre .0 .sized .few in (omega arith, omega arith)
+offset-requires c κs = let h = copied-leaf-there _ (c .before .before .before .before .pre .0) (c .before .loop .inv (c .before .before .before .before .pre .0)) (c .loop-test .taken) in let f = c .before .before .before .before .pre .0 .sized .few in (omega arith, omega arith)
 
 element-copy-out-current : tie.Need-element-copy-out-current Inv-loop μ-loop
-element-copy-out-current c = let h = leaf-there _ (c .before .before .before .before .before .pre .0) (c .before .before .loop .inv (c .before .before .before .before .before .pre .0)) (c .before .loop-test .taken) in let f = c .before .before .before .before .before .pre .0 .sized .few in omega arith
+element-copy-out-current c = let h = copied-leaf-there _ (c .before .before .before .before .before .pre .0) (c .before .before .loop .inv (c .before .before .before .before .before .pre .0)) (c .before .loop-test .taken) in let f = c .before .before .before .before .before .pre .0 .sized .few in omega arith
 
 slice-write-current : tie.Need-slice-write-current Inv-loop μ-loop
 slice-write-current c = let h = leaf-bytes _ (c .before .before .before .before .before .before .pre .0) (c .before .before .before .loop .inv (c .before .before .before .before .before .before .pre .0)) (c .before .before .loop-test .taken) in omega (arith, c .before .offset .ensures)
 
 add-current : tie.Need-add-current Inv-loop μ-loop
-add-current c = let h = leaf-there _ (c .before .before .before .before .before .before .pre .0) (c .before .before .before .loop .inv (c .before .before .before .before .before .before .pre .0)) (c .before .before .loop-test .taken) in let f = c .before .before .before .before .before .before .pre .0 .sized .few in omega (arith, c .before .offset .ensures)
+add-current c = let h = copied-leaf-there _ (c .before .before .before .before .before .before .pre .0) (c .before .before .before .loop .inv (c .before .before .before .before .before .before .pre .0)) (c .before .before .loop-test .taken) in let f = c .before .before .before .before .before .before .pre .0 .sized .few in omega (arith, c .before .offset .ensures)
 
 slice-write-current-2 : tie.Need-slice-write-current-2 Inv-loop μ-loop
-slice-write-current-2 c = rw (c .before .offset .ensures) (high-byte _ (c .before .before .before .before .before .before .pre .0) (c .before .before .before .loop .inv (c .before .before .before .before .before .before .pre .0)) (c .before .before .loop-test .taken))
+slice-write-current-2 c = rw (c .before .offset .ensures) (leaf-high-byte _ (c .before .before .before .before .before .before .pre .0) (c .before .before .before .loop .inv (c .before .before .before .before .before .before .pre .0)) (c .before .before .loop-test .taken))
 
 word-requires : tie.Need-word-requires Inv-loop μ-loop
-word-requires c κs = (c .before .before .before .before .before .before .pre .0 .sized, leaf-there _ (c .before .before .before .before .before .before .pre .0) (c .before .before .before .loop .inv (c .before .before .before .before .before .before .pre .0)) (c .before .before .loop-test .taken), omega arith)
+word-requires c κs = (c .before .before .before .before .before .before .pre .0 .sized, copied-leaf-there _ (c .before .before .before .before .before .before .pre .0) (c .before .before .before .loop .inv (c .before .before .before .before .before .before .pre .0)) (c .before .before .loop-test .taken), omega arith)
 
 loop-less : tie.Need-loop-less Inv-loop μ-loop
 loop-less c = next-falls _ (c .before .before .before .before .before .before .before .pre .0) (c .before .before .before .before .loop .inv (c .before .before .before .before .before .before .before .pre .0)) (c .before .before .before .loop-test .taken) (c .word .ensures .0)

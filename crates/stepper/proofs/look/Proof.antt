@@ -1,5 +1,5 @@
 -- Assumes nothing.
-use Rattle.stepper.proofs.Cycling.{input-room, first-sized, root-ready, look-done}
+use Rattle.stepper.proofs.Cycling.{input-room, first-sized, root-evaluating, look-done}
 use borrow.Author.Needs.{needs}
 use Rattle.stepper.proofs.look.Statement.{statement}
 use Rattle.stepper.proofs.look.Tie as tie
@@ -11,7 +11,7 @@ word-requires : tie.Need-word-requires
 word-requires c κs = first-sized (c .before .before .before .before .before .before .before .before .before .pre)
 
 eval-requires : tie.Need-eval-requires
-eval-requires c κs = (_, root-ready (c .before .before .before .before .before .before .before .before .before .before .before .before .before .before .pre) (c .before .before .before .before .word .ensures .0) (c .before .before .before .before .before .before .before .enter-value .ensures))
+eval-requires c κs = (_, root-evaluating (c .before .before .before .before .before .before .before .before .before .before .before .before .before .before .pre) (c .before .before .before .before .word .ensures .0) (c .before .before .before .before .before .before .before .enter-value .ensures))
 
 same-length : tie.Need-same-length
 same-length c = search needs

@@ -7,7 +7,7 @@ use mathlib.Core.Path.{_≡_, sym, _∙_}
 use lib.ListN.{length}
 use Rattle.naming.specs.Declared.{sameName}
 use Rattle.symbols.specs.Names.{lettersAt, lettersFrom}
-use Rattle.symbols.proofs.Letters.{differ-length, same-first, same-next, differ-here, same-last}
+use Rattle.symbols.proofs.Letters.{differ-length, same-first, letter-same-next, differ-here, same-last}
 use Rattle.symbols.proofs.same.Statement.{statement}
 use Rattle.symbols.proofs.same.Tie as tie
 
@@ -58,7 +58,7 @@ loop-less : tie.Need-loop-less Inv-loop μ-loop
 loop-less c = search needs
 
 loop-again : tie.Need-loop-again Inv-loop μ-loop
-loop-again c = (c .before .before .before .before .loop .inv .0 ∙ same-next (c .before .before .before .before .before .before .before .before .before .before .before .args .text .now) _ _ _ _ (search needs) (c .before .before .before .before .loop .inv .2) (c .before .before .before .before .loop .inv .3) (c .if2 .left), search needs, c .before .before .before .before .loop .inv .2, c .before .before .before .before .loop .inv .3)
+loop-again c = (c .before .before .before .before .loop .inv .0 ∙ letter-same-next (c .before .before .before .before .before .before .before .before .before .before .before .args .text .now) _ _ _ _ (search needs) (c .before .before .before .before .loop .inv .2) (c .before .before .before .before .loop .inv .3) (c .if2 .left), search needs, c .before .before .before .before .loop .inv .2, c .before .before .before .before .loop .inv .3)
 
 returns-3 : tie.Need-returns-3 Inv-loop μ-loop
 returns-3 c = same-last (c .before .before .before .before .before .before .before .before .args .text .now) _ _ _ _ (c .loop-test .left) ∙ sym (c .before .loop .inv .0)

@@ -5,7 +5,7 @@ use mathlib.Core.Path.{sym, subst}
 use denote.Ref.{now}
 use borrow.Author.Tests.{not-true, not-false}
 use Rattle.translator.specs.Translation.{TranslatedInOne}
-use Rattle.translator.proofs.LaysOut.{untyped-found, too-short, too-many, emitting, written}
+use Rattle.translator.proofs.LaysOut.{untyped-found, too-short, too-many, emitting, out-written}
 use borrow.Author.Needs.{needs}
 use Rattle.translator.proofs.write_out.Statement.{statement}
 use Rattle.translator.proofs.write_out.Tie as tie
@@ -60,7 +60,7 @@ same-length c = search needs
 
 -- src/lib.rt:31:1
 returns-4 : tie.Need-returns-4
-returns-4 c = written (c .before .before .before .before .before .before .before .before .before .pre) (now (c .before .before .before .before .before .before .before .before .before .args .sheet)) _ (not-false _ (c .before .before .before .before .before .before .if1 .left)) (let h = c .before .before .before .before .before .if2 .left in omega (arith, h)) (let h = c .before .before .before .before .if3 .left in omega (arith, h)) (c .before .before .write-sheet .ensures)
+returns-4 c = out-written (c .before .before .before .before .before .before .before .before .before .pre) (now (c .before .before .before .before .before .before .before .before .before .args .sheet)) _ (not-false _ (c .before .before .before .before .before .before .if1 .left)) (let h = c .before .before .before .before .before .if2 .left in omega (arith, h)) (let h = c .before .before .before .before .if3 .left in omega (arith, h)) (c .before .before .write-sheet .ensures)
 
 pub write-out-spec : {M : Type 1} → statement M
 write-out-spec =

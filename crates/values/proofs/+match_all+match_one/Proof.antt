@@ -5,9 +5,9 @@ use native.Mathlib.Omega.{arith}
 use Prim.Native.Nat.{_+_, _*_, _-_, _≤_}
 use mathlib.Core.Path.{_≡_, refl, _∙_}
 use Rattle.values.specs.Matchings.{Matching}
-use Rattle.values.proofs.ChainLaws.{goes-on}
-use Rattle.values.proofs.Gathering.{Gathered, begun, gone-on, up-to-yes, ended, left, left-falls}
-use Rattle.values.proofs.Matches.{next-matched, some-leaf, to-the-end, whole-matches, constructor-matches, first-in, cut-small, from-none, cut-inside, first-lent, second-lent, pair-matches, first-refuses}
+use Rattle.values.proofs.ChainLaws.{alternative-goes-on}
+use Rattle.values.proofs.Gathering.{Gathered, gathering-begun, gone-on, up-to-yes, ended, left, left-falls}
+use Rattle.values.proofs.Matches.{next-matched, some-leaf, value-to-the-end, whole-matches, constructor-matches, first-in, cut-small, count-from-none, cut-inside, first-lent, second-lent, pair-matches, first-refuses}
 use Prim.Native.Nat.{ℕ, _<_}
 use borrow.Fn.Kinds.{In}
 use borrow.Fn.PlainCycle.{Measures, is, falls, and}
@@ -60,7 +60,7 @@ abbrev match-all-μ-loop : match-all-lts.MeasureT-loop
 match-all-μ-loop sheet n widths p value answer₀ at₀ answer at = left n at
 
 match-all-loop-holds : (t : ℕ) → match-all-lts.Need-loop-holds (match-all-claims t) (match-all-at t) match-all.Post match-all-Inv-loop match-all-μ-loop
-match-all-loop-holds t c = (begun (c .before .before .pre .1), λ f. (omega arith, c .before .before .pre .1))
+match-all-loop-holds t c = (gathering-begun (c .before .before .pre .1), λ f. (omega arith, c .before .before .pre .1))
 
 match-all-match-one-requires : (t : ℕ) → match-all-lts.Need-match-one-requires (match-all-claims t) (match-all-at t) match-all.Post match-all-Inv-loop match-all-μ-loop
 match-all-match-one-requires t c κs =
@@ -79,13 +79,13 @@ match-all-after-requires t c κs = tt
 match-all-loop-less : (t : ℕ) → match-all-lts.Need-loop-less (match-all-claims t) (match-all-at t) match-all.Post match-all-Inv-loop match-all-μ-loop
 match-all-loop-less t c =
     let v = c .before .before .before .before .before .loop .inv .1 (search needs) in
-    left-falls _ _ _ (search needs) (v .1 .against .there) (λ f. let q = next-matched (v .1) (goes-on (c .before .before .either .result) (c .after .ensures) f ∙ c .before .word .ensures .0) f in (q .0, q .1 .against .there))
+    left-falls _ _ _ (search needs) (v .1 .against .there) (λ f. let q = next-matched (v .1) (alternative-goes-on (c .before .before .either .result) (c .after .ensures) f ∙ c .before .word .ensures .0) f in (q .0, q .1 .against .there))
 
 match-all-loop-again : (t : ℕ) → match-all-lts.Need-loop-again (match-all-claims t) (match-all-at t) match-all.Post match-all-Inv-loop match-all-μ-loop
 match-all-loop-again t c =
     let v = c .before .before .before .before .before .loop .inv .1 (search needs) in (
       up-to-yes (c .before .before .either .result) (gone-on (v .1) (c .before .before .before .before .before .loop .answer) (c .before .before .before .match-one .result) (c .before .before .either .result) (search needs) (c .before .before .before .before .before .loop .inv .0) (c .before .before .before .match-one .ensures) (c .before .before .either .ensures) (c .before .word .ensures .0)) (c .after .ensures),
-      λ f. let q = next-matched (v .1) (goes-on (c .before .before .either .result) (c .after .ensures) f ∙ c .before .word .ensures .0) f in (omega (arith, v .0, q .0), q .1),
+      λ f. let q = next-matched (v .1) (alternative-goes-on (c .before .before .either .result) (c .after .ensures) f ∙ c .before .word .ensures .0) f in (omega (arith, v .0, q .0), q .1),
     )
 
 match-all-returns : (t : ℕ) → match-all-lts.Need-returns (match-all-claims t) (match-all-at t) match-all.Post match-all-Inv-loop match-all-μ-loop
@@ -124,7 +124,7 @@ match-one-sub-match-all : (t : ℕ) → match-one-lts.Need-sub-match-all (match-
 match-one-sub-match-all t c = omega arith
 
 match-one-part-match-all-start : (t : ℕ) → match-one-lts.Need-part-match-all-start (match-one-claims t) (match-one-at t) match-one.Post
-match-one-part-match-all-start t c = from-none (c .before .before .before .before .before .before .before .pre .1) (c .before .before .before .before .word .ensures .0) (c .before .before .before .if1 .left) (c .before .before .if2 .left) (c .before .word3 .ensures .0) refl
+match-one-part-match-all-start t c = count-from-none (c .before .before .before .before .before .before .before .pre .1) (c .before .before .before .before .word .ensures .0) (c .before .before .before .if1 .left) (c .before .before .if2 .left) (c .before .word3 .ensures .0) refl
 
 match-one-part-match-all-end : (t : ℕ) → match-one-lts.Need-part-match-all-end (match-one-claims t) (match-one-at t) match-one.Post
 match-one-part-match-all-end t c = cut-inside (c .before .before .before .before .before .before .before .pre .1) (c .before .before .before .before .word .ensures .0) (c .before .before .before .if1 .left) (c .before .before .if2 .left) (c .before .word3 .ensures .0) refl
@@ -149,7 +149,7 @@ match-one-part-match-all-start-2 : (t : ℕ) → match-one-lts.Need-part-match-a
 match-one-part-match-all-start-2 t c = cut-inside (c .before .before .before .before .before .before .before .before .before .before .before .pre .1) (c .before .before .before .before .before .before .before .before .word .ensures .0) (c .before .before .before .before .before .before .before .if1 .left) (c .before .before .before .before .before .before .if2 .left) (c .before .before .before .before .before .word3 .ensures .0) refl
 
 match-one-part-match-all-end-2 : (t : ℕ) → match-one-lts.Need-part-match-all-end-2 (match-one-claims t) (match-one-at t) match-one.Post
-match-one-part-match-all-end-2 t c = to-the-end (c .before .before .before .before .before .before .before .before .before .before .before .pre .1)
+match-one-part-match-all-end-2 t c = value-to-the-end (c .before .before .before .before .before .before .before .before .before .before .before .pre .1)
 
 match-one-match-all-requires-2 : (t : ℕ) → match-one-lts.Need-match-all-requires-2 (match-one-claims t) (match-one-at t) match-one.Post
 match-one-match-all-requires-2 t c κs =

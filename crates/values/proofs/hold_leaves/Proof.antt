@@ -4,14 +4,14 @@ use native.Mathlib.Omega.{arith}
 use Prim.Native.Nat.{_-_, _≤_}
 use mathlib.Core.Path.{refl}
 use Rattle.values.specs.Chained.{Chained}
-use Rattle.values.proofs.Leaves.{Along, from-first, along-next, Held, held-next, all-held}
+use Rattle.values.proofs.Leaves.{Along, from-first, along-next, HeldLeaves, held-next, all-held}
 use Rattle.values.proofs.hold_leaves.Statement.{statement}
 use Rattle.values.proofs.hold_leaves.Tie as tie
 
 abbrev Inv-loop : tie.InvT-loop
 Inv-loop sheet n first value held₀ all leaf₀ i₀ held leaf i =
     (g : Chained sheet n first all)
-    → (i ≤ all) × Along (g .written) first i leaf × Held (g .written) first value held₀ i held
+    → (i ≤ all) × Along (g .written) first i leaf × HeldLeaves (g .written) first value held₀ i held
 
 abbrev μ-loop : tie.MeasureT-loop
 μ-loop sheet n first value held₀ all leaf₀ i₀ held leaf i = all - i

@@ -4,7 +4,7 @@ use native.Mathlib.Omega.{arith}
 use Prim.Native.Nat.{_-_, _≤_}
 use mathlib.Core.Path.{refl}
 use lib.ListN.{length}
-use Rattle.values.proofs.Slots.{Same, same-next, all-same, one-differs}
+use Rattle.values.proofs.Slots.{Same, slot-same-next, all-same, slot-differs}
 use Rattle.values.proofs.stands.Statement.{statement}
 use Rattle.values.proofs.stands.Tie as tie
 
@@ -27,7 +27,7 @@ shared-slice-read-if1-2 c = search needs
 
 returns : tie.Need-returns Inv-loop μ-loop
 returns c =
-    let h = c .before .before .before .before .before .pre in one-differs _ _ h (c .before .before .before .before .loop .i) (search needs) (c .if1 .taken)
+    let h = c .before .before .before .before .before .pre in slot-differs _ _ h (c .before .before .before .before .loop .i) (search needs) (c .if1 .taken)
 
 add-i : tie.Need-add-i Inv-loop μ-loop
 add-i c = search needs
@@ -37,7 +37,7 @@ loop-less c = search needs
 
 loop-again : tie.Need-loop-again Inv-loop μ-loop
 loop-again c =
-    λ h. same-next _ _ h _ (search needs) (c .before .before .before .before .loop .inv h) (c .if1 .left)
+    λ h. slot-same-next _ _ h _ (search needs) (c .before .before .before .before .loop .inv h) (c .if1 .left)
 
 returns-2 : tie.Need-returns-2 Inv-loop μ-loop
 returns-2 c =

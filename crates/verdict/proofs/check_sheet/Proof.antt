@@ -6,7 +6,7 @@ use native.Mathlib.Omega.{arith}
 use mathlib.Core.Path.{refl, sym, _∙_, ap}
 use denote.Ref.{now}
 use Rattle.answers.specs.Answers.{packed}
-use Rattle.verdict.specs.Verdict.{verdictAnswer}
+use Rattle.verdict.specs.Scopes.{verdictAnswer}
 use Rattle.verdict.specs.declared.Verdict.{Verdict}
 use Rattle.verdict.proofs.PlacesSmall.{verdict-place}
 

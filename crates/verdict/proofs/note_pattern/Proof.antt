@@ -5,7 +5,7 @@ use Rattle.verdict.proofs.note_pattern.Tie as tie
 use native.Mathlib.Omega.{arith}
 use mathlib.Core.Path.{refl, sym, _∙_, ap}
 use denote.Ref.{now}
-use Rattle.verdict.proofs.Widths.{whole-in-table, whole-widths, constructor-widths, first-in-table, second-in-table, first-few, second-few, parts-widths, no-pattern-widths}
+use Rattle.verdict.proofs.Widths.{whole-in-table, whole-widths, constructor-widths, first-in-table, second-in-table, first-width-few, second-width-few, parts-widths, no-pattern-widths}
 
 word-requires : tie.Need-word-requires
 word-requires c κs = search needs
@@ -42,8 +42,8 @@ element-copy-out-capped-sum-2 c = second-in-table _ _ (c .before .before .before
 
 capped-sum-requires : tie.Need-capped-sum-requires
 capped-sum-requires c κs = (
-  first-few _ _ (c .before .before .before .before .before .before .before .before .before .pre .1) (c .before .before .before .before .before .before .before .before .before .pre .0 .counted) (c .before .before .before .before .before .before .before .before .before .pre .2) (c .before .before .before .before .before .before .before .before .before .pre .3) _ (c .before .before .before .before .before .before .before .word .ensures .0) (c .before .before .before .before .if3 .taken) _ (c .before .before .before .word3 .ensures .0),
-  second-few _ _ (c .before .before .before .before .before .before .before .before .before .pre .1) (c .before .before .before .before .before .before .before .before .before .pre .0 .counted) (c .before .before .before .before .before .before .before .before .before .pre .2) (c .before .before .before .before .before .before .before .before .before .pre .3) _ (c .before .before .before .before .before .before .before .word .ensures .0) (c .before .before .before .before .if3 .taken) _ (c .before .before .word4 .ensures .0),
+  first-width-few _ _ (c .before .before .before .before .before .before .before .before .before .pre .1) (c .before .before .before .before .before .before .before .before .before .pre .0 .counted) (c .before .before .before .before .before .before .before .before .before .pre .2) (c .before .before .before .before .before .before .before .before .before .pre .3) _ (c .before .before .before .before .before .before .before .word .ensures .0) (c .before .before .before .before .if3 .taken) _ (c .before .before .before .word3 .ensures .0),
+  second-width-few _ _ (c .before .before .before .before .before .before .before .before .before .pre .1) (c .before .before .before .before .before .before .before .before .before .pre .0 .counted) (c .before .before .before .before .before .before .before .before .before .pre .2) (c .before .before .before .before .before .before .before .before .before .pre .3) _ (c .before .before .before .before .before .before .before .word .ensures .0) (c .before .before .before .before .if3 .taken) _ (c .before .before .word4 .ensures .0),
 )
 
 element-write-widths-3 : tie.Need-element-write-widths-3

@@ -3,7 +3,7 @@ use Prim.Native.Nat.{ℕ}
 use mathlib.Core.Path.{ap, sym, _∙_}
 use native.Mathlib.Omega.{arith}
 use Rattle.answers.specs.Answers.{place, packed}
-use Rattle.verdict.specs.Verdict.{verdictAnswer}
+use Rattle.verdict.specs.Scopes.{verdictAnswer}
 use Rattle.verdict.specs.declared.Verdict.{Verdict}
 use borrow.Author.Needs.{needs}
 use Rattle.verdict.proofs.packed_verdict.Statement.{statement}

@@ -1,7 +1,7 @@
 -- From the top down.
 -- Assumes nothing.
 use native.Mathlib.Omega.{arith}
-use Rattle.assembling.proofs.CodeLaws.{BelowFrom, OntoFrom, onto-first, pattern-begun, pattern-passed, no-pattern}
+use Rattle.assembling.proofs.CodeLaws.{BelowFrom, OntoFrom, onto-first, pattern-begun, pattern-passed, no-pattern-below}
 use Rattle.assembling.proofs.OpLaws.{begins-read}
 use borrow.Author.Tests.{eq-eqb, ne-eqb}
 use Prim.Native.Nat.{ℕ, _≤_, _-_}
@@ -27,16 +27,16 @@ element-copy-out-if1 : tie.Need-element-copy-out-if1 Inv-loop μ-loop
 element-copy-out-if1 c = (let z = c .loop-test .taken in let l = c .before .loop .inv .0 in let m = c .before .before .pre in omega (arith, z))
 
 returns : tie.Need-returns Inv-loop μ-loop
-returns c = (let z = c .before .before .loop-test .taken in let l = c .before .before .before .loop .inv .0 in omega (arith, z), λ F S. pattern-begun (c .before .before .before .before .args .ops .now) F S (c .before .before .before .before .args .n) (c .before .before .before .loop .k) (c .before .before .before .loop .inv .1 F S) (c .before .before .before .loop .inv .2 F S) (c .before .before .before .loop .inv .0) (c .before .before .loop-test .taken) (begins-read (getD (c .before .before .before .before .args .ops .now) (c .before .before .before .loop .k - 1) 0) (getD F (c .before .before .before .loop .k - 1) 0) (getD S (c .before .before .before .loop .k - 1) 0) ∙ eq-eqb _ 17 (c .if1 .taken)) .0, λ F S. pattern-begun (c .before .before .before .before .args .ops .now) F S (c .before .before .before .before .args .n) (c .before .before .before .loop .k) (c .before .before .before .loop .inv .1 F S) (c .before .before .before .loop .inv .2 F S) (c .before .before .before .loop .inv .0) (c .before .before .loop-test .taken) (begins-read (getD (c .before .before .before .before .args .ops .now) (c .before .before .before .loop .k - 1) 0) (getD F (c .before .before .before .loop .k - 1) 0) (getD S (c .before .before .before .loop .k - 1) 0) ∙ eq-eqb _ 17 (c .if1 .taken)) .1)
+returns c = (let z = c .before .before .loop-test .taken in let l = c .before .before .before .loop .inv .0 in omega (arith, z), λ F S. pattern-begun (c .before .before .before .before .args .ops .now) F S (c .before .before .before .loop .inv .1 F S) (c .before .before .before .loop .inv .2 F S) (c .before .before .before .loop .inv .0) (c .before .before .loop-test .taken) (begins-read (getD (c .before .before .before .before .args .ops .now) (c .before .before .before .loop .k - 1) 0) (getD F (c .before .before .before .loop .k - 1) 0) (getD S (c .before .before .before .loop .k - 1) 0) ∙ eq-eqb _ 17 (c .if1 .taken)) .0, λ F S. pattern-begun (c .before .before .before .before .args .ops .now) F S (c .before .before .before .loop .inv .1 F S) (c .before .before .before .loop .inv .2 F S) (c .before .before .before .loop .inv .0) (c .before .before .loop-test .taken) (begins-read (getD (c .before .before .before .before .args .ops .now) (c .before .before .before .loop .k - 1) 0) (getD F (c .before .before .before .loop .k - 1) 0) (getD S (c .before .before .before .loop .k - 1) 0) ∙ eq-eqb _ 17 (c .if1 .taken)) .1)
 
 loop-less : tie.Need-loop-less Inv-loop μ-loop
 loop-less c = (let z = c .before .before .loop-test .taken in omega (arith, z))
 
 loop-again : tie.Need-loop-again Inv-loop μ-loop
-loop-again c = (let z = c .before .before .loop-test .taken in let l = c .before .before .before .loop .inv .0 in omega (arith, z), λ F S. pattern-passed (c .before .before .before .before .args .ops .now) F S (c .before .before .before .before .args .n) (c .before .before .before .loop .k) (c .before .before .before .loop .inv .1 F S) (c .before .before .before .loop .inv .2 F S) (c .before .before .before .loop .inv .0) (c .before .before .loop-test .taken) (begins-read (getD (c .before .before .before .before .args .ops .now) (c .before .before .before .loop .k - 1) 0) (getD F (c .before .before .before .loop .k - 1) 0) (getD S (c .before .before .before .loop .k - 1) 0) ∙ ne-eqb _ 17 (c .if1 .left)) .0, λ F S. pattern-passed (c .before .before .before .before .args .ops .now) F S (c .before .before .before .before .args .n) (c .before .before .before .loop .k) (c .before .before .before .loop .inv .1 F S) (c .before .before .before .loop .inv .2 F S) (c .before .before .before .loop .inv .0) (c .before .before .loop-test .taken) (begins-read (getD (c .before .before .before .before .args .ops .now) (c .before .before .before .loop .k - 1) 0) (getD F (c .before .before .before .loop .k - 1) 0) (getD S (c .before .before .before .loop .k - 1) 0) ∙ ne-eqb _ 17 (c .if1 .left)) .1)
+loop-again c = (let z = c .before .before .loop-test .taken in let l = c .before .before .before .loop .inv .0 in omega (arith, z), λ F S. pattern-passed (c .before .before .before .before .args .ops .now) F S (c .before .before .before .loop .inv .1 F S) (c .before .before .before .loop .inv .2 F S) (c .before .before .before .loop .inv .0) (c .before .before .loop-test .taken) (begins-read (getD (c .before .before .before .before .args .ops .now) (c .before .before .before .loop .k - 1) 0) (getD F (c .before .before .before .loop .k - 1) 0) (getD S (c .before .before .before .loop .k - 1) 0) ∙ ne-eqb _ 17 (c .if1 .left)) .0, λ F S. pattern-passed (c .before .before .before .before .args .ops .now) F S (c .before .before .before .loop .inv .1 F S) (c .before .before .before .loop .inv .2 F S) (c .before .before .before .loop .inv .0) (c .before .before .loop-test .taken) (begins-read (getD (c .before .before .before .before .args .ops .now) (c .before .before .before .loop .k - 1) 0) (getD F (c .before .before .before .loop .k - 1) 0) (getD S (c .before .before .before .loop .k - 1) 0) ∙ ne-eqb _ 17 (c .if1 .left)) .1)
 
 returns-2 : tie.Need-returns-2 Inv-loop μ-loop
-returns-2 c = (omega arith, λ F S. no-pattern (c .before .before .args .ops .now) F S (c .before .before .args .n) (c .before .loop .k) (c .loop-test .left) (c .before .loop .inv .1 F S) (c .before .loop .inv .2 F S) .0, λ F S. no-pattern (c .before .before .args .ops .now) F S (c .before .before .args .n) (c .before .loop .k) (c .loop-test .left) (c .before .loop .inv .1 F S) (c .before .loop .inv .2 F S) .1)
+returns-2 c = (omega arith, λ F S. no-pattern-below (c .before .before .args .ops .now) F S (c .before .before .args .n) (c .before .loop .k) (c .loop-test .left) (c .before .loop .inv .1 F S) (c .before .loop .inv .2 F S) .0, λ F S. no-pattern-below (c .before .before .args .ops .now) F S (c .before .before .args .n) (c .before .loop .k) (c .loop-test .left) (c .before .loop .inv .1 F S) (c .before .loop .inv .2 F S) .1)
 
 pub pattern-start-spec : {M : Type 1} → statement M
 pattern-start-spec =

@@ -1,7 +1,7 @@
 -- The leaves that are left lead from what stands to the whole.
 -- Assumes nothing.
 use native.Mathlib.Omega.{arith}
-use Rattle.emitting.proofs.ZeroLaws.{ZerosLeft, all-left, zero-put, none-left}
+use Rattle.emitting.proofs.ZeroLaws.{ZerosLeft, all-zeros-left, zero-put, no-zeros-left}
 use Rattle.emitting.proofs.bytes.put_zeros.Statement.{statement}
 use Rattle.emitting.proofs.bytes.put_zeros.Tie as tie
 
@@ -12,7 +12,7 @@ abbrev μ-loop : tie.MeasureT-loop
 μ-loop sheet₀ cursor next count at₀ after₀ left₀ sheet at after left = left
 
 loop-holds : tie.Need-loop-holds Inv-loop μ-loop
-loop-holds c = all-left (c .before .args .sheet .now) (c .before .args .cursor) (c .before .args .next) (c .before .args .count) (c .before .pre)
+loop-holds c = all-zeros-left (c .before .args .sheet .now) (c .before .args .cursor) (c .before .args .next) (c .before .args .count) (c .before .pre)
 
 put-record-requires : tie.Need-put-record-requires Inv-loop μ-loop
 put-record-requires c κs = c .before .before .loop .inv .room
@@ -30,7 +30,7 @@ same-length : tie.Need-same-length Inv-loop μ-loop
 same-length c = c .before .loop .inv .as-long
 
 returns : tie.Need-returns Inv-loop μ-loop
-returns c = none-left (omega arith) (c .before .loop .inv)
+returns c = no-zeros-left (omega arith) (c .before .loop .inv)
 
 pub put-zeros-spec : {M : Type 1} → statement M
 put-zeros-spec =

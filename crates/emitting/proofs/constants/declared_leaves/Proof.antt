@@ -1,7 +1,7 @@
 -- The table has the leaves of the declared types.
 -- Assumes nothing.
 use mathlib.Core.Path.{_∙_}
-use Rattle.emitting.proofs.StepLaws.{no-leaves-of-zero, no-leaves-above, leaves-there}
+use Rattle.emitting.proofs.StepLaws.{no-leaves-of-zero, no-leaves-above, declared-leaves-there}
 use borrow.Author.Needs.{needs}
 use Rattle.emitting.proofs.constants.declared_leaves.Statement.{statement}
 use Rattle.emitting.proofs.constants.declared_leaves.Tie as tie
@@ -25,7 +25,7 @@ count-requires : tie.Need-count-requires
 count-requires c κs = search needs
 
 returns-3 : tie.Need-returns-3
-returns-3 c = λ T held. c .count .ensures ∙ leaves-there (c .before .before .before .before .word-number .ensures) held (c .before .before .before .if1 .left) (c .before .before .if2 .left)
+returns-3 c = λ T held. c .count .ensures ∙ declared-leaves-there (c .before .before .before .before .word-number .ensures) held (c .before .before .before .if1 .left) (c .before .before .if2 .left)
 
 pub declared-leaves-spec : {M : Type 1} → statement M
 declared-leaves-spec =

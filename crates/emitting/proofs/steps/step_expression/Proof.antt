@@ -1,7 +1,7 @@
 -- By the number of the instruction.
 -- Assumes nothing.
 use Rattle.emitting.proofs.AdvanceLaws.{the-same}
-use Rattle.emitting.proofs.InstructionLaws.{above-more, the-last, emit-at, undefined-step, pair-step, let-step, rec-step, delay-step, if-step}
+use Rattle.emitting.proofs.InstructionLaws.{above-more, the-last, emit-at, undefined-step, pair-step, let-step, rec-step, delay-step, choice-step}
 use borrow.Author.Needs.{needs}
 use Rattle.emitting.proofs.steps.step_expression.Statement.{statement}
 use Rattle.emitting.proofs.steps.step_expression.Tie as tie
@@ -70,7 +70,7 @@ same-length-7 : tie.Need-same-length-7
 same-length-7 c = search needs
 
 returns-7 : tie.Need-returns-7
-returns-7 c = λ x. ((λ T held R. the-same (if-step T R (c .before .before .before .before .before .before .before .before .before .before .before .before .before .before .args .kinds .now) (c .before .before .before .before .before .before .before .before .before .before .before .before .before .before .args .values .now) (c .before .before .before .before .before .before .before .before .before .before .before .before .before .before .args .cursor) (c .before .before .before .before .before .before .before .before .before .before .before .before .before .before .args .height) x (c .before .before .before .before .before .before .before .before .before .before .before .before .before .before .args .op) (c .before .before .before .before .before .before .before .before .before .before .before .before .before .before .args .first) (c .before .before .before .before .before .before .before .before .before .before .before .before .before .before .args .second) (c .before .before .before .before .before .before .if7 .taken)) (c .before .before .put-choice .ensures .0 R)), c .before .before .put-choice .ensures .1)
+returns-7 c = λ x. ((λ T held R. the-same (choice-step T R (c .before .before .before .before .before .before .before .before .before .before .before .before .before .before .args .kinds .now) (c .before .before .before .before .before .before .before .before .before .before .before .before .before .before .args .values .now) (c .before .before .before .before .before .before .before .before .before .before .before .before .before .before .args .cursor) (c .before .before .before .before .before .before .before .before .before .before .before .before .before .before .args .height) x (c .before .before .before .before .before .before .before .before .before .before .before .before .before .before .args .op) (c .before .before .before .before .before .before .before .before .before .before .before .before .before .before .args .first) (c .before .before .before .before .before .before .before .before .before .before .before .before .before .before .args .second) (c .before .before .before .before .before .before .if7 .taken)) (c .before .before .put-choice .ensures .0 R)), c .before .before .put-choice .ensures .1)
 
 put-delay-requires : tie.Need-put-delay-requires
 put-delay-requires c κs = search needs

@@ -10,14 +10,14 @@ use mathlib.Core.List.{List}
 use borrow.Author.Count.{below-more}
 use Rattle.records.specs.Says.{namings}
 use Rattle.structure.specs.Rules.{wrongNaming}
-use Rattle.structure.specs.NamerTable.{Holds}
+use Rattle.structure.specs.NamerTable.{NamingsHeld}
 use Rattle.answers.proofs.Lowest.{lowest-is, lowest-none}
 use Rattle.structure.proofs.Namers.{first-naming, unnamed, named-well, named-badly}
 
 abbrev Inv-loop : tie.InvT-loop
 Inv-loop n namers rec₀ rec =
     (0 < rec)
-    × ((s : List ℕ) → Holds (namings s) namers → (q : ℕ) → q < rec → wrongNaming s q ≡ false)
+    × ((s : List ℕ) → NamingsHeld (namings s) namers → (q : ℕ) → q < rec → wrongNaming s q ≡ false)
 
 abbrev μ-loop : tie.MeasureT-loop
 μ-loop n namers rec₀ rec = n - rec

@@ -5,11 +5,11 @@ use Rattle.structure.proofs.naming.note_all.Tie as tie
 use borrow.Author.Needs.{needs}
 use Prim.Native.Nat.{_+_, _-_, _≤_}
 use Rattle.records.specs.Says.{namingsBelow, namingsIn}
-use Rattle.structure.specs.NamerTable.{Holds}
+use Rattle.structure.specs.NamerTable.{NamingsHeld}
 use Rattle.structure.proofs.Namers.{adds-to, words-below, one-record-more, all-records}
 
 abbrev Inv-loop : tie.InvT-loop
-Inv-loop sheet n namers₀ q₀ namers q = (q ≤ n) × Holds (λ r. namingsBelow sheet r q) namers
+Inv-loop sheet n namers₀ q₀ namers q = (q ≤ n) × NamingsHeld (λ r. namingsBelow sheet r q) namers
 
 abbrev μ-loop : tie.MeasureT-loop
 μ-loop sheet n namers₀ q₀ namers q = n - q

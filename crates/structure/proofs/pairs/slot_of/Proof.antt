@@ -5,14 +5,14 @@ use native.Mathlib.Omega.{arith}
 use Prim.Native.Nat.{ℕ, suc, _-_, _<_}
 use mathlib.Core.Path.{refl, sym, _∙_}
 use denote.Ref.{now}
-use Rattle.structure.specs.PairIndex.{Ends, EndsAt}
+use Rattle.structure.specs.PairIndex.{Ends, SlotFound}
 use Rattle.structure.proofs.PairSearch.{slot-low, goes-on}
 use Rattle.structure.proofs.pairs.slot_of.Statement.{statement}
 use Rattle.structure.proofs.pairs.slot_of.Tie as tie
 
 abbrev Inv-loop : tie.InvT-loop
 Inv-loop sheet n index a b slot₀ rest₀ slot rest =
-    (slot < 12288) × ((k end : ℕ) → Ends sheet index a b k slot rest end → EndsAt sheet index a b end)
+    (slot < 12288) × ((k end : ℕ) → Ends sheet index a b k slot rest end → SlotFound sheet index a b end)
 
 abbrev μ-loop : tie.MeasureT-loop
 μ-loop sheet n index a b slot₀ rest₀ slot rest = 12288 - slot

@@ -6,10 +6,10 @@ use native.Mathlib.Omega.{arith}
 use Prim.Native.Nat.{ℕ, _-_, _≤_}
 use mathlib.Core.Path.{_≡_, subst}
 use denote.Ref.{now}
-use Rattle.structure.specs.LeafTable.{Counts}
+use Rattle.structure.specs.LeafTable.{LeavesCounted}
 
 abbrev Inv-loop : tie.InvT-loop
-Inv-loop sheet n table₀ rec₀ table rec = (rec ≤ n) × Counts sheet rec table
+Inv-loop sheet n table₀ rec₀ table rec = (rec ≤ n) × LeavesCounted sheet rec table
 
 abbrev μ-loop : tie.MeasureT-loop
 μ-loop sheet n table₀ rec₀ table rec = n - rec
@@ -32,7 +32,7 @@ loop-again c = (search needs, c .count-type .ensures)
 returns : tie.Need-returns Inv-loop μ-loop
 returns c =
     let e : c .before .loop .rec ≡ c .before .before .before .args .n = omega arith in
-    subst (λ (m : ℕ). Counts (now (c .before .before .before .args .sheet)) m (c .before .loop .table)) e (c .before .loop .inv .1)
+    subst (λ (m : ℕ). LeavesCounted (now (c .before .before .before .args .sheet)) m (c .before .loop .table)) e (c .before .loop .inv .1)
 
 pub count-types-spec : {M : Type 1} → statement M
 count-types-spec =

@@ -11,7 +11,7 @@ use Rattle.typing.proofs.leaves.+take_off.Tie.{close}
 use borrow.Author.Needs.{needs}
 use native.Mathlib.Omega.{arith}
 use Rattle.structure.proofs.Passes.{written}
-use Rattle.typing.proofs.Chains.{type-there, leaf-there, first-lower, second-lower, first-misfit, both-taken, none-left, too-great, one-taken}
+use Rattle.typing.proofs.Chains.{type-there, leaf-there, first-lower, second-lower, first-misfit, both-taken, no-leaf-left, too-great, one-taken}
 
 abbrev μ-take-off : Measures 1 take-off-kinds.ps ℕ
 μ-take-off κs a = a .1 .1 .0
@@ -60,7 +60,7 @@ take-off-returns-2 t c =
     both-taken (written (c .before .before .before .before .before .before .before .before .before .before .pre .1 .1)) (c .before .before .before .before .before .before .before .before .before .before .pre .1 .2) (c .before .before .before .before .before .before .before .before .before .before .args .leaf) (c .before .before .before .before .before .before .before .before .word .ensures .0) (c .before .before .before .before .before .before .before .if1 .taken) (c .before .before .before .before .before .before .word2 .ensures .0) (c .before .word3 .ensures .0) (c .before .before .before .before .before .take-off .ensures) (c .before .before .before .first .given .1) (c .take-off2 .ensures)
 
 take-off-returns-3 : (t : ℕ) → take-off-lts.Need-returns-3 (claims t) (take-off-at t) take-off.Post
-take-off-returns-3 t c = none-left (written (c .before .before .before .before .pre .1 .1)) (c .before .before .before .before .pre .1 .2) (c .before .before .before .before .args .leaf) (c .before .before .word .ensures .0) (c .before .if1 .left) (c .if2 .taken)
+take-off-returns-3 t c = no-leaf-left (written (c .before .before .before .before .pre .1 .1)) (c .before .before .before .before .pre .1 .2) (c .before .before .before .before .args .leaf) (c .before .before .word .ensures .0) (c .before .if1 .left) (c .if2 .taken)
 
 take-off-word-requires-4 : (t : ℕ) → take-off-lts.Need-word-requires-4 (claims t) (take-off-at t) take-off.Post
 take-off-word-requires-4 t c κs = (c .before .before .before .before .pre .1 .0, type-there (c .before .before .before .before .pre .1 .0) (c .before .before .before .before .pre .1 .2), search needs)

@@ -5,10 +5,10 @@ use Rattle.typing.proofs.leaves.bound_at.Tie as tie
 use borrow.Author.Needs.{needs}
 use native.Mathlib.Omega.{arith}
 use Rattle.typing.specs.Judging.{Ground}
-use Rattle.typing.proofs.Bounds.{Reached, reached-itself, reached-first, reached-second, reached-flat, first-typed, parts-lower, below-count, leaves-counted, few-of}
+use Rattle.typing.proofs.Bounds.{LeafReached, reached-itself, reached-first, reached-second, reached-flat, first-typed, parts-lower, below-count, leaves-counted, few-of}
 
 abbrev Inv-loop : tie.InvT-loop
-Inv-loop sheet n table t i flat₀ at₀ flat at = (g : Ground sheet n table) → Reached g t i flat at
+Inv-loop sheet n table t i flat₀ at₀ flat at = (g : Ground sheet n table) → LeafReached g t i flat at
 
 abbrev μ-loop : tie.MeasureT-loop
 μ-loop sheet n table t i flat₀ at₀ flat at = flat

@@ -5,14 +5,14 @@ use Rattle.typing.proofs.simple.of_name.Tie as tie
 use native.Mathlib.Omega.{arith}
 use mathlib.Core.Path.{refl}
 use denote.Ref.{now}
-use Rattle.typing.proofs.Readiness.{ready-written, ready-there, ready-closing, few-names, type-small}
+use Rattle.typing.proofs.Readiness.{judging-written, judging-there, ready-closing, judging-names-few, type-small}
 use Rattle.typing.proofs.Judgings.{name-closing, name-outside, name-inside, name-typed}
 
 word-requires : tie.Need-word-requires
 word-requires c κs = search needs
 
 returns : tie.Need-returns
-returns c = name-closing _ _ _ (ready-written (c .before .before .before .pre .0)) (ready-there (c .before .before .before .pre .0)) _ (c .before .before .before .pre .1) _ (c .before .word .ensures .0) _ _ (name-outside (ready-closing (c .before .before .before .pre .0) (now (c .before .before .before .args .widths)) (c .before .before .before .pre .0 .long)) (now (c .before .before .before .args .scope)) (c .before .before .before .args .names) (c .before .word .result) (search needs))
+returns c = name-closing _ _ _ (judging-written (c .before .before .before .pre .0)) (judging-there (c .before .before .before .pre .0)) _ (c .before .before .before .pre .1) _ (c .before .word .ensures .0) _ _ (name-outside (ready-closing (c .before .before .before .pre .0) (now (c .before .before .before .args .widths)) (c .before .before .before .pre .0 .long)) (now (c .before .before .before .args .scope)) (c .before .before .before .args .names) (c .before .word .result) (search needs))
 
 sub-t : tie.Need-sub-t
 sub-t c = search needs
@@ -22,12 +22,12 @@ sub-t-2 c = search needs
 
 mul-t : tie.Need-mul-t
 mul-t c =
-    let d = few-names (c .before .before .before .pre .0) in
+    let d = judging-names-few (c .before .before .before .pre .0) in
     omega arith
 
 element-copy-out-t : tie.Need-element-copy-out-t
 element-copy-out-t c =
-    let d = few-names (c .before .before .before .pre .0) in
+    let d = judging-names-few (c .before .before .before .pre .0) in
     omega arith
 
 cast-t : tie.Need-cast-t
@@ -43,7 +43,7 @@ note-requires c κs = (
 
 returns-2 : tie.Need-returns-2
 returns-2 c =
-    name-closing _ _ _ (ready-written (c .before .before .before .before .before .before .pre .0)) (ready-there (c .before .before .before .before .before .before .pre .0)) _ (c .before .before .before .before .before .before .pre .1) _ (c .before .before .before .before .word .ensures .0) _ _
+    name-closing _ _ _ (judging-written (c .before .before .before .before .before .before .pre .0)) (judging-there (c .before .before .before .before .before .before .pre .0)) _ (c .before .before .before .before .before .before .pre .1) _ (c .before .before .before .before .word .ensures .0) _ _
     (name-inside (ready-closing (c .before .before .before .before .before .before .pre .0) (now (c .before .before .before .before .before .before .args .widths)) (c .before .before .before .before .before .before .pre .0 .long)) (now (c .before .before .before .before .before .before .args .scope)) (c .before .before .before .before .before .before .args .names) (c .before .before .before .before .word .result) _ _ _ (search needs) refl (c .note .ensures .0) (c .note .ensures .1))
 
 pub of-name-spec : {M : Type 1} → statement M

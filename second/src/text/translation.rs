@@ -2,7 +2,7 @@
 //! each expression before its parts, parts by the order of their words.
 
 use super::mistakes::TextMistake;
-use super::names::{Meant, Names};
+use super::naming::{Meant, Names};
 use super::syntax::{Alternative, Constant, Definition, Expression, Name, Pattern, Syntax};
 use crate::records::{
     Record, A, B, C, CONSTANT, CONSTRUCTOR, D, DELAY, FEEDBACK, FIRST, FLAT, HEADER, IF, KIND,

@@ -4,7 +4,7 @@
 use std::process::ExitCode;
 
 use second::answers::Answer;
-use second::listing::{listing, refusal};
+use second::printout::{listing, refusal};
 use second::records::{MAX_RECORDS, RECORD_BYTES};
 use second::text::translator::translate;
 use second::{samples, shapes};

@@ -10,8 +10,8 @@ use mathlib.Core.Path.{_≡_, sym, subst}
 use lib.ListN.{length}
 use Rattle.printout.specs.Pieces.{textFrom, textLeft, Pieced}
 use Rattle.printout.proofs.Pieces.{piece-less}
-use Rattle.sheetrun.proofs.print.Statement.{statement}
-use Rattle.sheetrun.proofs.print.Tie as tie
+use Rattle.files.proofs.print.Statement.{statement}
+use Rattle.files.proofs.print.Tie as tie
 
 left-less : {w : ℕ} {outputs after : List ℕ} {end k first : ℕ} {last : Bool} (k₀ : ℕ) (now : Bool) → now ≡ false
     → Pieced (textFrom w k₀ outputs) w outputs after end k first last → length (textLeft last w k outputs) < length (textLeft now w k₀ outputs)

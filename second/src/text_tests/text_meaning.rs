@@ -4,7 +4,7 @@ use super::expected::{records, BIT, TWO};
 use crate::records::bytes;
 use crate::rule::{Rule, IN_FORCE};
 use crate::simulator::{ready, run, Call};
-use crate::text::meaning::outputs;
+use crate::text::text_meaning::outputs;
 use crate::text::translator::syntax;
 
 /// The outputs of a text, by one rule for undecided IFs.

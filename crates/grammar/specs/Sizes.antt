@@ -1,0 +1,6 @@
+-- The size of tables for texts.
+use Prim.Native.Nat.{ℕ}
+
+-- a table with an entry for each place of the longest text, and one more
+abbrev pub textTable : ℕ
+textTable = 65536

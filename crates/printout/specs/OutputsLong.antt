@@ -1,0 +1,16 @@
+-- How long outputs and files are.
+use Prim.Native.Nat.{ℕ, _/_, _*_, _≤_, _<_}
+use mathlib.Core.Path.{_≡_}
+
+-- the outputs of 65,535 cycles of 64 leaves
+abbrev pub mostOutput : ℕ
+mostOutput = 4194240
+
+-- the longest sheet and a byte more
+abbrev pub sheetRoom : ℕ
+sheetRoom = 49153
+
+-- the length of outputs, from the leaves of input and output and the length of a stimulus
+pub record OutputsLong (input output all many : ℕ) : Type 0 where
+  pub needed : 0 < input → all ≤ 65535 → many ≡ all / input * output
+  pub small : many ≤ 4194240
