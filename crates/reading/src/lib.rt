@@ -27,7 +27,7 @@ use numbers::wide;
 
 // Where a text leaves the grammar.
 pub enum Illegal {
-    At(usize),
+    Offset(usize),
     Nowhere,
 }
 
@@ -253,15 +253,15 @@ fn conclude(all: usize, state: u8, letter: u8) -> Illegal
     ensures { λ r. ⌜ illegal r ≡ conclusion all state letter ⌝ }
 {
     if LIMIT < all {
-        return Illegal::At(LIMIT);
+        return Illegal::Offset(LIMIT);
     }
     if letter != 0 {
-        return Illegal::At(all);
+        return Illegal::Offset(all);
     }
     if state == DONE {
         return Illegal::Nowhere;
     }
-    Illegal::At(all)
+    Illegal::Offset(all)
 }
 
 // The first byte after which no continuation is legal, 65,535 at the latest, or the length of a text that ends early.
@@ -292,7 +292,7 @@ pub fn first_illegal(text: &[u8]) -> Illegal
             &letters,
         );
         if !moved.ok {
-            return Illegal::At(i);
+            return Illegal::Offset(i);
         }
         state = moved.state;
         word = moved.word;
