@@ -49,7 +49,7 @@ fn no_output() -> [u8; VALUE_BYTES]
 }
 
 // The words of one cycle, with room of its own.
-fn tell(sheet: &[u8], n: usize, widths: &WidthTable, t: usize, input: &[u8], words: &mut [u16])
+fn tell_fired(sheet: &[u8], n: usize, widths: &WidthTable, t: usize, input: &[u8], words: &mut [u16])
     requires { ⌜ TellingFired (now sheet) n (now widths) t (now input) (now words) ⌝ }
     ensures { λ _. ⌜ now (words .exit) ≡ fired (now (sheet .entry)) (now (input .entry)) ⌝ }
 {
@@ -91,7 +91,7 @@ fn fired_accepted(
     if words.len() != n {
         return in_one(WRONG_WORDS, n as u64);
     }
-    tell(sheet, n, widths, t, stim, words);
+    tell_fired(sheet, n, widths, t, stim, words);
     0
 }
 

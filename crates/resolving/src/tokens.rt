@@ -86,7 +86,7 @@ fn in_constant(depth: usize, stack: &ContextStack) -> bool
 }
 
 // What a token does to the names in scope.
-fn note(
+fn note_token(
     text: &[u8],
     span: u32,
     class: u8,
@@ -223,7 +223,7 @@ pub fn take_token(
     if !moved.ok {
         return refused(start);
     }
-    let noted = note(
+    let noted = note_token(
         text,
         span,
         class,

@@ -37,7 +37,7 @@ const DECLARES_PENDING: u8 = 6;
 const UNBINDS: u8 = 7;
 
 // The second type of a pair type, which is declared after it.
-fn note_pair(
+fn note_pair_type(
     text: &[u8],
     span: u32,
     state: u8,
@@ -136,7 +136,7 @@ pub fn note_name(
         );
     }
     if effect == DECLARES_PENDING {
-        return note_pair(
+        return note_pair_type(
             text,
             span,
             state,

@@ -5,7 +5,7 @@ ghost use lib.ListN.{length, take, drop, replicate};
 ghost use Rattle.records.specs.Sized.{Sized};
 ghost use Rattle.records.specs.Trees.{chain};
 ghost use Rattle.records.specs.Decoding.{leafValues};
-ghost use Rattle.behaviour.specs.Delays.{assigned, putAll, enter};
+ghost use Rattle.behaviour.specs.Entries.{assigned, putAll, enter};
 ghost use mathlib.Core.List.{List, [], _∷_, _++_};
 ghost use Rattle.meaning.specs.Matching.{constructorDecision, pairDecision, chainDecision};
 ghost use Rattle.values.specs.Chained.{Chained};
