@@ -77,7 +77,14 @@ fn write_code(
 }
 
 // A type's record.
-fn put_type_record(sheet: &mut [u8], cursor: u16, next: u16, pair: u8, first: u16, second: u16) -> u16
+fn put_type_record(
+    sheet: &mut [u8],
+    cursor: u16,
+    next: u16,
+    pair: u8,
+    first: u16,
+    second: u16,
+) -> u16
     requires { ⌜ 12 * cursor ≤ length (now sheet) ⌝ }
     ensures { λ r. ⌜ RecordPut (now (sheet .entry)) (now (sheet .exit)) cursor (typeRecord (typeHeld pair first second) next) r ⌝ }
 {

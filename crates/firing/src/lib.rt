@@ -49,7 +49,14 @@ fn no_output() -> [u8; VALUE_BYTES]
 }
 
 // The words of one cycle, with room of its own.
-fn tell_fired(sheet: &[u8], n: usize, widths: &WidthTable, t: usize, input: &[u8], words: &mut [u16])
+fn tell_fired(
+    sheet: &[u8],
+    n: usize,
+    widths: &WidthTable,
+    t: usize,
+    input: &[u8],
+    words: &mut [u16],
+)
     requires { ⌜ TellingFired (now sheet) n (now widths) t (now input) (now words) ⌝ }
     ensures { λ _. ⌜ now (words .exit) ≡ fired (now (sheet .entry)) (now (input .entry)) ⌝ }
 {
