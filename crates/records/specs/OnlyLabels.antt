@@ -1,4 +1,4 @@
--- Sheets that differ in labels alone (docs/SHEETS.md, "Carrying").
+-- Sheets that differ in labels alone (docs/SHEETS.md, "The run": "Nothing that the check or a run answers depends on them").
 use Prim.Native.Nat.{ℕ, _+_}
 use mathlib.Core.Path.{_≡_}
 use mathlib.Core.List.{List}
