@@ -238,7 +238,7 @@ pub fn check_into(sheet: &[u8], n: usize, table: &mut WidthTable) -> Verdict
 
 // The code of a verdict, 0 where it accepts.
 pub fn verdict_code(v: Verdict) -> u64
-    ensures { λ r. ⌜ (r ≡ code (verdictAnswer v)) × (r < 256) ⌝ }
+    ensures { λ r. ⌜ r ≡ code (verdictAnswer v) ⌝ }
 {
     match v {
         Verdict::Accepted(_) => 0,

@@ -1,7 +1,7 @@
 -- The code is below 256, and the place below 2^32 as is asked. Assumes nothing.
 use borrow.Author.Needs.{needs}
 use native.Mathlib.Omega.{arith}
-use mathlib.Core.Path.{ap, _∙_}
+use Rattle.verdict.proofs.PlacesSmall.{code-small}
 use Rattle.verdict.proofs.packed_verdict.Statement.{statement}
 use Rattle.verdict.proofs.packed_verdict.Tie as tie
 
@@ -12,7 +12,7 @@ verdict-place-requires : tie.Need-verdict-place-requires
 verdict-place-requires c κs = search needs
 
 in-one-requires : tie.Need-in-one-requires
-in-one-requires c κs = search needs
+in-one-requires c κs = let h = code-small (c .before .before .args .v) (c .before .verdict-code .ensures) in search needs
 
 returns : tie.Need-returns
 returns c = search needs
