@@ -8,7 +8,7 @@ ghost use Rattle.accepted.specs.Accepting.{Accepting};
 ghost use Rattle.behaviour.specs.Firing.{fired};
 ghost use Rattle.firing.specs.Telling.{ToldFired};
 ghost use Rattle.firing.specs.TellingCycle.{TellingFired};
-ghost use Rattle.records.specs.Limits.{mostRecords};
+ghost use Rattle.records.specs.Limits.{mostRecords, mostLeaves};
 use answers::Answer;
 use answers::WRONG_WORDS;
 use answers::in_one;
@@ -43,7 +43,7 @@ fn copy_words(table: &Fired, words: &mut [u16])
 
 // Room for the output, which is not told.
 fn no_output() -> [u8; VALUE_BYTES]
-    ensures { λ r. ⌜ length r ≡ 64 ⌝ }
+    ensures { λ r. ⌜ length r ≡ mostLeaves ⌝ }
 {
     [0; VALUE_BYTES]
 }

@@ -13,6 +13,7 @@ ghost use Rattle.grammar.specs.Machine.{back, onByte};
 ghost use Rattle.reading.specs.Coded.{illegal, stateOf, stackOf, wordOf, letterTable, follows, afterLead, followed, lettered};
 ghost use Rattle.reading.specs.Coded.{spelledOut, conclusion, Stepping, Stepped, Worded, Tables};
 ghost use Rattle.grammar.specs.Legal.{limit};
+ghost use Rattle.grammar.specs.Sizes.{stateCount};
 use numbers::BACK;
 use numbers::BLANK;
 use numbers::ContextStack;
@@ -69,7 +70,7 @@ fn take_row(
     depth: usize,
     stack: &mut ContextStack,
 ) -> Moved
-    requires { ⌜ Stepping state word depth (now stack) × (next ≤ 48) × (waits ≤ 47) ⌝ }
+    requires { ⌜ Stepping state word depth (now stack) × (next ≤ 48) × (waits ≤ stateCount) ⌝ }
     ensures { λ r. ⌜ Stepped (follows next waits word (stackOf depth (now (stack .entry)))) depth (r .ok) (r .state) (r .word) (r .depth) (now (stack .exit)) ⌝ }
 {
     if next == 0 {
