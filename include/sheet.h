@@ -173,6 +173,14 @@ static inline const char *sheet_sentence(uint32_t code)
 }
 
 /*
+ * The check's stack need in bytes, rounded up, from the caller's frame down. It does not grow with the sheet beyond this:
+ * expressions lie at most 64 deep, types of at most 64 leaves bound the depth of patterns, and chains are loops. Measured by
+ * host/tests.c on the deepest sheets and on sheets of 4,096 records: the stack is filled with a pattern before the call, and after
+ * it the lowest byte that changed is looked for. The tests fail where a call uses more than this figure, or never half of it.
+ */
+#define SHEET_CHECK_STACK 114688
+
+/*
  * The check: whether the sheet is accepted, and with which type. Codes 0 to 7.
  *
  *     uint64_t result = sheet_check(sheet, length);
@@ -184,12 +192,11 @@ static inline const char *sheet_sentence(uint32_t code)
 uint64_t sheet_check(const uint8_t *sheet, size_t length);
 
 /*
- * The check's stack need in bytes, rounded up, from the caller's frame down. It does not grow with the sheet beyond this:
- * expressions lie at most 64 deep, types of at most 64 leaves bound the depth of patterns, and chains are loops. Measured by
- * host/tests.c on the deepest sheets and on sheets of 4,096 records: the stack is filled with a pattern before the call, and after
- * it the lowest byte that changed is looked for. The tests fail where a call uses more than this figure, or never half of it.
+ * The run's stack need, measured as the check's. It does not grow with the cycles, nor with the sheet beyond this: besides the
+ * bounds above, a feedback is applied at most 65 times, once more than a type has leaves, and lies in the defining parts of at
+ * most two others.
  */
-#define SHEET_CHECK_STACK 114688
+#define SHEET_RUN_STACK 131072
 
 /*
  * The run: what the sheet puts out for a stimulus, and the sheet after it. It begins with the check. Codes 0 to 11.
@@ -221,18 +228,16 @@ uint64_t sheet_run(const uint8_t *sheet, size_t sheet_length, const uint8_t *sti
                    size_t out_length, uint8_t *next, size_t next_length);
 
 /*
- * The run's stack need, measured as the check's. It does not grow with the cycles, nor with the sheet beyond this: besides the
- * bounds above, a feedback is applied at most 65 times, once more than a type has leaves, and lies in the defining parts of at
- * most two others.
+ * Carrying's stack need, measured as the check's. A table of 65,536 labels, 128 KiB of it, is held while no check runs.
  */
-#define SHEET_RUN_STACK 131072
+#define SHEET_CARRY_STACK 245760
 
 /*
  * Carrying: the new sheet with the values that the delays of the old, running one hold. Codes 0 to 7, 18, 19 and 11, in this order.
  *
- * Word d of a delay is its label, 0 for none. Each labelled delay of the new sheet takes the held value of the old sheet's delay with
- * that label, where the types of both have the same shape: pairs, and flat types with equal numbers of constructors, in the same
- * places. All else of the new sheet stays: a delay with no label, with one that no delay of the old sheet bears, or with a type of
+ * Word d of a delay is its label, 0 for none. A delay of the new sheet goes on with what the old sheet's delay of the same label
+ * holds, where their types have the same shape: both flat with equal numbers of constructors, or both pairs whose parts have the same
+ * shape. Nothing else of the new sheet changes: a delay with no label, with one that no delay of the old sheet bears, or with a type of
  * another shape keeps what it holds. On success `next`, which is to be as long as the new sheet, holds that sheet; the check accepts
  * it with the new sheet's type, and the place is 0. When every delay is labelled and no label stands twice, carrying a sheet that a
  * run led to into the sheet that the run began from gives the former, byte for byte.
@@ -244,10 +249,8 @@ uint64_t sheet_run(const uint8_t *sheet, size_t sheet_length, const uint8_t *sti
 uint64_t sheet_carry(const uint8_t *old_sheet, size_t old_length, const uint8_t *new_sheet, size_t new_length, uint8_t *next,
                      size_t next_length);
 
-/*
- * Carrying's stack need, measured as the check's. A table of 65,536 labels, 128 KiB of it, is held while no check runs.
- */
-#define SHEET_CARRY_STACK 245760
+/* The stack need of the call for fired alternatives, bounded as the run's. */
+#define SHEET_FIRED_STACK 131072
 
 /*
  * Which alternative fired: for one cycle of the sheet a word for each record. At an IF it is the record of the first alternative of its
@@ -268,8 +271,8 @@ uint64_t sheet_carry(const uint8_t *old_sheet, size_t old_length, const uint8_t 
 uint64_t sheet_fired(const uint8_t *sheet, size_t sheet_length, const uint8_t *stim, size_t stim_length, uint16_t *fired,
                      size_t fired_length);
 
-/* Its stack need, bounded as the run's. */
-#define SHEET_FIRED_STACK 131072
+/* The preview's stack need, from the caller's frame down: no more than this. */
+#define SHEET_PREVIEW_STACK 131072
 
 /*
  * The preview: what the sheet puts out for one cycle of input, without taking it. It begins with the check. Codes 0 to 10, and 0
@@ -291,8 +294,11 @@ uint64_t sheet_fired(const uint8_t *sheet, size_t sheet_length, const uint8_t *s
 uint64_t sheet_preview(const uint8_t *sheet, size_t sheet_length, const uint8_t *stim, size_t stim_length, uint8_t *out,
                        size_t out_length);
 
-/* The preview's stack need, from the caller's frame down: no more than this. */
-#define SHEET_PREVIEW_STACK 131072
+/*
+ * The translation's stack need, measured as the check's, by host/text_stack.c on the deepest and the widest texts. It is far more than
+ * that of the other calls, since tables for the longest text lie on the stack: a thread that translates needs a stack to match.
+ */
+#define SHEET_TRANSLATE_STACK 2097152
 
 /*
  * The translation: the sheet of a circuit typed with names. Codes 0 and 13 to 15. docs/SHEETS.md, Text, has the grammar.
@@ -322,12 +328,6 @@ uint64_t sheet_preview(const uint8_t *sheet, size_t sheet_length, const uint8_t 
  *         printf("byte %zu: %s\n", length, sheet_sentence(sheet_code_of(result)));
  */
 uint64_t sheet_translate(const uint8_t *text, size_t text_length, uint8_t *sheet, size_t sheet_length);
-
-/*
- * The translation's stack need, measured as the check's, by host/text_stack.c on the deepest and the widest texts. It is far more than
- * that of the other calls, since tables for the longest text lie on the stack: a thread that translates needs a stack to match.
- */
-#define SHEET_TRANSLATE_STACK 2097152
 
 #ifdef __cplusplus
 }

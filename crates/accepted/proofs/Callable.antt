@@ -28,7 +28,7 @@ use Rattle.typing.specs.Judging.{Ground, Judging, Closing, Fitting, PartAt, at-
 use Rattle.typing.specs.LeafChains.{LeafOrEnd}
 use Rattle.typing.specs.PatternTable.{PatternsTyped, TypingPattern, TypeTables}
 use Rattle.verdict.specs.Stages.{CheckingRecords, CheckingNamings, CheckingTypes, CheckingDepths}
-use Rattle.verdict.specs.Widths.{PatternsFrom}
+use Rattle.verdict.specs.CheckedTable.{PatternsFrom}
 use Rattle.verdict.specs.Verdict.{verdict}
 use Rattle.verdict.specs.declared.Verdict.the-variants.{Accepted}
 use Rattle.accepted.specs.Accepting.{Accepting}

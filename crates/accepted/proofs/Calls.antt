@@ -12,7 +12,7 @@ use Rattle.answers.specs.declared.Answer.the-variants.{Done, Refused}
 use Rattle.answers.proofs.First.{first-says, first-both, first-then}
 use Rattle.verdict.specs.Verdict.{sheetChecks, outputType, verdict}
 use Rattle.verdict.specs.Scopes.{verdictAnswer}
-use Rattle.verdict.specs.Widths.{Checked}
+use Rattle.verdict.specs.CheckedTable.{Checked}
 use Rattle.verdict.specs.declared.Verdict.{Verdict}
 use Rattle.verdict.specs.declared.Verdict.the-variants.{Accepted}
 use Rattle.verdict.specs.declared.Verdict.the-variants as Verdicts

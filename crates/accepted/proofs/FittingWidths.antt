@@ -37,7 +37,7 @@ use Rattle.records.proofs.Grown.{GrownPattern, grown-pattern}
 use Rattle.structure.specs.Rules.{Passes}
 use Rattle.structure.proofs.Passes.{written, types-fit}
 use Rattle.typing.specs.Judgements.{patternFits}
-use Rattle.typing.specs.Judging.{width}
+use Rattle.typing.specs.ExpressionWidth.{width}
 use Rattle.verdict.specs.Verdict.{verdict}
 use Rattle.verdict.specs.Scopes.{Scope, if-tested}
 use Rattle.verdict.specs.Widths.{patternLeaves, Widths}

@@ -24,7 +24,8 @@ use Rattle.records.specs.Trees.{
   typeRecordOf,
 }
 use Rattle.records.specs.Decoding.{leafValues}
-use Rattle.records.specs.Rewritten.{Rewritten, OnlyLabels}
+use Rattle.records.specs.Rewritten.{Rewritten}
+use Rattle.records.specs.OnlyLabels.{OnlyLabels}
 use Rattle.records.proofs.Rewritten.{same-count, same-kind, same-type, same-pair-of, same-circuit}
 use Rattle.records.proofs.Labels.{labels-words, labels-rewritten, said-same}
 use Rattle.answers.specs.Answers.{lowest}

@@ -23,7 +23,8 @@ use Rattle.structure.proofs.Passes.{written, well-named, length-fits}
 use Rattle.typing.specs.Judging.{Ground, Judging, Closing}
 use Rattle.typing.proofs.Bounds.{counts-leaves}
 use Rattle.verdict.specs.Stages.{CheckingDepths}
-use Rattle.verdict.specs.Widths.{PatternsFrom, patternEntry, Widths}
+use Rattle.verdict.specs.Widths.{patternEntry, Widths}
+use Rattle.verdict.specs.CheckedTable.{PatternsFrom}
 use Rattle.verdict.proofs.Stages.{root-ready}
 use Rattle.verdict.proofs.Widths.{judged-widths, entry-stored, unpatterned, whole-table}
 

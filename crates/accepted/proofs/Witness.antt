@@ -36,9 +36,8 @@ use Rattle.structure.specs.Rules.{
   Passes,
 }
 use Rattle.verdict.specs.Verdict.{byTypes, byRecords, verdict}
-use Rattle.verdict.specs.Scopes.{inputs}
+use Rattle.verdict.specs.Scopes.{inputs, root}
 use Rattle.verdict.specs.Promises.{WellTyped}
-use Rattle.verdict.specs.Scopes.{root}
 use Rattle.verdict.specs.declared.Verdict.the-variants.{Accepted}
 use native.Mathlib.Omega.{arith}
 use lib.ListN.{length}
@@ -53,7 +52,7 @@ use Rattle.typing.specs.Judging.{Ground, Judging, Closing, Fitting}
 use Rattle.typing.specs.LeafChains.{LeafOrEnd}
 use Rattle.typing.specs.PatternTable.{PatternsTyped, TypingPattern, TypeTables}
 use Rattle.verdict.specs.Stages.{CheckingRecords, CheckingNamings, CheckingTypes, CheckingDepths}
-use Rattle.verdict.specs.Widths.{PatternsFrom}
+use Rattle.verdict.specs.CheckedTable.{PatternsFrom}
 use Rattle.accepted.specs.Accepting.{Accepting}
 use Rattle.accepted.proofs.Requirements.{sized, fitted, placing-begun, depths-placed, ready, closing, patterns-judged, widths}
 use Rattle.accepted.proofs.Callable as Callable

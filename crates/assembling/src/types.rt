@@ -8,6 +8,7 @@ ghost use Rattle.assembling.specs.Held.{leavesOver, TypesHeld, TypesGath
 ghost use Rattle.instructions.specs.Assembly.{typeHeld, heldTypes};
 ghost use Rattle.grammar.specs.Legal.{limit};
 ghost use Rattle.grammar.specs.Sizes.{textTable};
+ghost use Rattle.records.specs.Limits.{mostLeaves};
 use instructions::COUNT_CONSTRUCTOR;
 use instructions::DECLARE_TYPE;
 use instructions::FIRST_TYPE;
@@ -53,7 +54,7 @@ pub fn leaf_count(d: u16, k: usize, leaves: &Ops) -> usize
 // The leaves of a pair type over k types.
 fn pair_leaves(a: u16, b: u16, k: usize, leaves: &Ops) -> u8
     requires { ⌜ (length (now leaves) ≡ textTable) × (k ≤ textTable) ⌝ }
-    ensures { λ r. ⌜ ((pairs firsts seconds : List ℕ) → TypesHeld k pairs firsts seconds (now (leaves .entry)) → r ≡ min 64 (leavesNumbered (heldTypes pairs firsts seconds k) a + leavesNumbered (heldTypes pairs firsts seconds k) b)) ⌝ }
+    ensures { λ r. ⌜ ((pairs firsts seconds : List ℕ) → TypesHeld k pairs firsts seconds (now (leaves .entry)) → r ≡ min mostLeaves (leavesNumbered (heldTypes pairs firsts seconds k) a + leavesNumbered (heldTypes pairs firsts seconds k) b)) ⌝ }
 {
     let sum = leaf_count(a, k, leaves) + leaf_count(b, k, leaves);
     if sum < LEAVES {

@@ -6,7 +6,7 @@ use mathlib.Core.Logic.{_⊎_, inl, inr}
 use mathlib.Core.Path.{_≡_, refl, sym, _∙_}
 use lib.ListN.{length, getD, set, replicate, length-set}
 use lib.Seq.{getD-set-same}
-use Rattle.behaviour.specs.Delays.{Entry, putAll, enter}
+use Rattle.behaviour.specs.Entries.{Entry, putAll, enter}
 use Rattle.behaviour.proofs.Members.{member-or-not}
 use Rattle.behaviour.proofs.Entries.{placesOf, put-elsewhere}
 use Rattle.behaviour.proofs.Cells.{table-cells}

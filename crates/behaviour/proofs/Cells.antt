@@ -8,8 +8,7 @@ use native.Mathlib.Omega.{arith}
 use lib.ListN.{length, getD, set, length-set}
 use lib.Seq.{getD-set-same, getD-set-other, set-set, set-comm, set-getD}
 use Rattle.records.specs.Words.{word, wordA, lowByte, highByte}
-use Rattle.behaviour.specs.Delays.{enter}
-use Rattle.behaviour.specs.Sheets.{putWord}
+use Rattle.behaviour.specs.Entries.{enter, putWord}
 use Rattle.behaviour.proofs.Entries.{Cells}
 
 -- the entry of a table at a record

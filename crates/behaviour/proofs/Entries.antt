@@ -8,7 +8,7 @@ use mathlib.Core.List.{List, [], _∷_, _++_, map, List·Memᴰ, List·Memᴰ·h
 use mathlib.Core.Path.{_≡_, refl, sym, ap, _∙_}
 use native.Mathlib.Decide.{ℕ-discrete}
 use Rattle.records.specs.Written.{Distinct}
-use Rattle.behaviour.specs.Delays.{Entry, putAll}
+use Rattle.behaviour.specs.Entries.{Entry, putAll}
 
 -- the places of entries
 abbrev pub placesOf : List Entry → List ℕ

@@ -33,7 +33,8 @@ use Rattle.meaning.specs.Elaboration.{Term}
 use Rattle.meaning.specs.Evaluation.{iter, choose, eval, application, settled, next}
 use Rattle.meaning.proofs.FixedPoint.{iter-stays}
 use Rattle.behaviour.specs.Terms.{term, circuitTerm}
-use Rattle.behaviour.specs.Delays.{assigned, entries, putAll, enter, store}
+use Rattle.behaviour.specs.Delays.{entries, store}
+use Rattle.behaviour.specs.Entries.{assigned, putAll, enter}
 use Rattle.behaviour.specs.Cycle.{outputBy}
 use Rattle.behaviour.specs.Evaluated.{valueAt}
 use Rattle.behaviour.specs.Midway.{storedAt}

@@ -48,7 +48,7 @@ use Rattle.verdict.specs.declared.Verdict.the-variants.{Accepted}
 use Rattle.accepted.proofs.Laws.{written, accepted-by-types}
 use Rattle.accepted.proofs.Scopes.{scope-checked}
 use Rattle.meaning.specs.Undecided.{undecidedRule}
-use Rattle.behaviour.specs.Delays.{Entry, putAll, enter}
+use Rattle.behaviour.specs.Entries.{Entry, putAll, enter}
 use Rattle.behaviour.specs.Evaluated.{valueAt}
 use Rattle.behaviour.specs.Firing.{firstYes, firings, fired}
 use Rattle.behaviour.specs.Midway.{firedAt}

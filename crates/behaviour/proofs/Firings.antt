@@ -38,7 +38,7 @@ use Rattle.records.specs.Trees.{
 }
 use Rattle.records.specs.Written.{Written}
 use Rattle.records.proofs.Trees.{tree-of}
-use Rattle.behaviour.specs.Delays.{enter}
+use Rattle.behaviour.specs.Entries.{enter}
 use Rattle.behaviour.specs.Evaluated.{valueAt}
 use Rattle.behaviour.specs.Firing.{firstYes, firings}
 use Rattle.behaviour.specs.Midway.{firedAt}

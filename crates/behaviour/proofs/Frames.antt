@@ -44,7 +44,8 @@ use Rattle.meaning.specs.Elaboration.{
   frame,
 }
 use Rattle.meaning.proofs.Order.{value-length}
-use Rattle.behaviour.specs.Delays.{Entry, assigned, entries, places}
+use Rattle.behaviour.specs.Delays.{entries, places}
+use Rattle.behaviour.specs.Entries.{Entry, assigned}
 use Rattle.behaviour.proofs.Members.{either}
 use Rattle.behaviour.proofs.Entries.{placesOf, places-append}
 

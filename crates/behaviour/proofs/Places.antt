@@ -35,7 +35,8 @@ use Rattle.records.specs.Trees.{
 use Rattle.records.specs.Written.{Distinct}
 use Rattle.records.specs.Decoding.{leafValues}
 use Rattle.behaviour.specs.Terms.{term}
-use Rattle.behaviour.specs.Delays.{Entry, assigned, entries, places}
+use Rattle.behaviour.specs.Delays.{entries, places}
+use Rattle.behaviour.specs.Entries.{Entry, assigned}
 use Rattle.behaviour.proofs.Entries.{placesOf, places-append}
 use Rattle.behaviour.proofs.Members.{Among, among-both, Apart, distinct-parts, Rearranged, rearranged-same, rearranged-both, rearranged-swapped}
 use Rattle.behaviour.proofs.Frames.{assigned-places}

@@ -49,7 +49,8 @@ use Rattle.meaning.specs.Ordered.{
   o-delay,
 }
 use Rattle.behaviour.specs.Terms.{circuitTerm}
-use Rattle.behaviour.specs.Delays.{Entry, assigned, entries}
+use Rattle.behaviour.specs.Delays.{entries}
+use Rattle.behaviour.specs.Entries.{Entry, assigned}
 use Rattle.behaviour.specs.Afterwards.{OnlyDelays}
 use Rattle.behaviour.specs.SheetOrder.{SheetBelow}
 use Rattle.behaviour.proofs.Members.{either}

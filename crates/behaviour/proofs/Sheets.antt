@@ -25,17 +25,16 @@ use Rattle.records.proofs.Distinct.{circuit-distinct}
 use Rattle.records.proofs.Grown.{grown-circuit}
 use Rattle.records.proofs.Rewritten.{same-circuit}
 use Rattle.structure.specs.Rules.{Passes}
-use Rattle.accepted.proofs.Laws.{written, well-named}
+use Rattle.accepted.proofs.Laws.{written, well-named, accepted-by-types, input-context, accepted-judged}
 use Rattle.verdict.specs.Verdict.{verdict}
 use Rattle.verdict.specs.Scopes.{inputs}
 use Rattle.verdict.specs.declared.Verdict.the-variants.{Accepted}
-use Rattle.accepted.proofs.Laws.{accepted-by-types}
-use Rattle.accepted.proofs.Laws.{input-context, accepted-judged}
 use Rattle.accepted.proofs.AcceptedAgain.{accepted-again}
 use Rattle.meaning.specs.Elaboration.{Term, frame}
 use Rattle.behaviour.specs.Terms.{circuitTerm}
-use Rattle.behaviour.specs.Delays.{Entry, entries, places, putAll}
-use Rattle.behaviour.specs.Sheets.{putWord, write, Writable}
+use Rattle.behaviour.specs.Delays.{entries, places}
+use Rattle.behaviour.specs.Entries.{Entry, putAll, putWord}
+use Rattle.behaviour.specs.Sheets.{write, Writable}
 use Rattle.behaviour.specs.Afterwards.{OnlyDelays}
 use Rattle.behaviour.proofs.Terms.{circuit-typed}
 use Rattle.behaviour.proofs.Entries.{placesOf, put-leaves, put-elsewhere, put-read}

@@ -49,7 +49,8 @@ use Rattle.accepted.proofs.Scopes.{as-many-leaves}
 use Rattle.accepted.proofs.AcceptedAgain.{ValuesFit}
 use Rattle.accepted.proofs.LeafBounds.{bounds-small}
 use Rattle.behaviour.specs.Terms.{term}
-use Rattle.behaviour.specs.Delays.{Entry, assigned, entries}
+use Rattle.behaviour.specs.Delays.{entries}
+use Rattle.behaviour.specs.Entries.{Entry, assigned}
 use Rattle.behaviour.proofs.Members.{either}
 use Rattle.behaviour.proofs.Frames.{EachDelay, Valued, HasPlaces, Reads}
 

@@ -1,7 +1,7 @@
 -- Demand 3 (docs/SHEETS.md, "After a run"): what holds after a run of an accepted sheet on a well-formed stimulus with slices
 -- of the right lengths, one claim about the whole list of cycles. It speaks of the number returned and of the final bytes of the
 -- output slice and the next slice, whatever they are; that the call returned 0 is concluded, not supposed.
-use Prim.Native.Nat.{ℕ, suc, _+_, _*_, _^_, _≤_, _<_}
+use Prim.Native.Nat.{ℕ, suc, _+_, _*_, _≤_, _<_}
 use mathlib.Core.Path.{_≡_}
 use mathlib.Core.Logic.{_≢_}
 use mathlib.Core.Bool.{false}
@@ -12,7 +12,7 @@ use Rattle.picoella.specs.Language.{Ty, leaves, OfType, Expr, LetRec}
 use Rattle.records.specs.Words.{count, kindWord, wordA, lowByte, highByte}
 use Rattle.records.specs.Trees.{typeAt, Tree, feedbackOf, treeAt, circuit, delayLeaves}
 use Rattle.records.specs.Decoding.{expressionOf, allThere, whenThere}
-use Rattle.answers.specs.Answers.{lowest}
+use Rattle.answers.specs.Answers.{inOne, lowest}
 use Rattle.verdict.specs.Verdict.{verdict}
 use Rattle.verdict.specs.Scopes.{Scope}
 use Rattle.verdict.specs.declared.Verdict.the-variants.{Accepted}
@@ -88,10 +88,10 @@ pub record FeedbackSettles (Γ : List Ty) (ρ : List (List ℕ)) (σ : Ty) (whol
   -- lies at or below every other value of the type so returned,
   pub least : (w : List ℕ) → OfType σ w → apply ρ part w ≡ w → value ⊑ w
   -- and is reached from undefined in at most as many applications as the type has leaves, and in no fewer than are counted;
-  pub count : ℕ
-  pub at-most : count ≤ leaves σ
-  pub reached : applied ρ σ part count ≡ value
-  pub none-fewer : (j : ℕ) → j < count → applied ρ σ part j ≢ value
+  pub times : ℕ
+  pub at-most : times ≤ leaves σ
+  pub reached : applied ρ σ part times ≡ value
+  pub none-fewer : (j : ℕ) → j < times → applied ρ σ part j ≢ value
   -- 000's iteration reaches the same, and leaves the delays of the defining part as its evaluation at this value does
   pub by-iteration : IteratesTo Γ ρ σ (erase part) value (erase (next undecidedRule (value ∷ ρ) part))
 
@@ -122,7 +122,7 @@ pub record FeedbackAt (sheet : List ℕ) (sheets : ℕ → List ℕ) (n q : ℕ)
 -- after the run: t is the output type's record, `result` the number returned, `out` and `next` the final bytes
 pub record Afterwards (sheet stimulus : List ℕ) (t result : ℕ) (out next : List ℕ) : Type 0 where
   -- code 0, with the number of cycles in the list
-  pub all-done : result ≡ 0 * 2 ^ 32 + cycleCount sheet stimulus
+  pub all-done : result ≡ inOne 0 (cycleCount sheet stimulus)
   -- the sheets s₀ … sₙ
   pub sheets : ℕ → List ℕ
   pub first : sheets 0 ≡ sheet

@@ -18,7 +18,7 @@ use Rattle.meaning.specs.Evaluation.{applications}
 use Rattle.behaviour.specs.Terms.{term}
 use Rattle.stimulus.specs.Stimulus.{cycleCount}
 use Rattle.answers.specs.Answers.{packed}
-use Rattle.behaviour.specs.Sheets.{putWord}
+use Rattle.behaviour.specs.Entries.{putWord}
 use Rattle.behaviour.specs.Run.{answer, finalOut, finalNext}
 use Rattle.behaviour.specs.Afterwards.{applied}
 

@@ -24,7 +24,7 @@ use Rattle.records.specs.Kinds.{
 }
 use Rattle.records.specs.Says.{kindAt}
 use Rattle.records.specs.Trees.{chain}
-use Rattle.behaviour.specs.Sheets.{putWord}
+use Rattle.behaviour.specs.Entries.{putWord}
 
 -- entries of a table copied to the words a of these records
 abbrev pub copied : (table records : List ℕ) → List ℕ → List ℕ

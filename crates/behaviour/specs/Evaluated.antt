@@ -1,5 +1,4 @@
--- What evaluating the expression at a record gives: its value, and the table in which its delays' next values are entered. Γ lists
--- the type records of the names in scope and ρ their values, the innermost first.
+-- The value of the expression at a record. Γ lists the type records of the names in scope and ρ their values, the innermost first.
 use Prim.Native.Nat.{ℕ}
 use mathlib.Core.List.{List}
 use Rattle.records.specs.Trees.{treeAt}

@@ -13,7 +13,7 @@ use Rattle.meaning.specs.Matching.{Decision, Yes, No, Undecided, matches}
 use Rattle.meaning.specs.Undecided.{undecidedRule}
 use Rattle.meaning.specs.Evaluation.{eval, settled}
 use Rattle.behaviour.specs.Terms.{term}
-use Rattle.behaviour.specs.Delays.{Entry, putAll, enter}
+use Rattle.behaviour.specs.Entries.{Entry, putAll, enter}
 
 -- an alternative's record where it says yes, else what those after it tell
 abbrev pub orAfter : Decision → (own after : ℕ) → ℕ

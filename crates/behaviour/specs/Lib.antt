@@ -5,10 +5,10 @@ pub mod Afterwards
 pub mod Firing
 pub mod Reaching
 pub mod Evaluated
+pub mod Entries
 pub mod SheetOrder
 pub mod Promises
--- What the promises pin down, so that it need not be believed, but of `Delays` and `Sheets` how values are put into their places, which
--- the definitions of carrying and of what fired use, and for `WriteReads` what can be written:
+-- What the promises pin down, so that it need not be believed, but of `Sheets`, for `WriteReads`, what can be written:
 pub mod Terms
 pub mod Delays
 pub mod Sheets

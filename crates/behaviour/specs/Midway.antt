@@ -5,7 +5,8 @@ use mathlib.Core.List.{List, [], _∷_}
 use Rattle.records.specs.Trees.{treeAt}
 use Rattle.meaning.specs.Evaluation.{next}
 use Rattle.behaviour.specs.Terms.{term}
-use Rattle.behaviour.specs.Delays.{store, putAll, enter}
+use Rattle.behaviour.specs.Delays.{store}
+use Rattle.behaviour.specs.Entries.{putAll, enter}
 use Rattle.behaviour.specs.Cycle.{afterBy}
 use Rattle.behaviour.specs.Firing.{firings}
 

@@ -8,7 +8,7 @@ use lib.ListN.{getD}
 use Rattle.records.specs.Words.{wordA}
 use Rattle.records.specs.Trees.{circuit, delayLeaves}
 use Rattle.meaning.specs.Values.{LeafBelow, _⊑_}
-use Rattle.behaviour.specs.Sheets.{putWord}
+use Rattle.behaviour.specs.Entries.{putWord}
 use Rattle.behaviour.specs.Afterwards.{OnlyDelays, WellFormed}
 use Rattle.behaviour.specs.Run.{RunGiven}
 use Rattle.behaviour.specs.Bench.{toggle}

@@ -1,19 +1,15 @@
 -- The sheet with other values in its delays (docs/SHEETS.md, "One cycle": "A delay's value is kept in its chain of leaves, the one that
 -- starts at its word `b`: leaf by leaf in their words `a`. No other word changes."). Any term of the circuit's frame can be written,
--- not only what comes after a cycle. A value is at most 255, so the word's second byte is 0.
+-- not only what comes after a cycle.
 use Prim.Native.Nat.{ℕ}
 use mathlib.Core.Path.{_≡_}
 use mathlib.Core.List.{List, [], _∷_}
-use lib.ListN.{set}
-use Rattle.records.specs.Words.{wordA, lowByte, highByte}
+use Rattle.records.specs.Words.{wordA}
 use Rattle.records.specs.Trees.{typeAt, Declared}
 use Rattle.meaning.specs.Elaboration.{Term, Elaborated, frame}
 use Rattle.behaviour.specs.Terms.{circuitTerm}
-use Rattle.behaviour.specs.Delays.{entries, putAll}
-
--- word a of record l becomes v
-abbrev pub putWord : (place value : ℕ) → List ℕ → List ℕ
-putWord l v s = set (set s (lowByte l) v) (highByte l) 0
+use Rattle.behaviour.specs.Delays.{entries}
+use Rattle.behaviour.specs.Entries.{putAll, putWord}
 
 -- the sheet whose delays hold what those of the term hold
 unfoldable pub write : List ℕ → Term → List ℕ

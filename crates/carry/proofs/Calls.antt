@@ -24,8 +24,7 @@ use Rattle.verdict.specs.declared.Verdict.{Verdict}
 use Rattle.verdict.specs.declared.Verdict.the-variants as Verdicts
 use Rattle.accepted.proofs.Laws.{verdict-first, verdict-place}
 use Rattle.accepted.proofs.Small.{accepted-sized}
-use Rattle.behaviour.specs.Delays.{putAll}
-use Rattle.behaviour.specs.Sheets.{putWord}
+use Rattle.behaviour.specs.Entries.{putAll, putWord}
 use Rattle.answers.proofs.First.{first-both, first-then}
 use Rattle.carry.specs.Labels.{labelTwice}
 use Rattle.carry.specs.Bearers.{AllLabelled}
@@ -73,16 +72,6 @@ accepts-by-code (Verdicts.WrongNaming r) e = absurd (omega arith)
 accepts-by-code (Verdicts.WrongType r) e = absurd (omega arith)
 accepts-by-code (Verdicts.TooDeep r) e = absurd (omega arith)
 accepts-by-code (Verdicts.IllTyped r) e = absurd (omega arith)
-
-pub code-small : (w : Verdict) {c : ℕ} → c ≡ code (verdictAnswer w) → c < 256
-code-small (Verdicts.Accepted t) e = omega arith
-code-small Verdicts.WrongLength e = omega arith
-code-small Verdicts.WrongHeader e = omega arith
-code-small (Verdicts.WrongRecord r) e = omega arith
-code-small (Verdicts.WrongNaming r) e = omega arith
-code-small (Verdicts.WrongType r) e = omega arith
-code-small (Verdicts.TooDeep r) e = omega arith
-code-small (Verdicts.IllTyped r) e = omega arith
 
 pub old-place : (s : List ℕ) {w : Verdict} → w ≡ verdict s → place (verdictAnswer w) < 4294967296
 old-place s e = rw e (let h = verdict-place s in omega arith)

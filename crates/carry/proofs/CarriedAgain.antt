@@ -42,8 +42,7 @@ use Rattle.verdict.specs.declared.Verdict.the-variants.{Accepted}
 use Rattle.accepted.proofs.Small.{accepted-passes}
 use Rattle.accepted.proofs.AcceptedAgain.{ValuesFit, accepted-again}
 use Rattle.accepted.proofs.Scopes.{scope-checked, constant-fits}
-use Rattle.behaviour.specs.Delays.{Entry, assigned}
-use Rattle.behaviour.specs.Sheets.{putWord}
+use Rattle.behaviour.specs.Entries.{Entry, assigned, putWord}
 use Rattle.behaviour.proofs.Entries.{placesOf, put-elsewhere}
 use Rattle.behaviour.proofs.Cells.{InSheet, sheet-cells}
 use Rattle.behaviour.proofs.Members.{member-or-not}

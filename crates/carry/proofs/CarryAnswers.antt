@@ -20,14 +20,14 @@ use Rattle.answers.proofs.First.{first-says, says-first}
 use Rattle.verdict.specs.Verdict.{sheetChecks, outputType, verdict}
 use Rattle.verdict.specs.Scopes.{verdictAnswer}
 use Rattle.verdict.specs.declared.Verdict.the-variants.{Accepted}
-use Rattle.accepted.proofs.Laws.{verdict-place, first-accepted}
+use Rattle.accepted.proofs.Laws.{code-small, verdict-place, first-accepted}
 use Rattle.accepted.proofs.Small.{accepted-length}
 use Rattle.answers.proofs.First.{none-split, same-length-by, place-or, when-some, kept-bytes}
 use Rattle.carry.specs.Labels.{labelTwice}
 use Rattle.carry.specs.Carried.{carried}
 use Rattle.carry.specs.Carry.{refusedBy, newChecks, carryChecks, carryAnswer, finalCarried}
 use Rattle.carry.specs.Promises.{CarryFormed, SaysOfCarry, CarryLowestFirst, CarryPlacesSmall, CarryRefusalUnaltered}
-use Rattle.carry.proofs.Calls.{carry-answer, after-old, refuses-by-code, accepts-by-code, code-small}
+use Rattle.carry.proofs.Calls.{carry-answer, after-old, refuses-by-code, accepts-by-code}
 use Rattle.carry.proofs.Delays.{is-written}
 
 -- a sheet that no code refuses is accepted

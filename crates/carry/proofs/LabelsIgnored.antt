@@ -34,7 +34,8 @@ use Rattle.records.specs.Trees.{
   typeRecordOf,
 }
 use Rattle.records.specs.Decoding.{patternOf}
-use Rattle.records.specs.Rewritten.{Rewritten, OnlyLabels}
+use Rattle.records.specs.Rewritten.{Rewritten}
+use Rattle.records.specs.OnlyLabels.{OnlyLabels}
 use Rattle.records.proofs.Rewritten.{same-type, same-circuit}
 use Rattle.records.proofs.Labels.{labels-words, labels-rewritten}
 use Rattle.answers.specs.Answers.{lowest, whenDone, onDone, check, when, firstApplying}
@@ -46,8 +47,9 @@ use Rattle.meaning.specs.Undecided.{undecidedRule}
 use Rattle.meaning.specs.Evaluation.{eval, next}
 use Rattle.stimulus.specs.Stimulus.{inputType, cycleCount, cycles, wrongStimulus, wrongByte, stimulusChecks}
 use Rattle.behaviour.specs.Terms.{term, circuitTerm}
-use Rattle.behaviour.specs.Delays.{Entry, entries, putAll}
-use Rattle.behaviour.specs.Sheets.{putWord, write}
+use Rattle.behaviour.specs.Delays.{entries}
+use Rattle.behaviour.specs.Entries.{Entry, putAll, putWord}
+use Rattle.behaviour.specs.Sheets.{write}
 use Rattle.behaviour.specs.Cycle.{outputBy, afterBy}
 use Rattle.behaviour.specs.Run.{outputsBy, sheetAfter, lengthChecks, bySlices, answer, finalOut, finalNext}
 use Rattle.behaviour.proofs.Cells.{put-length, put-byte}

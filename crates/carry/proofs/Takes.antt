@@ -19,8 +19,7 @@ use Rattle.records.specs.Decoding.{leafValues}
 use Rattle.records.proofs.Types.{leaves-of-bounds}
 use Rattle.answers.specs.Answers.{when}
 use Rattle.answers.proofs.Lowest.{lowest-some-passes}
-use Rattle.behaviour.specs.Delays.{assigned, putAll}
-use Rattle.behaviour.specs.Sheets.{putWord}
+use Rattle.behaviour.specs.Entries.{assigned, putAll, putWord}
 use Rattle.behaviour.proofs.Entries.{put-append, put-leaves}
 use Rattle.behaviour.proofs.Cells.{put-length}
 use Rattle.carry.specs.Labels.{label, bears, bearer, delayType, sameShape}

@@ -16,8 +16,7 @@ use Rattle.records.proofs.Table.{askOfKind, kind-of-sort}
 use Rattle.records.proofs.Asked.{as-kind-asks, past-header}
 use Rattle.records.proofs.Trees.{chain-of, next-leaf}
 use Rattle.values.proofs.Gathering.{left, left-falls}
-use Rattle.behaviour.specs.Delays.{Entry, assigned, putAll}
-use Rattle.behaviour.specs.Sheets.{putWord}
+use Rattle.behaviour.specs.Entries.{Entry, assigned, putAll, putWord}
 use Rattle.carry.specs.Carrying.{OfLeaves, Taking}
 
 -- from here on a chain of leaves, or its end

@@ -1,6 +1,6 @@
--- The carried sheet (docs/SHEETS.md, "Carrying": "Each labelled delay of the new sheet takes the held value of the old sheet's delay with
--- that label, where both types have the same shape. All else of the new sheet stays"). Record by record of the new sheet. A held
--- value is the words a of the delay's leaves; what is taken is a byte, so the word's second byte becomes 0.
+-- The carried sheet (docs/SHEETS.md, "Carrying": "Where a delay of the new sheet and one of the old bear the same label, and their types
+-- have the same shape, the new one gets the held value of the old. Nothing else of the new sheet changes"). Record by record of the new
+-- sheet. A held value is the words a of the delay's leaves; what is taken is a byte, so the word's second byte becomes 0.
 use Prim.Native.Nat.{ℕ, zero, suc}
 use mathlib.Core.List.{List, [], _++_}
 use mathlib.Core.Option.{Option, none, some}
@@ -8,8 +8,7 @@ use Rattle.records.specs.Words.{count, wordB}
 use Rattle.records.specs.Trees.{chain}
 use Rattle.records.specs.Decoding.{leafValues}
 use Rattle.answers.specs.Answers.{when}
-use Rattle.behaviour.specs.Delays.{Entry, assigned, putAll}
-use Rattle.behaviour.specs.Sheets.{putWord}
+use Rattle.behaviour.specs.Entries.{Entry, assigned, putAll, putWord}
 use Rattle.carry.specs.Labels.{label, bearer, delayType, sameShape}
 
 -- the leaf records of delay r, and the value that it holds

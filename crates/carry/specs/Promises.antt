@@ -10,7 +10,7 @@ use lib.ListN.{length}
 use Rattle.records.specs.Words.{count}
 use Rattle.records.specs.Kinds.{expression, delay}
 use Rattle.records.specs.Says.{kindAt}
-use Rattle.records.specs.Rewritten.{OnlyLabels}
+use Rattle.records.specs.OnlyLabels.{OnlyLabels}
 use Rattle.answers.specs.Answers.{lowest, code, place, Refuses}
 use Rattle.answers.specs.declared.Answer.{Answer}
 use Rattle.answers.specs.declared.Answer.the-variants.{Done, Refused}

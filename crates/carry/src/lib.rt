@@ -8,12 +8,10 @@ ghost use Rattle.records.specs.Sized.{Sized};
 ghost use Rattle.records.specs.Written.{Written};
 ghost use Rattle.records.specs.Trees.{chain, typeAt};
 ghost use Rattle.records.specs.Decoding.{leafValues};
-ghost use Rattle.answers.specs.Answers.{lowest, code};
+ghost use Rattle.answers.specs.Answers.{lowest};
 ghost use Rattle.answers.specs.Searches.{found};
 ghost use Rattle.verdict.specs.Verdict.{verdict};
-ghost use Rattle.verdict.specs.Scopes.{verdictAnswer};
-ghost use Rattle.behaviour.specs.Delays.{assigned, putAll};
-ghost use Rattle.behaviour.specs.Sheets.{putWord};
+ghost use Rattle.behaviour.specs.Entries.{assigned, putAll, putWord};
 ghost use Rattle.carry.specs.Labels.{label, labelTwice, sameShape};
 ghost use Rattle.carry.specs.Bearers.{Bearers, Labelling, Labelled, AllLabelled};
 ghost use Rattle.carry.specs.Carrying.{Comparing, Taking, SheetAccepted, Carrying, CarryingAll};
@@ -21,16 +19,9 @@ ghost use Rattle.carry.specs.Carried.{giver, takenFrom, takenBelow};
 ghost use Rattle.carry.specs.Carry.{CarryGiven};
 ghost use Rattle.records.specs.Limits.{wordBound};
 use answers::Found;
-use answers::ILL_TYPED;
 use answers::LABEL_TWICE;
 use answers::NEW_SHEET_REFUSED;
-use answers::TOO_DEEP;
-use answers::WRONG_HEADER;
-use answers::WRONG_LENGTH;
-use answers::WRONG_NAMING;
 use answers::WRONG_NEXT;
-use answers::WRONG_RECORD;
-use answers::WRONG_TYPE;
 use answers::in_one;
 use records::KIND_DELAY;
 use records::KIND_FLAT_TYPE;
@@ -47,6 +38,7 @@ use verdict::Verdict;
 use verdict::check_into;
 use verdict::no_widths;
 use verdict::packed_verdict;
+use verdict::verdict_code;
 
 // The labels that there are, 0 for none among them.
 pub const LABELS: usize = 65536;
@@ -245,33 +237,17 @@ fn verdict_on(sheet: &[u8], n: usize) -> Verdict
     check_into(sheet, n, &mut widths)
 }
 
-// The code of a verdict, 0 where it accepts.
-fn code_of(v: Verdict) -> u64
-    ensures { λ r. ⌜ r ≡ code (verdictAnswer v) ⌝ }
-{
-    match v {
-        Verdict::Accepted(_) => 0,
-        Verdict::WrongLength => WRONG_LENGTH,
-        Verdict::WrongHeader => WRONG_HEADER,
-        Verdict::WrongRecord(_) => WRONG_RECORD,
-        Verdict::WrongNaming(_) => WRONG_NAMING,
-        Verdict::WrongType(_) => WRONG_TYPE,
-        Verdict::TooDeep(_) => TOO_DEEP,
-        Verdict::IllTyped(_) => ILL_TYPED,
-    }
-}
-
 // The call: the answer's code and place in one number. The old sheet by codes 1 to 7, the new one by 18, then the rest.
 pub fn carry(old: &[u8], new: &[u8], next: &mut [u8]) -> u64
     ensures { λ r. ⌜ CarryGiven (now (old .entry)) (now (new .entry)) (now (next .entry)) r (now (next .exit)) ⌝ }
 {
     let n = records_in(old.len());
     let before = verdict_on(old, n);
-    if code_of(before) != 0 {
+    if verdict_code(before) != 0 {
         return packed_verdict(before);
     }
     let m = records_in(new.len());
-    let refused = code_of(verdict_on(new, m));
+    let refused = verdict_code(verdict_on(new, m));
     if refused != 0 {
         return in_one(NEW_SHEET_REFUSED, refused);
     }

@@ -7,7 +7,7 @@ ghost use Rattle.emitting.specs.Emitting.{RecordPut, ZerosPut};
 use records::KIND_LEAF;
 use records::RECORD_BYTES;
 
-pub const LEAF: u16 = KIND_LEAF as u16;
+pub const LEAF_KIND: u16 = KIND_LEAF as u16;
 
 pub fn word_number(x: u16) -> usize
     ensures { λ r. ⌜ r ≡ x ⌝ }
@@ -77,7 +77,7 @@ pub fn put_zeros(sheet: &mut [u8], cursor: u16, next: u16, count: usize) -> Leaf
     let mut after = next;
     let mut left = count;
     while left != 0 {
-        at = put_record(sheet, at, LEAF, after, 0, 0, 0, 0);
+        at = put_record(sheet, at, LEAF_KIND, after, 0, 0, 0, 0);
         after = at;
         left -= 1;
     }

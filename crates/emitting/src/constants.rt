@@ -6,7 +6,7 @@ ghost use Rattle.instructions.specs.Instruction.{instructionOf};
 ghost use Rattle.instructions.specs.Assembly.{DeclaredType, leavesNumbered};
 ghost use Rattle.emitting.specs.Tables.{LeavesHeld};
 ghost use Rattle.emitting.specs.Emitting.{Advancing, InstructionDone};
-use crate::bytes::LEAF;
+use crate::bytes::LEAF_KIND;
 use crate::bytes::put_record;
 use crate::bytes::put_zeros;
 use crate::bytes::word_number;
@@ -53,7 +53,7 @@ pub fn step_leaf(
     ensures { λ r. ⌜ InstructionDone (now (leaves .entry)) types (instructionOf op first second) (now (sheet .entry)) (now (kinds .entry)) (now (values .entry)) cursor height next (now (sheet .exit)) (now (kinds .entry)) (now (values .entry)) (r .cursor) (r .height) (r .next) ⌝ }
 {
     if op == USE_LEAF {
-        let at = put_record(sheet, cursor, LEAF, next, second, 0, 0, 0);
+        let at = put_record(sheet, cursor, LEAF_KIND, next, second, 0, 0, 0);
         return Place {
             cursor: at,
             height,

@@ -3,7 +3,7 @@ ghost use Rattle.instructions.specs.Emission.{completed};
 ghost use Rattle.emitting.specs.Tables.{heldStack};
 ghost use Rattle.emitting.specs.Expressions.{expressionWritten, twoWritten, recursionWritten, choiceWritten, delayWritten, constantWritten, undefinedWritten};
 ghost use Rattle.emitting.specs.Emitting.{Advancing, ExpressionCompleted};
-use crate::bytes::LEAF;
+use crate::bytes::LEAF_KIND;
 use crate::bytes::put_record;
 use crate::bytes::put_zeros;
 use crate::stack::NUMBER;
@@ -205,7 +205,7 @@ pub fn put_constant(
     requires { ⌜ Advancing (now sheet) (now kinds) (now values) cursor height ⌝ }
     ensures { λ r. ⌜ ExpressionCompleted (constantWritten (now (kinds .entry)) (now (values .entry)) cursor height declared number) cursor height (now (sheet .entry)) (now (sheet .exit)) (now (kinds .exit)) (now (values .exit)) (r .cursor) (r .height) (r .next) ⌝ }
 {
-    let at = put_record(sheet, cursor, LEAF, 0, number, 0, 0, 0);
+    let at = put_record(sheet, cursor, LEAF_KIND, 0, number, 0, 0, 0);
     put_expression(
         sheet,
         kinds,

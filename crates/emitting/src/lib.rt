@@ -77,7 +77,14 @@ fn write_code(
 }
 
 // A type's record.
-fn put_type(sheet: &mut [u8], cursor: u16, next: u16, pair: u8, first: u16, second: u16) -> u16
+fn put_type_record(
+    sheet: &mut [u8],
+    cursor: u16,
+    next: u16,
+    pair: u8,
+    first: u16,
+    second: u16,
+) -> u16
     requires { ⌜ 12 * cursor ≤ length (now sheet) ⌝ }
     ensures { λ r. ⌜ RecordPut (now (sheet .entry)) (now (sheet .exit)) cursor (typeRecord (typeHeld pair first second) next) r ⌝ }
 {
@@ -97,7 +104,7 @@ fn write_types(pairs: &Ops, firsts: &Operands, seconds: &Operands, types: usize,
     let mut next = 0;
     while k != 0 {
         k -= 1;
-        cursor = put_type(sheet, cursor, next, pairs[k], firsts[k], seconds[k]);
+        cursor = put_type_record(sheet, cursor, next, pairs[k], firsts[k], seconds[k]);
         next = cursor;
     }
 }

@@ -19,11 +19,10 @@ use Rattle.records.proofs.Trees.{tree-of}
 use Rattle.verdict.specs.Scopes.{Scope, if-tested, if-then, if-else, of-delay}
 use Rattle.accepted.proofs.Scopes.{judged-by-kind}
 use Rattle.meaning.specs.Undecided.{undecidedRule}
-use Rattle.behaviour.specs.Delays.{assigned, putAll, enter}
+use Rattle.behaviour.specs.Entries.{assigned, putAll, enter}
 use Rattle.behaviour.specs.Evaluated.{valueAt}
-use Rattle.behaviour.specs.Midway.{storedAt}
+use Rattle.behaviour.specs.Midway.{storedAt, firedAt}
 use Rattle.behaviour.proofs.Evaluated.{if-value, if-stored, delay-value, delay-stored}
-use Rattle.behaviour.specs.Midway.{firedAt}
 use Rattle.behaviour.proofs.Firings.{if-fired, delay-fired}
 use Rattle.values.specs.Chained.{Chained}
 use Rattle.values.specs.Matchings.{Matching, Chosen}

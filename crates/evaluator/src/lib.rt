@@ -33,7 +33,7 @@ use values::room;
 use values::stands_at;
 
 // Copies the value of a name, and nothing else changes.
-fn of_name(
+fn copy_name(
     sheet: &[u8],
     n: usize,
     widths: &WidthTable,
@@ -71,7 +71,7 @@ pub fn eval(
         return;
     }
     if kind == KIND_NAME {
-        of_name(sheet, n, widths, env, names, rec, out);
+        copy_name(sheet, n, widths, env, names, rec, out);
         return;
     }
     if kind == KIND_PAIR {
@@ -122,7 +122,7 @@ fn eval_part(
         return;
     }
     if kind == KIND_NAME {
-        of_name(sheet, n, widths, env, names, rec, out);
+        copy_name(sheet, n, widths, env, names, rec, out);
         return;
     }
     eval(sheet, n, widths, env, names, held, rec, out, fired);

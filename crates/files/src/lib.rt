@@ -4,6 +4,7 @@ ghost use Prim.Native.Nat.{_≤_, _<_};
 ghost use mathlib.Core.Path.{_≡_};
 ghost use lib.ListN.{length};
 ghost use Rattle.io.specs.Counts.{Counts};
+ghost use Rattle.records.specs.Limits.{mostLeaves};
 use libc::STDOUT_FILENO;
 use listing::LINE_BYTES;
 use printout::first_piece;
@@ -68,7 +69,7 @@ pub fn refuse_file(opened: bool) {
 
 // Prints what was told, piece by piece: laid end to end the pieces are the listing, or the line of a refusal.
 pub fn print(code: u64, place: u64, t: u64, w: usize, outputs: &[u8])
-    requires { ⌜ (0 < w) × (w ≤ 64) ⌝ }
+    requires { ⌜ (0 < w) × (w ≤ mostLeaves) ⌝ }
 {
     let mut buffer = io::large_buffer();
     let begun = first_piece(&mut buffer, code, place, t, w, outputs);

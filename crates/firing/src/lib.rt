@@ -8,7 +8,7 @@ ghost use Rattle.accepted.specs.Accepting.{Accepting};
 ghost use Rattle.behaviour.specs.Firing.{fired};
 ghost use Rattle.firing.specs.Telling.{ToldFired};
 ghost use Rattle.firing.specs.TellingCycle.{TellingFired};
-ghost use Rattle.records.specs.Limits.{mostRecords};
+ghost use Rattle.records.specs.Limits.{mostRecords, mostLeaves};
 use answers::Answer;
 use answers::WRONG_WORDS;
 use answers::in_one;
@@ -43,13 +43,20 @@ fn copy_words(table: &Fired, words: &mut [u16])
 
 // Room for the output, which is not told.
 fn no_output() -> [u8; VALUE_BYTES]
-    ensures { λ r. ⌜ length r ≡ 64 ⌝ }
+    ensures { λ r. ⌜ length r ≡ mostLeaves ⌝ }
 {
     [0; VALUE_BYTES]
 }
 
 // The words of one cycle, with room of its own.
-fn tell(sheet: &[u8], n: usize, widths: &WidthTable, t: usize, input: &[u8], words: &mut [u16])
+fn tell_fired(
+    sheet: &[u8],
+    n: usize,
+    widths: &WidthTable,
+    t: usize,
+    input: &[u8],
+    words: &mut [u16],
+)
     requires { ⌜ TellingFired (now sheet) n (now widths) t (now input) (now words) ⌝ }
     ensures { λ _. ⌜ now (words .exit) ≡ fired (now (sheet .entry)) (now (input .entry)) ⌝ }
 {
@@ -91,7 +98,7 @@ fn fired_accepted(
     if words.len() != n {
         return in_one(WRONG_WORDS, n as u64);
     }
-    tell(sheet, n, widths, t, stim, words);
+    tell_fired(sheet, n, widths, t, stim, words);
     0
 }
 

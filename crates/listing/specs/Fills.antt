@@ -37,7 +37,7 @@ pub data Printed (w : ℕ) (outputs : List ℕ) : (k first : ℕ) (text : List �
       FilledLines buffer at k w outputs first after count next end →
       Printed w outputs (k + count) next (text ++ cycleLines w count k (drop first outputs))
 
--- where no cycle is left, they are the listing's lines and their count; kept by `whole` (proofs/Filling.antt)
+-- where no cycle is left, they are the listing's lines and their count; kept by `whole-listing` (proofs/Filling.antt)
 abbrev pub WholeListing : Type 0
 WholeListing =
     (w k first : ℕ) (outputs text : List ℕ) →

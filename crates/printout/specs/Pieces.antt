@@ -1,12 +1,11 @@
 -- The text in pieces, each as much as a buffer surely holds: what is left from a cycle on, and what a piece gives. Pieces laid end to
 -- end, each from where the one before stopped, to the last.
-use Prim.Native.Nat.{ℕ, _+_, _*_, _-_, _/_, _≤_, _<_}
+use Prim.Native.Nat.{ℕ, _*_, _-_, _/_, _≤_, _<_}
 use mathlib.Core.Path.{_≡_}
 use mathlib.Core.Bool.{Bool, true, false}
 use mathlib.Core.List.{List, [], _++_}
 use lib.ListN.{length, take, drop}
 use Rattle.listing.specs.Lines.{cycleLines, cyclesLine}
-use Rattle.listing.specs.Wrote.{TextPut}
 
 -- the lines from cycle k on, of outputs of w leaves each, and the last line
 abbrev pub textFrom : (w k : ℕ) (outputs : List ℕ) → List ℕ
@@ -17,22 +16,6 @@ textFrom w k outputs =
 abbrev pub textLeft : (last : Bool) (w k : ℕ) (outputs : List ℕ) → List ℕ
 textLeft true w k outputs = []
 textLeft false w k outputs = textFrom w k outputs
-
--- lines of 1 to 64 leaves are written from cycle k on, whose leaves begin at `first`
-pub record PuttingLines (buffer : List ℕ) (at w k first : ℕ) (outputs : List ℕ) : Type 0 where
-  pub room : at + 280 ≤ length buffer
-  pub some : 0 < w
-  pub few : w ≤ 64
-  pub start : first ≡ k * w
-  pub inside : first ≤ length outputs
-
-pub record PutLines (buffer : List ℕ) (at w k : ℕ) (outputs after : List ℕ) (end k′ first′ : ℕ) (last : Bool) : Type 0 where
-  pub part : List ℕ
-  pub wrote : TextPut buffer at part after end
-  pub text : textFrom w k outputs ≡ part ++ textLeft last w k′ outputs
-  pub more : at < end
-  pub start : first′ ≡ k′ * w
-  pub inside : first′ ≤ length outputs
 
 -- a piece of the text `before`: the buffer's bytes up to `end`, at least one
 pub record Pieced (before : List ℕ) (w : ℕ) (outputs after : List ℕ) (end k first : ℕ) (last : Bool) : Type 0 where

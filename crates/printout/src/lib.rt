@@ -5,7 +5,9 @@ ghost use lib.ListN.{length};
 ghost use Rattle.listing.specs.Wrote.{TextPut, lineBytes};
 ghost use Rattle.printout.specs.Printout.{noFileLine, toldText, RunTold};
 ghost use Rattle.printout.specs.OutputsLong.{OutputsLong, mostOutput};
-ghost use Rattle.printout.specs.Pieces.{textFrom, PuttingLines, PutLines, Pieced};
+ghost use Rattle.printout.specs.Pieces.{textFrom, Pieced};
+ghost use Rattle.printout.specs.PutLines.{PuttingLines, PutLines};
+ghost use Rattle.records.specs.Limits.{mostLeaves};
 use answers::NO_FILE;
 use answers::PLACES;
 use listing::LINE_BYTES;
@@ -39,7 +41,7 @@ pub struct ToPrint {
 
 // A number of leaves from 1 to 64: of an accepted sheet there are as many, and the tests change nothing.
 fn width(leaves: usize) -> usize
-    ensures { λ r. ⌜ (0 < r) × (r ≤ 64) × (0 < leaves → leaves ≤ 64 → r ≡ leaves) ⌝ }
+    ensures { λ r. ⌜ (0 < r) × (r ≤ mostLeaves) × (0 < leaves → leaves ≤ mostLeaves → r ≡ leaves) ⌝ }
 {
     if leaves == 0 {
         return 1;
@@ -52,7 +54,7 @@ fn width(leaves: usize) -> usize
 
 // The length of the outputs for a stimulus of so many bytes; of one that is refused, none.
 fn outputs_length(input: usize, output: usize, all: usize) -> usize
-    requires { ⌜ output ≤ 64 ⌝ }
+    requires { ⌜ output ≤ mostLeaves ⌝ }
     ensures { λ r. ⌜ OutputsLong input output all r ⌝ }
 {
     if input == 0 {
@@ -125,7 +127,7 @@ pub fn first_piece(
     w: usize,
     outputs: &[u8],
 ) -> Piece
-    requires { ⌜ (2 * lineBytes ≤ length (now buffer)) × (0 < w) × (w ≤ 64) ⌝ }
+    requires { ⌜ (2 * lineBytes ≤ length (now buffer)) × (0 < w) × (w ≤ mostLeaves) ⌝ }
     ensures { λ r. ⌜ Pieced (toldText code place t w (now (outputs .entry))) w (now (outputs .entry)) (now (buffer .exit)) (r .end) (r .k) (r .first) (r .last) ⌝ }
 {
     if code != 0 {

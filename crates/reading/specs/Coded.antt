@@ -13,11 +13,11 @@ use Rattle.grammar.specs.Rows.{State, start, stateNumber, states, Lead, aSymbol
 use Rattle.grammar.specs.Machine.{Word, noWord, naming, spelt, Config, dead, live, back, performFound, find}
 use Rattle.grammar.specs.Legal.{limit}
 use Rattle.reading.specs.declared.Illegal.{Illegal}
-use Rattle.reading.specs.declared.Illegal.the-variants.{At, Nowhere}
+use Rattle.reading.specs.declared.Illegal.the-variants.{Offset, Nowhere}
 
 -- the answer of the code
 abbrev pub illegal : Illegal → Option ℕ
-illegal (At i) = some i
+illegal (Offset i) = some i
 illegal Nowhere = none
 
 abbrev pub stateOf : ℕ → State

@@ -13,6 +13,7 @@ ghost use Rattle.grammar.specs.Machine.{back, onByte};
 ghost use Rattle.reading.specs.Coded.{illegal, stateOf, stackOf, wordOf, letterTable, follows, afterLead, followed, lettered};
 ghost use Rattle.reading.specs.Coded.{spelledOut, conclusion, Stepping, Stepped, Worded, Tables};
 ghost use Rattle.grammar.specs.Legal.{limit};
+ghost use Rattle.grammar.specs.Sizes.{stateCount};
 use numbers::BACK;
 use numbers::BLANK;
 use numbers::ContextStack;
@@ -27,7 +28,7 @@ use numbers::wide;
 
 // Where a text leaves the grammar.
 pub enum Illegal {
-    At(usize),
+    Offset(usize),
     Nowhere,
 }
 
@@ -69,7 +70,7 @@ fn take_row(
     depth: usize,
     stack: &mut ContextStack,
 ) -> Moved
-    requires { ⌜ Stepping state word depth (now stack) × (next ≤ 48) × (waits ≤ 47) ⌝ }
+    requires { ⌜ Stepping state word depth (now stack) × (next ≤ 48) × (waits ≤ stateCount) ⌝ }
     ensures { λ r. ⌜ Stepped (follows next waits word (stackOf depth (now (stack .entry)))) depth (r .ok) (r .state) (r .word) (r .depth) (now (stack .exit)) ⌝ }
 {
     if next == 0 {
@@ -253,15 +254,15 @@ fn conclude(all: usize, state: u8, letter: u8) -> Illegal
     ensures { λ r. ⌜ illegal r ≡ conclusion all state letter ⌝ }
 {
     if LIMIT < all {
-        return Illegal::At(LIMIT);
+        return Illegal::Offset(LIMIT);
     }
     if letter != 0 {
-        return Illegal::At(all);
+        return Illegal::Offset(all);
     }
     if state == DONE {
         return Illegal::Nowhere;
     }
-    Illegal::At(all)
+    Illegal::Offset(all)
 }
 
 // The first byte after which no continuation is legal, 65,535 at the latest, or the length of a text that ends early.
@@ -292,7 +293,7 @@ pub fn first_illegal(text: &[u8]) -> Illegal
             &letters,
         );
         if !moved.ok {
-            return Illegal::At(i);
+            return Illegal::Offset(i);
         }
         state = moved.state;
         word = moved.word;

@@ -32,7 +32,8 @@ use Rattle.records.specs.Kinds.{
   askOf,
 }
 use Rattle.records.specs.Says.{kindAt, askAt, higher, meets, meetsAt, wellSaid}
-use Rattle.records.specs.Rewritten.{Rewritten, OnlyLabels}
+use Rattle.records.specs.Rewritten.{Rewritten}
+use Rattle.records.specs.OnlyLabels.{OnlyLabels}
 use Rattle.records.proofs.Table.{askOfKind, ask-by-kind}
 use Rattle.records.proofs.Rewritten.{same-count, same-kind, delay-or-not}
 

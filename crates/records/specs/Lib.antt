@@ -7,7 +7,7 @@ pub mod Says
 pub mod Trees
 pub mod Decoding
 pub mod SheetOf
-pub mod Rewritten
+pub mod OnlyLabels
 -- Examples, by computation:
 pub mod DecodingRows
 -- What functions ask and give, and their proofs need:
@@ -15,3 +15,4 @@ pub mod Limits
 pub mod Sized
 pub mod AskNumbers
 pub mod Written
+pub mod Rewritten

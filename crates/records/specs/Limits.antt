@@ -5,6 +5,18 @@ use Prim.Native.Nat.{ℕ}
 abbrev pub mostRecords : ℕ
 mostRecords = 4096
 
+-- the most leaves of a type; a slot for a value has so many bytes
+abbrev pub mostLeaves : ℕ
+mostLeaves = 64
+
+-- what stands in a table for more leaves than that
+abbrev pub pastLeaves : ℕ
+pastLeaves = 65
+
+-- how deep an expression may lie, and so the most names in scope
+abbrev pub mostDepth : ℕ
+mostDepth = 64
+
 -- one more than the highest word
 abbrev pub wordBound : ℕ
 wordBound = 65536

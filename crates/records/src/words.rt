@@ -6,7 +6,7 @@ ghost use Rattle.records.specs.Sized.{Sized};
 ghost use Rattle.records.specs.Limits.{mostRecords, wordBound};
 use crate::RECORD_BYTES;
 
-fn wide(x: u8) -> usize
+fn widened(x: u8) -> usize
     ensures { λ r. ⌜ (r ≡ x) × (r < 256) ⌝ }
 {
     x as usize
@@ -33,5 +33,5 @@ pub fn word(sheet: &[u8], n: usize, rec: usize, k: usize) -> usize
     ensures { λ r. ⌜ (r ≡ word (now (sheet .entry)) rec k) × (r < wordBound) ⌝ }
 {
     let at = offset(rec, k);
-    wide(sheet[at]) + 256 * wide(sheet[at + 1])
+    widened(sheet[at]) + 256 * widened(sheet[at + 1])
 }

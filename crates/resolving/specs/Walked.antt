@@ -23,7 +23,7 @@ use Rattle.instructions.specs.TextOrder.{textInstructions}
 use Rattle.instructions.specs.TokenOrder.{walkInstructions}
 use Rattle.resolving.specs.Said.{Numbered, CodeSized, CodeHeld}
 use Rattle.resolving.specs.declared.Resolved.{Resolved}
-use Rattle.resolving.specs.declared.Resolved.the-variants.{BadName, Sound}
+use Rattle.resolving.specs.declared.Resolved.the-variants.{BadName, Instructions}
 
 -- the reading ts of a text t is left at a place; the tokens before it said some instructions
 pub record Walks (text : List ℕ) (ts : List Token) (t : Text) (i : ℕ) (q : State) (K : List State) (S : NameScope) (said : List Instruction) : Type 0 where
@@ -88,4 +88,4 @@ pub record SoundText (text : List ℕ) (t : Text) (n : ℕ) (ops firsts seconds 
 
 abbrev pub TextResolved : List ℕ → Text → (ops firsts seconds : List ℕ) → Resolved → Type 0
 TextResolved text t ops firsts seconds (BadName p) = firstBadPlace (nameChecks t) ≡ some p
-TextResolved text t ops firsts seconds (Sound n) = SoundText text t n ops firsts seconds
+TextResolved text t ops firsts seconds (Instructions n) = SoundText text t n ops firsts seconds

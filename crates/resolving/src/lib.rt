@@ -35,7 +35,7 @@ use tokens::take_token;
 // The first bad name of a text, or how many instructions it gives.
 pub enum Resolved {
     BadName(usize),
-    Sound(usize),
+    Instructions(usize),
 }
 
 // The walk over a text, which leaves its instructions in the tables.
@@ -72,7 +72,7 @@ pub fn resolve(
     while i < text.len() {
         let start = skip_blanks(text, i);
         if start == text.len() {
-            return Resolved::Sound(count);
+            return Resolved::Instructions(count);
         }
         let taken = take_token(
             text,
@@ -112,5 +112,5 @@ pub fn resolve(
         count = taken.count;
         i = taken.end;
     }
-    Resolved::Sound(count)
+    Resolved::Instructions(count)
 }

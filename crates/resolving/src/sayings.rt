@@ -7,6 +7,7 @@ ghost use Rattle.symbols.specs.Names.{lettersAt, Inside, declaredNames, boundNa
 ghost use Rattle.instructions.specs.TokenOrder.{declaredOp, nameSaid, otherSaid, valueSaid, pairBefore};
 ghost use Rattle.resolving.specs.Said.{CodeSized, CodeSaid, Saying, namedSaid, classSaid};
 ghost use Rattle.grammar.specs.Legal.{limit};
+ghost use Rattle.grammar.specs.Sizes.{stateCount};
 use crate::code::say;
 use crate::numbering::entry;
 use crate::numbering::has_role;
@@ -194,7 +195,7 @@ fn say_pair(
     firsts: &mut Operands,
     seconds: &mut Operands,
 ) -> usize
-    requires { ⌜ CodeSized (now ops) (now firsts) (now seconds) count × (state < 47) ⌝ }
+    requires { ⌜ CodeSized (now ops) (now firsts) (now seconds) count × (state < stateCount) ⌝ }
     ensures { λ r. ⌜ CodeSaid (now (ops .entry)) (now (firsts .entry)) (now (seconds .entry)) count (pairBefore (stateOf state) []) (now (ops .exit)) (now (firsts .exit)) (now (seconds .exit)) r ⌝ }
 {
     if state == BRACKET {
@@ -243,7 +244,7 @@ pub fn say_token(
     firsts: &mut Operands,
     seconds: &mut Operands,
 ) -> usize
-    requires { ⌜ Saying (now text) base n (now spans) (now links) (now heads) (now roles) (now types) (now ranks) count (now ops) (now firsts) (now seconds) × Inside (now text) span × (state < 47) × (start ≤ limit) ⌝ }
+    requires { ⌜ Saying (now text) base n (now spans) (now links) (now heads) (now roles) (now types) (now ranks) count (now ops) (now firsts) (now seconds) × Inside (now text) span × (state < stateCount) × (start ≤ limit) ⌝ }
     ensures { λ r. ⌜ CodeSaid (now (ops .entry)) (now (firsts .entry)) (now (seconds .entry)) count (classSaid class start (stateOf state) op delayed (lettersAt (now (text .entry)) span) (boundNames (now (text .entry)) (now (spans .entry)) base (n - base)) (declaredNames (now (text .entry)) (now (spans .entry)) (now (roles .entry)) base)) (now (ops .exit)) (now (firsts .exit)) (now (seconds .exit)) r ⌝ }
 {
     if class != SMALL_LETTER {

@@ -12,7 +12,7 @@ ghost use Rattle.instructions.specs.TokenOrder.{inConstant};
 ghost use Rattle.resolving.specs.Said.{spanBetween, NamesDeclared, sayingTable};
 ghost use Rattle.resolving.specs.Walked.{TokenNoted, FoundWith, TakingToken, TokenTaken};
 ghost use Rattle.grammar.specs.Legal.{limit};
-ghost use Rattle.grammar.specs.Sizes.{textTable};
+ghost use Rattle.grammar.specs.Sizes.{textTable, stateCount};
 use crate::numbering::number_names;
 use crate::sayings::say_token;
 use crate::tables::Sayings;
@@ -72,7 +72,7 @@ fn span_of(start: usize, end: usize) -> u32
 
 // Whether a state of a DELAY's constant waits.
 fn in_constant(depth: usize, stack: &ContextStack) -> bool
-    requires { ⌜ (length (now stack) ≡ textTable) × (depth ≤ textTable) × ((k : ℕ) → k < depth → getD (now stack) k 0 < 47) ⌝ }
+    requires { ⌜ (length (now stack) ≡ textTable) × (depth ≤ textTable) × ((k : ℕ) → k < depth → getD (now stack) k 0 < stateCount) ⌝ }
     ensures { λ r. ⌜ r ≡ inConstant (stackOf depth (now (stack .entry))) ⌝ }
 {
     if depth == 0 {
@@ -86,7 +86,7 @@ fn in_constant(depth: usize, stack: &ContextStack) -> bool
 }
 
 // What a token does to the names in scope.
-fn note(
+fn note_token(
     text: &[u8],
     span: u32,
     class: u8,
@@ -102,7 +102,7 @@ fn note(
     pendings: &mut Spans,
     admissions: &Admissions,
 ) -> ScopeCounts
-    requires { ⌜ Scoping (now text) (limit - 1) base n m (now spans) (now links) (now heads) (now roles) (now pendings) × Inside (now text) span × (state < 47) × (now admissions ≡ admissionTable) ⌝ }
+    requires { ⌜ Scoping (now text) (limit - 1) base n m (now spans) (now links) (now heads) (now roles) (now pendings) × Inside (now text) span × (state < stateCount) × (now admissions ≡ admissionTable) ⌝ }
     ensures { λ r. ⌜ (r .ok ≡ true → Scoping (now (text .entry)) (n + m + 1) (r .base) (r .all) (r .waiting) (now (spans .exit)) (now (links .exit)) (now (heads .exit)) (now (roles .exit)) (now (pendings .exit)) × NamesDeclared (now (text .entry)) (now (spans .entry)) (now (roles .entry)) base (now (spans .exit)) (now (roles .exit)) (r .base)) × ((start end : ℕ) (t : Token) (others : List Token) → FoundWith (now (text .entry)) start end class span effect (stateOf state) t others → TokenNoted (stateOf state) t (heldScope (now (text .entry)) base n m (now (spans .entry)) (now (roles .entry)) (now (pendings .entry))) (r .ok) (heldScope (now (text .entry)) (r .base) (r .all) (r .waiting) (now (spans .exit)) (now (roles .exit)) (now (pendings .exit)))) ⌝ }
 {
     if class == SMALL_LETTER {
@@ -223,7 +223,7 @@ pub fn take_token(
     if !moved.ok {
         return refused(start);
     }
-    let noted = note(
+    let noted = note_token(
         text,
         span,
         class,

@@ -9,6 +9,7 @@ ghost use Rattle.reading.specs.Coded.{stateOf};
 ghost use Rattle.symbols.specs.Names.{lettersAt, Inside};
 ghost use Rattle.scoping.specs.Scoped.{admissionTable, heldScope, Scoping, Rescoped, NameNoted, effectOf};
 ghost use Rattle.grammar.specs.Legal.{limit};
+ghost use Rattle.grammar.specs.Sizes.{stateCount};
 use crate::scopes::ScopeCounts;
 use crate::scopes::bind_name;
 use crate::scopes::declare_pending;
@@ -37,7 +38,7 @@ const DECLARES_PENDING: u8 = 6;
 const UNBINDS: u8 = 7;
 
 // The second type of a pair type, which is declared after it.
-fn note_pair(
+fn note_pair_type(
     text: &[u8],
     span: u32,
     state: u8,
@@ -51,7 +52,7 @@ fn note_pair(
     pendings: &Spans,
     admissions: &Admissions,
 ) -> ScopeCounts
-    requires { ⌜ Scoping (now text) (limit - 1) base n m (now spans) (now links) (now heads) (now roles) (now pendings) × Inside (now text) span × (state < 47) × (now admissions ≡ admissionTable) ⌝ }
+    requires { ⌜ Scoping (now text) (limit - 1) base n m (now spans) (now links) (now heads) (now roles) (now pendings) × Inside (now text) span × (state < stateCount) × (now admissions ≡ admissionTable) ⌝ }
     ensures { λ r. ⌜ NameNoted (stateOf state) declaresPending (lettersAt (now (text .entry)) span) (heldScope (now (text .entry)) base n m (now (spans .entry)) (now (roles .entry)) (now (pendings .entry))) (now (text .entry)) (n + m + 1) (r .ok) (r .base) (r .all) (r .waiting) (now (spans .exit)) (now (links .exit)) (now (heads .exit)) (now (roles .exit)) (now (pendings .entry)) ⌝ }
 {
     if base != n {
@@ -100,7 +101,7 @@ pub fn note_name(
     pendings: &mut Spans,
     admissions: &Admissions,
 ) -> ScopeCounts
-    requires { ⌜ Scoping (now text) (limit - 1) base n m (now spans) (now links) (now heads) (now roles) (now pendings) × Inside (now text) span × (state < 47) × (now admissions ≡ admissionTable) ⌝ }
+    requires { ⌜ Scoping (now text) (limit - 1) base n m (now spans) (now links) (now heads) (now roles) (now pendings) × Inside (now text) span × (state < stateCount) × (now admissions ≡ admissionTable) ⌝ }
     ensures { λ r. ⌜ NameNoted (stateOf state) (effectOf effect) (lettersAt (now (text .entry)) span) (heldScope (now (text .entry)) base n m (now (spans .entry)) (now (roles .entry)) (now (pendings .entry))) (now (text .entry)) (n + m + 1) (r .ok) (r .base) (r .all) (r .waiting) (now (spans .exit)) (now (links .exit)) (now (heads .exit)) (now (roles .exit)) (now (pendings .exit)) ⌝ }
 {
     if effect == DECLARES_FIRST {
@@ -136,7 +137,7 @@ pub fn note_name(
         );
     }
     if effect == DECLARES_PENDING {
-        return note_pair(
+        return note_pair_type(
             text,
             span,
             state,

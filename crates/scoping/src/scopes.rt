@@ -9,7 +9,7 @@ ghost use Rattle.reading.specs.Coded.{stateOf};
 ghost use Rattle.symbols.specs.Names.{lettersAt, Inside, Hashed, Roles, BoundRoles, roleNamed, declaredNames};
 ghost use Rattle.scoping.specs.Scoped.{admissionTable, heldScope, Scoping, Rescoped, NameBound, NameNoted};
 ghost use Rattle.grammar.specs.Legal.{limit};
-ghost use Rattle.grammar.specs.Sizes.{textTable};
+ghost use Rattle.grammar.specs.Sizes.{textTable, stateCount};
 use crate::tables::Admissions;
 use reading::numbers::wide;
 use symbols::Heads;
@@ -123,7 +123,7 @@ pub fn name_holds(
     roles: &NameRoles,
     admissions: &Admissions,
 ) -> bool
-    requires { ⌜ Hashed (now text) n (now spans) (now links) (now heads) × Inside (now text) span × (base ≤ n) × Roles (now roles) base × BoundRoles (now text) (now spans) (now roles) base n × (state < 47) × (now admissions ≡ admissionTable) ⌝ }
+    requires { ⌜ Hashed (now text) n (now spans) (now links) (now heads) × Inside (now text) span × (base ≤ n) × Roles (now roles) base × BoundRoles (now text) (now spans) (now roles) base n × (state < stateCount) × (now admissions ≡ admissionTable) ⌝ }
     ensures { λ r. ⌜ ((m : ℕ) (pendings : List ℕ) → r ≡ holdsIn (stateOf state) (lettersAt (now (text .entry)) span) (heldScope (now (text .entry)) base n m (now (spans .entry)) (now (roles .entry)) pendings)) ⌝ }
 {
     let row = wide(state);
@@ -150,7 +150,7 @@ pub fn note_first(
     pendings: &Spans,
     admissions: &Admissions,
 ) -> ScopeCounts
-    requires { ⌜ Scoping (now text) (limit - 1) base n m (now spans) (now links) (now heads) (now roles) (now pendings) × Inside (now text) span × (state < 47) × (now admissions ≡ admissionTable) ⌝ }
+    requires { ⌜ Scoping (now text) (limit - 1) base n m (now spans) (now links) (now heads) (now roles) (now pendings) × Inside (now text) span × (state < stateCount) × (now admissions ≡ admissionTable) ⌝ }
     ensures { λ r. ⌜ NameNoted (stateOf state) declaresFirst (lettersAt (now (text .entry)) span) (heldScope (now (text .entry)) base n m (now (spans .entry)) (now (roles .entry)) (now (pendings .entry))) (now (text .entry)) (n + m + 1) (r .ok) (r .base) (r .all) (r .waiting) (now (spans .exit)) (now (links .exit)) (now (heads .exit)) (now (roles .exit)) (now (pendings .entry)) ⌝ }
 {
     if base != n {
@@ -216,7 +216,7 @@ pub fn note_next(
     pendings: &Spans,
     admissions: &Admissions,
 ) -> ScopeCounts
-    requires { ⌜ Scoping (now text) (limit - 1) base n m (now spans) (now links) (now heads) (now roles) (now pendings) × Inside (now text) span × (state < 47) × (now admissions ≡ admissionTable) ⌝ }
+    requires { ⌜ Scoping (now text) (limit - 1) base n m (now spans) (now links) (now heads) (now roles) (now pendings) × Inside (now text) span × (state < stateCount) × (now admissions ≡ admissionTable) ⌝ }
     ensures { λ r. ⌜ NameNoted (stateOf state) declaresNext (lettersAt (now (text .entry)) span) (heldScope (now (text .entry)) base n m (now (spans .entry)) (now (roles .entry)) (now (pendings .entry))) (now (text .entry)) (n + m + 1) (r .ok) (r .base) (r .all) (r .waiting) (now (spans .exit)) (now (links .exit)) (now (heads .exit)) (now (roles .exit)) (now (pendings .entry)) ⌝ }
 {
     if base != n {

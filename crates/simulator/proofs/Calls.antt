@@ -17,7 +17,8 @@ use Rattle.answers.specs.declared.Answer.the-variants.{Done, Refused}
 use Rattle.answers.proofs.First.{when-none, first-says}
 use Rattle.verdict.specs.Verdict.{verdict}
 use Rattle.verdict.specs.Scopes.{verdictAnswer}
-use Rattle.verdict.specs.Widths.{Widths, Checked}
+use Rattle.verdict.specs.Widths.{Widths}
+use Rattle.verdict.specs.CheckedTable.{Checked}
 use Rattle.verdict.specs.declared.Verdict.{Verdict}
 use Rattle.verdict.specs.declared.Verdict.the-variants as Verdicts
 use Rattle.accepted.specs.Accepting.{Accepting}

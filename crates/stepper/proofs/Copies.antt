@@ -38,7 +38,7 @@ use Rattle.records.proofs.Trees.{chain-of, next-leaf}
 use Rattle.records.proofs.Table.{askOfKind}
 use Rattle.records.proofs.Asked.{past-header, part-of-kind}
 use Rattle.values.proofs.Gathering.{left, left-falls}
-use Rattle.behaviour.specs.Sheets.{putWord}
+use Rattle.behaviour.specs.Entries.{putWord}
 use Rattle.behaviour.specs.Copies.{copied, leavesByKind, delayChains}
 use Rattle.stepper.specs.Cycling.{Copying}
 

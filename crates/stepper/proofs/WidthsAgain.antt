@@ -25,13 +25,12 @@ use Rattle.records.specs.Trees.{
 use Rattle.records.specs.Rewritten.{Rewritten}
 use Rattle.records.proofs.Rewritten.{same-count, same-kind, same-type, same-alternatives, same-tree}
 use Rattle.records.proofs.Grown.{grown-tree}
-use Rattle.accepted.proofs.Laws.{written}
-use Rattle.typing.specs.Judging.{width}
+use Rattle.accepted.proofs.Laws.{written, exact}
+use Rattle.typing.specs.ExpressionWidth.{width}
 use Rattle.verdict.specs.Verdict.{verdict}
 use Rattle.verdict.specs.Scopes.{Scope}
 use Rattle.verdict.specs.Widths.{patternLeaves, patternEntry, Widths}
 use Rattle.verdict.specs.declared.Verdict.the-variants.{Accepted}
-use Rattle.accepted.proofs.Laws.{exact}
 use Rattle.accepted.proofs.Scopes.{scope-checked}
 use Rattle.behaviour.proofs.TermsAgain.{type-of-same}
 use Rattle.behaviour.proofs.ScopesAgain.{scope-again}

@@ -10,6 +10,7 @@ ghost use Rattle.accepted.specs.Accepting.{Accepting};
 ghost use Rattle.stimulus.specs.Tests.{notWhole, above};
 ghost use Rattle.stimulus.specs.Holding.{Held};
 ghost use Rattle.stimulus.specs.Holding.{HeldToOne};
+ghost use Rattle.records.specs.Limits.{mostLeaves};
 use accepted::fill_bounds;
 use answers::Answer;
 use answers::Found;
@@ -25,7 +26,7 @@ pub const STIMULUS_BYTES: usize = 65535;
 
 // Room for the counts of a type's leaves, a byte each.
 fn no_counts() -> [u8; VALUE_BYTES]
-    ensures { λ r. ⌜ length r ≡ 64 ⌝ }
+    ensures { λ r. ⌜ length r ≡ mostLeaves ⌝ }
 {
     [0; VALUE_BYTES]
 }

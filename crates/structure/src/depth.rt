@@ -22,9 +22,9 @@ use records::sort_number;
 use records::word;
 
 // The entries of the tables for what lies deeper, or in more feedbacks, than it may.
-const TOO_DEEP: u8 = MOST_DEPTH + 1;
+const PAST_DEPTH: u8 = MOST_DEPTH + 1;
 
-const TOO_NESTED: u8 = MOST_NESTING + 1;
+const PAST_NESTING: u8 = MOST_NESTING + 1;
 
 // A table of depths or nestings with nothing in it.
 pub fn no_depths() -> Depths
@@ -52,7 +52,7 @@ fn nested(sheet: &[u8], n: usize, q: usize, at: usize, x: u8) -> u8
     if word(sheet, n, q, WORD_KIND) != KIND_FEEDBACK {
         return x;
     }
-    one_more(x, TOO_NESTED)
+    one_more(x, PAST_NESTING)
 }
 
 // Adds record rec to the tables of depths and nestings of the records below it.
@@ -70,7 +70,7 @@ fn place(
     let namer = namers[rec] as usize - 1;
     let q = namer / NAMER_STEP;
     let x = nestings[q];
-    depths[rec] = one_more(depths[q], TOO_DEEP);
+    depths[rec] = one_more(depths[q], PAST_DEPTH);
     nestings[rec] = nested(sheet, n, q, namer % NAMER_STEP, x);
 }
 

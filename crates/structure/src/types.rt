@@ -9,6 +9,7 @@ ghost use Rattle.structure.specs.PairIndex.{Indexed};
 ghost use Rattle.answers.specs.Answers.{lowest};
 ghost use Rattle.answers.specs.Searches.{found};
 ghost use Rattle.structure.specs.Rules.{wrongType};
+ghost use Rattle.records.specs.Limits.{pastLeaves};
 use crate::pairs::PairIndex;
 use crate::pairs::no_pairs;
 use crate::pairs::note_pair;
@@ -35,8 +36,8 @@ pub fn no_leaves() -> WidthTable
 
 // The sum, and 65 where it is more.
 pub fn capped_sum(x: u8, y: u8) -> u8
-    requires { ⌜ (x ≤ 65) × (y ≤ 65) ⌝ }
-    ensures { λ r. ⌜ r ≡ min 65 (x + y) ⌝ }
+    requires { ⌜ (x ≤ pastLeaves) × (y ≤ pastLeaves) ⌝ }
+    ensures { λ r. ⌜ r ≡ min pastLeaves (x + y) ⌝ }
 {
     if x + y < TOO_WIDE { x + y } else { TOO_WIDE }
 }

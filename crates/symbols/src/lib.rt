@@ -62,7 +62,7 @@ fn letter(b: u8) -> usize
     b as usize
 }
 
-fn number(x: u32) -> usize
+fn link_number(x: u32) -> usize
     ensures { λ r. ⌜ r ≡ x ⌝ }
 {
     x as usize
@@ -154,14 +154,14 @@ pub fn find_name(
     requires { ⌜ Hashed (now text) n (now spans) (now links) (now heads) × Inside (now text) span × (limit ≤ n) ⌝ }
     ensures { λ r. ⌜ r ≡ nearest (now (text .entry)) (now (spans .entry)) (lettersAt (now (text .entry)) span) limit ⌝ }
 {
-    let mut k = number(heads[hash(text, span)]);
+    let mut k = link_number(heads[hash(text, span)]);
     while k != 0 {
         if k <= limit {
             if same(text, span, spans[k - 1]) {
                 return k;
             }
         }
-        k = number(links[k - 1]);
+        k = link_number(links[k - 1]);
     }
     0
 }

@@ -33,10 +33,10 @@ use Rattle.assembling.specs.Held.{untypedAt}
 use Rattle.assembling.specs.Assembled.{typesIn, inputIn, codeIn, recordsAssembled, untypedIn, Assembled}
 use Rattle.reading.specs.Coded.{illegal}
 use Rattle.reading.specs.declared.Illegal.{Illegal}
-use Rattle.reading.specs.declared.Illegal.the-variants.{At, Nowhere}
+use Rattle.reading.specs.declared.Illegal.the-variants.{Offset, Nowhere}
 use Rattle.resolving.specs.Walked.{SoundText, TextResolved}
 use Rattle.resolving.specs.declared.Resolved.{Resolved}
-use Rattle.resolving.specs.declared.Resolved.the-variants.{BadName, Sound}
+use Rattle.resolving.specs.declared.Resolved.the-variants.{BadName, Instructions}
 use Rattle.emitting.specs.Emitting.{emittedFrom, Emitting, Emitted}
 use Rattle.translator.specs.Translation.{lengthNeeded, noRoom, Translated, outside-grammar, TranslatedInOne}
 use Rattle.translator.specs.LayingOut.{TranslatingResolved, TranslatingAssembled}
@@ -211,11 +211,11 @@ module _ {bytes : List ℕ} (ops firsts seconds : List ℕ) {r : Resolved} (k : 
         result-is = refl;
       }
 
-  pub laying : (n : ℕ) → r ≡ Sound n → TranslatingResolved bytes ops firsts seconds n
+  pub laying : (n : ℕ) → r ≡ Instructions n → TranslatingResolved bytes ops firsts seconds n
   laying n e =
       let l = k .legal in
       let s = k .short in
-      let f : TextResolved bytes (l .1) ops firsts seconds (Sound n) = subst (TextResolved bytes (l .1) ops firsts seconds) e (h (l .0) (l .1) (l .2)) in
+      let f : TextResolved bytes (l .1) ops firsts seconds (Instructions n) = subst (TextResolved bytes (l .1) ops firsts seconds) e (h (l .0) (l .1) (l .2)) in
       let m = f .few in
       record {
         tokens = l .0;
@@ -234,7 +234,7 @@ illegal-place {bytes} i l = let w = Grammar.kept .place-within bytes i l .1 in o
 pub illegal-found : {bytes : List ℕ} (entry : List ℕ) (i : ℕ) → Leaves bytes i → TranslatedInOne bytes entry (inOne 13 i) entry
 illegal-found entry i l = record { answer = Refused 13 i; translated = outside-grammar l; result-is = refl }
 
-pub told-at : {bytes : List ℕ} {r : Illegal} {i : ℕ} → Told bytes (illegal r) → r ≡ At i → Leaves bytes i
+pub told-at : {bytes : List ℕ} {r : Illegal} {i : ℕ} → Told bytes (illegal r) → r ≡ Offset i → Leaves bytes i
 told-at {bytes} h e = subst (λ x. Told bytes (illegal x)) e h
 
 pub told-nowhere : {bytes : List ℕ} {r : Illegal} → Told bytes (illegal r) → r ≡ Nowhere → Keeps bytes

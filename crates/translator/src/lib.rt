@@ -134,7 +134,7 @@ fn translate_legal(text: &[u8], sheet: &mut [u8]) -> u64
     let resolved = resolve(text, &mut ops, &mut firsts, &mut seconds);
     match resolved {
         Resolved::BadName(p) => in_one(WRONG_NAME, p as u64),
-        Resolved::Sound(n) => lay_out(text, &ops, &firsts, &seconds, n, sheet),
+        Resolved::Instructions(n) => lay_out(text, &ops, &firsts, &seconds, n, sheet),
     }
 }
 
@@ -144,7 +144,7 @@ pub fn translate(text: &[u8], sheet: &mut [u8]) -> u64
 {
     let illegal = first_illegal(text);
     match illegal {
-        Illegal::At(i) => in_one(WRONG_TEXT, i as u64),
+        Illegal::Offset(i) => in_one(WRONG_TEXT, i as u64),
         Illegal::Nowhere => translate_legal(text, sheet),
     }
 }

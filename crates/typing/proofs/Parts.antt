@@ -35,7 +35,8 @@ use Rattle.typing.specs.Judgements.{
   judgements,
   firstFailing,
 }
-use Rattle.typing.specs.Judging.{width, noted, Judged, Closed}
+use Rattle.typing.specs.Judging.{noted, Judged, Closed}
+use Rattle.typing.specs.ExpressionWidth.{width}
 use Rattle.typing.specs.declared.Outcome.{Outcome}
 use Rattle.typing.specs.declared.Outcome.the-variants.{Sound, Fault}
 use Rattle.typing.proofs.Outcomes.{Passed, faulted, fault-done, typed-done, closing-done, fault-first, then-second}

@@ -46,6 +46,7 @@ use Rattle.typing.specs.NameRows.{nameRows}
 use Rattle.typing.specs.TypeRows.{typeRows}
 use Rattle.typing.specs.PatternRows.{patternRows}
 use Rattle.typing.specs.OrderRows.{orderRows}
+use Rattle.typing.specs.ExpressionWidth.{width}
 use Rattle.typing.specs.declared.Outcome.{Outcome}
 use Rattle.typing.specs.declared.Outcome.the-variants.{Sound, Fault}
 
@@ -74,10 +75,6 @@ RowsHold rows = map foundOutcome rows ≡ map namedOutcome rows
 typing-rows-hold : RowsHold nameRows × RowsHold typeRows × RowsHold patternRows × RowsHold orderRows
 unfolding judged circuit treeAt treeWithin alternatives alternativesWithin chain chainWithin pairOf typeAt typeWithin kindOf rowOf word count
 typing-rows-hold = (refl, refl, refl, refl)
-
--- the leaf count of the type of an expression
-abbrev pub width : List ℕ → List ℕ → Tree → ℕ
-width s Γ e = leaves (typeAt s (typeRecordOf s Γ e))
 
 -- the table with the leaf count of each expression of the tree at its record
 abbrev pub noted : List ℕ → List ℕ → Tree → List ℕ → List ℕ

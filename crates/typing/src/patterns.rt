@@ -65,7 +65,7 @@ fn common_type(sheet: &[u8], n: usize, index: &PairIndex, types: &PatternTypes, 
 }
 
 // Notes the type of the alternatives from p, where it is a pattern.
-fn note_type(sheet: &[u8], n: usize, index: &PairIndex, p: usize, types: &mut PatternTypes)
+fn note_pattern_type(sheet: &[u8], n: usize, index: &PairIndex, p: usize, types: &mut PatternTypes)
     requires { ⌜ TypingPattern (now sheet) n (now index) (now types) p ⌝ }
     ensures { λ _. ⌜ PatternsTyped (now (sheet .entry)) p (now (types .exit)) ⌝ }
 {
@@ -87,7 +87,7 @@ pub fn note_types(sheet: &[u8], n: usize, index: &PairIndex, types: &mut Pattern
     let mut rec = n;
     while 0 < rec {
         rec -= 1;
-        note_type(sheet, n, index, rec, types);
+        note_pattern_type(sheet, n, index, rec, types);
     }
 }
 

@@ -17,7 +17,7 @@ use Rattle.records.specs.Written.{Written}
 use Rattle.records.proofs.Table.{askOfKind, kind-of-sort}
 use Rattle.records.proofs.Asked.{as-kind-asks}
 use Rattle.records.proofs.Trees.{chain-of, next-leaf}
-use Rattle.behaviour.specs.Delays.{assigned, putAll, enter}
+use Rattle.behaviour.specs.Entries.{assigned, putAll, enter}
 
 module _ {s : List ℕ} (w : Written s) where
   -- a leaf record's word a is a byte

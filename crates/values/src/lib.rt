@@ -5,7 +5,7 @@ ghost use lib.ListN.{length, take, drop, replicate};
 ghost use Rattle.records.specs.Sized.{Sized};
 ghost use Rattle.records.specs.Trees.{chain};
 ghost use Rattle.records.specs.Decoding.{leafValues};
-ghost use Rattle.behaviour.specs.Delays.{assigned, putAll, enter};
+ghost use Rattle.behaviour.specs.Entries.{assigned, putAll, enter};
 ghost use mathlib.Core.List.{List, [], _∷_, _++_};
 ghost use Rattle.meaning.specs.Matching.{constructorDecision, pairDecision, chainDecision};
 ghost use Rattle.values.specs.Chained.{Chained};
@@ -15,7 +15,7 @@ ghost use Rattle.values.specs.Slots.{slot, entered};
 ghost use Rattle.meaning.specs.Evaluation.{choose};
 ghost use Rattle.meaning.specs.Undecided.{undecidedRule};
 ghost use Rattle.behaviour.specs.Firing.{orAfter};
-ghost use Rattle.records.specs.Limits.{mostRecords, environmentBytes};
+ghost use Rattle.records.specs.Limits.{mostRecords, environmentBytes, mostLeaves};
 use records::ENVIRONMENT;
 use records::KIND_CONSTRUCTOR_PATTERN;
 use records::KIND_WHOLE_PATTERN;
@@ -77,8 +77,8 @@ pub fn hold_leaves(sheet: &[u8], n: usize, first: usize, value: &[u8], held: &mu
 
 // The value of the name at this level, in the lent environment: w bytes from the start of its slot.
 pub fn look_up(env: &[u8], level: usize, w: usize) -> &[u8]
-    requires { ⌜ (64 * level + w ≤ length (now env)) × (length (now env) ≤ environmentBytes) ⌝ }
-    ensures { λ r. ⌜ now r ≡ take w (drop (64 * level) (now (env .entry))) ⌝ }
+    requires { ⌜ (mostLeaves * level + w ≤ length (now env)) × (length (now env) ≤ environmentBytes) ⌝ }
+    ensures { λ r. ⌜ now r ≡ take w (drop (mostLeaves * level) (now (env .entry))) ⌝ }
 {
     let at = VALUE_BYTES * level;
     &env[at..at + w]
@@ -115,7 +115,7 @@ pub fn stands(value: &[u8], slot: &[u8]) -> bool
 
 // Enters a value into the slot of the name at this level.
 pub fn enter_value(env: &mut [u8], level: usize, value: &[u8])
-    requires { ⌜ (64 * level + length (now value) ≤ length (now env)) × (length (now env) ≤ environmentBytes) ⌝ }
+    requires { ⌜ (mostLeaves * level + length (now value) ≤ length (now env)) × (length (now env) ≤ environmentBytes) ⌝ }
     ensures { λ _. ⌜ now (env .exit) ≡ entered level (now (value .entry)) (now (env .entry)) ⌝ }
 {
     let at = VALUE_BYTES * level;
@@ -124,7 +124,7 @@ pub fn enter_value(env: &mut [u8], level: usize, value: &[u8])
 
 // Whether a value stands in the slot of the name at this level.
 pub fn stands_at(env: &[u8], level: usize, value: &[u8]) -> bool
-    requires { ⌜ (64 * level + length (now value) ≤ length (now env)) × (length (now env) ≤ environmentBytes) ⌝ }
+    requires { ⌜ (mostLeaves * level + length (now value) ≤ length (now env)) × (length (now env) ≤ environmentBytes) ⌝ }
     ensures { λ r. ⌜ ValuesCompared (now (value .entry)) (slot level (length (now (value .entry))) (now (env .entry))) r ⌝ }
 {
     stands(value, look_up(env, level, value.len()))
@@ -132,7 +132,7 @@ pub fn stands_at(env: &[u8], level: usize, value: &[u8]) -> bool
 
 // Copies the value of the name at this level.
 pub fn copy_value(env: &[u8], level: usize, out: &mut [u8])
-    requires { ⌜ (64 * level + length (now out) ≤ length (now env)) × (length (now env) ≤ environmentBytes) ⌝ }
+    requires { ⌜ (mostLeaves * level + length (now out) ≤ length (now env)) × (length (now env) ≤ environmentBytes) ⌝ }
     ensures { λ _. ⌜ now (out .exit) ≡ slot level (length (now (out .entry))) (now (env .entry)) ⌝ }
 {
     put(look_up(env, level, out.len()), out);
@@ -140,7 +140,7 @@ pub fn copy_value(env: &[u8], level: usize, out: &mut [u8])
 
 // Room for a value, undefined in every leaf.
 pub fn room() -> [u8; VALUE_BYTES]
-    ensures { λ r. ⌜ r ≡ replicate 64 0 ⌝ }
+    ensures { λ r. ⌜ r ≡ replicate mostLeaves 0 ⌝ }
 {
     [0; VALUE_BYTES]
 }

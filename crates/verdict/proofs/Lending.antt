@@ -17,7 +17,8 @@ use Rattle.typing.specs.Judging.{noted}
 use Rattle.verdict.specs.Stages.{CheckingRecords, StagesChecked}
 use Rattle.verdict.specs.Verdict.{verdict, unless, byRecords}
 use Rattle.verdict.specs.Scopes.{inputs}
-use Rattle.verdict.specs.Widths.{PatternsFrom, Widths, Checked, accepts}
+use Rattle.verdict.specs.Widths.{Widths}
+use Rattle.verdict.specs.CheckedTable.{PatternsFrom, Checked, accepts}
 use Rattle.verdict.specs.declared.Verdict.{Verdict}
 use Rattle.verdict.specs.declared.Verdict.the-variants.{
   Accepted,

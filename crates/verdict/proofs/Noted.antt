@@ -44,24 +44,9 @@ use Rattle.records.proofs.Table.{askOfKind, kind-of-sort}
 use Rattle.records.proofs.Asked.{part-of-kind, root-is}
 use Rattle.records.proofs.Trees.{from-above, tree-of}
 use Rattle.records.proofs.Distinct.{circuit-distinct}
-use Rattle.typing.specs.Judging.{width, noted}
-use Rattle.verdict.specs.Scopes.{inputs}
-use Rattle.verdict.specs.Scopes.{
-  Scope,
-  root,
-  tuple-first,
-  tuple-second,
-  of-first,
-  of-second,
-  let-defining,
-  let-body,
-  feedback-defining,
-  feedback-body,
-  if-tested,
-  if-then,
-  if-else,
-  of-delay,
-}
+use Rattle.typing.specs.Judging.{noted}
+use Rattle.typing.specs.ExpressionWidth.{width}
+use Rattle.verdict.specs.Scopes.{inputs, Scope, root, tuple-first, tuple-second, of-first, of-second, let-defining, let-body, feedback-defining, feedback-body, if-tested, if-then, if-else, of-delay}
 use Rattle.verdict.proofs.Stores.{Note, notes, Stored, noted-stored}
 
 -- x is an expression record of the sheet

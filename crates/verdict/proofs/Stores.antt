@@ -22,7 +22,8 @@ use lib.Seq.{getD-set-same, getD-set-other}
 use native.Mathlib.Omega.{arith}
 use Rattle.records.specs.Trees.{Tree, noExpression, constantOf, nameOf, tupleOf, firstOf, secondOf, letOf, feedbackOf, ifOf, delayOf, typeRecordOf}
 use Rattle.records.specs.Written.{expressionRecords, Distinct}
-use Rattle.typing.specs.Judging.{width, noted}
+use Rattle.typing.specs.Judging.{noted}
+use Rattle.typing.specs.ExpressionWidth.{width}
 
 -- a record and the width stored there
 pub record Note : Type 0 where

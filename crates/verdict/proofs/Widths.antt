@@ -42,9 +42,11 @@ use Rattle.records.proofs.TypeRecords.{type-word}
 use Rattle.structure.specs.LeafTable.{LeavesCounted}
 use Rattle.structure.specs.Rules.{Passes}
 use Rattle.structure.proofs.Passes.{written, well-named, types-fit}
-use Rattle.typing.specs.Judging.{width, noted}
+use Rattle.typing.specs.Judging.{noted}
+use Rattle.typing.specs.ExpressionWidth.{width}
 use Rattle.verdict.specs.Scopes.{inputs}
-use Rattle.verdict.specs.Widths.{patternLeaves, patternEntry, hasEntry, Widths, PatternsFrom}
+use Rattle.verdict.specs.Widths.{patternLeaves, patternEntry, hasEntry, Widths}
+use Rattle.verdict.specs.CheckedTable.{PatternsFrom}
 use Rattle.typing.proofs.PatternNumbers.{pattern-kind, no-pattern}
 use Rattle.verdict.proofs.Stores.{notes, Stored}
 use Rattle.verdict.proofs.Noted.{circuit-expressions, scope-noting, scope-noted, circuit-stored}

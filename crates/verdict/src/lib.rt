@@ -11,8 +11,9 @@ ghost use Rattle.typing.specs.Judging.{Ground};
 ghost use Rattle.verdict.specs.Verdict.{verdict, byTypes, byDepths, byTypeRecords, byNamings, byRecords, unless};
 ghost use Rattle.verdict.specs.Scopes.{verdictAnswer};
 ghost use Rattle.verdict.specs.Stages.{RulesChecked, StagesChecked, CheckingRecords, CheckingNamings, CheckingTypes, CheckingDepths};
-ghost use Rattle.answers.specs.Answers.{place, packed};
-ghost use Rattle.verdict.specs.Widths.{PatternsFrom, Widths, Checked, accepts};
+ghost use Rattle.answers.specs.Answers.{code, place, packed};
+ghost use Rattle.verdict.specs.Widths.{Widths};
+ghost use Rattle.verdict.specs.CheckedTable.{PatternsFrom, Checked, accepts};
 ghost use Rattle.verdict.specs.declared.Verdict.the-variants.{WrongHeader};
 ghost use Rattle.answers.specs.Searches.{placeBound};
 ghost use Rattle.records.specs.Limits.{mostRecords};
@@ -54,7 +55,7 @@ use typing::Outcome;
 use typing::input_scope;
 use typing::judge_root;
 
-// The answer of the check. `specs/Verdict.antt` gives the number and the place of each case (docs/SHEETS.md, "Codes").
+// The answer of the check. `specs/Scopes.antt` gives the number and the place of each case (docs/SHEETS.md, "Codes").
 pub enum Verdict {
     // The output type's record.
     Accepted(usize),
@@ -235,21 +236,44 @@ pub fn check_into(sheet: &[u8], n: usize, table: &mut WidthTable) -> Verdict
     answer
 }
 
+// The code of a verdict, 0 where it accepts.
+pub fn verdict_code(v: Verdict) -> u64
+    ensures { λ r. ⌜ r ≡ code (verdictAnswer v) ⌝ }
+{
+    match v {
+        Verdict::Accepted(_) => 0,
+        Verdict::WrongLength => WRONG_LENGTH,
+        Verdict::WrongHeader => WRONG_HEADER,
+        Verdict::WrongRecord(_) => WRONG_RECORD,
+        Verdict::WrongNaming(_) => WRONG_NAMING,
+        Verdict::WrongType(_) => WRONG_TYPE,
+        Verdict::TooDeep(_) => TOO_DEEP,
+        Verdict::IllTyped(_) => ILL_TYPED,
+    }
+}
+
+// The record that a verdict speaks of, 0 where it speaks of none.
+fn verdict_place(v: Verdict) -> u64
+    ensures { λ r. ⌜ r ≡ place (verdictAnswer v) ⌝ }
+{
+    match v {
+        Verdict::Accepted(t) => t as u64,
+        Verdict::WrongLength => 0,
+        Verdict::WrongHeader => 0,
+        Verdict::WrongRecord(r) => r as u64,
+        Verdict::WrongNaming(r) => r as u64,
+        Verdict::WrongType(r) => r as u64,
+        Verdict::TooDeep(r) => r as u64,
+        Verdict::IllTyped(r) => r as u64,
+    }
+}
+
 // The code and the place of a verdict in one number.
 pub fn packed_verdict(v: Verdict) -> u64
     requires { ⌜ place (verdictAnswer v) < placeBound ⌝ }
     ensures { λ r. ⌜ r ≡ packed (verdictAnswer v) ⌝ }
 {
-    match v {
-        Verdict::Accepted(t) => t as u64,
-        Verdict::WrongLength => in_one(WRONG_LENGTH, 0),
-        Verdict::WrongHeader => in_one(WRONG_HEADER, 0),
-        Verdict::WrongRecord(r) => in_one(WRONG_RECORD, r as u64),
-        Verdict::WrongNaming(r) => in_one(WRONG_NAMING, r as u64),
-        Verdict::WrongType(r) => in_one(WRONG_TYPE, r as u64),
-        Verdict::TooDeep(r) => in_one(TOO_DEEP, r as u64),
-        Verdict::IllTyped(r) => in_one(ILL_TYPED, r as u64),
-    }
+    in_one(verdict_code(v), verdict_place(v))
 }
 
 // The check: the verdict's code and place in one number.

@@ -24,29 +24,29 @@ loop-holds c = no-type-put (c .before .args .pairs .now) (c .before .args .first
 sub-k : tie.Need-sub-k Inv-loop μ-loop
 sub-k c = search needs
 
-element-copy-out-put-type : tie.Need-element-copy-out-put-type Inv-loop μ-loop
-element-copy-out-put-type c = (let f = c .before .before .loop .inv .lower in let g = c .before .before .before .before .pre .1 in omega arith)
+element-copy-out-put-type-record : tie.Need-element-copy-out-put-type-record Inv-loop μ-loop
+element-copy-out-put-type-record c = (let f = c .before .before .loop .inv .lower in let g = c .before .before .before .before .pre .1 in omega arith)
 
-mul-put-type : tie.Need-mul-put-type Inv-loop μ-loop
-mul-put-type c = (let f = c .before .before .before .loop .inv .lower in let g = c .before .before .before .before .before .pre .1 in omega arith)
+mul-put-type-record : tie.Need-mul-put-type-record Inv-loop μ-loop
+mul-put-type-record c = (let f = c .before .before .before .loop .inv .lower in let g = c .before .before .before .before .before .pre .1 in omega arith)
 
-element-copy-out-put-type-2 : tie.Need-element-copy-out-put-type-2 Inv-loop μ-loop
-element-copy-out-put-type-2 c = (let f = c .before .before .before .loop .inv .lower in let g = c .before .before .before .before .before .pre .1 in omega arith)
+element-copy-out-put-type-record-2 : tie.Need-element-copy-out-put-type-record-2 Inv-loop μ-loop
+element-copy-out-put-type-record-2 c = (let f = c .before .before .before .loop .inv .lower in let g = c .before .before .before .before .before .pre .1 in omega arith)
 
-mul-put-type-2 : tie.Need-mul-put-type-2 Inv-loop μ-loop
-mul-put-type-2 c = (let f = c .before .before .before .before .loop .inv .lower in let g = c .before .before .before .before .before .before .pre .1 in omega arith)
+mul-put-type-record-2 : tie.Need-mul-put-type-record-2 Inv-loop μ-loop
+mul-put-type-record-2 c = (let f = c .before .before .before .before .loop .inv .lower in let g = c .before .before .before .before .before .before .pre .1 in omega arith)
 
-element-copy-out-put-type-3 : tie.Need-element-copy-out-put-type-3 Inv-loop μ-loop
-element-copy-out-put-type-3 c = (let f = c .before .before .before .before .loop .inv .lower in let g = c .before .before .before .before .before .before .pre .1 in omega arith)
+element-copy-out-put-type-record-3 : tie.Need-element-copy-out-put-type-record-3 Inv-loop μ-loop
+element-copy-out-put-type-record-3 c = (let f = c .before .before .before .before .loop .inv .lower in let g = c .before .before .before .before .before .before .pre .1 in omega arith)
 
-put-type-requires : tie.Need-put-type-requires Inv-loop μ-loop
-put-type-requires c κs = (let l = c .before .before .before .before .before .loop .inv .sheet-long in let e = c .before .before .before .before .before .loop .inv .cursor-told in let k = c .before .before .before .before .before .loop .inv .lower in omega arith)
+put-type-record-requires : tie.Need-put-type-record-requires Inv-loop μ-loop
+put-type-record-requires c κs = (let l = c .before .before .before .before .before .loop .inv .sheet-long in let e = c .before .before .before .before .before .loop .inv .cursor-told in let k = c .before .before .before .before .before .loop .inv .lower in omega arith)
 
 loop-less : tie.Need-loop-less Inv-loop μ-loop
 loop-less c = search needs
 
 loop-again : tie.Need-loop-again Inv-loop μ-loop
-loop-again c = type-put (c .before .before .before .before .before .before .before .before .before .before .args .pairs .now) (c .before .before .before .before .before .before .before .before .before .before .args .firsts .now) (c .before .before .before .before .before .before .before .before .before .before .args .seconds .now) (c .before .before .before .before .before .before .before .before .before .before .args .types) (c .before .before .before .before .before .before .before .before .before .before .args .sheet .now) (c .before .before .before .before .before .before .before .before .loop .sheet) _ (c .before .before .before .before .before .before .before .before .loop .k) (c .before .before .before .before .before .before .before .before .loop .cursor) (c .before .before .before .before .before .before .before .before .loop .next) _ (c .before .before .before .before .before .before .before .loop-test .taken) (c .before .before .before .before .before .before .before .before .loop .inv) (c .before .before .put-type .ensures)
+loop-again c = type-put (c .before .before .before .before .before .before .before .before .before .before .args .pairs .now) (c .before .before .before .before .before .before .before .before .before .before .args .firsts .now) (c .before .before .before .before .before .before .before .before .before .before .args .seconds .now) (c .before .before .before .before .before .before .before .before .before .before .args .types) (c .before .before .before .before .before .before .before .before .before .before .args .sheet .now) (c .before .before .before .before .before .before .before .before .loop .sheet) _ (c .before .before .before .before .before .before .before .before .loop .k) (c .before .before .before .before .before .before .before .before .loop .cursor) (c .before .before .before .before .before .before .before .before .loop .next) _ (c .before .before .before .before .before .before .before .loop-test .taken) (c .before .before .before .before .before .before .before .before .loop .inv) (c .before .before .put-type-record .ensures)
 
 same-length : tie.Need-same-length Inv-loop μ-loop
 same-length c = c .before .loop .inv .as-long
@@ -64,12 +64,12 @@ write-types-spec =
     cast-cursor
     loop-holds
     sub-k
-    element-copy-out-put-type
-    mul-put-type
-    element-copy-out-put-type-2
-    mul-put-type-2
-    element-copy-out-put-type-3
-    put-type-requires
+    element-copy-out-put-type-record
+    mul-put-type-record
+    element-copy-out-put-type-record-2
+    mul-put-type-record-2
+    element-copy-out-put-type-record-3
+    put-type-record-requires
     loop-less
     loop-again
     same-length

@@ -34,7 +34,7 @@ use Rattle.evaluator.proofs.+eval+eval_part+of_delay+of_feedback+of_fir
 use Rattle.evaluator.proofs.settle.Reads as settle
 use Rattle.evaluator.proofs.settle.Kinds as settle-kinds
 use Rattle.evaluator.proofs.+eval+eval_part+of_delay+of_feedback+of_first+of_if+of_let+of_pair+of_second+settle.Lts-settle as settle-lts
-use Rattle.evaluator.proofs.of_name.Reads as of-name-reads
+use Rattle.evaluator.proofs.copy_name.Reads as copy-name-reads
 use Rattle.records.proofs.word.Reads as word-reads
 use Rattle.values.proofs.choose_value.Reads as choose-value-reads
 use Rattle.values.proofs.enter_value.Reads as enter-value-reads
@@ -164,10 +164,10 @@ abbrev settle-below : ℕ → In 6 settle-kinds.ps
 settle-below t = and 6 settle-kinds.ps (falls 6 settle-kinds.ps _<_ μ-settle t) settle.Pre
 
 abbrev eval-claims : ℕ → eval-lts.Claims
-eval-claims t = (word-reads.Asked, word-reads.Learnt, read-leaves-reads.Asked, read-leaves-reads.Learnt, of-name-reads.Asked, of-name-reads.Learnt, of-pair-below t, of-pair.Post, of-first-below t, of-first.Post, of-second-below t, of-second.Post, of-let-below t, of-let.Post, of-feedback-below t, of-feedback.Post, of-if-below t, of-if.Post, of-delay-below t, of-delay.Post)
+eval-claims t = (word-reads.Asked, word-reads.Learnt, read-leaves-reads.Asked, read-leaves-reads.Learnt, copy-name-reads.Asked, copy-name-reads.Learnt, of-pair-below t, of-pair.Post, of-first-below t, of-first.Post, of-second-below t, of-second.Post, of-let-below t, of-let.Post, of-feedback-below t, of-feedback.Post, of-if-below t, of-if.Post, of-delay-below t, of-delay.Post)
 
 abbrev eval-part-claims : ℕ → eval-part-lts.Claims
-eval-part-claims t = (word-reads.Asked, word-reads.Learnt, read-leaves-reads.Asked, read-leaves-reads.Learnt, of-name-reads.Asked, of-name-reads.Learnt, eval-below t, eval.Post)
+eval-part-claims t = (word-reads.Asked, word-reads.Learnt, read-leaves-reads.Asked, read-leaves-reads.Learnt, copy-name-reads.Asked, copy-name-reads.Learnt, eval-below t, eval.Post)
 
 abbrev of-delay-claims : ℕ → of-delay-lts.Claims
 of-delay-claims t = (word-reads.Asked, word-reads.Learnt, eval-part-below t, eval-part.Post, hold-leaves-reads.Asked, hold-leaves-reads.Learnt, read-leaves-reads.Asked, read-leaves-reads.Learnt)
@@ -208,8 +208,8 @@ eval-same-length t c = search needs
 eval-returns : (t : ℕ) → eval-lts.Need-returns (eval-claims t) (eval-at t) eval.Post
 eval-returns t c = record { done = λ Γ r. constant-done r (numbered _ _ _ 32 (expression constant) (c .before .before .before .before .before .before .word .ensures .0) (c .before .before .before .before .before .if1 .taken) (unfold kindOf in refl)) (c .before .before .before .before .word2 .ensures .0) (c .before .before .read-leaves .ensures) }
 
-eval-of-name-requires : (t : ℕ) → eval-lts.Need-of-name-requires (eval-claims t) (eval-at t) eval.Post
-eval-of-name-requires t c κs = (c .before .before .before .before .before .before .before .before .pre .1, (numbered _ _ _ 33 (expression name) (c .before .before .before .before .word .ensures .0) (c .before .before .if2 .taken) (unfold kindOf in refl)))
+eval-copy-name-requires : (t : ℕ) → eval-lts.Need-copy-name-requires (eval-claims t) (eval-at t) eval.Post
+eval-copy-name-requires t c κs = (c .before .before .before .before .before .before .before .before .pre .1, (numbered _ _ _ 33 (expression name) (c .before .before .before .before .word .ensures .0) (c .before .before .if2 .taken) (unfold kindOf in refl)))
 
 eval-same-length-2 : (t : ℕ) → eval-lts.Need-same-length-2 (eval-claims t) (eval-at t) eval.Post
 eval-same-length-2 t c = search needs
@@ -218,7 +218,7 @@ eval-same-length-3 : (t : ℕ) → eval-lts.Need-same-length-3 (eval-claims t) (
 eval-same-length-3 t c = search needs
 
 eval-returns-2 : (t : ℕ) → eval-lts.Need-returns-2 (eval-claims t) (eval-at t) eval.Post
-eval-returns-2 t c = c .before .before .of-name .ensures (now (c .before .before .before .before .before .before .before .before .before .before .before .args .held)) (now (c .before .before .before .before .before .before .before .before .before .before .before .args .fired))
+eval-returns-2 t c = c .before .before .copy-name .ensures (now (c .before .before .before .before .before .before .before .before .before .before .before .args .held)) (now (c .before .before .before .before .before .before .before .before .before .before .before .args .fired))
 
 eval-of-pair-requires : (t : ℕ) → eval-lts.Need-of-pair-requires (eval-claims t) (eval-at t) eval.Post
 eval-of-pair-requires t c κs = (omega (arith, c .before .before .before .before .before .before .before .before .before .before .before .pre .0), (c .before .before .before .before .before .before .before .before .before .before .before .pre .1, (numbered _ _ _ 34 (expression tuple) (c .before .before .before .before .before .before .before .word .ensures .0) (c .before .before .before .before .if3 .taken) (unfold kindOf in refl))))
@@ -319,8 +319,8 @@ eval-part-same-length t c = search needs
 eval-part-returns : (t : ℕ) → eval-part-lts.Need-returns (eval-part-claims t) (eval-part-at t) eval-part.Post
 eval-part-returns t c = record { done = λ Γ r. constant-done r (numbered _ _ _ 32 (expression constant) (c .before .before .before .before .before .before .word .ensures .0) (c .before .before .before .before .before .if1 .taken) (unfold kindOf in refl)) (c .before .before .before .before .word2 .ensures .0) (c .before .before .read-leaves .ensures) }
 
-eval-part-of-name-requires : (t : ℕ) → eval-part-lts.Need-of-name-requires (eval-part-claims t) (eval-part-at t) eval-part.Post
-eval-part-of-name-requires t c κs = (c .before .before .before .before .before .before .before .before .pre .1, (numbered _ _ _ 33 (expression name) (c .before .before .before .before .word .ensures .0) (c .before .before .if2 .taken) (unfold kindOf in refl)))
+eval-part-copy-name-requires : (t : ℕ) → eval-part-lts.Need-copy-name-requires (eval-part-claims t) (eval-part-at t) eval-part.Post
+eval-part-copy-name-requires t c κs = (c .before .before .before .before .before .before .before .before .pre .1, (numbered _ _ _ 33 (expression name) (c .before .before .before .before .word .ensures .0) (c .before .before .if2 .taken) (unfold kindOf in refl)))
 
 eval-part-same-length-2 : (t : ℕ) → eval-part-lts.Need-same-length-2 (eval-part-claims t) (eval-part-at t) eval-part.Post
 eval-part-same-length-2 t c = search needs
@@ -329,7 +329,7 @@ eval-part-same-length-3 : (t : ℕ) → eval-part-lts.Need-same-length-3 (eval-p
 eval-part-same-length-3 t c = search needs
 
 eval-part-returns-2 : (t : ℕ) → eval-part-lts.Need-returns-2 (eval-part-claims t) (eval-part-at t) eval-part.Post
-eval-part-returns-2 t c = c .before .before .of-name .ensures (now (c .before .before .before .before .before .before .before .before .before .before .before .args .held)) (now (c .before .before .before .before .before .before .before .before .before .before .before .args .fired))
+eval-part-returns-2 t c = c .before .before .copy-name .ensures (now (c .before .before .before .before .before .before .before .before .before .before .before .args .held)) (now (c .before .before .before .before .before .before .before .before .before .before .before .args .fired))
 
 eval-part-eval-requires : (t : ℕ) → eval-part-lts.Need-eval-requires (eval-part-claims t) (eval-part-at t) eval-part.Post
 eval-part-eval-requires t c κs = (omega (arith, c .before .before .before .before .before .before .before .before .before .before .pre .0), c .before .before .before .before .before .before .before .before .before .before .pre .1)
@@ -758,7 +758,7 @@ pub +eval+eval-part+of-delay+of-feedback+of-first+of-if+of-let+of-pair+of-second
     (eval-read-leaves-requires t)
     (eval-same-length t)
     (eval-returns t)
-    (eval-of-name-requires t)
+    (eval-copy-name-requires t)
     (eval-same-length-2 t)
     (eval-same-length-3 t)
     (eval-returns-2 t)
@@ -798,7 +798,7 @@ pub +eval+eval-part+of-delay+of-feedback+of-first+of-if+of-let+of-pair+of-second
     (eval-part-read-leaves-requires t)
     (eval-part-same-length t)
     (eval-part-returns t)
-    (eval-part-of-name-requires t)
+    (eval-part-copy-name-requires t)
     (eval-part-same-length-2 t)
     (eval-part-same-length-3 t)
     (eval-part-returns-2 t)

@@ -26,14 +26,14 @@ in-one-requires c κs = search needs
 returns-2 : tie.Need-returns-2
 returns-2 c = told-length (c .before .before .before .before .before .before .before .before .before .pre .0) (c .before .before .before .before .before .before .before .before .before .pre .1) (now (c .before .before .before .before .before .before .before .before .before .args .stim)) (now (c .before .before .before .before .before .before .before .before .before .args .words)) _ (c .before .before .before .before .before .check-one-cycle .ensures) _ (c .before .before .before .held .given .1) (c .before .if1 .taken) _ (c .in-one .ensures)
 
-tell-requires : tie.Need-tell-requires
-tell-requires c κs = telling (c .before .before .before .before .before .before .before .before .before .pre .0) (c .before .before .before .before .before .before .before .before .before .pre .1) (now (c .before .before .before .before .before .before .before .before .before .args .stim)) (now (c .before .before .before .before .before .before .before .before .before .args .words)) _ (c .before .before .before .before .before .check-one-cycle .ensures) _ (c .before .before .before .held .given .1) (c .before .if1 .left)
+tell-fired-requires : tie.Need-tell-fired-requires
+tell-fired-requires c κs = telling (c .before .before .before .before .before .before .before .before .before .pre .0) (c .before .before .before .before .before .before .before .before .before .pre .1) (now (c .before .before .before .before .before .before .before .before .before .args .stim)) (now (c .before .before .before .before .before .before .before .before .before .args .words)) _ (c .before .before .before .before .before .check-one-cycle .ensures) _ (c .before .before .before .held .given .1) (c .before .if1 .left)
 
 same-length : tie.Need-same-length
 same-length c = search needs
 
 returns-3 : tie.Need-returns-3
-returns-3 c = told-done (c .before .before .before .before .before .before .before .before .before .before .before .before .pre .0) (c .before .before .before .before .before .before .before .before .before .before .before .before .pre .1) (now (c .before .before .before .before .before .before .before .before .before .before .before .before .args .stim)) (now (c .before .before .before .before .before .before .before .before .before .before .before .before .args .words)) _ (c .before .before .before .before .before .before .before .before .check-one-cycle .ensures) _ (c .before .before .before .before .before .before .held .given .1) (c .before .before .before .before .if1 .left) _ (c .before .before .tell .ensures)
+returns-3 c = told-done (c .before .before .before .before .before .before .before .before .before .before .before .before .pre .0) (c .before .before .before .before .before .before .before .before .before .before .before .before .pre .1) (now (c .before .before .before .before .before .before .before .before .before .before .before .before .args .stim)) (now (c .before .before .before .before .before .before .before .before .before .before .before .before .args .words)) _ (c .before .before .before .before .before .before .before .before .check-one-cycle .ensures) _ (c .before .before .before .before .before .before .held .given .1) (c .before .before .before .before .if1 .left) _ (c .before .before .tell-fired .ensures)
 
 pub fired-accepted-spec : {M : Type 1} → statement M
 fired-accepted-spec =
@@ -46,6 +46,6 @@ fired-accepted-spec =
     returns
     in-one-requires
     returns-2
-    tell-requires
+    tell-fired-requires
     same-length
     returns-3)

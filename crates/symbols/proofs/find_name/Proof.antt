@@ -20,17 +20,17 @@ abbrev μ-loop : tie.MeasureT-loop
 hash-requires : tie.Need-hash-requires Inv-loop μ-loop
 hash-requires c κs = c .before .pre .1
 
-mul-number : tie.Need-mul-number Inv-loop μ-loop
-mul-number c = search needs
+mul-link-number : tie.Need-mul-link-number Inv-loop μ-loop
+mul-link-number c = search needs
 
-element-copy-out-number : tie.Need-element-copy-out-number Inv-loop μ-loop
-element-copy-out-number c = (let h = c .hash .ensures .1 in omega arith)
+element-copy-out-link-number : tie.Need-element-copy-out-link-number Inv-loop μ-loop
+element-copy-out-link-number c = (let h = c .hash .ensures .1 in omega arith)
 
-number-requires : tie.Need-number-requires Inv-loop μ-loop
-number-requires c κs = search needs
+link-number-requires : tie.Need-link-number-requires Inv-loop μ-loop
+link-number-requires c κs = search needs
 
 loop-holds : tie.Need-loop-holds Inv-loop μ-loop
-loop-holds c = search-first (c .before .before .before .before .args .text .now) (c .before .before .before .before .args .spans .now) (lettersAt (c .before .before .before .before .args .text .now) (c .before .before .before .before .args .span)) (c .before .before .before .before .args .limit) (c .before .before .before .before .args .n) (c .before .before .before .before .pre .2) _ (c .number .ensures ∙ c .before .before .before .before .pre .0 .heads-right _ (c .before .before .hash .ensures .1) ∙ ap (λ b. lastHashed (c .before .before .before .before .args .text .now) (c .before .before .before .before .args .spans .now) b (c .before .before .before .before .args .n)) (c .before .before .hash .ensures .0))
+loop-holds c = search-first (c .before .before .before .before .args .text .now) (c .before .before .before .before .args .spans .now) (lettersAt (c .before .before .before .before .args .text .now) (c .before .before .before .before .args .span)) (c .before .before .before .before .args .limit) (c .before .before .before .before .args .n) (c .before .before .before .before .pre .2) _ (c .link-number .ensures ∙ c .before .before .before .before .pre .0 .heads-right _ (c .before .before .hash .ensures .1) ∙ ap (λ b. lastHashed (c .before .before .before .before .args .text .now) (c .before .before .before .before .args .spans .now) b (c .before .before .before .before .args .n)) (c .before .before .hash .ensures .0))
 
 sub-same : tie.Need-sub-same Inv-loop μ-loop
 sub-same c = (let h = c .before .before .loop .inv .0 in omega (arith, c .before .loop-test .taken))
@@ -47,23 +47,23 @@ same-requires c κs = (c .before .before .before .before .before .before .before
 returns : tie.Need-returns Inv-loop μ-loop
 returns c = search-found (c .before .before .before .before .before .before .before .before .before .before .args .text .now) (c .before .before .before .before .before .before .before .before .before .before .args .spans .now) (lettersAt (c .before .before .before .before .before .before .before .before .before .before .args .text .now) (c .before .before .before .before .before .before .before .before .before .before .args .span)) (c .before .before .before .before .before .before .before .before .before .before .args .limit) (c .before .before .before .before .before .before .before .before .before .before .args .n) (c .before .before .before .before .before .before .before .before .before .before .pre .2) _ (c .before .before .before .before .loop-test .taken) (c .before .before .before .if1 .taken) (c .before .before .before .before .before .loop .inv .2) (sym (c .if2 .taken) ∙ c .before .same .ensures)
 
-sub-number : tie.Need-sub-number Inv-loop μ-loop
-sub-number c = (let h = c .before .before .loop .inv .0 in omega (arith, c .before .loop-test .taken))
+sub-link-number : tie.Need-sub-link-number Inv-loop μ-loop
+sub-link-number c = (let h = c .before .before .loop .inv .0 in omega (arith, c .before .loop-test .taken))
 
-mul-number-2 : tie.Need-mul-number-2 Inv-loop μ-loop
-mul-number-2 c = search needs
+mul-link-number-2 : tie.Need-mul-link-number-2 Inv-loop μ-loop
+mul-link-number-2 c = search needs
 
-element-copy-out-number-2 : tie.Need-element-copy-out-number-2 Inv-loop μ-loop
-element-copy-out-number-2 c = (let h = c .before .before .loop .inv .0 in omega (arith, c .before .loop-test .taken, c .before .before .before .before .before .before .before .pre .0 .room))
+element-copy-out-link-number-2 : tie.Need-element-copy-out-link-number-2 Inv-loop μ-loop
+element-copy-out-link-number-2 c = (let h = c .before .before .loop .inv .0 in omega (arith, c .before .loop-test .taken, c .before .before .before .before .before .before .before .pre .0 .room))
 
-number-requires-2 : tie.Need-number-requires-2 Inv-loop μ-loop
-number-requires-2 c κs = search needs
+link-number-requires-2 : tie.Need-link-number-requires-2 Inv-loop μ-loop
+link-number-requires-2 c κs = search needs
 
 loop-less : tie.Need-loop-less Inv-loop μ-loop
-loop-less c = (let r = search-next (c .before .before .before .before .before .before .before .before .before .args .text .now) (c .before .before .before .before .before .before .before .before .before .args .spans .now) (lettersAt (c .before .before .before .before .before .before .before .before .before .args .text .now) (c .before .before .before .before .before .before .before .before .before .args .span)) (c .before .before .before .before .before .before .before .before .before .args .limit) (c .before .before .before .before .before .before .before .before .before .args .n) (c .before .before .before .before .before .before .before .before .before .pre .2) (c .before .before .before .before .loop .k) _ (c .before .before .before .loop-test .taken) (c .before .before .before .before .loop .inv .0) (c .before .before .before .before .loop .inv .2) (⊎-elim (λ w l. sym (w .3 .left) ∙ w .2 .ensures) (λ w l. search-passed l (w .left)) (c .before .before .if1 .came)) (c .before .before .before .before .loop .inv .1) (c .number2 .ensures ∙ c .before .before .before .before .before .before .before .before .before .pre .0 .links-right (c .before .before .before .before .loop .k - 1) (let h = c .before .before .before .before .loop .inv .0 in omega (arith, c .before .before .before .loop-test .taken))) in r .3)
+loop-less c = (let r = search-next (c .before .before .before .before .before .before .before .before .before .args .text .now) (c .before .before .before .before .before .before .before .before .before .args .spans .now) (lettersAt (c .before .before .before .before .before .before .before .before .before .args .text .now) (c .before .before .before .before .before .before .before .before .before .args .span)) (c .before .before .before .before .before .before .before .before .before .args .limit) (c .before .before .before .before .before .before .before .before .before .args .n) (c .before .before .before .before .before .before .before .before .before .pre .2) (c .before .before .before .before .loop .k) _ (c .before .before .before .loop-test .taken) (c .before .before .before .before .loop .inv .0) (c .before .before .before .before .loop .inv .2) (⊎-elim (λ w l. sym (w .3 .left) ∙ w .2 .ensures) (λ w l. search-passed l (w .left)) (c .before .before .if1 .came)) (c .before .before .before .before .loop .inv .1) (c .link-number2 .ensures ∙ c .before .before .before .before .before .before .before .before .before .pre .0 .links-right (c .before .before .before .before .loop .k - 1) (let h = c .before .before .before .before .loop .inv .0 in omega (arith, c .before .before .before .loop-test .taken))) in r .3)
 
 loop-again : tie.Need-loop-again Inv-loop μ-loop
-loop-again c = (let r = search-next (c .before .before .before .before .before .before .before .before .before .args .text .now) (c .before .before .before .before .before .before .before .before .before .args .spans .now) (lettersAt (c .before .before .before .before .before .before .before .before .before .args .text .now) (c .before .before .before .before .before .before .before .before .before .args .span)) (c .before .before .before .before .before .before .before .before .before .args .limit) (c .before .before .before .before .before .before .before .before .before .args .n) (c .before .before .before .before .before .before .before .before .before .pre .2) (c .before .before .before .before .loop .k) _ (c .before .before .before .loop-test .taken) (c .before .before .before .before .loop .inv .0) (c .before .before .before .before .loop .inv .2) (⊎-elim (λ w l. sym (w .3 .left) ∙ w .2 .ensures) (λ w l. search-passed l (w .left)) (c .before .before .if1 .came)) (c .before .before .before .before .loop .inv .1) (c .number2 .ensures ∙ c .before .before .before .before .before .before .before .before .before .pre .0 .links-right (c .before .before .before .before .loop .k - 1) (let h = c .before .before .before .before .loop .inv .0 in omega (arith, c .before .before .before .loop-test .taken))) in (r .0, r .1, r .2))
+loop-again c = (let r = search-next (c .before .before .before .before .before .before .before .before .before .args .text .now) (c .before .before .before .before .before .before .before .before .before .args .spans .now) (lettersAt (c .before .before .before .before .before .before .before .before .before .args .text .now) (c .before .before .before .before .before .before .before .before .before .args .span)) (c .before .before .before .before .before .before .before .before .before .args .limit) (c .before .before .before .before .before .before .before .before .before .args .n) (c .before .before .before .before .before .before .before .before .before .pre .2) (c .before .before .before .before .loop .k) _ (c .before .before .before .loop-test .taken) (c .before .before .before .before .loop .inv .0) (c .before .before .before .before .loop .inv .2) (⊎-elim (λ w l. sym (w .3 .left) ∙ w .2 .ensures) (λ w l. search-passed l (w .left)) (c .before .before .if1 .came)) (c .before .before .before .before .loop .inv .1) (c .link-number2 .ensures ∙ c .before .before .before .before .before .before .before .before .before .pre .0 .links-right (c .before .before .before .before .loop .k - 1) (let h = c .before .before .before .before .loop .inv .0 in omega (arith, c .before .before .before .loop-test .taken))) in (r .0, r .1, r .2))
 
 returns-2 : tie.Need-returns-2 Inv-loop μ-loop
 returns-2 c = search-ended (c .before .before .before .before .before .before .args .text .now) (c .before .before .before .before .before .before .args .spans .now) (lettersAt (c .before .before .before .before .before .before .args .text .now) (c .before .before .before .before .before .before .args .span)) (c .before .before .before .before .before .before .args .limit) (c .before .before .before .before .before .before .args .n) (c .before .before .before .before .before .before .pre .2) (c .before .loop .k) (c .loop-test .left) (c .before .loop .inv .2)
@@ -75,19 +75,19 @@ find-name-spec =
     Inv-loop
     μ-loop
     hash-requires
-    mul-number
-    element-copy-out-number
-    number-requires
+    mul-link-number
+    element-copy-out-link-number
+    link-number-requires
     loop-holds
     sub-same
     mul-same
     element-copy-out-same
     same-requires
     returns
-    sub-number
-    mul-number-2
-    element-copy-out-number-2
-    number-requires-2
+    sub-link-number
+    mul-link-number-2
+    element-copy-out-link-number-2
+    link-number-requires-2
     loop-less
     loop-again
     returns-2)

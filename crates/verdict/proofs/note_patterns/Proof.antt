@@ -7,7 +7,7 @@ use mathlib.Core.Path.{refl, sym, _∙_, ap}
 use denote.Ref.{now}
 use Prim.Native.Nat.{ℕ, _+_, _-_, _≤_}
 use mathlib.Core.Path.{_≡_, subst}
-use Rattle.verdict.specs.Widths.{PatternsFrom}
+use Rattle.verdict.specs.CheckedTable.{PatternsFrom}
 use Rattle.verdict.proofs.Widths.{whole-table}
 
 abbrev Inv-loop : tie.InvT-loop

@@ -25,11 +25,11 @@ note-next-requires c κs = (c .before .before .before .before .before .before .b
 returns-2 : tie.Need-returns-2
 returns-2 c = as-effect _ 3 (c .before .before .before .before .before .before .if2 .taken) refl (c .note-next .ensures)
 
-note-pair-requires : tie.Need-note-pair-requires
-note-pair-requires c κs = (c .before .before .before .before .before .before .before .before .before .pre .0, c .before .before .before .before .before .before .before .before .before .pre .1, c .before .before .before .before .before .before .before .before .before .pre .2, c .before .before .before .before .before .before .before .before .before .pre .3)
+note-pair-type-requires : tie.Need-note-pair-type-requires
+note-pair-type-requires c κs = (c .before .before .before .before .before .before .before .before .before .pre .0, c .before .before .before .before .before .before .before .before .before .pre .1, c .before .before .before .before .before .before .before .before .before .pre .2, c .before .before .before .before .before .before .before .before .before .pre .3)
 
 returns-3 : tie.Need-returns-3
-returns-3 c = as-effect _ 6 (c .before .before .before .before .before .before .if3 .taken) refl (c .note-pair .ensures)
+returns-3 c = as-effect _ 6 (c .before .before .before .before .before .before .if3 .taken) refl (c .note-pair-type .ensures)
 
 name-holds-requires : tie.Need-name-holds-requires
 name-holds-requires c κs = (c .before .before .before .before .before .before .before .before .pre .0 .hashed, c .before .before .before .before .before .before .before .before .pre .1, c .before .before .before .before .before .before .before .before .pre .0 .above, c .before .before .before .before .before .before .before .before .pre .0 .named, c .before .before .before .before .before .before .before .before .pre .0 .bound-roles, c .before .before .before .before .before .before .before .before .pre .2, c .before .before .before .before .before .before .before .before .pre .3)
@@ -69,7 +69,7 @@ note-name-spec =
     returns
     note-next-requires
     returns-2
-    note-pair-requires
+    note-pair-type-requires
     returns-3
     name-holds-requires
     returns-4

@@ -220,7 +220,7 @@ of-delay-enum-told t c = search needs
 
 of-delay-returns : (t : ℕ) → of-delay-lts.Need-returns (of-delay-claims t) (of-delay-at t) of-delay.Post
 of-delay-returns t c =
-    delay-part-faults _ _ _ (judging-written (c .before .before .before .before .before .before .pre .1 .0)) (judging-there (c .before .before .before .before .before .before .pre .1 .0)) _ (c .before .before .before .before .before .before .pre .1 .1) _ _ _ (c .before .before .before .before .word .ensures .0) refl refl _ _ _ (c .before .before .judge-expression .ensures) (c .enum-told .given .1)
+    delay-part-faults (judging-written (c .before .before .before .before .before .before .pre .1 .0)) (judging-there (c .before .before .before .before .before .before .pre .1 .0)) (c .before .before .before .before .before .before .pre .1 .1) _ _ _ (c .before .before .before .before .word .ensures .0) refl refl _ _ _ (c .before .before .judge-expression .ensures) (c .enum-told .given .1)
 
 of-delay-word-requires-2 : (t : ℕ) → of-delay-lts.Need-word-requires-2 (of-delay-claims t) (of-delay-at t) of-delay.Post
 of-delay-word-requires-2 t c κs = (c .before .before .before .before .before .before .before .pre .1 .0 .ground .sized, c .before .before .before .before .before .before .before .pre .1 .0 .there, search needs)
@@ -241,7 +241,7 @@ of-delay-enum-told-3 t c = search needs
 
 of-delay-returns-2 : (t : ℕ) → of-delay-lts.Need-returns-2 (of-delay-claims t) (of-delay-at t) of-delay.Post
 of-delay-returns-2 t c =
-    delay-leaves-faults _ _ _ (judging-written (c .before .before .before .before .before .before .before .before .before .before .before .before .pre .1 .0)) (judging-there (c .before .before .before .before .before .before .before .before .before .before .before .before .pre .1 .0)) _ (c .before .before .before .before .before .before .before .before .before .before .before .before .pre .1 .1) _ _ _ (c .before .before .before .before .before .before .before .before .before .before .word .ensures .0) (c .before .before .before .before .word2 .ensures .0) (c .before .before .before .word3 .ensures .0) _ _ _ _ _ (passed _ (c .before .before .before .before .before .before .before .before .judge-expression .ensures) (c .before .before .before .before .before .before .delayed .given .1)) (c .before .before .leaves-type .ensures) (c .enum-told3 .given .1)
+    delay-leaves-faults (judging-written (c .before .before .before .before .before .before .before .before .before .before .before .before .pre .1 .0)) (judging-there (c .before .before .before .before .before .before .before .before .before .before .before .before .pre .1 .0)) (c .before .before .before .before .before .before .before .before .before .before .before .before .pre .1 .1) _ _ _ (c .before .before .before .before .before .before .before .before .before .before .word .ensures .0) (c .before .before .before .before .word2 .ensures .0) (c .before .before .before .word3 .ensures .0) _ _ _ _ _ (passed _ (c .before .before .before .before .before .before .before .before .judge-expression .ensures) (c .before .before .before .before .before .before .delayed .given .1)) (c .before .before .leaves-type .ensures) (c .enum-told3 .given .1)
 
 of-delay-same-type-requires : (t : ℕ) → of-delay-lts.Need-same-type-requires (of-delay-claims t) (of-delay-at t) of-delay.Post
 of-delay-same-type-requires t c κs =
@@ -249,7 +249,7 @@ of-delay-same-type-requires t c κs =
 
 of-delay-returns-3 : (t : ℕ) → of-delay-lts.Need-returns-3 (of-delay-claims t) (of-delay-at t) of-delay.Post
 of-delay-returns-3 t c =
-    delay-closing _ _ _ (judging-written (c .before .before .before .before .before .before .before .before .before .before .before .before .before .before .pre .1 .0)) (judging-there (c .before .before .before .before .before .before .before .before .before .before .before .before .before .before .pre .1 .0)) _ (c .before .before .before .before .before .before .before .before .before .before .before .before .before .before .pre .1 .1) _ _ _ (c .before .before .before .before .before .before .before .before .before .before .before .before .word .ensures .0) (c .before .before .before .before .before .before .word2 .ensures .0) (c .before .before .before .before .before .word3 .ensures .0) _ _ _ _ (passed _ (c .before .before .before .before .before .before .before .before .before .before .judge-expression .ensures) (c .before .before .before .before .before .before .before .before .delayed .given .1)) (lastly-holds (now (c .before .before .before .before .before .before .before .before .before .before .before .before .before .before .args .sheet)) (c .before .before .before .before .before .before .before .before .before .before .before .before .before .before .args .rec) (leavesFit (c .before .before .before .before .before .before .word2 .result) (chain (now (c .before .before .before .before .before .before .before .before .before .before .before .before .before .before .args .sheet)) (c .before .before .before .before .before .word3 .result))) _ _ _ (c .before .before .before .before .leaves-type .ensures) (c .before .before .enum-told2 .given .1) .0) (c .same-type .ensures)
+    delay-closing (judging-written (c .before .before .before .before .before .before .before .before .before .before .before .before .before .before .pre .1 .0)) (judging-there (c .before .before .before .before .before .before .before .before .before .before .before .before .before .before .pre .1 .0)) (c .before .before .before .before .before .before .before .before .before .before .before .before .before .before .pre .1 .1) _ _ _ (c .before .before .before .before .before .before .before .before .before .before .before .before .word .ensures .0) (c .before .before .before .before .before .before .word2 .ensures .0) (c .before .before .before .before .before .word3 .ensures .0) _ _ _ _ (passed _ (c .before .before .before .before .before .before .before .before .before .before .judge-expression .ensures) (c .before .before .before .before .before .before .before .before .delayed .given .1)) (lastly-holds (now (c .before .before .before .before .before .before .before .before .before .before .before .before .before .before .args .sheet)) (c .before .before .before .before .before .before .before .before .before .before .before .before .before .before .args .rec) (leavesFit (c .before .before .before .before .before .before .word2 .result) (chain (now (c .before .before .before .before .before .before .before .before .before .before .before .before .before .before .args .sheet)) (c .before .before .before .before .before .word3 .result))) _ _ _ (c .before .before .before .before .leaves-type .ensures) (c .before .before .enum-told2 .given .1) .0) (c .same-type .ensures)
 
 of-feedback-word-requires : (t : ℕ) → of-feedback-lts.Need-word-requires (of-feedback-claims t) (of-feedback-at t) of-feedback.Post
 of-feedback-word-requires t c κs = (c .before .pre .1 .0 .ground .sized, c .before .pre .1 .0 .there, search needs)
@@ -280,7 +280,7 @@ of-feedback-enum-told t c = search needs
 
 of-feedback-returns : (t : ℕ) → of-feedback-lts.Need-returns (of-feedback-claims t) (of-feedback-at t) of-feedback.Post
 of-feedback-returns t c =
-    feedback-defining-faults _ _ _ (judging-written (c .before .before .before .before .before .before .before .before .before .pre .1 .0)) (judging-there (c .before .before .before .before .before .before .before .before .before .pre .1 .0)) _ (c .before .before .before .before .before .before .before .before .before .pre .1 .1) _ _ _ (c .before .before .before .before .before .before .before .word .ensures .0) (c .before .before .before .before .before .word2 .ensures .0) refl _ (c .before .before .before .before .before .before .with-name .ensures .1) _ _ _ (c .before .before .judge-expression .ensures) (c .enum-told .given .1)
+    feedback-defining-faults (judging-written (c .before .before .before .before .before .before .before .before .before .pre .1 .0)) (judging-there (c .before .before .before .before .before .before .before .before .before .pre .1 .0)) (c .before .before .before .before .before .before .before .before .before .pre .1 .1) _ _ _ (c .before .before .before .before .before .before .before .word .ensures .0) (c .before .before .before .before .before .word2 .ensures .0) refl _ (c .before .before .before .before .before .before .with-name .ensures .1) _ _ _ (c .before .before .judge-expression .ensures) (c .enum-told .given .1)
 
 of-feedback-word-requires-3 : (t : ℕ) → of-feedback-lts.Need-word-requires-3 (of-feedback-claims t) (of-feedback-at t) of-feedback.Post
 of-feedback-word-requires-3 t c κs = (c .before .before .before .before .before .before .before .before .before .before .pre .1 .0 .ground .sized, c .before .before .before .before .before .before .before .before .before .before .pre .1 .0 .there, search needs)
@@ -304,7 +304,7 @@ of-feedback-enum-told-2 t c = search needs
 
 of-feedback-returns-2 : (t : ℕ) → of-feedback-lts.Need-returns-2 (of-feedback-claims t) (of-feedback-at t) of-feedback.Post
 of-feedback-returns-2 t c =
-    feedback-body-fault _ _ _ (judging-written (c .before .before .before .before .before .before .before .before .before .before .before .before .before .before .before .before .pre .1 .0)) (judging-there (c .before .before .before .before .before .before .before .before .before .before .before .before .before .before .before .before .pre .1 .0)) _ (c .before .before .before .before .before .before .before .before .before .before .before .before .before .before .before .before .pre .1 .1) _ _ _ (c .before .before .before .before .before .before .before .before .before .before .before .before .before .before .word .ensures .0) (c .before .before .before .before .before .before .before .before .before .before .before .before .word2 .ensures .0) (c .before .before .before .before .before .word3 .ensures .0) _ (c .before .before .before .before .before .before .before .before .before .before .before .before .before .with-name .ensures .1) _ _ _ _ _ (passed _ (c .before .before .before .before .before .before .before .before .before .judge-expression .ensures) (c .before .before .before .before .before .before .before .defined .given .1)) (c .before .before .judge-expression2 .ensures) (c .enum-told2 .given .1)
+    feedback-body-fault (judging-written (c .before .before .before .before .before .before .before .before .before .before .before .before .before .before .before .before .pre .1 .0)) (judging-there (c .before .before .before .before .before .before .before .before .before .before .before .before .before .before .before .before .pre .1 .0)) (c .before .before .before .before .before .before .before .before .before .before .before .before .before .before .before .before .pre .1 .1) _ _ _ (c .before .before .before .before .before .before .before .before .before .before .before .before .before .before .word .ensures .0) (c .before .before .before .before .before .before .before .before .before .before .before .before .word2 .ensures .0) (c .before .before .before .before .before .word3 .ensures .0) _ (c .before .before .before .before .before .before .before .before .before .before .before .before .before .with-name .ensures .1) _ _ _ _ _ (passed _ (c .before .before .before .before .before .before .before .before .before .judge-expression .ensures) (c .before .before .before .before .before .before .before .defined .given .1)) (c .before .before .judge-expression2 .ensures) (c .enum-told2 .given .1)
 
 of-feedback-same-type-requires : (t : ℕ) → of-feedback-lts.Need-same-type-requires (of-feedback-claims t) (of-feedback-at t) of-feedback.Post
 of-feedback-same-type-requires t c κs =
@@ -312,7 +312,7 @@ of-feedback-same-type-requires t c κs =
 
 of-feedback-returns-3 : (t : ℕ) → of-feedback-lts.Need-returns-3 (of-feedback-claims t) (of-feedback-at t) of-feedback.Post
 of-feedback-returns-3 t c =
-    feedback-closing _ _ _ (judging-written (c .before .before .before .before .before .before .before .before .before .before .before .before .before .before .before .before .before .before .before .pre .1 .0)) (judging-there (c .before .before .before .before .before .before .before .before .before .before .before .before .before .before .before .before .before .before .before .pre .1 .0)) _ (c .before .before .before .before .before .before .before .before .before .before .before .before .before .before .before .before .before .before .before .pre .1 .1) _ _ _ (c .before .before .before .before .before .before .before .before .before .before .before .before .before .before .before .before .before .word .ensures .0) (c .before .before .before .before .before .before .before .before .before .before .before .before .before .before .before .word2 .ensures .0) (c .before .before .before .before .before .before .before .before .word3 .ensures .0) _ (c .before .before .before .before .before .before .before .before .before .before .before .before .before .before .before .before .with-name .ensures .1) _ _ _ _ _ _ (passed _ (c .before .before .before .before .before .before .before .before .before .before .before .before .judge-expression .ensures) (c .before .before .before .before .before .before .before .before .before .before .defined .given .1)) (passed _ (c .before .before .before .before .before .judge-expression2 .ensures) (c .before .before .before .body .given .1)) (c .same-type .ensures)
+    feedback-closing (judging-written (c .before .before .before .before .before .before .before .before .before .before .before .before .before .before .before .before .before .before .before .pre .1 .0)) (judging-there (c .before .before .before .before .before .before .before .before .before .before .before .before .before .before .before .before .before .before .before .pre .1 .0)) (c .before .before .before .before .before .before .before .before .before .before .before .before .before .before .before .before .before .before .before .pre .1 .1) _ _ _ (c .before .before .before .before .before .before .before .before .before .before .before .before .before .before .before .before .before .word .ensures .0) (c .before .before .before .before .before .before .before .before .before .before .before .before .before .before .before .word2 .ensures .0) (c .before .before .before .before .before .before .before .before .word3 .ensures .0) _ (c .before .before .before .before .before .before .before .before .before .before .before .before .before .before .before .before .with-name .ensures .1) _ _ _ _ _ _ (passed _ (c .before .before .before .before .before .before .before .before .before .before .before .before .judge-expression .ensures) (c .before .before .before .before .before .before .before .before .before .before .defined .given .1)) (passed _ (c .before .before .before .before .before .judge-expression2 .ensures) (c .before .before .before .body .given .1)) (c .same-type .ensures)
 
 of-if-word-requires : (t : ℕ) → of-if-lts.Need-word-requires (of-if-claims t) (of-if-at t) of-if.Post
 of-if-word-requires t c κs = (c .before .pre .1 .0 .ground .sized, c .before .pre .1 .0 .there, search needs)
@@ -331,7 +331,7 @@ of-if-enum-told t c = search needs
 
 of-if-returns : (t : ℕ) → of-if-lts.Need-returns (of-if-claims t) (of-if-at t) of-if.Post
 of-if-returns t c =
-    if-tested-faults _ _ _ (judging-written (c .before .before .before .before .before .before .pre .1 .0)) (judging-there (c .before .before .before .before .before .before .pre .1 .0)) _ (c .before .before .before .before .before .before .pre .1 .1) _ _ _ _ (c .before .before .before .before .word .ensures .0) refl refl refl _ _ _ (c .before .before .judge-expression .ensures) (c .enum-told .given .1)
+    if-tested-faults (judging-written (c .before .before .before .before .before .before .pre .1 .0)) (judging-there (c .before .before .before .before .before .before .pre .1 .0)) (c .before .before .before .before .before .before .pre .1 .1) _ _ _ _ (c .before .before .before .before .word .ensures .0) refl refl refl _ _ _ (c .before .before .judge-expression .ensures) (c .enum-told .given .1)
 
 of-if-word-requires-2 : (t : ℕ) → of-if-lts.Need-word-requires-2 (of-if-claims t) (of-if-at t) of-if.Post
 of-if-word-requires-2 t c κs = (c .before .before .before .before .before .before .before .pre .1 .0 .ground .sized, c .before .before .before .before .before .before .before .pre .1 .0 .there, search needs)
@@ -348,7 +348,7 @@ of-if-enum-told-3 t c = search needs
 
 of-if-returns-2 : (t : ℕ) → of-if-lts.Need-returns-2 (of-if-claims t) (of-if-at t) of-if.Post
 of-if-returns-2 t c =
-    if-pattern-fault _ _ _ (judging-written (c .before .before .before .before .before .before .before .before .before .before .before .pre .1 .0)) (judging-there (c .before .before .before .before .before .before .before .before .before .before .before .pre .1 .0)) _ (c .before .before .before .before .before .before .before .before .before .before .before .pre .1 .1) _ _ _ _ (c .before .before .before .before .before .before .before .before .before .word .ensures .0) (c .before .before .before .word2 .ensures .0) refl refl _ _ _ (passed _ (c .before .before .before .before .before .before .before .judge-expression .ensures) (c .before .before .before .before .before .tested .given .1)) _ _ (c .before .before .pattern-type .ensures) (c .enum-told3 .given .1)
+    if-pattern-fault (judging-written (c .before .before .before .before .before .before .before .before .before .before .before .pre .1 .0)) (judging-there (c .before .before .before .before .before .before .before .before .before .before .before .pre .1 .0)) (c .before .before .before .before .before .before .before .before .before .before .before .pre .1 .1) _ _ _ _ (c .before .before .before .before .before .before .before .before .before .word .ensures .0) (c .before .before .before .word2 .ensures .0) refl refl _ _ _ (passed _ (c .before .before .before .before .before .before .before .judge-expression .ensures) (c .before .before .before .before .before .tested .given .1)) _ _ (c .before .before .pattern-type .ensures) (c .enum-told3 .given .1)
 
 of-if-word-requires-3 : (t : ℕ) → of-if-lts.Need-word-requires-3 (of-if-claims t) (of-if-at t) of-if.Post
 of-if-word-requires-3 t c κs = (c .before .before .before .before .before .before .before .before .before .before .before .pre .1 .0 .ground .sized, c .before .before .before .before .before .before .before .before .before .before .before .pre .1 .0 .there, search needs)
@@ -367,7 +367,7 @@ of-if-enum-told-4 t c = search needs
 
 of-if-returns-3 : (t : ℕ) → of-if-lts.Need-returns-3 (of-if-claims t) (of-if-at t) of-if.Post
 of-if-returns-3 t c =
-    if-then-fault _ _ _ (judging-written (c .before .before .before .before .before .before .before .before .before .before .before .before .before .before .before .before .pre .1 .0)) (judging-there (c .before .before .before .before .before .before .before .before .before .before .before .before .before .before .before .before .pre .1 .0)) _ (c .before .before .before .before .before .before .before .before .before .before .before .before .before .before .before .before .pre .1 .1) _ _ _ _ (c .before .before .before .before .before .before .before .before .before .before .before .before .before .before .word .ensures .0) (c .before .before .before .before .before .before .before .before .word2 .ensures .0) (c .before .before .before .before .word3 .ensures .0) refl _ _ _ (passed _ (c .before .before .before .before .before .before .before .before .before .before .before .before .judge-expression .ensures) (c .before .before .before .before .before .before .before .before .before .before .tested .given .1)) (lastly-holds (now (c .before .before .before .before .before .before .before .before .before .before .before .before .before .before .before .before .args .sheet)) (c .before .before .before .before .before .before .before .before .before .before .before .before .before .before .before .before .args .rec) (patternHas (c .before .before .before .before .before .before .before .before .before .before .tested .given .0 .0) (alternatives (now (c .before .before .before .before .before .before .before .before .before .before .before .before .before .before .before .before .args .sheet)) (c .before .before .before .before .before .before .before .before .word2 .result))) _ _ _ (c .before .before .before .before .before .before .before .pattern-type .ensures) (c .before .before .before .before .before .enum-told2 .given .1) .0) _ _ (c .before .before .judge-expression2 .ensures)
+    if-then-fault (judging-written (c .before .before .before .before .before .before .before .before .before .before .before .before .before .before .before .before .pre .1 .0)) (judging-there (c .before .before .before .before .before .before .before .before .before .before .before .before .before .before .before .before .pre .1 .0)) (c .before .before .before .before .before .before .before .before .before .before .before .before .before .before .before .before .pre .1 .1) _ _ _ _ (c .before .before .before .before .before .before .before .before .before .before .before .before .before .before .word .ensures .0) (c .before .before .before .before .before .before .before .before .word2 .ensures .0) (c .before .before .before .before .word3 .ensures .0) refl _ _ _ (passed _ (c .before .before .before .before .before .before .before .before .before .before .before .before .judge-expression .ensures) (c .before .before .before .before .before .before .before .before .before .before .tested .given .1)) (lastly-holds (now (c .before .before .before .before .before .before .before .before .before .before .before .before .before .before .before .before .args .sheet)) (c .before .before .before .before .before .before .before .before .before .before .before .before .before .before .before .before .args .rec) (patternHas (c .before .before .before .before .before .before .before .before .before .before .tested .given .0 .0) (alternatives (now (c .before .before .before .before .before .before .before .before .before .before .before .before .before .before .before .before .args .sheet)) (c .before .before .before .before .before .before .before .before .word2 .result))) _ _ _ (c .before .before .before .before .before .before .before .pattern-type .ensures) (c .before .before .before .before .before .enum-told2 .given .1) .0) _ _ (c .before .before .judge-expression2 .ensures)
     (c .enum-told4 .given .1)
 
 of-if-word-requires-4 : (t : ℕ) → of-if-lts.Need-word-requires-4 (of-if-claims t) (of-if-at t) of-if.Post
@@ -387,7 +387,7 @@ of-if-enum-told-5 t c = search needs
 
 of-if-returns-4 : (t : ℕ) → of-if-lts.Need-returns-4 (of-if-claims t) (of-if-at t) of-if.Post
 of-if-returns-4 t c =
-    if-else-fault _ _ _ (judging-written (c .before .before .before .before .before .before .before .before .before .before .before .before .before .before .before .before .before .before .before .before .before .before .pre .1 .0)) (judging-there (c .before .before .before .before .before .before .before .before .before .before .before .before .before .before .before .before .before .before .before .before .before .before .pre .1 .0)) _ (c .before .before .before .before .before .before .before .before .before .before .before .before .before .before .before .before .before .before .before .before .before .before .pre .1 .1) _ _ _ _ (c .before .before .before .before .before .before .before .before .before .before .before .before .before .before .before .before .before .before .before .before .word .ensures .0) (c .before .before .before .before .before .before .before .before .before .before .before .before .before .before .word2 .ensures .0) (c .before .before .before .before .before .before .before .before .before .before .word3 .ensures .0) (c .before .before .before .before .word4 .ensures .0) _ _ _ (passed _ (c .before .before .before .before .before .before .before .before .before .before .before .before .before .before .before .before .before .before .judge-expression .ensures) (c .before .before .before .before .before .before .before .before .before .before .before .before .before .before .before .before .tested .given .1)) (lastly-holds (now (c .before .before .before .before .before .before .before .before .before .before .before .before .before .before .before .before .before .before .before .before .before .before .args .sheet)) (c .before .before .before .before .before .before .before .before .before .before .before .before .before .before .before .before .before .before .before .before .before .before .args .rec) (patternHas (c .before .before .before .before .before .before .before .before .before .before .before .before .before .before .before .before .tested .given .0 .0) (alternatives (now (c .before .before .before .before .before .before .before .before .before .before .before .before .before .before .before .before .before .before .before .before .before .before .args .sheet)) (c .before .before .before .before .before .before .before .before .before .before .before .before .before .before .word2 .result))) _ _ _ (c .before .before .before .before .before .before .before .before .before .before .before .before .before .pattern-type .ensures) (c .before .before .before .before .before .before .before .before .before .before .before .enum-told2 .given .1) .0) _ _ (passed _ (c .before .before .before .before .before .before .before .before .judge-expression2 .ensures) (c .before .before .before .before .before .before .then .given .1)) _ _
+    if-else-fault (judging-written (c .before .before .before .before .before .before .before .before .before .before .before .before .before .before .before .before .before .before .before .before .before .before .pre .1 .0)) (judging-there (c .before .before .before .before .before .before .before .before .before .before .before .before .before .before .before .before .before .before .before .before .before .before .pre .1 .0)) (c .before .before .before .before .before .before .before .before .before .before .before .before .before .before .before .before .before .before .before .before .before .before .pre .1 .1) _ _ _ _ (c .before .before .before .before .before .before .before .before .before .before .before .before .before .before .before .before .before .before .before .before .word .ensures .0) (c .before .before .before .before .before .before .before .before .before .before .before .before .before .before .word2 .ensures .0) (c .before .before .before .before .before .before .before .before .before .before .word3 .ensures .0) (c .before .before .before .before .word4 .ensures .0) _ _ _ (passed _ (c .before .before .before .before .before .before .before .before .before .before .before .before .before .before .before .before .before .before .judge-expression .ensures) (c .before .before .before .before .before .before .before .before .before .before .before .before .before .before .before .before .tested .given .1)) (lastly-holds (now (c .before .before .before .before .before .before .before .before .before .before .before .before .before .before .before .before .before .before .before .before .before .before .args .sheet)) (c .before .before .before .before .before .before .before .before .before .before .before .before .before .before .before .before .before .before .before .before .before .before .args .rec) (patternHas (c .before .before .before .before .before .before .before .before .before .before .before .before .before .before .before .before .tested .given .0 .0) (alternatives (now (c .before .before .before .before .before .before .before .before .before .before .before .before .before .before .before .before .before .before .before .before .before .before .args .sheet)) (c .before .before .before .before .before .before .before .before .before .before .before .before .before .before .word2 .result))) _ _ _ (c .before .before .before .before .before .before .before .before .before .before .before .before .before .pattern-type .ensures) (c .before .before .before .before .before .before .before .before .before .before .before .enum-told2 .given .1) .0) _ _ (passed _ (c .before .before .before .before .before .before .before .before .judge-expression2 .ensures) (c .before .before .before .before .before .before .then .given .1)) _ _
     (c .before .before .judge-expression3 .ensures) (c .enum-told5 .given .1)
 
 of-if-same-type-requires : (t : ℕ) → of-if-lts.Need-same-type-requires (of-if-claims t) (of-if-at t) of-if.Post
@@ -396,7 +396,7 @@ of-if-same-type-requires t c κs =
 
 of-if-returns-5 : (t : ℕ) → of-if-lts.Need-returns-5 (of-if-claims t) (of-if-at t) of-if.Post
 of-if-returns-5 t c =
-    if-closing _ _ _ (judging-written (c .before .before .before .before .before .before .before .before .before .before .before .before .before .before .before .before .before .before .before .before .before .before .before .before .before .pre .1 .0)) (judging-there (c .before .before .before .before .before .before .before .before .before .before .before .before .before .before .before .before .before .before .before .before .before .before .before .before .before .pre .1 .0)) _ (c .before .before .before .before .before .before .before .before .before .before .before .before .before .before .before .before .before .before .before .before .before .before .before .before .before .pre .1 .1) _ _ _ _ (c .before .before .before .before .before .before .before .before .before .before .before .before .before .before .before .before .before .before .before .before .before .before .before .word .ensures .0) (c .before .before .before .before .before .before .before .before .before .before .before .before .before .before .before .before .before .word2 .ensures .0) (c .before .before .before .before .before .before .before .before .before .before .before .before .before .word3 .ensures .0) (c .before .before .before .before .before .before .before .word4 .ensures .0) _ _ _ (passed _ (c .before .before .before .before .before .before .before .before .before .before .before .before .before .before .before .before .before .before .before .before .before .judge-expression .ensures) (c .before .before .before .before .before .before .before .before .before .before .before .before .before .before .before .before .before .before .before .tested .given .1)) (lastly-holds (now (c .before .before .before .before .before .before .before .before .before .before .before .before .before .before .before .before .before .before .before .before .before .before .before .before .before .args .sheet)) (c .before .before .before .before .before .before .before .before .before .before .before .before .before .before .before .before .before .before .before .before .before .before .before .before .before .args .rec) (patternHas (c .before .before .before .before .before .before .before .before .before .before .before .before .before .before .before .before .before .before .before .tested .given .0 .0) (alternatives (now (c .before .before .before .before .before .before .before .before .before .before .before .before .before .before .before .before .before .before .before .before .before .before .before .before .before .args .sheet)) (c .before .before .before .before .before .before .before .before .before .before .before .before .before .before .before .before .before .word2 .result))) _ _ _ (c .before .before .before .before .before .before .before .before .before .before .before .before .before .before .before .before .pattern-type .ensures) (c .before .before .before .before .before .before .before .before .before .before .before .before .before .before .enum-told2 .given .1) .0) _ _ (passed _ (c .before .before .before .before .before .before .before .before .before .before .before .judge-expression2 .ensures) (c .before .before .before .before .before .before .before .before .before .then .given .1)) _ _ _
+    if-closing (judging-written (c .before .before .before .before .before .before .before .before .before .before .before .before .before .before .before .before .before .before .before .before .before .before .before .before .before .pre .1 .0)) (judging-there (c .before .before .before .before .before .before .before .before .before .before .before .before .before .before .before .before .before .before .before .before .before .before .before .before .before .pre .1 .0)) (c .before .before .before .before .before .before .before .before .before .before .before .before .before .before .before .before .before .before .before .before .before .before .before .before .before .pre .1 .1) _ _ _ _ (c .before .before .before .before .before .before .before .before .before .before .before .before .before .before .before .before .before .before .before .before .before .before .before .word .ensures .0) (c .before .before .before .before .before .before .before .before .before .before .before .before .before .before .before .before .before .word2 .ensures .0) (c .before .before .before .before .before .before .before .before .before .before .before .before .before .word3 .ensures .0) (c .before .before .before .before .before .before .before .word4 .ensures .0) _ _ _ (passed _ (c .before .before .before .before .before .before .before .before .before .before .before .before .before .before .before .before .before .before .before .before .before .judge-expression .ensures) (c .before .before .before .before .before .before .before .before .before .before .before .before .before .before .before .before .before .before .before .tested .given .1)) (lastly-holds (now (c .before .before .before .before .before .before .before .before .before .before .before .before .before .before .before .before .before .before .before .before .before .before .before .before .before .args .sheet)) (c .before .before .before .before .before .before .before .before .before .before .before .before .before .before .before .before .before .before .before .before .before .before .before .before .before .args .rec) (patternHas (c .before .before .before .before .before .before .before .before .before .before .before .before .before .before .before .before .before .before .before .tested .given .0 .0) (alternatives (now (c .before .before .before .before .before .before .before .before .before .before .before .before .before .before .before .before .before .before .before .before .before .before .before .before .before .args .sheet)) (c .before .before .before .before .before .before .before .before .before .before .before .before .before .before .before .before .before .word2 .result))) _ _ _ (c .before .before .before .before .before .before .before .before .before .before .before .before .before .before .before .before .pattern-type .ensures) (c .before .before .before .before .before .before .before .before .before .before .before .before .before .before .enum-told2 .given .1) .0) _ _ (passed _ (c .before .before .before .before .before .before .before .before .before .before .before .judge-expression2 .ensures) (c .before .before .before .before .before .before .before .before .before .then .given .1)) _ _ _
     (passed _ (c .before .before .before .before .before .judge-expression3 .ensures) (c .before .before .before .otherwise .given .1)) (c .same-type .ensures)
 
 of-let-word-requires : (t : ℕ) → of-let-lts.Need-word-requires (of-let-claims t) (of-let-at t) of-let.Post
@@ -416,7 +416,7 @@ of-let-enum-told t c = search needs
 
 of-let-returns : (t : ℕ) → of-let-lts.Need-returns (of-let-claims t) (of-let-at t) of-let.Post
 of-let-returns t c =
-    let-defining-faults _ _ _ (judging-written (c .before .before .before .before .before .before .pre .1 .0)) (judging-there (c .before .before .before .before .before .before .pre .1 .0)) _ (c .before .before .before .before .before .before .pre .1 .1) _ _ (c .before .before .before .before .word .ensures .0) refl _ _ _ (c .before .before .judge-expression .ensures) (c .enum-told .given .1)
+    let-defining-faults (judging-written (c .before .before .before .before .before .before .pre .1 .0)) (judging-there (c .before .before .before .before .before .before .pre .1 .0)) (c .before .before .before .before .before .before .pre .1 .1) _ _ (c .before .before .before .before .word .ensures .0) refl _ _ _ (c .before .before .judge-expression .ensures) (c .enum-told .given .1)
 
 of-let-with-name-requires : (t : ℕ) → of-let-lts.Need-with-name-requires (of-let-claims t) (of-let-at t) of-let.Post
 of-let-with-name-requires t c κs =
@@ -444,7 +444,7 @@ of-let-enum-told-2 t c = search needs
 
 of-let-returns-2 : (t : ℕ) → of-let-lts.Need-returns-2 (of-let-claims t) (of-let-at t) of-let.Post
 of-let-returns-2 t c =
-    let-body-fault _ _ _ (judging-written (c .before .before .before .before .before .before .before .before .before .before .before .before .before .before .pre .1 .0)) (judging-there (c .before .before .before .before .before .before .before .before .before .before .before .before .before .before .pre .1 .0)) _ (c .before .before .before .before .before .before .before .before .before .before .before .before .before .before .pre .1 .1) _ _ (c .before .before .before .before .before .before .before .before .before .before .before .before .word .ensures .0) (c .before .before .before .before .before .word2 .ensures .0) _ _ _ _ _ _ (c .before .before .before .before .before .before .with-name .ensures .1) (passed _ (c .before .before .before .before .before .before .before .before .before .before .judge-expression .ensures) (c .before .before .before .before .before .before .before .before .defined .given .1))
+    let-body-fault (judging-written (c .before .before .before .before .before .before .before .before .before .before .before .before .before .before .pre .1 .0)) (judging-there (c .before .before .before .before .before .before .before .before .before .before .before .before .before .before .pre .1 .0)) (c .before .before .before .before .before .before .before .before .before .before .before .before .before .before .pre .1 .1) _ _ (c .before .before .before .before .before .before .before .before .before .before .before .before .word .ensures .0) (c .before .before .before .before .before .word2 .ensures .0) _ _ _ _ _ _ (c .before .before .before .before .before .before .with-name .ensures .1) (passed _ (c .before .before .before .before .before .before .before .before .before .before .judge-expression .ensures) (c .before .before .before .before .before .before .before .before .defined .given .1))
     (c .before .before .judge-expression2 .ensures) (c .enum-told2 .given .1)
 
 of-let-note-requires : (t : ℕ) → of-let-lts.Need-note-requires (of-let-claims t) (of-let-at t) of-let.Post
@@ -453,7 +453,7 @@ of-let-note-requires t c κs =
 
 of-let-returns-3 : (t : ℕ) → of-let-lts.Need-returns-3 (of-let-claims t) (of-let-at t) of-let.Post
 of-let-returns-3 t c =
-    let-closes _ _ _ (judging-written (c .before .before .before .before .before .before .before .before .before .before .before .before .before .before .before .before .before .pre .1 .0)) (judging-there (c .before .before .before .before .before .before .before .before .before .before .before .before .before .before .before .before .before .pre .1 .0)) _ (c .before .before .before .before .before .before .before .before .before .before .before .before .before .before .before .before .before .pre .1 .1) _ _ (c .before .before .before .before .before .before .before .before .before .before .before .before .before .before .before .word .ensures .0) (c .before .before .before .before .before .before .before .before .word2 .ensures .0) _ _ _ _ _ _ _ (c .before .before .before .before .before .before .before .before .before .with-name .ensures .1) (passed _ (c .before .before .before .before .before .before .before .before .before .before .before .before .before .judge-expression .ensures) (c .before .before .before .before .before .before .before .before .before .before .before .defined .given .1))
+    let-closes (judging-written (c .before .before .before .before .before .before .before .before .before .before .before .before .before .before .before .before .before .pre .1 .0)) (judging-there (c .before .before .before .before .before .before .before .before .before .before .before .before .before .before .before .before .before .pre .1 .0)) (c .before .before .before .before .before .before .before .before .before .before .before .before .before .before .before .before .before .pre .1 .1) _ _ (c .before .before .before .before .before .before .before .before .before .before .before .before .before .before .before .word .ensures .0) (c .before .before .before .before .before .before .before .before .word2 .ensures .0) _ _ _ _ _ _ _ (c .before .before .before .before .before .before .before .before .before .with-name .ensures .1) (passed _ (c .before .before .before .before .before .before .before .before .before .before .before .before .before .judge-expression .ensures) (c .before .before .before .before .before .before .before .before .before .before .before .defined .given .1))
     (passed _ (c .before .before .before .before .before .judge-expression2 .ensures) (c .before .before .before .body .given .1)) (c .note .ensures .0) (c .note .ensures .1)
 
 of-pair-word-requires : (t : ℕ) → of-pair-lts.Need-word-requires (of-pair-claims t) (of-pair-at t) of-pair.Post
@@ -473,7 +473,7 @@ of-pair-enum-told t c = search needs
 
 of-pair-returns : (t : ℕ) → of-pair-lts.Need-returns (of-pair-claims t) (of-pair-at t) of-pair.Post
 of-pair-returns t c =
-    pair-first-faults _ _ _ (judging-written (c .before .before .before .before .before .before .pre .1 .0)) (judging-there (c .before .before .before .before .before .before .pre .1 .0)) _ (c .before .before .before .before .before .before .pre .1 .1) _ _ (c .before .before .before .before .word .ensures .0) refl _ _ _ (c .before .before .judge-expression .ensures)
+    pair-first-faults (judging-written (c .before .before .before .before .before .before .pre .1 .0)) (judging-there (c .before .before .before .before .before .before .pre .1 .0)) (c .before .before .before .before .before .before .pre .1 .1) _ _ (c .before .before .before .before .word .ensures .0) refl _ _ _ (c .before .before .judge-expression .ensures)
     (c .enum-told .given .1)
 
 of-pair-word-requires-2 : (t : ℕ) → of-pair-lts.Need-word-requires-2 (of-pair-claims t) (of-pair-at t) of-pair.Post
@@ -493,7 +493,7 @@ of-pair-enum-told-2 t c = search needs
 
 of-pair-returns-2 : (t : ℕ) → of-pair-lts.Need-returns-2 (of-pair-claims t) (of-pair-at t) of-pair.Post
 of-pair-returns-2 t c =
-    pair-second-faults _ _ _ (judging-written (c .before .before .before .before .before .before .before .before .before .before .before .before .pre .1 .0)) (judging-there (c .before .before .before .before .before .before .before .before .before .before .before .before .pre .1 .0)) _ (c .before .before .before .before .before .before .before .before .before .before .before .before .pre .1 .1) _ _ (c .before .before .before .before .before .before .before .before .before .before .word .ensures .0) (c .before .before .before .before .word2 .ensures .0) _ _ _ _ _ (passed _ (c .before .before .before .before .before .before .before .before .judge-expression .ensures) (c .before .before .before .before .before .before .first .given .1))
+    pair-second-faults (judging-written (c .before .before .before .before .before .before .before .before .before .before .before .before .pre .1 .0)) (judging-there (c .before .before .before .before .before .before .before .before .before .before .before .before .pre .1 .0)) (c .before .before .before .before .before .before .before .before .before .before .before .before .pre .1 .1) _ _ (c .before .before .before .before .before .before .before .before .before .before .word .ensures .0) (c .before .before .before .before .word2 .ensures .0) _ _ _ _ _ (passed _ (c .before .before .before .before .before .before .before .before .judge-expression .ensures) (c .before .before .before .before .before .before .first .given .1))
     (c .before .before .judge-expression2 .ensures) (c .enum-told2 .given .1)
 
 of-pair-pair-type-requires : (t : ℕ) → of-pair-lts.Need-pair-type-requires (of-pair-claims t) (of-pair-at t) of-pair.Post
@@ -502,7 +502,7 @@ of-pair-pair-type-requires t c κs =
 
 of-pair-returns-3 : (t : ℕ) → of-pair-lts.Need-returns-3 (of-pair-claims t) (of-pair-at t) of-pair.Post
 of-pair-returns-3 t c =
-    pair-closes _ _ _ (judging-written (c .before .before .before .before .before .before .before .before .before .before .before .before .before .before .before .pre .1 .0)) (judging-there (c .before .before .before .before .before .before .before .before .before .before .before .before .before .before .before .pre .1 .0)) _ (c .before .before .before .before .before .before .before .before .before .before .before .before .before .before .before .pre .1 .1) _ _ (c .before .before .before .before .before .before .before .before .before .before .before .before .before .word .ensures .0) (c .before .before .before .before .before .before .before .word2 .ensures .0) _ _ _ _ _ _ (passed _ (c .before .before .before .before .before .before .before .before .before .before .before .judge-expression .ensures) (c .before .before .before .before .before .before .before .before .before .first .given .1))
+    pair-closes (judging-written (c .before .before .before .before .before .before .before .before .before .before .before .before .before .before .before .pre .1 .0)) (judging-there (c .before .before .before .before .before .before .before .before .before .before .before .before .before .before .before .pre .1 .0)) (c .before .before .before .before .before .before .before .before .before .before .before .before .before .before .before .pre .1 .1) _ _ (c .before .before .before .before .before .before .before .before .before .before .before .before .before .word .ensures .0) (c .before .before .before .before .before .before .before .word2 .ensures .0) _ _ _ _ _ _ (passed _ (c .before .before .before .before .before .before .before .before .before .before .before .judge-expression .ensures) (c .before .before .before .before .before .before .before .before .before .first .given .1))
     (passed _ (c .before .before .before .before .before .judge-expression2 .ensures) (c .before .before .before .second .given .1)) (c .pair-type .ensures)
 
 of-part-word-requires : (t : ℕ) → of-part-lts.Need-word-requires (of-part-claims t) (of-part-at t) of-part.Post
@@ -522,7 +522,7 @@ of-part-enum-told t c = search needs
 
 of-part-returns : (t : ℕ) → of-part-lts.Need-returns (of-part-claims t) (of-part-at t) of-part.Post
 of-part-returns t c =
-    part-faults _ _ _ (judging-written (c .before .before .before .before .before .before .pre .1 .0)) (judging-there (c .before .before .before .before .before .before .pre .1 .0)) _ _ (c .before .before .before .before .before .before .pre .1 .1) _ (c .before .before .before .before .word .ensures .0) _ _ _ (c .before .before .judge-expression .ensures) (c .enum-told .given .1)
+    part-faults (judging-written (c .before .before .before .before .before .before .pre .1 .0)) (judging-there (c .before .before .before .before .before .before .pre .1 .0)) _ (c .before .before .before .before .before .before .pre .1 .1) _ (c .before .before .before .before .word .ensures .0) _ _ _ (c .before .before .judge-expression .ensures) (c .enum-told .given .1)
 
 of-part-part-type-requires : (t : ℕ) → of-part-lts.Need-part-type-requires (of-part-claims t) (of-part-at t) of-part.Post
 of-part-part-type-requires t c κs =
@@ -531,7 +531,7 @@ of-part-part-type-requires t c κs =
 
 of-part-returns-2 : (t : ℕ) → of-part-lts.Need-returns-2 (of-part-claims t) (of-part-at t) of-part.Post
 of-part-returns-2 t c =
-    part-closes _ _ _ (judging-written (c .before .before .before .before .before .before .before .before .before .pre .1 .0)) (judging-there (c .before .before .before .before .before .before .before .before .before .pre .1 .0)) _ _ (c .before .before .before .before .before .before .before .before .before .pre .1 .1) _ (c .before .before .before .before .before .before .before .word .ensures .0) _ _ _ _ (passed _ (c .before .before .before .before .before .judge-expression .ensures) (c .before .before .before .whole .given .1)) (c .part-type .ensures)
+    part-closes (judging-written (c .before .before .before .before .before .before .before .before .before .pre .1 .0)) (judging-there (c .before .before .before .before .before .before .before .before .before .pre .1 .0)) _ (c .before .before .before .before .before .before .before .before .before .pre .1 .1) _ (c .before .before .before .before .before .before .before .word .ensures .0) _ _ _ _ (passed _ (c .before .before .before .before .before .judge-expression .ensures) (c .before .before .before .whole .given .1)) (c .part-type .ensures)
 
 pub +judge-expression+of-delay+of-feedback+of-if+of-let+of-pair+of-part-spec : {M : Type 1} → statement M
 +judge-expression+of-delay+of-feedback+of-if+of-let+of-pair+of-part-spec =

@@ -20,8 +20,8 @@ loop-holds c = (search needs, subst (λ (m : ℕ). PatternsTyped (now (c .before
 sub-rec : tie.Need-sub-rec Inv-loop μ-loop
 sub-rec c = search needs
 
-note-type-requires : tie.Need-note-type-requires Inv-loop μ-loop
-note-type-requires c κs =
+note-pattern-type-requires : tie.Need-note-pattern-type-requires Inv-loop μ-loop
+note-pattern-type-requires c κs =
     let e : c .before .before .loop .rec ≡ c .before .before .loop .rec - 1 + 1 = omega arith in
     record {
       sized = c .before .before .before .before .pre .0;
@@ -35,7 +35,7 @@ loop-less : tie.Need-loop-less Inv-loop μ-loop
 loop-less c = search needs
 
 loop-again : tie.Need-loop-again Inv-loop μ-loop
-loop-again c = (search needs, c .note-type .ensures)
+loop-again c = (search needs, c .note-pattern-type .ensures)
 
 returns : tie.Need-returns Inv-loop μ-loop
 returns c =
@@ -45,4 +45,4 @@ returns c =
 pub note-types-spec : {M : Type 1} → statement M
 note-types-spec =
     tie.close
-    (tie.spec Inv-loop μ-loop loop-holds sub-rec note-type-requires loop-less loop-again returns)
+    (tie.spec Inv-loop μ-loop loop-holds sub-rec note-pattern-type-requires loop-less loop-again returns)

@@ -12,7 +12,7 @@ word-requires : tie.Need-word-requires
 word-requires c κs = search needs
 
 returns : tie.Need-returns
-returns c = name-closing _ _ _ (judging-written (c .before .before .before .pre .0)) (judging-there (c .before .before .before .pre .0)) _ (c .before .before .before .pre .1) _ (c .before .word .ensures .0) _ _ (name-outside (ready-closing (c .before .before .before .pre .0) (now (c .before .before .before .args .widths)) (c .before .before .before .pre .0 .long)) (now (c .before .before .before .args .scope)) (c .before .before .before .args .names) (c .before .word .result) (search needs))
+returns c = name-closing (judging-written (c .before .before .before .pre .0)) (judging-there (c .before .before .before .pre .0)) (c .before .before .before .pre .1) _ (c .before .word .ensures .0) _ _ (name-outside (ready-closing (c .before .before .before .pre .0) (now (c .before .before .before .args .widths)) (c .before .before .before .pre .0 .long)) (now (c .before .before .before .args .scope)) (c .before .before .before .args .names) (c .before .word .result) (search needs))
 
 sub-t : tie.Need-sub-t
 sub-t c = search needs
@@ -43,7 +43,7 @@ note-requires c κs = (
 
 returns-2 : tie.Need-returns-2
 returns-2 c =
-    name-closing _ _ _ (judging-written (c .before .before .before .before .before .before .pre .0)) (judging-there (c .before .before .before .before .before .before .pre .0)) _ (c .before .before .before .before .before .before .pre .1) _ (c .before .before .before .before .word .ensures .0) _ _
+    name-closing (judging-written (c .before .before .before .before .before .before .pre .0)) (judging-there (c .before .before .before .before .before .before .pre .0)) (c .before .before .before .before .before .before .pre .1) _ (c .before .before .before .before .word .ensures .0) _ _
     (name-inside (ready-closing (c .before .before .before .before .before .before .pre .0) (now (c .before .before .before .before .before .before .args .widths)) (c .before .before .before .before .before .before .pre .0 .long)) (now (c .before .before .before .before .before .before .args .scope)) (c .before .before .before .before .before .before .args .names) (c .before .before .before .before .word .result) _ _ _ (search needs) refl (c .note .ensures .0) (c .note .ensures .1))
 
 pub of-name-spec : {M : Type 1} → statement M

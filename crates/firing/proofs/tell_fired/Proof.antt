@@ -2,8 +2,8 @@
 use native.Mathlib.Omega.{arith}
 use Rattle.firing.proofs.Telling.{fired-output-there, fired-output-few, told-looking, told-words}
 use borrow.Author.Needs.{needs}
-use Rattle.firing.proofs.tell.Statement.{statement}
-use Rattle.firing.proofs.tell.Tie as tie
+use Rattle.firing.proofs.tell_fired.Statement.{statement}
+use Rattle.firing.proofs.tell_fired.Tie as tie
 
 no-names-requires : tie.Need-no-names-requires
 no-names-requires c κs = search needs
@@ -53,8 +53,8 @@ same-length c = search needs
 returns : tie.Need-returns
 returns c = told-words (c .before .before .before .before .before .before .before .before .before .before .before .before .before .before .before .before .before .before .before .before .pre) _ _ _ (c .before .before .before .before .before .before .before .before .before .before .before .before .before .before .none-fired .ensures) (c .before .before .before .before .before .before .before .look .ensures .noted) (c .before .before .copy-words .ensures)
 
-pub tell-spec : {M : Type 1} → statement M
-tell-spec =
+pub tell-fired-spec : {M : Type 1} → statement M
+tell-fired-spec =
     tie.close
     (tie.spec
     no-names-requires

@@ -3,8 +3,8 @@ use borrow.Author.Needs.{needs}
 use native.Mathlib.Omega.{arith}
 use Rattle.typing.proofs.TypedPatterns.{no-type-noted, type-noted, pattern-between}
 use Rattle.typing.proofs.PatternNumbers.{no-pattern}
-use Rattle.typing.proofs.patterns.note_type.Statement.{statement}
-use Rattle.typing.proofs.patterns.note_type.Tie as tie
+use Rattle.typing.proofs.patterns.note_pattern_type.Statement.{statement}
+use Rattle.typing.proofs.patterns.note_pattern_type.Tie as tie
 
 word-requires : tie.Need-word-requires
 word-requires c κs = search needs
@@ -34,8 +34,8 @@ element-write-types c = search needs
 returns-3 : tie.Need-returns-3
 returns-3 c = type-noted (c .before .before .before .before .before .before .pre) (c .common-type .ensures .1) (c .common-type .ensures .0)
 
-pub note-type-spec : {M : Type 1} → statement M
-note-type-spec =
+pub note-pattern-type-spec : {M : Type 1} → statement M
+note-pattern-type-spec =
     tie.close
     (tie.spec
     word-requires

@@ -10,8 +10,8 @@ use Rattle.symbols.specs.Names.{lettersAt}
 use Rattle.scoping.specs.Scoped.{heldScope}
 use Rattle.scoping.proofs.EffectLaws.{base-told, based, pair-type-noted}
 use Rattle.scoping.proofs.ScopeLaws.{refused-name, some-bound}
-use Rattle.scoping.proofs.notes.note_pair.Statement.{statement}
-use Rattle.scoping.proofs.notes.note_pair.Tie as tie
+use Rattle.scoping.proofs.notes.note_pair_type.Statement.{statement}
+use Rattle.scoping.proofs.notes.note_pair_type.Tie as tie
 
 returns : tie.Need-returns
 returns c = refused-name (some-bound (c .before .before .args .text .now) (c .before .before .args .spans .now) (c .before .before .args .roles .now) (c .before .before .args .pendings .now) (c .before .before .args .base) (c .before .before .args .n) (c .before .before .args .m) (c .if1 .taken) (c .before .before .pre .0 .above) _)
@@ -28,8 +28,8 @@ declare-pending-requires c κs = based (c .before .before .before .before .befor
 returns-3 : tie.Need-returns-3
 returns-3 c = pair-type-noted (c .before .before .before .before .before .before .before .before .before .before .before .before .before .pre .0) (c .before .before .before .before .before .before .before .before .before .before .before .if1 .left) (base-told (c .before .before .before .before .before .before .before .before .before .before .before .before .before .pre .0) (stateOf (c .before .before .before .before .before .before .before .before .before .before .before .before .before .args .state)) (lettersAt (c .before .before .before .before .before .before .before .before .before .before .before .before .before .args .text .now) (c .before .before .before .before .before .before .before .before .before .before .before .before .before .args .span)) true (c .before .before .before .before .before .before .before .before .before .before .before .if1 .left) (sym (not-false _ (c .before .before .before .before .before .if2 .left)) ∙ c .before .before .before .before .before .before .name-holds .ensures (c .before .before .before .before .before .before .before .before .before .before .before .before .before .args .m) (c .before .before .before .before .before .before .before .before .before .before .before .before .before .args .pendings .now))) (c .declare-pending .ensures .0) (c .declare-pending .ensures .2)
 
-pub note-pair-spec : {M : Type 1} → statement M
-note-pair-spec =
+pub note-pair-type-spec : {M : Type 1} → statement M
+note-pair-type-spec =
     tie.close
     (tie.spec
     returns

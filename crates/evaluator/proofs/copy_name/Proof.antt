@@ -3,8 +3,8 @@ use native.Mathlib.Omega.{arith}
 use Rattle.evaluator.proofs.Readiness.{ready-word}
 use Rattle.evaluator.proofs.Names.{name-in-scope, name-room, name-done}
 use borrow.Author.Needs.{needs}
-use Rattle.evaluator.proofs.of_name.Statement.{statement}
-use Rattle.evaluator.proofs.of_name.Tie as tie
+use Rattle.evaluator.proofs.copy_name.Statement.{statement}
+use Rattle.evaluator.proofs.copy_name.Tie as tie
 
 word-requires : tie.Need-word-requires
 word-requires c κs = ready-word (c .before .before .before .pre .0 .1) (omega arith)
@@ -24,8 +24,8 @@ same-length c = search needs
 returns : tie.Need-returns
 returns c = λ held fired. record { done = λ Γ r. name-done r (c .before .before .before .before .before .before .before .before .pre .1) (c .before .before .before .before .word .ensures .0) (c .before .before .copy-value .ensures) }
 
-pub of-name-spec : {M : Type 1} → statement M
-of-name-spec =
+pub copy-name-spec : {M : Type 1} → statement M
+copy-name-spec =
     tie.close
     (tie.spec
     word-requires

@@ -8,8 +8,8 @@ use Rattle.symbols.specs.Names.{lettersAt, boundNames}
 use Rattle.scoping.specs.Scoped.{effectOf, pendingNames}
 use Rattle.resolving.proofs.DeclareLaws.{name-declares, other-declares}
 use Rattle.resolving.proofs.Noted.{name-noted, other-noted}
-use Rattle.resolving.proofs.tokens.note.Statement.{statement}
-use Rattle.resolving.proofs.tokens.note.Tie as tie
+use Rattle.resolving.proofs.tokens.note_token.Statement.{statement}
+use Rattle.resolving.proofs.tokens.note_token.Tie as tie
 
 note-name-requires : tie.Need-note-name-requires
 note-name-requires c κs = search needs
@@ -23,5 +23,5 @@ note-other-requires c κs = search needs
 returns-2 : tie.Need-returns-2
 returns-2 c = (λ o. (c .note-other .ensures .scoping, other-declares (effectOf (c .before .before .before .before .before .before .before .before .args .effect)) (pendingNames (c .before .before .before .before .before .before .before .before .args .text .now) (c .before .before .before .before .before .before .before .before .args .pendings .now) (c .before .before .before .before .before .before .before .before .args .m)) (boundNames (c .before .before .before .before .before .before .before .before .args .text .now) (c .before .before .before .before .before .before .before .before .args .spans .now) (c .before .before .before .before .before .before .before .before .args .base) (c .before .before .before .before .before .before .before .before .args .n - c .before .before .before .before .before .before .before .before .args .base)) (ap declaredIn (c .note-other .ensures .same-scope))), λ a b t others f. other-noted f (c .before .before .before .before .before .before .if1 .left) (c .note-other .ensures))
 
-pub note-spec : {M : Type 1} → statement M
-note-spec = tie.close (tie.spec note-name-requires returns note-other-requires returns-2)
+pub note-token-spec : {M : Type 1} → statement M
+note-token-spec = tie.close (tie.spec note-name-requires returns note-other-requires returns-2)
