@@ -2,9 +2,9 @@
 -- Assumes nothing.
 use mathlib.Core.Path.{_∙_}
 use lib.ListN.{take}
-use Rattle.printout.specs.Printout.{toldText}
+use Rattle.pieces.specs.Pieces.{toldText}
+use Rattle.pieces.proofs.Pieces.{laid-end-to-end}
 use Rattle.printout.specs.Promises.{PrintoutPromises}
-use Rattle.printout.proofs.Pieces.{laid-end-to-end}
 use Rattle.printout.proofs.Witness.{toggle-listed}
 
 pub kept : PrintoutPromises

@@ -1,5 +1,4 @@
--- The laws of what is told and of the pieces, and the promises kept.
-pub mod Pieces
+-- The laws of what is told, and the promises kept.
 pub mod Requirements
 pub mod Telling
 pub mod Witness

@@ -1,8 +1,6 @@
--- What the program prints, the pieces that it is printed in, and what is promised of them.
+-- What the program prints and what is promised of it.
 -- To believe:
 pub mod Printout
-pub mod Pieces
 pub mod Promises
 -- What functions ask and give, and their proofs need:
-pub mod PutLines
 pub mod OutputsLong

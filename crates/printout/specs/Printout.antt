@@ -1,9 +1,7 @@
 -- What the program prints and writes (docs/SHEETS.md, "Listing"), for the answer of the run with slices of the right lengths: the
--- listing of its outputs, or the one line of a refusal. For a file that cannot be opened it is the line of code 12, whose place
--- names the sheet before the stimulus.
-use Prim.Native.Nat.{ℕ, zero, suc, _≤_, _<_}
+-- listing of its outputs, or the one line of a refusal.
+use Prim.Native.Nat.{ℕ, _≤_, _<_}
 use mathlib.Core.Path.{_≡_}
-use mathlib.Core.Bool.{Bool, true, false}
 use mathlib.Core.List.{List}
 use lib.ListN.{length, take, replicate}
 use Rattle.picoella.specs.Language.{leaves}
@@ -17,6 +15,7 @@ use Rattle.meaning.specs.Undecided.{undecidedRule}
 use Rattle.stimulus.specs.Stimulus.{endToEnd, cycles}
 use Rattle.behaviour.specs.Run.{outputsBy, sheetAfter, outputNeeded, answer}
 use Rattle.listing.specs.Lines.{listing, refusedLine}
+use Rattle.pieces.specs.Pieces.{toldText}
 
 -- "the record of the output type": the place of the check's answer
 abbrev pub outputRecord : (sheet : List ℕ) → ℕ
@@ -42,16 +41,6 @@ answerText (Refused c p) t w outputs = refusedLine c p
 unfoldable pub printed : (sheet stimulus : List ℕ) → List ℕ
 printed s stim =
     answerText (runAnswer s stim) (outputRecord s) (leaves (typeAt s (outputRecord s))) (runOutputs s stim)
-
--- 12: "a file that the program cannot open; the sheet's is tried first"
-abbrev pub noFileLine : (sheetOpened : Bool) → List ℕ
-noFileLine false = refusedLine 12 1
-noFileLine true = refusedLine 12 2
-
--- the same text by the numbers that the code has: a code of 0 is none
-abbrev pub toldText : (code place t w : ℕ) (outputs : List ℕ) → List ℕ
-toldText zero p t w outputs = listing t w outputs
-toldText (suc c) p t w outputs = refusedLine (suc c) p
 
 -- what is told of a sheet and a stimulus: the text to print by these numbers and the first so many bytes of the outputs' room, and
 -- where nothing is refused the sheet for next.bin

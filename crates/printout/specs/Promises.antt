@@ -5,8 +5,8 @@ use mathlib.Core.List.{List, [], _∷_}
 use lib.ListN.{take}
 use Rattle.behaviour.specs.Bench.{toggle}
 use Rattle.listing.specs.Lines.{ascii}
-use Rattle.printout.specs.Printout.{printed, toldText, RunTold}
-use Rattle.printout.specs.Pieces.{Pieces}
+use Rattle.pieces.specs.Pieces.{toldText, Pieces}
+use Rattle.printout.specs.Printout.{printed, RunTold}
 
 -- Whatever was told of a sheet and a stimulus, the pieces made from it, laid end to end from the first to the last, are the listing
 -- for the run's answer, or the one line of a refusal.

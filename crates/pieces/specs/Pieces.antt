@@ -1,11 +1,22 @@
--- The text in pieces, each as much as a buffer surely holds: what is left from a cycle on, and what a piece gives. Pieces laid end to
--- end, each from where the one before stopped, to the last.
-use Prim.Native.Nat.{ℕ, _*_, _-_, _/_, _≤_, _<_}
+-- What a program prints of a call's answer, the line of a file that cannot be opened (docs/SHEETS.md, "Listing"), and text in pieces, each
+-- as much as a buffer surely holds: what is left from a cycle on, and what a piece gives. Pieces laid end to end, each from where the
+-- one before stopped, to the last.
+use Prim.Native.Nat.{ℕ, zero, suc, _*_, _-_, _/_, _≤_, _<_}
 use mathlib.Core.Path.{_≡_}
 use mathlib.Core.Bool.{Bool, true, false}
 use mathlib.Core.List.{List, [], _++_}
 use lib.ListN.{length, take, drop}
-use Rattle.listing.specs.Lines.{cycleLines, cyclesLine}
+use Rattle.listing.specs.Lines.{cycleLines, cyclesLine, listing, refusedLine}
+
+-- the listing of outputs of w leaves each, or where the code is not 0 the line of a refusal
+abbrev pub toldText : (code place t w : ℕ) (outputs : List ℕ) → List ℕ
+toldText zero p t w outputs = listing t w outputs
+toldText (suc c) p t w outputs = refusedLine (suc c) p
+
+-- 12: "a file that the program cannot open; the sheet's is tried first"
+abbrev pub noFileLine : (sheetOpened : Bool) → List ℕ
+noFileLine false = refusedLine 12 1
+noFileLine true = refusedLine 12 2
 
 -- the lines from cycle k on, of outputs of w leaves each, and the last line
 abbrev pub textFrom : (w k : ℕ) (outputs : List ℕ) → List ℕ

@@ -1,8 +1,8 @@
 -- Assumes nothing.
-use Rattle.printout.proofs.Pieces.{fillable, lines-stop, lines-end}
+use Rattle.pieces.proofs.Pieces.{fillable, lines-stop, lines-end}
 use borrow.Author.Needs.{needs}
-use Rattle.printout.proofs.put_rest.Statement.{statement}
-use Rattle.printout.proofs.put_rest.Tie as tie
+use Rattle.pieces.proofs.put_rest.Statement.{statement}
+use Rattle.pieces.proofs.put_rest.Tie as tie
 
 put-lines-requires : tie.Need-put-lines-requires
 put-lines-requires c κs = fillable (c .before .before .before .pre)

@@ -5,7 +5,7 @@ use mathlib.Core.Bool.{Bool}
 use mathlib.Core.List.{List, _++_}
 use lib.ListN.{length}
 use Rattle.listing.specs.Wrote.{TextPut}
-use Rattle.printout.specs.Pieces.{textFrom, textLeft}
+use Rattle.pieces.specs.Pieces.{textFrom, textLeft}
 
 -- lines of 1 to 64 leaves are written from cycle k on, whose leaves begin at `first`
 pub record PuttingLines (buffer : List ℕ) (at w k first : ℕ) (outputs : List ℕ) : Type 0 where
