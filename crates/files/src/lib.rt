@@ -7,9 +7,9 @@ ghost use Rattle.io.specs.Counts.{Counts};
 ghost use Rattle.records.specs.Limits.{mostLeaves};
 use libc::STDOUT_FILENO;
 use listing::LINE_BYTES;
-use pieces::first_piece;
-use pieces::next_piece;
-use pieces::put_no_file;
+use printing::first_piece;
+use printing::next_piece;
+use printing::put_no_file;
 
 // What reading gave: so many bytes, unless it failed.
 pub struct Got {

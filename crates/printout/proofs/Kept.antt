@@ -2,8 +2,8 @@
 -- Assumes nothing.
 use mathlib.Core.Path.{_∙_}
 use lib.ListN.{take}
-use Rattle.pieces.specs.Pieces.{toldText}
-use Rattle.pieces.proofs.Pieces.{laid-end-to-end}
+use Rattle.printing.specs.Pieces.{toldText}
+use Rattle.printing.proofs.Pieces.{laid-end-to-end}
 use Rattle.printout.specs.Promises.{PrintoutPromises}
 use Rattle.printout.proofs.Witness.{toggle-listed}
 

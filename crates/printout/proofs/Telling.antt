@@ -30,7 +30,7 @@ use Rattle.behaviour.proofs.Answers.{lowest-first, places-small, refused-by-ver
 use Rattle.simulator.specs.Running.{Measured}
 use Rattle.simulator.specs.Calls.{Ran}
 use Rattle.listing.specs.Lines.{refusedLine}
-use Rattle.pieces.specs.Pieces.{toldText}
+use Rattle.printing.specs.Pieces.{toldText}
 use Rattle.printout.specs.Printout.{outputRecord, runAnswer, runOutputs, runSheet, printed, RunTold}
 use Rattle.printout.specs.OutputsLong.{OutputsLong}
 

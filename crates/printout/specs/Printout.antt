@@ -5,6 +5,7 @@ use mathlib.Core.Path.{_≡_}
 use mathlib.Core.List.{List}
 use lib.ListN.{length, take, replicate}
 use Rattle.picoella.specs.Language.{leaves}
+use Rattle.records.specs.Limits.{mostLeaves}
 use Rattle.records.specs.Trees.{typeAt}
 use Rattle.answers.specs.Answers.{code, place}
 use Rattle.answers.specs.declared.Answer.{Answer}
@@ -15,7 +16,7 @@ use Rattle.meaning.specs.Undecided.{undecidedRule}
 use Rattle.stimulus.specs.Stimulus.{endToEnd, cycles}
 use Rattle.behaviour.specs.Run.{outputsBy, sheetAfter, outputNeeded, answer}
 use Rattle.listing.specs.Lines.{listing, refusedLine}
-use Rattle.pieces.specs.Pieces.{toldText}
+use Rattle.printing.specs.Pieces.{toldText}
 
 -- "the record of the output type": the place of the check's answer
 abbrev pub outputRecord : (sheet : List ℕ) → ℕ
@@ -49,5 +50,5 @@ pub record RunTold (s stim : List ℕ) (c p t w many : ℕ) (out′ next′ : Li
   pub text : toldText c p t w (take many out′) ≡ printed s stim
   pub inside : many ≤ length out′
   pub some : 0 < w
-  pub few : w ≤ 64
+  pub few : w ≤ mostLeaves
   pub next : c ≡ 0 → take (length s) next′ ≡ runSheet s stim

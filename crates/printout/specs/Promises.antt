@@ -5,7 +5,7 @@ use mathlib.Core.List.{List, [], _∷_}
 use lib.ListN.{take}
 use Rattle.behaviour.specs.Bench.{toggle}
 use Rattle.listing.specs.Lines.{ascii}
-use Rattle.pieces.specs.Pieces.{toldText, Pieces}
+use Rattle.printing.specs.Pieces.{toldText, Pieces}
 use Rattle.printout.specs.Printout.{printed, RunTold}
 
 -- Whatever was told of a sheet and a stimulus, the pieces made from it, laid end to end from the first to the last, are the listing

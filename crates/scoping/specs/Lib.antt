@@ -1,2 +1,3 @@
 -- What the contracts of the code say of names.
+-- Nothing here is to be believed: what functions ask and give, and their proofs need.
 pub mod Scoped

@@ -8,8 +8,8 @@ use mathlib.Core.Bool.{Bool, false}
 use mathlib.Core.List.{List}
 use mathlib.Core.Path.{_≡_, sym, subst}
 use lib.ListN.{length}
-use Rattle.pieces.specs.Pieces.{textFrom, textLeft, Pieced}
-use Rattle.pieces.proofs.Pieces.{piece-less}
+use Rattle.printing.specs.Pieces.{textFrom, textLeft, Pieced}
+use Rattle.printing.proofs.Pieces.{piece-less}
 use Rattle.files.proofs.print.Statement.{statement}
 use Rattle.files.proofs.print.Tie as tie
 

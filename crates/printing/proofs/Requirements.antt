@@ -6,7 +6,7 @@ use mathlib.Core.Path.{refl}
 use native.Mathlib.Omega.{arith}
 use lib.Dec.{lit≤}
 use lib.ListN.{length, replicate, length-replicate}
-use Rattle.pieces.specs.PutLines.{PuttingLines}
+use Rattle.printing.specs.PutLines.{PuttingLines}
 
 buffer : List ℕ
 buffer = replicate 600 0

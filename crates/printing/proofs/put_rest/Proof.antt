@@ -1,8 +1,8 @@
 -- Assumes nothing.
-use Rattle.pieces.proofs.Pieces.{fillable, lines-stop, lines-end}
+use Rattle.printing.proofs.Pieces.{fillable, lines-stop, lines-end}
 use borrow.Author.Needs.{needs}
-use Rattle.pieces.proofs.put_rest.Statement.{statement}
-use Rattle.pieces.proofs.put_rest.Tie as tie
+use Rattle.printing.proofs.put_rest.Statement.{statement}
+use Rattle.printing.proofs.put_rest.Tie as tie
 
 put-lines-requires : tie.Need-put-lines-requires
 put-lines-requires c κs = fillable (c .before .before .before .pre)

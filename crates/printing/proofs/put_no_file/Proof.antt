@@ -1,7 +1,7 @@
 -- Assumes nothing.
 use borrow.Author.Needs.{needs}
-use Rattle.pieces.proofs.put_no_file.Statement.{statement}
-use Rattle.pieces.proofs.put_no_file.Tie as tie
+use Rattle.printing.proofs.put_no_file.Statement.{statement}
+use Rattle.printing.proofs.put_no_file.Tie as tie
 
 put-refused-requires : tie.Need-put-refused-requires
 put-refused-requires c κs = search needs

@@ -17,8 +17,8 @@ use Rattle.listing.specs.Fills.{FillingLines, FilledLines}
 use Rattle.listing.proofs.Lengths.{number-few}
 use Rattle.listing.proofs.Filling.{lines-join}
 use Rattle.listing.proofs.Written.{wrote-long, wrote-then}
-use Rattle.pieces.specs.Pieces.{toldText, textFrom, textLeft, Pieced, Pieces, last-one, then-more}
-use Rattle.pieces.specs.PutLines.{PuttingLines, PutLines}
+use Rattle.printing.specs.Pieces.{toldText, textFrom, textLeft, Pieced, Pieces, last-one, then-more}
+use Rattle.printing.specs.PutLines.{PuttingLines, PutLines}
 
 -- a line has a byte at least
 some-cycles : (n : ℕ) → 0 < length (cyclesLine n)

@@ -1,8 +1,8 @@
 -- Assumes nothing.
-use Rattle.pieces.proofs.Pieces.{next-pieced}
+use Rattle.printing.proofs.Pieces.{next-pieced}
 use borrow.Author.Needs.{needs}
-use Rattle.pieces.proofs.next_piece.Statement.{statement}
-use Rattle.pieces.proofs.next_piece.Tie as tie
+use Rattle.printing.proofs.next_piece.Statement.{statement}
+use Rattle.printing.proofs.next_piece.Tie as tie
 
 put-rest-requires : tie.Need-put-rest-requires
 put-rest-requires c κs = search needs

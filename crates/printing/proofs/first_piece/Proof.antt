@@ -1,9 +1,9 @@
 -- Assumes nothing.
-use Rattle.pieces.proofs.Pieces.{refusal-pieced, first-lines, first-pieced}
+use Rattle.printing.proofs.Pieces.{refusal-pieced, first-lines, first-pieced}
 use denote.Ref.{now}
 use borrow.Author.Needs.{needs}
-use Rattle.pieces.proofs.first_piece.Statement.{statement}
-use Rattle.pieces.proofs.first_piece.Tie as tie
+use Rattle.printing.proofs.first_piece.Statement.{statement}
+use Rattle.printing.proofs.first_piece.Tie as tie
 
 put-refused-requires : tie.Need-put-refused-requires
 put-refused-requires c κs = search needs

@@ -4,14 +4,15 @@ use mathlib.Core.Path.{_≡_}
 use mathlib.Core.Bool.{Bool}
 use mathlib.Core.List.{List, _++_}
 use lib.ListN.{length}
-use Rattle.listing.specs.Wrote.{TextPut}
-use Rattle.pieces.specs.Pieces.{textFrom, textLeft}
+use Rattle.records.specs.Limits.{mostLeaves}
+use Rattle.listing.specs.Wrote.{TextPut, lineBytes}
+use Rattle.printing.specs.Pieces.{textFrom, textLeft}
 
 -- lines of 1 to 64 leaves are written from cycle k on, whose leaves begin at `first`
 pub record PuttingLines (buffer : List ℕ) (at w k first : ℕ) (outputs : List ℕ) : Type 0 where
-  pub room : at + 280 ≤ length buffer
+  pub room : at + lineBytes ≤ length buffer
   pub some : 0 < w
-  pub few : w ≤ 64
+  pub few : w ≤ mostLeaves
   pub start : first ≡ k * w
   pub inside : first ≤ length outputs
 
