@@ -3,6 +3,17 @@ use Prim.Native.Nat.{ℕ, _+_, _*_, _^_, zero, suc}
 use mathlib.Core.List.{List, [], _∷_, _++_}
 use Rattle.answers.specs.declared.Answer.{Answer}
 use Rattle.answers.specs.declared.Answer.the-variants.{Done, Refused}
+use Rattle.answers.specs.declared.Verdict.{Verdict}
+use Rattle.answers.specs.declared.Verdict.the-variants.{
+  Accepted,
+  WrongLength,
+  WrongHeader,
+  WrongRecord,
+  WrongNaming,
+  WrongType,
+  TooDeep,
+  IllTyped,
+}
 use mathlib.Core.Bool.{Bool, true, false}
 use mathlib.Core.Option.{Option, none, some}
 use mathlib.Core.Path.{_≡_}
@@ -30,6 +41,17 @@ packed a = inOne (code a) (place a)
 abbrev pub whenDone : Answer → (computed entry : List ℕ) → List ℕ
 whenDone (Done p) new old = new
 whenDone (Refused c p) new old = old
+
+-- the answer of the check: the code and the place of each case of its enum
+abbrev pub verdictAnswer : Verdict → Answer
+verdictAnswer (Accepted t) = Done t
+verdictAnswer WrongLength = Refused 1 0
+verdictAnswer WrongHeader = Refused 2 0
+verdictAnswer (WrongRecord r) = Refused 3 r
+verdictAnswer (WrongNaming r) = Refused 4 r
+verdictAnswer (WrongType r) = Refused 5 r
+verdictAnswer (TooDeep r) = Refused 6 r
+verdictAnswer (IllTyped r) = Refused 7 r
 
 -- a refusal stays one; where there is none, what comes after it answers
 abbrev pub onDone : Answer → (ℕ → Answer) → Answer

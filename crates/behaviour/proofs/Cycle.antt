@@ -11,7 +11,7 @@ use Rattle.records.specs.Words.{wordA}
 use Rattle.records.specs.Trees.{typeAt, Declared}
 use Rattle.records.proofs.Rewritten.{same-type}
 use Rattle.verdict.specs.Verdict.{verdict}
-use Rattle.verdict.specs.declared.Verdict.the-variants.{Accepted}
+use Rattle.answers.specs.declared.Verdict.the-variants.{Accepted}
 use Rattle.meaning.specs.Values.{no-values, more-values}
 use Rattle.meaning.specs.Undecided.{Lawful}
 use Rattle.meaning.specs.Evaluation.{next}

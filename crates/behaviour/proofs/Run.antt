@@ -11,7 +11,7 @@ use Rattle.picoella.specs.Language.{OfType}
 use Rattle.records.specs.Words.{wordA}
 use Rattle.records.specs.Trees.{typeAt}
 use Rattle.verdict.specs.Verdict.{verdict}
-use Rattle.verdict.specs.declared.Verdict.the-variants.{Accepted}
+use Rattle.answers.specs.declared.Verdict.the-variants.{Accepted}
 use Rattle.meaning.specs.Values.{AllOf, all-none, all-more}
 use Rattle.meaning.specs.Undecided.{Lawful}
 use Rattle.meaning.specs.Evaluation.{next}

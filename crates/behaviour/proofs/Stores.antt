@@ -16,7 +16,7 @@ use Rattle.records.proofs.Leaves.{circuit-leaves}
 use Rattle.records.proofs.Distinct.{circuit-distinct}
 use Rattle.accepted.proofs.Laws.{well-named, accepted-by-types}
 use Rattle.verdict.specs.Verdict.{verdict}
-use Rattle.verdict.specs.declared.Verdict.the-variants.{Accepted}
+use Rattle.answers.specs.declared.Verdict.the-variants.{Accepted}
 use Rattle.meaning.specs.Elaboration.{Term, frame}
 use Rattle.meaning.specs.Evaluation.{next}
 use Rattle.meaning.proofs.NextTyped.{next-frame}

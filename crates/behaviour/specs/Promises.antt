@@ -15,7 +15,7 @@ use Rattle.answers.specs.declared.Answer.{Answer}
 use Rattle.answers.specs.declared.Answer.the-variants.{Done, Refused}
 use Rattle.verdict.specs.Verdict.{verdict}
 use Rattle.verdict.specs.Scopes.{Scope}
-use Rattle.verdict.specs.declared.Verdict.the-variants.{Accepted}
+use Rattle.answers.specs.declared.Verdict.the-variants.{Accepted}
 use Rattle.meaning.specs.Elaboration.{Term, Elaborated, erase}
 use Rattle.meaning.specs.Values.{_⊑_, AllOf}
 use Rattle.meaning.specs.Constants.{ConstantTree, AllConstantsOf, flatten}

@@ -7,11 +7,10 @@ use lib.ListN.{length, take, replicate}
 use Rattle.picoella.specs.Language.{leaves}
 use Rattle.records.specs.Limits.{mostLeaves}
 use Rattle.records.specs.Trees.{typeAt}
-use Rattle.answers.specs.Answers.{code, place}
+use Rattle.answers.specs.Answers.{code, place, verdictAnswer}
 use Rattle.answers.specs.declared.Answer.{Answer}
 use Rattle.answers.specs.declared.Answer.the-variants.{Done, Refused}
 use Rattle.verdict.specs.Verdict.{verdict}
-use Rattle.verdict.specs.Scopes.{verdictAnswer}
 use Rattle.meaning.specs.Undecided.{undecidedRule}
 use Rattle.stimulus.specs.Stimulus.{endToEnd, cycles}
 use Rattle.behaviour.specs.Run.{outputsBy, sheetAfter, outputNeeded, answer}

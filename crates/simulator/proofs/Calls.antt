@@ -11,16 +11,15 @@ use mir.Syntax.{w8}
 use mir.Val.{Fits}
 use lib.ListN.{length, getD, drop}
 use Rattle.records.specs.Words.{word}
-use Rattle.answers.specs.Answers.{code, place, inOne, packed, firstApplying, SaysOf, lowest}
+use Rattle.answers.specs.Answers.{code, place, inOne, packed, firstApplying, SaysOf, lowest, verdictAnswer}
 use Rattle.answers.specs.declared.Answer.{Answer}
 use Rattle.answers.specs.declared.Answer.the-variants.{Done, Refused}
 use Rattle.answers.proofs.First.{when-none, first-says}
 use Rattle.verdict.specs.Verdict.{verdict}
-use Rattle.verdict.specs.Scopes.{verdictAnswer}
 use Rattle.verdict.specs.Widths.{Widths}
 use Rattle.verdict.specs.CheckedTable.{Checked}
-use Rattle.verdict.specs.declared.Verdict.{Verdict}
-use Rattle.verdict.specs.declared.Verdict.the-variants as Verdicts
+use Rattle.answers.specs.declared.Verdict.{Verdict}
+use Rattle.answers.specs.declared.Verdict.the-variants as Verdicts
 use Rattle.accepted.specs.Accepting.{Accepting}
 use Rattle.accepted.proofs.Laws.{Refusing, refusing-answer}
 use Rattle.accepted.proofs.Small.{output-typed, accepted-sized, accepted-few}

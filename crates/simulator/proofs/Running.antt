@@ -18,7 +18,7 @@ use Rattle.records.proofs.Types.{few-leaves, some-leaves}
 use Rattle.accepted.proofs.Laws.{types-fit}
 use Rattle.accepted.proofs.Laws.{exact}
 use Rattle.verdict.specs.Verdict.{verdict}
-use Rattle.verdict.specs.declared.Verdict.the-variants.{Accepted}
+use Rattle.answers.specs.declared.Verdict.the-variants.{Accepted}
 use Rattle.meaning.specs.Values.{AllOf}
 use Rattle.meaning.specs.Undecided.{undecidedRule}
 use Rattle.meaning.proofs.UndecidedRule.{rule-lawful}

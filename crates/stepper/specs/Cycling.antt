@@ -13,7 +13,7 @@ use Rattle.records.specs.Rewritten.{Rewritten}
 use Rattle.verdict.specs.Verdict.{verdict}
 use Rattle.verdict.specs.Scopes.{inputs}
 use Rattle.verdict.specs.Widths.{Widths}
-use Rattle.verdict.specs.declared.Verdict.the-variants.{Accepted}
+use Rattle.answers.specs.declared.Verdict.the-variants.{Accepted}
 use Rattle.meaning.specs.Undecided.{undecidedRule}
 use Rattle.meaning.specs.Evaluation.{next}
 use Rattle.behaviour.specs.Terms.{circuitTerm}

@@ -11,8 +11,8 @@ use Rattle.records.specs.Says.{sortAt}
 use Rattle.records.specs.Trees.{typeAt, TypeRecord, treeAt}
 use Rattle.typing.specs.ExpressionWidth.{width}
 use Rattle.verdict.specs.Verdict.{verdict}
-use Rattle.verdict.specs.declared.Verdict.{Verdict}
-use Rattle.verdict.specs.declared.Verdict.the-variants.{
+use Rattle.answers.specs.declared.Verdict.{Verdict}
+use Rattle.answers.specs.declared.Verdict.the-variants.{
   Accepted,
   WrongLength,
   WrongHeader,

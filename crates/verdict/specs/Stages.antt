@@ -12,8 +12,8 @@ use Rattle.records.specs.Trees.{circuit}
 use Rattle.structure.specs.LeafTable.{LeavesCounted}
 use Rattle.structure.specs.Rules.{wrongLength, wrongHeader, wrongRecord, wrongNaming, wrongType}
 use Rattle.typing.specs.Judging.{noted}
-use Rattle.verdict.specs.declared.Verdict.{Verdict}
-use Rattle.verdict.specs.declared.Verdict.the-variants.{Accepted}
+use Rattle.answers.specs.declared.Verdict.{Verdict}
+use Rattle.answers.specs.declared.Verdict.the-variants.{Accepted}
 use Rattle.verdict.specs.Scopes.{inputs}
 
 -- not code 1
