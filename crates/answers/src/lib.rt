@@ -24,11 +24,11 @@ pub const ILL_TYPED: u64 = 7;
 
 pub const WRONG_STIMULUS: u64 = 8;
 
-pub const WRONG_BYTE: u64 = 9;
+pub const WRONG_INPUT: u64 = 9;
 
-pub const WRONG_OUTPUT: u64 = 10;
+pub const WRONG_OUTPUT_LENGTH: u64 = 10;
 
-pub const WRONG_NEXT: u64 = 11;
+pub const WRONG_NEXT_LENGTH: u64 = 11;
 
 pub const NO_FILE: u64 = 12;
 

@@ -22,7 +22,7 @@ use answers::Found;
 use answers::LABEL_TWICE;
 use answers::NEW_SHEET_REFUSED;
 use answers::Verdict;
-use answers::WRONG_NEXT;
+use answers::WRONG_NEXT_LENGTH;
 use answers::in_one;
 use answers::packed_verdict;
 use answers::verdict_code;
@@ -221,7 +221,7 @@ fn carry_accepted(old: &[u8], n: usize, new: &[u8], m: usize, next: &mut [u8]) -
         return in_one(LABEL_TWICE, r as u64);
     }
     if next.len() != new.len() {
-        return in_one(WRONG_NEXT, new.len() as u64);
+        return in_one(WRONG_NEXT_LENGTH, new.len() as u64);
     }
     put(new, next);
     carry_values(old, n, new, m, next);

@@ -2,7 +2,7 @@
 ghost use mathlib.Core.Path.{_≡_};
 ghost use Rattle.answers.specs.Answers.{packed, verdictAnswer};
 ghost use Rattle.verdict.specs.Verdict.{verdict};
-ghost use Rattle.translator.specs.Translation.{TranslatedInOne};
+ghost use Rattle.translator.specs.Translated.{TranslatedInOne};
 use translator::translate;
 use verdict::check_sheet;
 

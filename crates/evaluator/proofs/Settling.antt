@@ -25,7 +25,7 @@ use Rattle.behaviour.specs.Midway.{storedAt}
 use Rattle.behaviour.proofs.Evaluated.{stored-again}
 use Rattle.behaviour.specs.Midway.{firedAt}
 use Rattle.behaviour.proofs.Firings.{fired-again}
-use Rattle.values.specs.Answers.{ValuesCompared}
+use Rattle.values.specs.MatchAnswers.{ValuesCompared}
 use Rattle.values.specs.Slots.{slot, entered, frames}
 use Rattle.evaluator.specs.Evaluating.{EvaluatingIn, EvaluatedIn, Evaluated, SettlingIn, SettledIn, Settled, approximation, leadsTo}
 use Rattle.evaluator.proofs.Frames.{front-kept, slot-kept, frames-kept, entered-kept, entered-slot, entered-long}

@@ -8,7 +8,7 @@ ghost use Rattle.preview.specs.Preview.{Previewed};
 ghost use Rattle.preview.specs.Showing.{Showing};
 use answers::Answer;
 use answers::Verdict;
-use answers::WRONG_OUTPUT;
+use answers::WRONG_OUTPUT_LENGTH;
 use answers::in_one;
 use answers::packed;
 use answers::packed_verdict;
@@ -62,7 +62,7 @@ fn preview_accepted(
     };
     let needed = widths[t] as usize;
     if out.len() != needed {
-        return in_one(WRONG_OUTPUT, needed as u64);
+        return in_one(WRONG_OUTPUT_LENGTH, needed as u64);
     }
     show(sheet, n, widths, stim, out);
     0

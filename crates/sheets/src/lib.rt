@@ -6,7 +6,7 @@ ghost use Rattle.simulator.specs.Calls.{Ran};
 ghost use Rattle.carry.specs.Carry.{CarryGiven};
 ghost use Rattle.firing.specs.Telling.{ToldFired};
 ghost use Rattle.preview.specs.Preview.{Previewed};
-ghost use Rattle.translator.specs.Translation.{TranslatedInOne};
+ghost use Rattle.translator.specs.Translated.{TranslatedInOne};
 use carry::carry;
 use firing::fired_of;
 use preview::preview;

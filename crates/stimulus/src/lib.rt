@@ -14,7 +14,7 @@ ghost use Rattle.records.specs.Limits.{mostLeaves};
 use accepted::fill_bounds;
 use answers::Answer;
 use answers::Found;
-use answers::WRONG_BYTE;
+use answers::WRONG_INPUT;
 use answers::WRONG_STIMULUS;
 use records::VALUE_BYTES;
 use records::WORD_A;
@@ -89,7 +89,7 @@ pub fn check_stimulus(sheet: &[u8], n: usize, widths: &WidthTable, stim: &[u8]) 
     }
     let wrong = first_above(sheet, n, widths, t, w, stim);
     if let Found::At(i) = wrong {
-        return Answer::Refused(WRONG_BYTE, i as u64);
+        return Answer::Refused(WRONG_INPUT, i as u64);
     }
     Answer::Done((all / w) as u64)
 }

@@ -10,7 +10,7 @@ use Rattle.answers.specs.declared.Answer.the-variants.{Done}
 use Rattle.verdict.specs.Verdict.{verdict}
 use Rattle.answers.specs.declared.Verdict.the-variants.{Accepted}
 use Rattle.behaviour.specs.Run.{answer, finalOut}
-use Rattle.translator.specs.Translation.{Translated}
+use Rattle.translator.specs.Translated.{Translated}
 use Rattle.text_table.specs.SheetRows.{SheetRow, sheetRow, sheetRows}
 
 -- the row of the table of sheets by its number, the stimulus, the outputs of one byte a cycle

@@ -12,7 +12,7 @@ use Rattle.verdict.specs.Widths.{patternLeaves}
 use Rattle.meaning.specs.Matching.{Decision, Yes, No, Undecided, chainDecision, patternWidth, matches}
 use Rattle.values.specs.Matchings.{withRest}
 use Rattle.behaviour.specs.Firing.{orAfter}
-use Rattle.values.specs.Answers.{decisionOf, told, Own}
+use Rattle.values.specs.MatchAnswers.{decisionOf, told, Own}
 use Rattle.values.specs.declared.Match.{Match}
 use Rattle.values.specs.declared.Match.the-variants as Matched′
 

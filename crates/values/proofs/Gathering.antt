@@ -12,7 +12,7 @@ use Rattle.values.specs.Matchings.{Matching, withRest, MatchedAll, Match
 use Rattle.meaning.specs.Evaluation.{choose}
 use Rattle.meaning.specs.Undecided.{undecidedRule}
 use Rattle.behaviour.specs.Firing.{orAfter, firstYes}
-use Rattle.values.specs.Answers.{decisionOf, told}
+use Rattle.values.specs.MatchAnswers.{decisionOf, told}
 use Rattle.values.specs.declared.Match.{Match}
 use Rattle.values.specs.declared.Match.the-variants as Matched′
 use Rattle.values.proofs.ChainLaws.{first-told, few-told, told-alone, yes-stays}

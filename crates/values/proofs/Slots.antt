@@ -15,7 +15,7 @@ use Rattle.records.proofs.Tests.{never-both}
 use Rattle.meaning.specs.Matching.{Yes, No, constructorDecision, pairDecision}
 use Rattle.meaning.specs.Evaluation.{choose}
 use Rattle.meaning.specs.Undecided.{undecidedRule}
-use Rattle.values.specs.Answers.{decisionOf, told, Own, ValuesCompared}
+use Rattle.values.specs.MatchAnswers.{decisionOf, told, Own, ValuesCompared}
 use Rattle.values.specs.declared.Match.{Match}
 use Rattle.values.specs.declared.Match.the-variants as Matches
 

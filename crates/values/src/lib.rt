@@ -9,7 +9,7 @@ ghost use Rattle.behaviour.specs.Entries.{assigned, putAll, enter};
 ghost use mathlib.Core.List.{List, [], _∷_, _++_};
 ghost use Rattle.meaning.specs.Matching.{constructorDecision, pairDecision, chainDecision};
 ghost use Rattle.values.specs.Chained.{Chained};
-ghost use Rattle.values.specs.Answers.{decisionOf, told, Own, ValuesCompared};
+ghost use Rattle.values.specs.MatchAnswers.{decisionOf, told, Own, ValuesCompared};
 ghost use Rattle.values.specs.Matchings.{Matching, MatchedAll, MatchedOne, Chosen};
 ghost use Rattle.values.specs.Slots.{slot, entered};
 ghost use Rattle.meaning.specs.Evaluation.{choose};
