@@ -13,7 +13,8 @@ use Rattle.meaning.specs.Elaboration.{Term}
 use Rattle.behaviour.specs.Delays.{entries}
 use Rattle.behaviour.specs.Entries.{Entry, putAll, putWord}
 use Rattle.records.specs.Words.{lowByte, highByte}
-use Rattle.behaviour.specs.Sheets.{write, Writable}
+use Rattle.behaviour.specs.Sheets.{write}
+use Rattle.behaviour.specs.Writable.{Writable}
 use Rattle.behaviour.specs.Afterwards.{Bytes}
 use Rattle.behaviour.proofs.Frames.{ByteEntries}
 use Rattle.behaviour.proofs.Stores.{written-small}

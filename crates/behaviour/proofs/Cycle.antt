@@ -13,13 +13,13 @@ use Rattle.records.proofs.Rewritten.{same-type}
 use Rattle.verdict.specs.Verdict.{verdict}
 use Rattle.answers.specs.declared.Verdict.the-variants.{Accepted}
 use Rattle.meaning.specs.Values.{no-values, more-values}
-use Rattle.meaning.specs.Undecided.{Lawful}
+use Rattle.meaning.specs.RuleLaws.{Lawful}
 use Rattle.meaning.specs.Evaluation.{next}
 use Rattle.meaning.proofs.EvaluationMonotone.{eval-typed}
 use Rattle.meaning.proofs.NextTyped.{next-frame, next-typed}
 use Rattle.behaviour.specs.Terms.{circuitTerm}
 use Rattle.behaviour.specs.Afterwards.{Bytes, OnlyDelays}
-use Rattle.behaviour.specs.Sheets.{Writable}
+use Rattle.behaviour.specs.Writable.{Writable}
 use Rattle.behaviour.specs.Cycle.{outputBy, afterBy}
 use Rattle.behaviour.proofs.Terms.{circuit-typed}
 use Rattle.behaviour.proofs.Sheets.{write-only-delays, only-leaves, header-same, accepted-written, write-read, write-accepted}

@@ -13,7 +13,7 @@ use Rattle.records.specs.Trees.{typeAt}
 use Rattle.verdict.specs.Verdict.{verdict}
 use Rattle.answers.specs.declared.Verdict.the-variants.{Accepted}
 use Rattle.meaning.specs.Values.{AllOf, all-none, all-more}
-use Rattle.meaning.specs.Undecided.{Lawful}
+use Rattle.meaning.specs.RuleLaws.{Lawful}
 use Rattle.meaning.specs.Evaluation.{next}
 use Rattle.meaning.specs.Run.{outputs, after}
 use Rattle.meaning.proofs.NextTyped.{after-frame}

@@ -23,7 +23,8 @@ use Rattle.meaning.proofs.NextTyped.{next-frame}
 use Rattle.behaviour.specs.Terms.{circuitTerm}
 use Rattle.behaviour.specs.Delays.{entries, places, store}
 use Rattle.behaviour.specs.Entries.{Entry, assigned, putAll, enter, putWord}
-use Rattle.behaviour.specs.Sheets.{write, Writable}
+use Rattle.behaviour.specs.Sheets.{write}
+use Rattle.behaviour.specs.Writable.{Writable}
 use Rattle.behaviour.specs.Copies.{copied}
 use Rattle.behaviour.proofs.Entries.{placesOf, put-append, put-leaves, put-again, put-elsewhere, put-read}
 use Rattle.behaviour.proofs.Cells.{entryAt, InTable, table-cells, InSheet, sheet-cells}

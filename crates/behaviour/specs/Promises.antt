@@ -19,12 +19,14 @@ use Rattle.answers.specs.declared.Verdict.the-variants.{Accepted}
 use Rattle.meaning.specs.Elaboration.{Term, Elaborated, erase}
 use Rattle.meaning.specs.Values.{_⊑_, AllOf}
 use Rattle.meaning.specs.Constants.{ConstantTree, AllConstantsOf, flatten}
-use Rattle.meaning.specs.Undecided.{undefinedLeaves, undecidedRule, undecidedConstant, Lawful}
+use Rattle.meaning.specs.Undecided.{undecidedRule, undecidedConstant}
+use Rattle.meaning.specs.RuleLaws.{undefinedLeaves, Lawful}
 use Rattle.meaning.specs.Ordered.{RuleBelow, AllBoth}
 use Rattle.meaning.specs.Rules.{ReducesSeq}
 use Rattle.meaning.specs.Run as Meaning
 use Rattle.behaviour.specs.Terms.{term, circuitTerm}
-use Rattle.behaviour.specs.Sheets.{write, Writable}
+use Rattle.behaviour.specs.Sheets.{write}
+use Rattle.behaviour.specs.Writable.{Writable}
 use Rattle.behaviour.specs.Afterwards.{OnlyDelays, WellFormed, Afterwards}
 use Rattle.stimulus.specs.Stimulus.{inputType, endToEnd, cycles, cycleCount, wrongStimulus}
 use Rattle.behaviour.specs.Run.{outputsBy, sheetAfter, callChecks, answer, finalOut, finalNext, RunGiven, RunsByRules}

@@ -8,7 +8,8 @@ use Rattle.picoella.specs.Language.{Ty}
 use Rattle.meaning.specs.Values.{ValuesOf}
 use Rattle.meaning.specs.Elaboration.{Term, Elaborated}
 use Rattle.meaning.specs.Constants.{ConstantTree}
-use Rattle.meaning.specs.Undecided.{undecidedRule, undecidedConstant, Lawful, Agreeing}
+use Rattle.meaning.specs.Undecided.{undecidedRule, undecidedConstant}
+use Rattle.meaning.specs.RuleLaws.{Lawful, Agreeing}
 use Rattle.meaning.specs.Evaluation.{eval, next}
 use Rattle.meaning.specs.Promises.{IterateEquations, Settles, Promises, MeaningPromises}
 use Rattle.meaning.proofs.Order.{both-below, both-of}

@@ -7,7 +7,8 @@ use native.Mathlib.Omega.{arith}
 use Rattle.records.specs.Words.{nextWord, word}
 use Rattle.records.specs.Trees.{end, alternatives, follow}
 use Rattle.records.specs.Decoding.{patternOf}
-use Rattle.meaning.specs.Matching.{No, chainDecision, matches}
+use Rattle.meaning.specs.Matching.{matches}
+use Rattle.meaning.specs.Decisions.{No, chainDecision}
 use Rattle.values.specs.Matchings.{Matching, withRest, MatchedAll, MatchedOne, Chosen}
 use Rattle.meaning.specs.Evaluation.{choose}
 use Rattle.meaning.specs.Undecided.{undecidedRule}

@@ -14,7 +14,8 @@ use Rattle.records.specs.Decoding.{patternOf}
 use Rattle.typing.specs.Judgements.{patternFits}
 use Rattle.typing.specs.Judging.{Fitting}
 use Rattle.verdict.specs.Widths.{patternEntry}
-use Rattle.meaning.specs.Matching.{Decision, chainDecision, matches}
+use Rattle.meaning.specs.Matching.{matches}
+use Rattle.meaning.specs.Decisions.{Decision, chainDecision}
 use Rattle.meaning.specs.Undecided.{undecidedRule}
 use Rattle.meaning.specs.Evaluation.{choose}
 use Rattle.behaviour.specs.Firing.{orAfter, firstYes}

@@ -7,7 +7,7 @@ ghost use Rattle.records.specs.Trees.{chain};
 ghost use Rattle.records.specs.Decoding.{leafValues};
 ghost use Rattle.behaviour.specs.Entries.{assigned, putAll, enter};
 ghost use mathlib.Core.List.{List, [], _∷_, _++_};
-ghost use Rattle.meaning.specs.Matching.{constructorDecision, pairDecision, chainDecision};
+ghost use Rattle.meaning.specs.Decisions.{constructorDecision, pairDecision, chainDecision};
 ghost use Rattle.values.specs.Chained.{Chained};
 ghost use Rattle.values.specs.MatchAnswers.{decisionOf, told, Own, ValuesCompared};
 ghost use Rattle.values.specs.Matchings.{Matching, MatchedAll, MatchedOne, Chosen};
