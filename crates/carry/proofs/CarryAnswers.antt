@@ -19,7 +19,8 @@ use Rattle.answers.proofs.Lowest.{lowest-some-passes}
 use Rattle.answers.proofs.First.{first-says, says-first}
 use Rattle.verdict.specs.Verdict.{sheetChecks, outputType, verdict}
 use Rattle.answers.specs.declared.Verdict.the-variants.{Accepted}
-use Rattle.accepted.proofs.Laws.{code-small, verdict-place, first-accepted}
+use Rattle.answers.proofs.VerdictCodes.{code-small}
+use Rattle.accepted.proofs.Laws.{verdict-place, first-accepted}
 use Rattle.accepted.proofs.Small.{accepted-length}
 use Rattle.answers.proofs.First.{none-split, same-length-by, place-or, when-some, kept-bytes}
 use Rattle.carry.specs.Labels.{labelTwice}
