@@ -37,7 +37,7 @@ int main(int count, char **words)
     /* A sheet that is accepted has whole records, at most as many as there is room for. */
     size_t records = length / 12;
     uint64_t result = sheet_fired(sheet, length, input, input_length, fired, records);
-    if (sheet_code_of(result) != SHEET_ACCEPTED)
+    if (sheet_code_of(result) != SHEET_DONE)
         return refuse(sheet_code_of(result), sheet_place_of(result));
     for (size_t record = 0; record < records; record++)
         if (fired[record] != 0)

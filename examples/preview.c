@@ -41,7 +41,7 @@ int main(int count, char **words)
         leaves = sheet_place_of(result);
         result = sheet_preview(sheet, length, stimulus, stimulus_length, out, leaves);
     }
-    if (sheet_code_of(result) != SHEET_ACCEPTED)
+    if (sheet_code_of(result) != SHEET_DONE)
         return refuse(sheet_code_of(result), sheet_place_of(result));
     fputs("shows", stdout);
     for (size_t leaf = 0; leaf < leaves; leaf++)

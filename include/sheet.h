@@ -75,15 +75,17 @@ extern "C" {
 #define SHEET_LONGEST_TEXT 65535
 
 /*
- * A result is code * 2^32 + place. Of the checks that a call makes, in its order, the first that applies is answered, with its place. Above each code stands what its
- * place says; sheet_sentence has a sentence on it for people.
+ * A result is code * 2^32 + place. Of the checks that a call makes, in its order, the first that applies is answered, with its
+ * place. Above each code stands what its place says; sheet_sentence has a sentence on it for people.
  */
 enum sheet_code {
     /*
-     * The check's place is the record of the output's type, a run's the number of cycles done, a translation's the length of the
-     * sheet in bytes, that of every other call 0.
+     * Nothing is refused, by whichever call. The check's place is the record of the output's type, a run's the number of cycles
+     * done, a translation's the length of the sheet in bytes, that of every other call 0.
      */
-    SHEET_ACCEPTED = 0,
+    SHEET_DONE = 0,
+    /* The check's and the run's word for it. A translation's 0 does not say that the sheet is accepted: it checks nothing. */
+    SHEET_ACCEPTED = SHEET_DONE,
 
     /* The sheet is refused, by every call that takes one; in carrying, the old one. */
     /* Place 0. */
@@ -144,7 +146,7 @@ static inline uint32_t sheet_place_of(uint64_t result)
 static inline const char *sheet_sentence(uint32_t code)
 {
     static const char *const sentences[] = {
-        "The sheet is accepted.",
+        "Done: nothing is refused.",
         "The sheet is under 12 bytes long, over 49,152, or no multiple of 12.",
         "The header's kind, count or last word is wrong, or it names no record or one of the wrong sort.",
         "A record has an unknown kind, or a word that its kind, the numbering rule or the sort it asks for does not allow.",
@@ -243,7 +245,7 @@ uint64_t sheet_run(const uint8_t *sheet, size_t sheet_length, const uint8_t *sti
  * run led to into the sheet that the run began from gives the former, byte for byte.
  *
  *     uint64_t result = sheet_carry(running, running_length, changed, changed_length, next, changed_length);
- *     if (sheet_code_of(result) == SHEET_ACCEPTED)
+ *     if (sheet_code_of(result) == SHEET_DONE)
  *         result = sheet_run(next, changed_length, stim, stim_length, out, out_length, after, changed_length);
  */
 uint64_t sheet_carry(const uint8_t *old_sheet, size_t old_length, const uint8_t *new_sheet, size_t new_length, uint8_t *next,
@@ -263,7 +265,7 @@ uint64_t sheet_carry(const uint8_t *old_sheet, size_t old_length, const uint8_t 
  *
  *     static uint16_t fired[4096];
  *     uint64_t result = sheet_fired(sheet, length, stim, stim_length, fired, length / 12);
- *     if (sheet_code_of(result) == SHEET_ACCEPTED)
+ *     if (sheet_code_of(result) == SHEET_DONE)
  *         for (size_t record = 0; record < length / 12; record++)
  *             if (fired[record] != 0)
  *                 printf("record %zu: alternative %d\n", record, fired[record]);
@@ -288,7 +290,7 @@ uint64_t sheet_fired(const uint8_t *sheet, size_t sheet_length, const uint8_t *s
  *         size_t needed = sheet_place_of(result);
  *         result = sheet_preview(sheet, length, stim, stim_length, out, needed);
  *     }
- *     if (sheet_code_of(result) == SHEET_ACCEPTED)
+ *     if (sheet_code_of(result) == SHEET_DONE)
  *         printf("first leaf %d\n", out[0]);
  */
 uint64_t sheet_preview(const uint8_t *sheet, size_t sheet_length, const uint8_t *stim, size_t stim_length, uint8_t *out,
@@ -322,7 +324,7 @@ uint64_t sheet_preview(const uint8_t *sheet, size_t sheet_length, const uint8_t 
  *     static uint8_t sheet[SHEET_LONGEST];
  *     uint64_t result = sheet_translate((const uint8_t *)text, strlen(text), sheet, sizeof sheet);
  *     size_t length = sheet_place_of(result);
- *     if (sheet_code_of(result) == SHEET_ACCEPTED)
+ *     if (sheet_code_of(result) == SHEET_DONE)
  *         result = sheet_check(sheet, length);
  *     else
  *         printf("byte %zu: %s\n", length, sheet_sentence(sheet_code_of(result)));
