@@ -13,7 +13,7 @@
 
 /* One byte more than the longest of each: a longer file is refused for its length, whatever follows. */
 static uint8_t sheet[SHEET_LONGEST + 1], input[SHEET_LONGEST_STIMULUS + 1];
-static uint16_t fired[SHEET_LONGEST / 12];
+static uint16_t fired[SHEET_MOST_RECORDS];
 
 static int refuse(uint32_t code, uint32_t place)
 {

@@ -62,6 +62,12 @@ extern "C" {
 #define SHEET_VERSION "1.5.0"
 #define SHEET_VERSION_NUMBER (SHEET_VERSION_MAJOR * 10000 + SHEET_VERSION_MINOR * 100 + SHEET_VERSION_PATCH)
 
+/* The most records that a sheet may have. */
+#define SHEET_MOST_RECORDS 4096
+
+/* The most leaves that a type may have, and so the most bytes that one cycle takes in or puts out. */
+#define SHEET_MOST_LEAVES 64
+
 /* The most bytes that a sheet may have: 4,096 records of 12. */
 #define SHEET_LONGEST 49152
 
@@ -117,7 +123,7 @@ enum sheet_code {
     SHEET_WRONG_TEXT = 13,
     /* The first byte of the first such name; where no name is wrong, that of the first such pair's bracket. */
     SHEET_WRONG_NAME = 14,
-    /* The length that the sheet needs, in bytes; over SHEET_LONGEST where it would have over 4,096 records. */
+    /* The length that the sheet needs, in bytes; over SHEET_LONGEST where it would have over SHEET_MOST_RECORDS records. */
     SHEET_NO_ROOM = 15,
 
     /* Of sheet_fired: the number of words that is needed. */
@@ -263,7 +269,7 @@ uint64_t sheet_carry(const uint8_t *old_sheet, size_t old_length, const uint8_t 
  * so as long as the sheet's length divided by 12; any other length is refused by code 16, whose place is the number of words needed.
  * The length counts words of 16 bits, and `fired` is aligned to 2. The sheet is not written: the cycle is looked at, not taken.
  *
- *     static uint16_t fired[4096];
+ *     static uint16_t fired[SHEET_MOST_RECORDS];
  *     uint64_t result = sheet_fired(sheet, length, stim, stim_length, fired, length / 12);
  *     if (sheet_code_of(result) == SHEET_DONE)
  *         for (size_t record = 0; record < length / 12; record++)
@@ -284,7 +290,7 @@ uint64_t sheet_fired(const uint8_t *sheet, size_t sheet_length, const uint8_t *s
  * success `out` holds the output's leaves, the bytes that sheet_run puts out for that cycle; the sheet is only read. `out` is to be as
  * long as the output has leaves: lent with length 0, a good preview is refused with code 10, whose place is that length, 1 to 64.
  *
- *     uint8_t out[64];
+ *     uint8_t out[SHEET_MOST_LEAVES];
  *     uint64_t result = sheet_preview(sheet, length, stim, stim_length, out, 0);
  *     if (sheet_code_of(result) == SHEET_WRONG_OUTPUT_LENGTH) {
  *         size_t needed = sheet_place_of(result);
