@@ -57,10 +57,10 @@ extern "C" {
  */
 #define SHEET_VERSION_MAJOR 1
 #define SHEET_VERSION_MINOR 5
-#define SHEET_VERSION_PATCH 0
+#define SHEET_VERSION_PATCH 1
 
 /* The same as text, and as one number to compare: 1.2.3 is 10203. */
-#define SHEET_VERSION "1.5.0"
+#define SHEET_VERSION "1.5.1"
 #define SHEET_VERSION_NUMBER (SHEET_VERSION_MAJOR * 10000 + SHEET_VERSION_MINOR * 100 + SHEET_VERSION_PATCH)
 
 /* The most records that a sheet may have. */
