@@ -76,7 +76,7 @@ pub data Token : Type 0 where
   symbol : Symbol → (place : ℕ) → Token
   nameToken : (letters : List ℕ) (place : ℕ) → Token
 
--- `Run bs word rest`: bs begins with a run of letters, word, and rest is what follows it
+-- `LetterRun bs word rest`: bs begins with a run of letters, word, and rest is what follows it
 pub data LetterRun : List ℕ → List ℕ → List ℕ → Type 0 where
   run-last : {b : ℕ} {rest : List ℕ} → isLetter (byteClass b) ≡ true → NoLetter rest → LetterRun (b ∷ rest) (b ∷ []) rest
   run-more : {b : ℕ} {bs word rest : List ℕ} → isLetter (byteClass b) ≡ true → LetterRun bs word rest → LetterRun (b ∷ bs) (b ∷ word) rest
