@@ -5,7 +5,7 @@ use Prim.Native.Nat.{ℕ}
 use mathlib.Core.Path.{_≡_, refl, ap, ap₂, fun-ext, _∙_}
 use mathlib.Core.List.{List, _∷_, _++_}
 use lib.ListN.{take, drop}
-use Rattle.picoella.specs.Language.{Ty, leaves}
+use Rattle.picoella.specs.Language.{leaves}
 use Rattle.meaning.specs.Values.{undefined}
 use Rattle.meaning.specs.Matching.{matches}
 use Rattle.meaning.specs.Elaboration.{
