@@ -1,7 +1,7 @@
 // The stimulus: its length held to whole cycles (code 8), and its bytes to their leaves' counts (code 9).
 ghost use mathlib.Core.Path.{_≡_};
 ghost use Prim.Native.Nat.{_<_};
-ghost use lib.ListN.{length};
+ghost use lib.ListN.{length, replicate};
 ghost use Rattle.picoella.specs.Language.{bounds, leaves};
 ghost use Rattle.records.specs.Trees.{typeAt, TypeRecord};
 ghost use Rattle.answers.specs.Answers.{lowest};
@@ -26,7 +26,7 @@ pub const STIMULUS_BYTES: usize = 65535;
 
 // Room for the counts of a type's leaves, a byte each.
 fn no_counts() -> [u8; VALUE_BYTES]
-    ensures { λ r. ⌜ length r ≡ mostLeaves ⌝ }
+    ensures { λ r. ⌜ r ≡ replicate mostLeaves 0 ⌝ }
 {
     [0; VALUE_BYTES]
 }
