@@ -87,7 +87,7 @@ module _ {s stim out next : List ℕ} {t : ℕ} (h : WellFormed s stim out next 
   only-delays : (k : ℕ) → k < cycleCount s stim → OnlyDelays (sheet k) (sheet (suc k))
   only-delays k b =
       rw (sheet-next s (cycles s stim) k (in-list k b))
-      (after-only-delays rule-lawful (sheet k) (accepted k ∙ h .accepted)
+      (after-only-delays rule-lawful (accepted k ∙ h .accepted)
       (input-at rule-lawful s (h .accepted) inputs-typed k (in-list k b)))
 
   among-outputs : (k : ℕ) → k < cycleCount s stim → k < length outs

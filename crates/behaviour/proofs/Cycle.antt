@@ -28,7 +28,7 @@ use Rattle.behaviour.proofs.Bytes.{write-bytes}
 module _
     {undecided : List ℕ → List ℕ → List ℕ}
     (law : Lawful undecided)
-    (s : List ℕ)
+    {s : List ℕ}
     {t : ℕ}
     (v : verdict s ≡ Accepted t)
     {i : List ℕ}
@@ -40,29 +40,39 @@ module _
       typed = next-typed law (circuit-typed s t v) (more-values given no-values);
     }
 
-    pub output-of-type : OfType (typeAt s t) (outputBy undecided s i)
-    unfolding outputBy
-    output-of-type = eval-typed undecided law (Declared s) (circuit-typed s t v) (more-values given no-values)
-
     pub after-only-delays : OnlyDelays s (afterBy undecided s i)
     unfolding afterBy
     after-only-delays = write-only-delays s (next undecided (i ∷ []) (circuitTerm s)) (cycle-writable .frame)
 
+-- the sheet stands only under functions here
+module _
+    {undecided : List ℕ → List ℕ → List ℕ}
+    (law : Lawful undecided)
+    (s : List ℕ)
+    {t : ℕ}
+    (v : verdict s ≡ Accepted t)
+    {i : List ℕ}
+    (given : OfType (typeAt s (wordA s 0)) i)
+  where
+    pub output-of-type : OfType (typeAt s t) (outputBy undecided s i)
+    unfolding outputBy
+    output-of-type = eval-typed undecided law (Declared s) (circuit-typed s t v) (more-values given no-values)
+
     pub after-term : circuitTerm (afterBy undecided s i) ≡ next undecided (i ∷ []) (circuitTerm s)
     unfolding afterBy
-    after-term = write-read s v cycle-writable
+    after-term = write-read s v (cycle-writable law v given)
 
     pub after-accepted : verdict (afterBy undecided s i) ≡ verdict s
     unfolding afterBy
-    after-accepted = write-accepted s v cycle-writable
+    after-accepted = write-accepted s v (cycle-writable law v given)
 
     -- types are read off the sheet after it as off the sheet
     pub after-types : (r : ℕ) → typeAt (afterBy undecided s i) r ≡ typeAt s r
-    after-types = same-type (only-leaves (accepted-written s v) after-only-delays)
+    after-types = same-type (only-leaves (accepted-written s v) (after-only-delays law v given))
 
     pub after-input : wordA (afterBy undecided s i) 0 ≡ wordA s 0
-    after-input = header-same (accepted-written s v) after-only-delays 2 (omega arith)
+    after-input = header-same (accepted-written s v) (after-only-delays law v given) 2 (omega arith)
 
     pub after-bytes : Bytes s → Bytes (afterBy undecided s i)
     unfolding afterBy
-    after-bytes = write-bytes s t v (next undecided (i ∷ []) (circuitTerm s)) cycle-writable
+    after-bytes = write-bytes s t v (next undecided (i ∷ []) (circuitTerm s)) (cycle-writable law v given)

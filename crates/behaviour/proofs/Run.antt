@@ -112,7 +112,7 @@ module _ {undecided : List ℕ → List ℕ → List ℕ} (law : Lawful undecide
   sheet-only-delays s v {is = []} all-none k = only-delays-same s
   sheet-only-delays s v {is = i ∷ is} (all-more h r) zero = only-delays-same s
   sheet-only-delays s {t} v {is = i ∷ is} (all-more h r) (suc k) =
-      only-delays-chain v (after-only-delays law s v h) (sheet-only-delays (afterBy undecided s i) (after-accepted law s v h ∙ v) (given-again s v h r) k)
+      only-delays-chain v (after-only-delays law v h) (sheet-only-delays (afterBy undecided s i) (after-accepted law s v h ∙ v) (given-again s v h r) k)
 
   -- each input is of the input type of the sheet that its cycle begins from
   pub input-at : (s : List ℕ) {t : ℕ} → verdict s ≡ Accepted t → {is : List (List ℕ)} → AllOf (inputType s) is

@@ -110,7 +110,7 @@ assigned-small (l ∷ ls) [] small e (List·Memᴰ·tail m) = assigned-small ls 
 assigned-small (l ∷ ls) (v ∷ vs) small e (List·Memᴰ·head p) = rw p (small v (List·Memᴰ·head refl))
 assigned-small (l ∷ ls) (v ∷ vs) small e (List·Memᴰ·tail m) = assigned-small ls vs (λ x n. small x (List·Memᴰ·tail n)) e m
 
-module _ (old new : List ℕ) (t′ t : ℕ) (v′ : verdict old ≡ Accepted t′) (v : verdict new ≡ Accepted t) where
+module _ (old new : List ℕ) {t′ t : ℕ} (v′ : verdict old ≡ Accepted t′) (v : verdict new ≡ Accepted t) where
   w : Written new
   w = is-written v
 

@@ -99,7 +99,7 @@ module _ {old new next : List ℕ} (f : CarryFormed old new next) where
   carries-over =
       record {
         only-delays = carried-only-delays old new (f .new-accepted);
-        again = carried-again old new (f .oldType) (f .newType) (f .old-accepted) (f .new-accepted);
+        again = carried-again old new (f .old-accepted) (f .new-accepted);
         taken = λ q r p.
             ap (leafValues (carried old new)) (leaves-same old new (f .new-accepted) r)
             ∙ holds-taken old new (f .new-accepted) (f .oldType) (f .old-accepted) q r (p .new-there) (partner-gives q r p);

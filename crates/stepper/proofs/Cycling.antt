@@ -146,7 +146,7 @@ module _ {s : List ℕ} {n : ℕ} {W env held input current out : List ℕ} (g :
   unfolding afterBy
   written-after =
       write-copied-chains (g .again) (next undecidedRule (input ∷ []) (circuitTerm current))
-      (cycle-writable rule-lawful current (g .again) input-typed) held room
+      (cycle-writable rule-lawful (g .again) input-typed) held room
 
   pub cycle-done : {fired env₂ held₁ fired₁ o₁ : List ℕ} → Looked input current held fired env₂ held₁ fired₁ o₁
       → {current′ : List ℕ} → current′ ≡ copied held₁ (delayChains s n) current → Cycled input current env₂ held₁ current′ o₁
