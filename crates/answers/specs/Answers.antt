@@ -1,5 +1,5 @@
 -- The answer of a call, the lowest number that passes a test, and the checks of a call as a list.
-use Prim.Native.Nat.{ℕ, _+_, _*_, _^_, zero, suc}
+use Prim.Native.Nat.{ℕ, _+_, _*_, _/_, _%_, _^_, zero, suc}
 use mathlib.Core.List.{List, [], _∷_, _++_}
 use Rattle.answers.specs.declared.Answer.{Answer}
 use Rattle.answers.specs.declared.Answer.the-variants.{Done, Refused}
@@ -36,6 +36,13 @@ inOne c p = c * 2 ^ 32 + p
 
 abbrev pub packed : Answer → ℕ
 packed a = inOne (code a) (place a)
+
+-- and read back from it
+abbrev pub codeOfResult : (result : ℕ) → ℕ
+codeOfResult r = r / 2 ^ 32
+
+abbrev pub placeOfResult : (result : ℕ) → ℕ
+placeOfResult r = r % 2 ^ 32
 
 -- what a lent slice holds at the end: where the call is done what is computed, on a refusal the bytes at entry
 abbrev pub whenDone : Answer → (computed entry : List ℕ) → List ℕ

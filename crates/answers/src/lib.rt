@@ -1,11 +1,11 @@
 // The answers of all calls, and the check's own: code and place in one number; and what a search found.
 ghost use mathlib.Core.Path.{_≡_};
 ghost use Prim.Native.Nat.{_<_};
-ghost use Rattle.answers.specs.Answers.{inOne, code, place, packed, verdictAnswer};
+ghost use Rattle.answers.specs.Answers.{inOne, code, place, packed, codeOfResult, placeOfResult, verdictAnswer};
 ghost use Rattle.answers.specs.Searches.{placeBound};
 
 // The places that a code has: a result is code * PLACES + place.
-pub const PLACES: u64 = 4294967296;
+const PLACES: u64 = 4294967296;
 
 // The codes of refusals (docs/SHEETS.md, "Codes").
 pub const WRONG_LENGTH: u64 = 1;
@@ -87,6 +87,19 @@ pub fn packed(a: Answer) -> u64
         Answer::Done(place) => place,
         Answer::Refused(code, place) => in_one(code, place),
     }
+}
+
+// The code of a result, and its place: what `in_one` put together.
+pub fn code_of(result: u64) -> u64
+    ensures { λ r. ⌜ r ≡ codeOfResult result ⌝ }
+{
+    result / PLACES
+}
+
+pub fn place_of(result: u64) -> u64
+    ensures { λ r. ⌜ r ≡ placeOfResult result ⌝ }
+{
+    result % PLACES
 }
 
 // The code of a verdict, 0 where it accepts.

@@ -5,7 +5,8 @@ ghost use lib.ListN.{length};
 ghost use Rattle.printout.specs.Printout.{RunTold};
 ghost use Rattle.printout.specs.OutputsLong.{OutputsLong, mostOutput};
 ghost use Rattle.records.specs.Limits.{mostLeaves};
-use answers::PLACES;
+use answers::code_of;
+use answers::place_of;
 use records::MOST_LEAVES;
 use simulator::leaves_of;
 use simulator::run;
@@ -63,10 +64,13 @@ pub fn tell(sheet: &[u8], stim: &[u8], out: &mut [u8], next: &mut [u8]) -> ToPri
     let result = run(sheet, stim, &mut out[0..many], &mut next[0..long]);
     let verdict = check_sheet(sheet);
     let w = width(leaves.output);
+    let code = code_of(result);
+    let place = place_of(result);
+    let t = place_of(verdict);
     ToPrint {
-        code: result / PLACES,
-        place: result % PLACES,
-        t: verdict % PLACES,
+        code,
+        place,
+        t,
         w,
         many,
     }
