@@ -13,14 +13,14 @@ use borrow.Author.Tests.{lt-ltb}
 use Rattle.picoella.specs.Language.{leaves}
 use Rattle.records.specs.Trees.{typeAt}
 use Rattle.records.proofs.Types.{some-leaves}
-use Rattle.answers.specs.Answers.{code, place, packed, Check, firstApplying, Refuses, SaysOf, verdictAnswer, codeOfResult, placeOfResult}
+use Rattle.answers.specs.Answers.{code, place, codeOfResult, placeOfResult, verdictAnswer, Check, firstApplying, Refuses, SaysOf}
 use Rattle.answers.specs.declared.Answer.{Answer}
 use Rattle.answers.specs.declared.Answer.the-variants.{Done, Refused}
 use Rattle.answers.proofs.First.{first-says}
 use Rattle.answers.proofs.Kept as Answers
 use Rattle.verdict.specs.Verdict.{sheetChecks, outputType, verdict}
 use Rattle.answers.specs.declared.Verdict.the-variants.{Accepted}
-use Rattle.accepted.proofs.Laws.{verdict-first, verdict-place, first-accepted}
+use Rattle.accepted.proofs.Laws.{verdict-first, first-accepted}
 use Rattle.accepted.proofs.Small.{accepted-few}
 use Rattle.stimulus.specs.Stimulus.{inputType, wrongStimulus, stimulusChecks, cycleCount}
 use Rattle.behaviour.specs.Run.{outputNeeded, callChecks, bySlices, answer, finalOut, finalNext, RunGiven}
@@ -70,7 +70,7 @@ refusal-text : (c p t w : ℕ) (outputs : List ℕ) → 0 < c → toldText c p t
 refusal-text zero p t w outputs h = absurd (omega arith)
 refusal-text (suc c) p t w outputs h = refl
 
-module _ (s stim : List ℕ) (i o many : ℕ) (m : Measured s i o) (q : OutputsLong i o (length stim) many) (lo ln : List ℕ) (eo : length lo ≡ many) (en : length ln ≡ length s) where
+module _ (s stim : List ℕ) (i o t many : ℕ) (m : Measured s i o t) (q : OutputsLong i o (length stim) many) (lo ln : List ℕ) (eo : length lo ≡ many) (en : length ln ≡ length s) where
   -- by the verdict and the stimulus' length
   same-refused : (c p : ℕ) → verdictAnswer (verdict s) ≡ Refused c p → answer s stim lo ln ≡ runAnswer s stim
   unfolding runAnswer
@@ -78,7 +78,7 @@ module _ (s stim : List ℕ) (i o many : ℕ) (m : Measured s i o) (q : OutputsL
       refused-by-verdict s stim lo ln c p e
       ∙ sym (refused-by-verdict s stim (replicate (outputNeeded s (outputRecord s) stim) 0) (replicate (length s) 0) c p e)
 
-  module _ (t : ℕ) (v : verdict s ≡ Accepted t) where
+  module _ (u : ℕ) (v : verdict s ≡ Accepted u) where
     over-same : 65535 < length stim → answer s stim lo ln ≡ runAnswer s stim
     unfolding runAnswer
     over-same h =
@@ -87,7 +87,7 @@ module _ (s stim : List ℕ) (i o many : ℕ) (m : Measured s i o) (q : OutputsL
 
     needed : length stim ≤ 65535 → many ≡ outputNeeded s (outputRecord s) stim
     needed h =
-        let l = m .leaves-of t v in
+        let l = m .leaves-of u v in
         let some = some-leaves (inputType s) in
         q .needed (let e = l .0 in omega arith) h ∙ rw (l .0, l .1, v) refl
 
@@ -105,24 +105,19 @@ module _ (s stim : List ℕ) (i o many : ℕ) (m : Measured s i o) (q : OutputsL
   same-answer = go (verdictAnswer (verdict s)) refl
     where
       go : (a : Answer) → verdictAnswer (verdict s) ≡ a → answer s stim lo ln ≡ runAnswer s stim
-      go (Done t) e =
-          let says : SaysOf (sheetChecks s) (outputType s) (Done t) =
+      go (Done u) e =
+          let says : SaysOf (sheetChecks s) (outputType s) (Done u) =
           subst (λ (a : Answer). SaysOf (sheetChecks s) (outputType s) a) (sym (verdict-first s) ∙ e) (first-says (sheetChecks s) (outputType s))
           in
           accepted-same (outputType s) (first-accepted s (says .0)) (decLt 65535 (length stim))
       go (Refused c p) e = same-refused c p e
 
-  module _ {r v c p t w : ℕ} {ro rn : List ℕ} (ran : Ran s stim lo ln r ro rn) (ev : v ≡ packed (verdictAnswer (verdict s)))
-      (ec : c ≡ codeOfResult r) (ep : p ≡ placeOfResult r) (et : t ≡ placeOfResult v) (ew : (0 < w) × (w ≤ 64) × (0 < o → o ≤ 64 → w ≡ o)) where
+  module _ {r c p w : ℕ} {ro rn : List ℕ} (ran : Ran s stim lo ln r ro rn) (ec : c ≡ codeOfResult r) (ep : p ≡ placeOfResult r)
+      (ew : (0 < w) × (w ≤ 64) × (0 < o → o ≤ 64 → w ≡ o)) where
     apart : (c ≡ code (answer s stim lo ln)) × (p ≡ place (answer s stim lo ln))
     apart =
         let given = answer s stim lo ln in
         rw (ec, ep, ran .gives .result-is) (Answers.kept .taken-apart (code given) (place given) (places-small s stim lo ln))
-
-    record-of : t ≡ outputRecord s
-    record-of =
-        let given = verdictAnswer (verdict s) in
-        rw (et, ev) (Answers.kept .taken-apart (code given) (place given) (let h = verdict-place s in omega arith) .1)
 
     -- done: the outputs and the sheet after them
     module _ (n : ℕ) (e : answer s stim lo ln ≡ Done n) where
@@ -137,6 +132,9 @@ module _ (s stim : List ℕ) (i o many : ℕ) (m : Measured s i o) (q : OutputsL
       unfolding finalNext runSheet
       done-sheet = ran .gives .next-is ∙ rw e refl
 
+      done-record : t ≡ outputRecord s
+      done-record = let a : verdict s ≡ Accepted (formed .0) = formed .1 .accepted in m .typed (formed .0) a ∙ rw a refl
+
       done-width : w ≡ leaves (typeAt s (outputRecord s))
       done-width =
           let u = formed .0 in
@@ -150,7 +148,7 @@ module _ (s stim : List ℕ) (i o many : ℕ) (m : Measured s i o) (q : OutputsL
       unfolding printed
       done-text =
           let z : c ≡ 0 = apart .0 ∙ ap code e in
-          rw (z, ← same-answer, e, record-of, done-width, done-outputs) refl
+          rw (z, ← same-answer, e, done-record, done-width, done-outputs) refl
 
     refused-text : (k q : ℕ) → answer s stim lo ln ≡ Refused k q → printed s stim ≡ toldText c p t w ro
     unfolding printed
@@ -183,7 +181,7 @@ module _ (s stim : List ℕ) (i o many : ℕ) (m : Measured s i o) (q : OutputsL
             absurd (omega arith)
 
 -- the same of the front parts of the rooms lent
-module _ (s stim : List ℕ) (i o many : ℕ) (m : Measured s i o) (q : OutputsLong i o (length stim) many) (out next : List ℕ)
+module _ (s stim : List ℕ) (i o t many : ℕ) (m : Measured s i o t) (q : OutputsLong i o (length stim) many) (out next : List ℕ)
     (room : (4194240 ≤ length out) × (length s ≤ length next)) where
   out-long : length (take (many - 0) out) ≡ many
   out-long = let h = q .small in let r = room .0 in length-take-le (many - 0) out (omega arith) ∙ omega arith
@@ -191,13 +189,12 @@ module _ (s stim : List ℕ) (i o many : ℕ) (m : Measured s i o) (q : OutputsL
   next-long : length (take (length s - 0) next) ≡ length s
   next-long = let r = room .1 in length-take-le (length s - 0) next (omega arith) ∙ omega arith
 
-  pub told-lent : {r v c p t w : ℕ} {ro rn : List ℕ} → Ran s stim (take (many - 0) out) (take (length s - 0) next) r ro rn
+  pub told-lent : {r c p w : ℕ} {ro rn : List ℕ} → Ran s stim (take (many - 0) out) (take (length s - 0) next) r ro rn
       → length ro ≡ length (take (many - 0) out) → length rn ≡ length (take (length s - 0) next)
-      → v ≡ packed (verdictAnswer (verdict s)) → c ≡ codeOfResult r → p ≡ placeOfResult r → t ≡ placeOfResult v
-      → (0 < w) × (w ≤ 64) × (0 < o → o ≤ 64 → w ≡ o)
+      → c ≡ codeOfResult r → p ≡ placeOfResult r → (0 < w) × (w ≤ 64) × (0 < o → o ≤ 64 → w ≡ o)
       → RunTold s stim c p t w many (ro ++ drop (many - 0) out) (rn ++ drop (length s - 0) next)
-  told-lent {ro = ro} {rn = rn} ran lo ln ev ec ep et ew =
-      run-told s stim i o many m q (take (many - 0) out) (take (length s - 0) next) out-long next-long ran ev ec ep et ew
+  told-lent {ro = ro} {rn = rn} ran lo ln ec ep ew =
+      run-told s stim i o t many m q (take (many - 0) out) (take (length s - 0) next) out-long next-long ran ec ep ew
       (ro ++ drop (many - 0) out) (rn ++ drop (length s - 0) next)
       (take-at ro (drop (many - 0) out) many (lo ∙ out-long))
       (let l = length-append ro (drop (many - 0) out) in let e = out-long in omega arith)

@@ -11,7 +11,6 @@ use records::MOST_LEAVES;
 use simulator::leaves_of;
 use simulator::run;
 use stimulus::STIMULUS_BYTES;
-use verdict::check_sheet;
 
 // The most leaves of a line.
 const MOST_WIDTH: usize = MOST_LEAVES as usize;
@@ -62,11 +61,10 @@ pub fn tell(sheet: &[u8], stim: &[u8], out: &mut [u8], next: &mut [u8]) -> ToPri
     let many = outputs_length(leaves.input, leaves.output, stim.len());
     let long = sheet.len();
     let result = run(sheet, stim, &mut out[0..many], &mut next[0..long]);
-    let verdict = check_sheet(sheet);
     let w = width(leaves.output);
     let code = code_of(result);
     let place = place_of(result);
-    let t = place_of(verdict);
+    let t = leaves.output_type as u64;
     ToPrint {
         code,
         place,

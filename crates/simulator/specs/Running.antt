@@ -68,8 +68,9 @@ pub record RunningAccepted (s : List ℕ) (n : ℕ) (widths : List ℕ) (t : ℕ
   pub accepted : verdict s ≡ Accepted t
   pub table : Widths s widths
 
--- the leaves of a cycle's input and output, for an accepted sheet
-pub record Measured (s : List ℕ) (input output : ℕ) : Type 0 where
+-- the leaves of a cycle's input and output and the record of the output type, for an accepted sheet
+pub record Measured (s : List ℕ) (input output type : ℕ) : Type 0 where
   pub leaves-of : (t : ℕ) → verdict s ≡ Accepted t → (input ≡ inputLeaves s) × (output ≡ leaves (typeAt s t))
+  pub typed : (t : ℕ) → verdict s ≡ Accepted t → type ≡ t
   pub few-input : input ≤ mostLeaves
   pub few-output : output ≤ mostLeaves
