@@ -10,7 +10,8 @@ use lib.ListN.{length, take, drop}
 use lib.Seq.{drop-drop}
 use Rattle.listing.specs.Lines.{cycleLine, cycleLines}
 use Rattle.listing.specs.Wrote.{TextPut}
-use Rattle.listing.specs.Fills.{FillingLines, Filling, FilledLines, Printed, nothing, piece, WholeListing}
+use Rattle.listing.specs.Fills.{FillingLines, Filling, FilledLines}
+use Rattle.listing.specs.Promises.{Printed, nothing, piece, WholeListing}
 use Rattle.listing.proofs.Written.{wrote-none, wrote-then}
 
 -- the lines of m cycles and then of n more

@@ -2,6 +2,7 @@
 -- To believe:
 pub mod Digits
 pub mod Lines
+pub mod Promises
 -- Worked examples, by computation:
 pub mod Examples
 -- What functions ask and give, and their proofs need:
