@@ -13,10 +13,9 @@ abbrev pub toldText : (code place t w : ℕ) (outputs : List ℕ) → List ℕ
 toldText zero p t w outputs = listing t w outputs
 toldText (suc c) p t w outputs = refusedLine (suc c) p
 
--- 12: "a file that the program cannot open; the sheet's is tried first"
-abbrev pub noFileLine : (sheetOpened : Bool) → List ℕ
-noFileLine false = refusedLine 12 1
-noFileLine true = refusedLine 12 2
+-- 12: "a file that the program cannot open", at its place among the program's files
+abbrev pub noFileLine : (place : ℕ) → List ℕ
+noFileLine place = refusedLine 12 place
 
 -- the lines from cycle k on, of outputs of w leaves each, and the last line
 abbrev pub textFrom : (w k : ℕ) (outputs : List ℕ) → List ℕ

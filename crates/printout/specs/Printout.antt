@@ -2,6 +2,7 @@
 -- listing of its outputs, or the one line of a refusal.
 use Prim.Native.Nat.{ℕ, _≤_, _<_}
 use mathlib.Core.Path.{_≡_}
+use mathlib.Core.Bool.{Bool, true, false}
 use mathlib.Core.List.{List}
 use lib.ListN.{length, take, replicate}
 use Rattle.picoella.specs.Language.{leaves}
@@ -41,6 +42,11 @@ answerText (Refused c p) t w outputs = refusedLine c p
 unfoldable pub printed : (sheet stimulus : List ℕ) → List ℕ
 printed s stim =
     answerText (runAnswer s stim) (outputRecord s) (leaves (typeAt s (outputRecord s))) (runOutputs s stim)
+
+-- the place of a file that cannot be opened: 1 for the sheet's, which "is tried first", and 2 for the stimulus's
+abbrev pub unopenedFile : (sheetOpened : Bool) → ℕ
+unopenedFile false = 1
+unopenedFile true = 2
 
 -- what is told of a sheet and a stimulus: the text to print by these numbers and the first so many bytes of the outputs' room, and
 -- where nothing is refused the sheet for next.bin
