@@ -155,7 +155,9 @@ module _ (s stim : List ℕ) (i o t many : ℕ) (m : Measured s i o t) (q : Outp
     refused-text k q e =
         let z : c ≡ k = apart .0 ∙ ap code e in
         let y : p ≡ q = apart .1 ∙ ap place e in
-        rw (← same-answer, e, z, y) (sym (refusal-text k q t w ro (refused-code s stim lo ln k q e)))
+        let some = refused-code s stim lo ln k q e in
+        rw (← same-answer, e, z, y)
+        (refusal-text k q (outputRecord s) (leaves (typeAt s (outputRecord s))) (runOutputs s stim) some ∙ sym (refusal-text k q t w ro some))
 
     pub run-told : (out′ next′ : List ℕ) → take many out′ ≡ ro → many ≤ length out′ → take (length s) next′ ≡ rn
         → RunTold s stim c p t w many out′ next′

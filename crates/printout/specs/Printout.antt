@@ -1,5 +1,5 @@
 -- What the program prints and writes (docs/SHEETS.md, "Listing"), for the answer of the run with slices of the right lengths: the
--- listing of its outputs, or the one line of a refusal.
+-- listing of its outputs, or the one line of a refusal; and the place of a file that cannot be opened.
 use Prim.Native.Nat.{ℕ, _≤_, _<_}
 use mathlib.Core.Path.{_≡_}
 use mathlib.Core.Bool.{Bool, true, false}
@@ -10,12 +10,10 @@ use Rattle.records.specs.Limits.{mostLeaves}
 use Rattle.records.specs.Trees.{typeAt}
 use Rattle.answers.specs.Answers.{code, place, verdictAnswer}
 use Rattle.answers.specs.declared.Answer.{Answer}
-use Rattle.answers.specs.declared.Answer.the-variants.{Done, Refused}
 use Rattle.verdict.specs.Verdict.{verdict}
 use Rattle.meaning.specs.Undecided.{undecidedRule}
 use Rattle.stimulus.specs.Stimulus.{endToEnd, cycles}
 use Rattle.behaviour.specs.Run.{outputsBy, sheetAfter, outputNeeded, answer}
-use Rattle.listing.specs.Lines.{listing, refusedLine}
 use Rattle.printing.specs.Pieces.{toldText}
 
 -- "the record of the output type": the place of the check's answer
@@ -34,14 +32,11 @@ runOutputs s stim = endToEnd (outputsBy undecidedRule s (cycles s stim))
 unfoldable pub runSheet : (sheet stimulus : List ℕ) → List ℕ
 runSheet s stim = sheetAfter undecidedRule s (cycles s stim)
 
--- the listing of outputs of w leaves each, or the line of a refusal
-abbrev pub answerText : Answer → (t w : ℕ) (outputs : List ℕ) → List ℕ
-answerText (Done n) t w outputs = listing t w outputs
-answerText (Refused c p) t w outputs = refusedLine c p
-
+-- the listing of these outputs, or where the answer's code is not 0 the line of a refusal
 unfoldable pub printed : (sheet stimulus : List ℕ) → List ℕ
 printed s stim =
-    answerText (runAnswer s stim) (outputRecord s) (leaves (typeAt s (outputRecord s))) (runOutputs s stim)
+    toldText (code (runAnswer s stim)) (place (runAnswer s stim)) (outputRecord s) (leaves (typeAt s (outputRecord s)))
+    (runOutputs s stim)
 
 -- the place of a file that cannot be opened: 1 for the sheet's, which "is tried first", and 2 for the stimulus's
 abbrev pub unopenedFile : (sheetOpened : Bool) → ℕ
