@@ -4,7 +4,7 @@
 use std::collections::HashMap;
 
 use crate::accepted::Circuit;
-use crate::answers::Answer;
+use crate::answers::{Answer, LABEL_TWICE, NEW_SHEET_REFUSED, WRONG_NEXT_LENGTH};
 use crate::carry_mistakes::CarryMistake;
 use crate::labels::without_labels;
 use crate::records::{A, B, D, FLAT, KIND};
@@ -28,7 +28,7 @@ pub struct Outcome {
 pub fn carry(call: &Call, mistake: Option<CarryMistake>) -> Outcome {
     match judge(call, mistake) {
         Ok((old, new)) => {
-            let answer = Answer { code: 0, place: 0 };
+            let answer = Answer::accepted(0);
             Outcome { answer, next: Some(carried(&old, &new, call.new, mistake)) }
         }
         Err(answer) => {
@@ -43,8 +43,8 @@ pub fn carry(call: &Call, mistake: Option<CarryMistake>) -> Outcome {
 fn judge(call: &Call, mistake: Option<CarryMistake>) -> Result<(Circuit, Circuit), Answer> {
     let new = Circuit::read(call.new).map_err(|answer| match mistake {
         Some(CarryMistake::CodeOfNew) => answer,
-        Some(CarryMistake::PlaceOfNew) => Answer { code: 18, place: answer.place },
-        _ => Answer { code: 18, place: u32::from(answer.code) },
+        Some(CarryMistake::PlaceOfNew) => Answer { code: NEW_SHEET_REFUSED, place: answer.place },
+        _ => Answer { code: NEW_SHEET_REFUSED, place: u32::from(answer.code) },
     });
     let old = Circuit::read(call.old);
     let (old, new) = match (old, new) {
@@ -55,10 +55,10 @@ fn judge(call: &Call, mistake: Option<CarryMistake>) -> Result<(Circuit, Circuit
         Some(CarryMistake::LengthOfOld) => call.old.len(),
         _ => call.new.len(),
     };
-    let wrong_length =
-        (call.next_length != needed).then_some(Answer { code: 11, place: needed as u32 });
+    let wrong_length = (call.next_length != needed)
+        .then_some(Answer { code: WRONG_NEXT_LENGTH, place: needed as u32 });
     let twice = |circuit: &Circuit| {
-        borne_twice(circuit, mistake).map(|delay| Answer { code: 19, place: delay as u32 })
+        borne_twice(circuit, mistake).map(|delay| Answer { code: LABEL_TWICE, place: delay as u32 })
     };
     let mut faults = [twice(&old), twice(&new), wrong_length];
     match mistake {

@@ -3,7 +3,7 @@
 
 use std::process::ExitCode;
 
-use second::answers::Answer;
+use second::answers::{Answer, ACCEPTED, NO_FILE};
 use second::printout::{listing, refusal};
 use second::records::{MAX_RECORDS, RECORD_BYTES};
 use second::text::translator::translate;
@@ -45,7 +45,8 @@ fn emit(name: &str, file: &str) -> ExitCode {
 
 /// The listing and next sheet of two files; 12 where one can't be read.
 fn of_files(sheet: &str, stimulus: &str) -> Result<(String, Vec<u8>), Answer> {
-    let open = |file: &str, place: u32| std::fs::read(file).map_err(|_| Answer { code: 12, place });
+    let open =
+        |file: &str, place: u32| std::fs::read(file).map_err(|_| Answer { code: NO_FILE, place });
     let sheet = open(sheet, 1)?;
     let stimulus = open(stimulus, 2)?;
     listing(&sheet, &stimulus, None)
@@ -87,12 +88,12 @@ fn write_next(sheet: &str, stimulus: &str, file: &str) -> ExitCode {
 /// Writes the sheet of a text, or prints the refusal; 12 if it can't be read.
 fn write_translated(text: &str, file: &str) -> ExitCode {
     let Ok(text) = std::fs::read(text) else {
-        print!("{}", refusal(Answer { code: 12, place: 1 }));
+        print!("{}", refusal(Answer { code: NO_FILE, place: 1 }));
         return ExitCode::FAILURE;
     };
     let outcome = translate(&text, MAX_RECORDS * RECORD_BYTES, None);
     match outcome.answer.code {
-        0 => write(file, &outcome.written[..outcome.answer.place as usize]),
+        ACCEPTED => write(file, &outcome.written[..outcome.answer.place as usize]),
         _ => {
             print!("{}", refusal(outcome.answer));
             ExitCode::FAILURE

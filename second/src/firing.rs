@@ -2,7 +2,7 @@
 //! one word for each record.
 
 use crate::accepted::Circuit;
-use crate::answers::Answer;
+use crate::answers::{Answer, WRONG_WORDS};
 use crate::evaluator::Tested;
 use crate::firing_mistakes::FiringMistake;
 use crate::matching::{answers, Match};
@@ -34,7 +34,7 @@ pub fn firing(call: &Call, mistake: Option<FiringMistake>) -> Outcome {
         Ok(circuit) => {
             let input = first_cycle(&circuit, call.stimulus);
             let fired = Some(fired(&circuit, &input, mistake));
-            Outcome { answer: Answer { code: 0, place: 0 }, fired }
+            Outcome { answer: Answer::accepted(0), fired }
         }
         Err(answer) => {
             let clears = mistake == Some(FiringMistake::RefusalClears);
@@ -79,7 +79,7 @@ fn wrong_slice(circuit: &Circuit, call: &Call, mistake: Option<FiringMistake>) -
         Some(FiringMistake::PlaceInBytes) => call.sheet.len() / RECORD_BYTES * 2,
         _ => needed,
     };
-    (call.fired_length != needed).then_some(Answer { code: 16, place: place as u32 })
+    (call.fired_length != needed).then_some(Answer { code: WRONG_WORDS, place: place as u32 })
 }
 
 /// The input of the one cycle. Only a mistake takes an empty stimulus.

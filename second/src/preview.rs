@@ -2,7 +2,7 @@
 //! 10 and a place.
 
 use crate::accepted::Circuit;
-use crate::answers::Answer;
+use crate::answers::{Answer, WRONG_OUTPUT_LENGTH};
 use crate::preview_mistakes::PreviewMistake;
 use crate::rule::IN_FORCE;
 use crate::stepper::Stepper;
@@ -30,7 +30,7 @@ pub fn preview(call: &Call, mistake: Option<PreviewMistake>) -> Outcome {
         Ok(circuit) => {
             let place = u32::from(mistake == Some(PreviewMistake::PlaceOfRun));
             let outputs = Some(shown(&circuit, call.stimulus, mistake));
-            Outcome { answer: Answer { code: 0, place }, outputs }
+            Outcome { answer: Answer::accepted(place), outputs }
         }
         Err(answer) => {
             let clears = mistake == Some(PreviewMistake::RefusalClearsOut);
@@ -77,7 +77,8 @@ fn wrong_output(circuit: &Circuit, call: &Call, mistake: Option<PreviewMistake>)
         Some(PreviewMistake::EmptyTaken) if call.stimulus.is_empty() => 0,
         _ => circuit.width(circuit.root()),
     };
-    (call.output_length != needed).then_some(Answer { code: 10, place: needed as u32 })
+    (call.output_length != needed)
+        .then_some(Answer { code: WRONG_OUTPUT_LENGTH, place: needed as u32 })
 }
 
 /// The outputs of the cycle, with each delay holding what the sheet says.

@@ -2,7 +2,7 @@
 //! outputs and the next sheet.
 
 use crate::accepted::Circuit;
-use crate::answers::Answer;
+use crate::answers::{Answer, WRONG_NEXT_LENGTH, WRONG_OUTPUT_LENGTH};
 use crate::labels::without_labels;
 use crate::rule::{Rule, IN_FORCE};
 use crate::run_mistakes::RunMistake;
@@ -97,8 +97,8 @@ fn judge(call: &Call, mistake: Option<RunMistake>) -> Result<Ready, Answer> {
     };
     let mut faults = [
         stimulus::above_count(&ready.circuit, call.stimulus, mistake),
-        length(10, call.output_length, ready.output_length),
-        length(11, call.next_length, call.sheet.len()),
+        length(WRONG_OUTPUT_LENGTH, call.output_length, ready.output_length),
+        length(WRONG_NEXT_LENGTH, call.next_length, call.sheet.len()),
     ];
     match mistake {
         Some(RunMistake::TenBeforeNine) => faults.swap(0, 1),
@@ -133,6 +133,6 @@ fn all_cycles(
         Some(RunMistake::OutputOneLeafOff) => outputs.rotate_right(1.min(ready.output_length)),
         _ => {}
     }
-    let answer = Answer { code: 0, place: place as u32 };
+    let answer = Answer::accepted(place as u32);
     Outcome { answer, outputs: Some(outputs), next: Some(next) }
 }

@@ -1,7 +1,7 @@
 //! A stimulus for an accepted sheet: codes 8 and 9, and its cycles.
 
 use crate::accepted::Circuit;
-use crate::answers::Answer;
+use crate::answers::{Answer, WRONG_INPUT, WRONG_STIMULUS};
 use crate::run_mistakes::RunMistake;
 
 /// The greatest length of a stimulus.
@@ -16,12 +16,12 @@ pub fn wrong_length(
     let refused = mistake == Some(RunMistake::EmptyRefused) && stimulus.is_empty();
     let whole = stimulus.len().is_multiple_of(leaves(circuit));
     let holds = stimulus.len() <= MAX_STIMULUS && whole && !refused;
-    (!holds).then_some(Answer { code: 8, place: 0 })
+    (!holds).then_some(Answer { code: WRONG_STIMULUS, place: 0 })
 }
 
 /// Code 8 of a call that takes exactly one cycle.
 pub fn not_one_cycle(circuit: &Circuit, stimulus: &[u8]) -> Option<Answer> {
-    (stimulus.len() != leaves(circuit)).then_some(Answer { code: 8, place: 0 })
+    (stimulus.len() != leaves(circuit)).then_some(Answer { code: WRONG_STIMULUS, place: 0 })
 }
 
 /// Code 9: the first byte above its leaf's constructor count.
@@ -37,7 +37,7 @@ pub fn above_count(
         Some(RunMistake::PlaceOfNineInCycle) => place % counts.len(),
         _ => place,
     };
-    Some(Answer { code: 9, place: place as u32 })
+    Some(Answer { code: WRONG_INPUT, place: place as u32 })
 }
 
 /// The inputs of the cycles, in order.

@@ -9,7 +9,7 @@ use crate::typing::{self, Typed};
 /// The verdict on any byte string.
 pub fn check(sheet: &[u8], mistake: Option<CheckMistake>) -> Answer {
     match judge(sheet, mistake) {
-        Ok(typed) => Answer { code: 0, place: u32::from(typed.output) },
+        Ok(typed) => Answer::accepted(u32::from(typed.output)),
         Err(answer) => answer,
     }
 }
@@ -24,7 +24,7 @@ pub fn judge(sheet: &[u8], mistake: Option<CheckMistake>) -> Result<Typed, Answe
 /// The answer to a refused sheet, or what a mistake makes of it.
 fn refusal(sheet: &[u8], answer: Answer, mistake: Option<CheckMistake>) -> Answer {
     if mistake == Some(CheckMistake::NoCode(answer.code)) {
-        return Answer { code: 0, place: u32::from(read(sheet)[0][A]) };
+        return Answer::accepted(u32::from(read(sheet)[0][A]));
     }
     answer
 }

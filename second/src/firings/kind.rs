@@ -1,6 +1,7 @@
 //! What is compared of fired alternatives, and what is counted of them.
 
 use second::accepted::Circuit;
+use second::answers::WRONG_WORDS;
 use second::evaluator::Tested;
 use second::firing::{firing, first_yes, tested, Call};
 use second::firing_mistakes::FiringMistake;
@@ -33,7 +34,7 @@ const IN_PATTERNS: &str = "firings with a chain inside a pair pattern";
 pub const FIRINGS: Kind<FiringMistake> = Kind {
     what: "firings",
     least: 100_000,
-    length_code: 16,
+    length_code: WRONG_WORDS,
     item: 2,
     items: |circuit| circuit.records.len(),
     second,

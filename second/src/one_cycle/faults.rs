@@ -1,5 +1,6 @@
 //! Calls with faults: in the sheet, the stimulus or the slice's length.
 
+use second::answers::{ILL_TYPED, WRONG_INPUT, WRONG_STIMULUS};
 use second::draft::Draft;
 use second::faults::category::Category;
 use second::generate::circuits::circuit;
@@ -33,15 +34,15 @@ pub fn broken<M>(
     let whole = sheet(&draft, random);
     let ground = Ground::of(kind, &whole)?;
     let mut case = ground.good("one call", whole, random);
-    for &code in codes.iter().filter(|&&code| code <= 7) {
+    for &code in codes.iter().filter(|&&code| code <= ILL_TYPED) {
         (case.source, case.sheet) = break_sheet(&draft, code, categories, random)?;
     }
     let mut ways = Vec::new();
     // The stimulus gets its length first, and then bytes that are too great.
-    for &code in codes.iter().filter(|&&code| code >= 8) {
+    for &code in codes.iter().filter(|&&code| code > ILL_TYPED) {
         let way = match code {
-            8 => break_stimulus(&mut case, &ground, random)?,
-            9 => break_bytes(&mut case, &ground, random)?,
+            WRONG_STIMULUS => break_stimulus(&mut case, &ground, random)?,
+            WRONG_INPUT => break_bytes(&mut case, &ground, random)?,
             _ => break_length(&mut case, &ground, random)?,
         };
         case.source = format!("{}; {way}", case.source);
@@ -54,7 +55,7 @@ pub fn broken<M>(
 /// or as so many cycles.
 fn break_stimulus(case: &mut Case, ground: &Ground, random: &mut Random) -> Option<&'static str> {
     let leaves = ground.counts.len();
-    let way = random.pick(tally::ways(8))?;
+    let way = random.pick(tally::ways(WRONG_STIMULUS))?;
     let length = match way {
         tally::EMPTY => 0,
         tally::PART => random.range(1, leaves.checked_sub(1).filter(|&most| most > 0)?),
