@@ -55,12 +55,12 @@ fn judge(call: &Call, mistake: Option<CarryMistake>) -> Result<(Circuit, Circuit
         Some(CarryMistake::LengthOfOld) => call.old.len(),
         _ => call.new.len(),
     };
-    let wrong_length = (call.next_length != needed)
+    let wrong_next_length = (call.next_length != needed)
         .then_some(Answer { code: WRONG_NEXT_LENGTH, place: needed as u32 });
     let twice = |circuit: &Circuit| {
-        borne_twice(circuit, mistake).map(|delay| Answer { code: LABEL_TWICE, place: delay as u32 })
+        label_twice(circuit, mistake).map(|delay| Answer { code: LABEL_TWICE, place: delay as u32 })
     };
-    let mut faults = [twice(&old), twice(&new), wrong_length];
+    let mut faults = [twice(&old), twice(&new), wrong_next_length];
     match mistake {
         Some(CarryMistake::NewLabelsFirst) => faults.swap(0, 1),
         Some(CarryMistake::ElevenFirst) => faults.rotate_right(1),
@@ -87,7 +87,7 @@ fn bearers(circuit: &Circuit, mistake: Option<CarryMistake>) -> HashMap<u16, usi
 }
 
 /// The lowest delay whose label a lower one bears.
-fn borne_twice(circuit: &Circuit, mistake: Option<CarryMistake>) -> Option<usize> {
+fn label_twice(circuit: &Circuit, mistake: Option<CarryMistake>) -> Option<usize> {
     let bearers = bearers(circuit, mistake);
     let first = |delay: usize| {
         let lowest = bearers.get(&label(circuit, delay, mistake)?).copied()?;
@@ -103,7 +103,7 @@ fn borne_twice(circuit: &Circuit, mistake: Option<CarryMistake>) -> Option<usize
 
 /// Whether two types have the same shape: pairs, and flats of equal counts, in
 /// the same places.
-pub fn alike(one: &Circuit, of: u16, other: &Circuit, as_of: u16) -> bool {
+pub fn same_shape(one: &Circuit, of: u16, other: &Circuit, as_of: u16) -> bool {
     let mut open = vec![(of, as_of)];
     while let Some((of, as_of)) = open.pop() {
         let (first, second) = (one.records[usize::from(of)], other.records[usize::from(as_of)]);
@@ -139,7 +139,7 @@ fn carries(
         Some(CarryMistake::LeafCountAlone) => old.counts(from).len() == new.counts(to).len(),
         Some(CarryMistake::PairsNotCompared) => old.counts(from) == new.counts(to),
         Some(CarryMistake::AnyShape) => true,
-        _ => alike(old, from, new, to),
+        _ => same_shape(old, from, new, to),
     }
 }
 

@@ -45,8 +45,8 @@ fn judge(call: &Call, mistake: Option<PreviewMistake>) -> Result<Circuit, Answer
     let circuit = Circuit::read(call.sheet)?;
     let mut faults = [
         not_one_cycle(&circuit, call.stimulus, mistake),
-        stimulus::above_count(&circuit, call.stimulus, None),
-        wrong_output(&circuit, call, mistake),
+        stimulus::wrong_input(&circuit, call.stimulus, None),
+        wrong_output_length(&circuit, call, mistake),
     ];
     match mistake {
         Some(PreviewMistake::NineBeforeEight) => faults.swap(0, 1),
@@ -71,7 +71,11 @@ fn not_one_cycle(
 }
 
 /// Code 10: not as long as one cycle's outputs.
-fn wrong_output(circuit: &Circuit, call: &Call, mistake: Option<PreviewMistake>) -> Option<Answer> {
+fn wrong_output_length(
+    circuit: &Circuit,
+    call: &Call,
+    mistake: Option<PreviewMistake>,
+) -> Option<Answer> {
     let needed = match mistake {
         Some(PreviewMistake::InputLeaves) => stimulus::leaves(circuit),
         Some(PreviewMistake::EmptyTaken) if call.stimulus.is_empty() => 0,

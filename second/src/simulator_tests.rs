@@ -131,8 +131,8 @@ fn t_listing() {
     }
 }
 
-/// How the pattern of the one IF of a sheet answers on values.
-fn answers(sheet: &[u8], values: &[&[u8]]) -> Vec<Match> {
+/// What the pattern of the one IF of a sheet says on values.
+fn said(sheet: &[u8], values: &[&[u8]]) -> Vec<Match> {
     let Ok(circuit) = Circuit::read(sheet) else { return Vec::new() };
     let choice = circuit.records.iter().find(|r| r[KIND] == IF);
     let pattern = choice.map_or(0, |record| record[D]);
@@ -144,9 +144,9 @@ fn patterns() {
     use Match::{No, Undecided, Yes};
     let values: [&[u8]; 6] = [&[0, 0], &[1, 1], &[2, 2], &[1, 2], &[1, 0], &[0, 2]];
     let two_pairs = [Undecided, Yes, Yes, No, Undecided, Undecided];
-    assert_eq!(answers(&samples::two_pairs(), &values), two_pairs);
+    assert_eq!(said(&samples::two_pairs(), &values), two_pairs);
     let and = [Undecided, Yes, No, No, Undecided, No];
-    assert_eq!(answers(&samples::and(), &values), and);
+    assert_eq!(said(&samples::and(), &values), and);
     let on_bit = |first: &[u16], second: &[u16]| {
         bytes(&from_words(&[
             &[1, 1, 1, 2],
@@ -160,11 +160,11 @@ fn patterns() {
         ]))
     };
     let either = on_bit(&[49, 5, 1, 1], &[49, 0, 1, 2]);
-    assert_eq!(answers(&either, &[&[0], &[1], &[2]]), [Undecided, Yes, Yes]);
+    assert_eq!(said(&either, &[&[0], &[1], &[2]]), [Undecided, Yes, Yes]);
     let whole = on_bit(&[49, 5, 1, 1], &[48, 0, 1]);
-    assert_eq!(answers(&whole, &[&[0], &[1], &[2]]), [Yes, Yes, Yes]);
+    assert_eq!(said(&whole, &[&[0], &[1], &[2]]), [Yes, Yes, Yes]);
     let once = on_bit(&[49, 5, 1, 1], &[49, 0, 1, 1]);
-    assert_eq!(answers(&once, &[&[0], &[1], &[2]]), [Undecided, Yes, No]);
+    assert_eq!(said(&once, &[&[0], &[1], &[2]]), [Undecided, Yes, No]);
 }
 
 #[test]

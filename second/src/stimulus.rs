@@ -5,17 +5,17 @@ use crate::answers::{Answer, WRONG_INPUT, WRONG_STIMULUS};
 use crate::run_mistakes::RunMistake;
 
 /// The greatest length of a stimulus.
-pub const MAX_STIMULUS: usize = 65_535;
+pub const LONGEST_STIMULUS: usize = 65_535;
 
 /// Code 8: too long or not whole cycles. An empty one is of no cycles.
-pub fn wrong_length(
+pub fn wrong_stimulus(
     circuit: &Circuit,
     stimulus: &[u8],
     mistake: Option<RunMistake>,
 ) -> Option<Answer> {
     let refused = mistake == Some(RunMistake::EmptyRefused) && stimulus.is_empty();
     let whole = stimulus.len().is_multiple_of(leaves(circuit));
-    let holds = stimulus.len() <= MAX_STIMULUS && whole && !refused;
+    let holds = stimulus.len() <= LONGEST_STIMULUS && whole && !refused;
     (!holds).then_some(Answer { code: WRONG_STIMULUS, place: 0 })
 }
 
@@ -25,7 +25,7 @@ pub fn not_one_cycle(circuit: &Circuit, stimulus: &[u8]) -> Option<Answer> {
 }
 
 /// Code 9: the first byte above its leaf's constructor count.
-pub fn above_count(
+pub fn wrong_input(
     circuit: &Circuit,
     stimulus: &[u8],
     mistake: Option<RunMistake>,

@@ -18,11 +18,11 @@ pub fn check(sheet: &[u8], mistake: Option<CheckMistake>) -> Answer {
 pub fn judge(sheet: &[u8], mistake: Option<CheckMistake>) -> Result<Typed, Answer> {
     structure::judge(sheet, mistake)
         .and_then(|structure| typing::judge(&structure, mistake))
-        .map_err(|answer| refusal(sheet, answer, mistake))
+        .map_err(|answer| mistaken(sheet, answer, mistake))
 }
 
 /// The answer to a refused sheet, or what a mistake makes of it.
-fn refusal(sheet: &[u8], answer: Answer, mistake: Option<CheckMistake>) -> Answer {
+fn mistaken(sheet: &[u8], answer: Answer, mistake: Option<CheckMistake>) -> Answer {
     if mistake == Some(CheckMistake::NoCode(answer.code)) {
         return Answer::accepted(u32::from(read(sheet)[0][A]));
     }

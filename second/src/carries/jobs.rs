@@ -4,7 +4,7 @@ use std::collections::HashMap;
 
 use second::accepted::Circuit;
 use second::answers::{ILL_TYPED, LABEL_TWICE, WRONG_LENGTH, WRONG_NEXT_LENGTH};
-use second::carry::{alike, same_pairs};
+use second::carry::{same_pairs, same_shape};
 use second::faults::category::Category;
 use second::fuzz;
 use second::labels::{labels, repeated};
@@ -109,7 +109,7 @@ fn count_shapes(to: &mut Comparer, old: &Circuit, new: &Circuit) {
         let (from, of) = (old.records[partner][A], new.records[delay][A]);
         let flats = [old.records[usize::from(from)], new.records[usize::from(of)]]
             .map(|record| record[KIND] == FLAT);
-        let like = alike(old, from, new, of);
+        let like = same_shape(old, from, new, of);
         let pairs = same_pairs(old, from, new, of);
         let taken = &old.leaves[partner];
         let counts = [

@@ -6,7 +6,7 @@ use second::faults::category::Category;
 use second::generate::circuits::circuit;
 use second::layout::sheet;
 use second::random::Random;
-use second::stimulus::MAX_STIMULUS;
+use second::stimulus::LONGEST_STIMULUS;
 
 use super::cases::{Case, Ground, Kind};
 use super::tally;
@@ -60,12 +60,12 @@ fn break_stimulus(case: &mut Case, ground: &Ground, random: &mut Random) -> Opti
         tally::EMPTY => 0,
         tally::PART => random.range(1, leaves.checked_sub(1).filter(|&most| most > 0)?),
         tally::TWO => 2 * leaves,
-        tally::MORE if random.one_in(20) => MAX_STIMULUS / leaves * leaves,
+        tally::MORE if random.one_in(20) => LONGEST_STIMULUS / leaves * leaves,
         tally::MORE => leaves * random.range(3, 9),
         tally::NOT_WHOLE => {
             leaves + random.range(1, leaves.checked_sub(1).filter(|&most| most > 0)?)
         }
-        _ => MAX_STIMULUS + random.range(1, 2 * leaves),
+        _ => LONGEST_STIMULUS + random.range(1, 2 * leaves),
     };
     case.stimulus = ground.stimulus(length / leaves + 1, random);
     case.stimulus.truncate(length);

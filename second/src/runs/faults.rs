@@ -7,7 +7,7 @@ use second::fuzz;
 use second::layout::sheet;
 use second::random::Random;
 use second::records::{MAX_RECORDS, RECORD_BYTES};
-use second::stimulus::MAX_STIMULUS;
+use second::stimulus::LONGEST_STIMULUS;
 
 use super::cases::Frame;
 use super::compare::Case;
@@ -77,7 +77,7 @@ pub fn break_call(
 fn without_cycles(case: &mut Case, frame: &Frame, random: &mut Random) -> bool {
     let leaves = frame.counts.len();
     let cycles = case.stimulus.len() / leaves;
-    let keeps = case.stimulus.len() <= MAX_STIMULUS
+    let keeps = case.stimulus.len() <= LONGEST_STIMULUS
         && case.stimulus.len() == cycles * leaves
         && case.stimulus.iter().zip(frame.counts.iter().cycle()).all(|(byte, count)| byte <= count)
         && case.output_length == cycles * frame.output;
@@ -115,7 +115,7 @@ fn break_stimulus(case: &mut Case, frame: &Frame, random: &mut Random) -> Option
     };
     match random.below(2) {
         0 => {
-            let cycles = MAX_STIMULUS / leaves + random.range(1, 2);
+            let cycles = LONGEST_STIMULUS / leaves + random.range(1, 2);
             longer(&mut case.stimulus, cycles * leaves);
             case.output_length = (cycles * frame.output).min(1 << 17);
             Some(tally::OVER)

@@ -16,7 +16,7 @@ use second::random::Random;
 use second::records::{bytes, MAX_RECORDS};
 use second::samples;
 use second::shapes;
-use second::stimulus::MAX_STIMULUS;
+use second::stimulus::LONGEST_STIMULUS;
 
 use super::cases::{few_cycles, good, Frame};
 use super::compare::{Case, Comparer, Ended};
@@ -90,7 +90,7 @@ fn bench_cases(to: &mut Comparer, random: &mut Random) -> Ended {
         let Some(frame) = Frame::of(&sheet) else { continue };
         for k in 0..40 {
             let cycles =
-                if k == 39 { MAX_STIMULUS / frame.counts.len() } else { few_cycles(random) };
+                if k == 39 { LONGEST_STIMULUS / frame.counts.len() } else { few_cycles(random) };
             let case = good(tally::BENCH, sheet.clone(), &frame, cycles, random);
             compare_good(to, &case, &frame, VALUES)?;
             to.tally.add(tally::BENCH, 1);
@@ -251,7 +251,7 @@ fn large(to: &mut Comparer, random: &mut Random) -> Ended {
         let draft = if random.one_in(2) { circuit(random) } else { small(random) };
         let sheet = sheet(&draft, random);
         let Some(frame) = Frame::of(&sheet) else { continue };
-        let cycles = MAX_STIMULUS / frame.counts.len();
+        let cycles = LONGEST_STIMULUS / frame.counts.len();
         if cycles * record_count(&draft) < 1_000_000 {
             let case = good(tally::MANY_CYCLES, sheet, &frame, cycles, random);
             compare_good(to, &case, &frame, 0)?;

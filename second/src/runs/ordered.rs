@@ -191,5 +191,5 @@ pub fn run(comparison: &Comparison, options: &Options) -> ExitCode {
         println!("after {} {} without one", counts.compared, comparison.what);
         return ExitCode::from(1);
     }
-    workers::answer(options, &counts.print(comparison), counts.compared, comparison.what)
+    workers::conclude(options, &counts.print(comparison), counts.compared, comparison.what)
 }

@@ -16,7 +16,7 @@ use second::layout::sheet;
 use second::printout::{listing, refusal};
 use second::random::Random;
 use second::run_mistakes::RunMistake;
-use second::stimulus::MAX_STIMULUS;
+use second::stimulus::LONGEST_STIMULUS;
 
 use super::cases::{few_cycles, good, Frame};
 use super::compare::Case;
@@ -91,7 +91,7 @@ fn accepted(random: &mut Random) -> Option<Case> {
     };
     let sheet = sheet(&draft, random);
     let frame = Frame::of(&sheet)?;
-    let most = MAX_STIMULUS / frame.counts.len();
+    let most = LONGEST_STIMULUS / frame.counts.len();
     let many = random.one_in(40) && most * draft.nodes.len() < 2_000_000;
     let cycles = if many { most } else { few_cycles(random) };
     Some(good("accepted", sheet, &frame, cycles, random))
@@ -163,7 +163,7 @@ pub fn run(program: &str, folder: &str, options: &Options) -> ExitCode {
                 line(format!("sheets with code {code}"), *got, need);
             }
             line("accepted sheets with no cycles".to_string(), of_no_cycles, OF_NO_CYCLES);
-            workers::answer(options, &unmet, codes.iter().sum(), "sheets")
+            workers::conclude(options, &unmet, codes.iter().sum(), "sheets")
         }
     }
 }
