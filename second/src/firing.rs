@@ -92,7 +92,7 @@ fn first_cycle(circuit: &Circuit, given: &[u8]) -> Value {
 pub fn tested(circuit: &Circuit, input: &[u8]) -> Vec<Tested> {
     let mut watch = Watch::nothing();
     let mut stepper = Stepper::new(circuit, IN_FORCE, None, &mut watch);
-    stepper.cycle(input);
+    stepper.look(input);
     stepper.tested().to_vec()
 }
 

@@ -65,6 +65,8 @@ mod sharing_tests;
 #[cfg(test)]
 mod simulator_tests;
 #[cfg(test)]
+mod stepper_tests;
+#[cfg(test)]
 mod text_tests;
 #[cfg(test)]
 mod typing_tests;

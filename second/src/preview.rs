@@ -93,5 +93,5 @@ fn shown(circuit: &Circuit, given: &[u8], mistake: Option<PreviewMistake>) -> Va
     if mistake == Some(PreviewMistake::DelaysAfter) {
         stepper.cycle(input);
     }
-    stepper.cycle(input)
+    stepper.look(input)
 }

@@ -81,7 +81,7 @@ fn counts(case: &Case) -> Vec<(&'static str, bool)> {
     let mut stepper = Stepper::new(&circuit, IN_FORCE, None, &mut watch);
     let outputs = stepper.cycle(&case.stimulus);
     let moves = stepper.next_sheet(&case.sheet) != case.sheet;
-    let after = stepper.cycle(&case.stimulus);
+    let after = stepper.look(&case.stimulus);
     vec![
         (DELAYS, has(DELAY)),
         (DELAYS_MOVE, moves),
