@@ -15,6 +15,7 @@ pub mod evaluator;
 pub mod firing;
 pub mod firing_mistakes;
 pub mod labels;
+pub mod listing;
 pub mod matching;
 pub mod order;
 pub mod preview;
@@ -58,6 +59,8 @@ mod labels_tests;
 mod order_tests;
 #[cfg(test)]
 mod preview_tests;
+#[cfg(test)]
+mod printout_tests;
 #[cfg(test)]
 mod rule_tests;
 #[cfg(test)]

@@ -3,7 +3,6 @@
 use crate::accepted::Circuit;
 use crate::evaluator::Evaluator;
 use crate::matching::{chain, Match};
-use crate::printout::{listing, refusal};
 use crate::records::{bytes, read, A, D, FEEDBACK, IF, KIND};
 use crate::rule::IN_FORCE;
 use crate::run_mistakes::MISTAKES;
@@ -111,24 +110,6 @@ fn t() {
     // Undefined asks: the delay holds 0 from then on.
     let (_, _, outputs, next) = ran(&t, &[2, 0, 1, 2]);
     assert_eq!((outputs, leaves(&next, &[4])), (vec![2, 2, 0, 0], vec![0]));
-}
-
-#[test]
-fn t_listing() {
-    let text = "type 1\n0: 2\n1: 1\n2: 1\ncycles 3\n";
-    let t = samples::t();
-    assert!(
-        matches!(listing(&t, &[1, 2, 1], None), Ok((found, next)) if found == text && next == t)
-    );
-    let pairs = listing(&samples::pair_feedback(), &[2], None);
-    assert!(matches!(pairs, Ok((found, _)) if found == "type 2\n0: 1 1\ncycles 1\n"));
-    let none = listing(&t, &[], None);
-    assert!(matches!(none, Ok((found, next)) if found == "type 1\ncycles 0\n" && next == t));
-    let refusals = [(&t[..], &[1, 3][..]), (&t[..], &[1; 65_536]), (&t[1..], &[])];
-    let lines = ["refused 9 at 1\n", "refused 8 at 0\n", "refused 1 at 0\n"];
-    for ((sheet, stimulus), line) in refusals.into_iter().zip(lines) {
-        assert_eq!(listing(sheet, stimulus, None).map_err(refusal).err().as_deref(), Some(line));
-    }
 }
 
 /// What the pattern of the one IF of a sheet says on values.

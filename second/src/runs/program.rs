@@ -13,7 +13,8 @@ use second::generate::circuits::circuit;
 use second::generate::network::network;
 use second::generate::small::small;
 use second::layout::sheet;
-use second::printout::{listing, refusal};
+use second::listing::refusal_line;
+use second::printout::printout;
 use second::random::Random;
 use second::run_mistakes::RunMistake;
 use second::stimulus::LONGEST_STIMULUS;
@@ -66,9 +67,9 @@ impl Program {
         old: Option<Vec<u8>>,
         mistake: Option<RunMistake>,
     ) -> Result<u8, String> {
-        let (code, text, next) = match listing(&case.sheet, &case.stimulus, mistake) {
+        let (code, text, next) = match printout(&case.sheet, &case.stimulus, mistake) {
             Ok((text, next)) => (answers::ACCEPTED, text, Some(next)),
-            Err(answer) => (answer.code, refusal(answer), old.clone()),
+            Err(answer) => (answer.code, refusal_line(answer), old.clone()),
         };
         let (printed, left) = self.run(case, old.as_deref()).map_err(|error| error.to_string())?;
         if printed != text.as_bytes() {
