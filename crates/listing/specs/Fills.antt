@@ -4,7 +4,7 @@ use mathlib.Core.Path.{_≡_}
 use mathlib.Core.List.{List}
 use lib.ListN.{length, drop}
 use Rattle.listing.specs.Lines.{cycleLines}
-use Rattle.listing.specs.Wrote.{TextPut}
+use Rattle.listing.specs.Wrote.{TextPut, lineBytes}
 
 -- what is asked: lines of 1 to 64 leaves; cycle k's begin at the leaf `first`
 pub record FillingLines (buffer : List ℕ) (at k w : ℕ) (outputs : List ℕ) (first : ℕ) : Type 0 where
@@ -25,4 +25,4 @@ pub record Filling (buffer : List ℕ) (at k w : ℕ) (outputs : List ℕ) (firs
 -- what is given: it stops only where no cycle is left or a line might not fit
 pub record FilledLines (buffer : List ℕ) (at k w : ℕ) (outputs : List ℕ) (first : ℕ) (after : List ℕ) (count next end : ℕ) : Type 0 where
   pub lines : Filling buffer at k w outputs first after count next end
-  pub full : next + w ≤ length outputs → length buffer < end + 280
+  pub full : next + w ≤ length outputs → length buffer < end + lineBytes

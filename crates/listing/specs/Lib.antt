@@ -5,6 +5,6 @@ pub mod Lines
 pub mod Promises
 -- Worked examples, by computation:
 pub mod Examples
--- What functions ask and give, and their proofs need:
+-- What functions ask and give, and their proofs need; `WholeListing` speaks of what `put_lines` gives:
 pub mod Wrote
 pub mod Fills

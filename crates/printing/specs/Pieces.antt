@@ -35,10 +35,10 @@ pub record Pieced (before : List ℕ) (w : ℕ) (outputs after : List ℕ) (end 
   pub start : first ≡ k * w
   pub inside : first ≤ length outputs
 
-pub data Pieces (w : ℕ) (outputs : List ℕ) : (before text : List ℕ) → Type 0 where
+pub data PiecesLaid (w : ℕ) (outputs : List ℕ) : (before text : List ℕ) → Type 0 where
   last-one :
       {before : List ℕ} (buffer : List ℕ) (end k first : ℕ) → Pieced before w outputs buffer end k first true
-      → Pieces w outputs before (take end buffer)
+      → PiecesLaid w outputs before (take end buffer)
   then-more :
       {before text : List ℕ} (buffer : List ℕ) (end k first : ℕ) → Pieced before w outputs buffer end k first false
-      → Pieces w outputs (textFrom w k outputs) text → Pieces w outputs before (take end buffer ++ text)
+      → PiecesLaid w outputs (textFrom w k outputs) text → PiecesLaid w outputs before (take end buffer ++ text)

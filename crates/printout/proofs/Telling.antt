@@ -31,7 +31,7 @@ use Rattle.simulator.specs.Calls.{Ran}
 use Rattle.listing.specs.Lines.{refusedLine}
 use Rattle.printing.specs.Pieces.{toldText}
 use Rattle.printout.specs.Printout.{outputRecord, runAnswer, runOutputs, runSheet, printed, RunTold}
-use Rattle.printout.specs.OutputsLong.{OutputsLong}
+use Rattle.printout.specs.Lengths.{OutputsMeasured}
 
 -- an answer depends on the slices' lengths alone
 answer-by-lengths : (s stim out out₂ next next₂ : List ℕ) → length out ≡ length out₂ → length next ≡ length next₂
@@ -70,7 +70,7 @@ refusal-text : (c p t w : ℕ) (outputs : List ℕ) → 0 < c → toldText c p t
 refusal-text zero p t w outputs h = absurd (omega arith)
 refusal-text (suc c) p t w outputs h = refl
 
-module _ (s stim : List ℕ) (i o t many : ℕ) (m : Measured s i o t) (q : OutputsLong i o (length stim) many) (lo ln : List ℕ) (eo : length lo ≡ many) (en : length ln ≡ length s) where
+module _ (s stim : List ℕ) (i o t many : ℕ) (m : Measured s i o t) (q : OutputsMeasured i o (length stim) many) (lo ln : List ℕ) (eo : length lo ≡ many) (en : length ln ≡ length s) where
   -- by the verdict and the stimulus' length
   same-refused : (c p : ℕ) → verdictAnswer (verdict s) ≡ Refused c p → answer s stim lo ln ≡ runAnswer s stim
   unfolding runAnswer
@@ -183,7 +183,7 @@ module _ (s stim : List ℕ) (i o t many : ℕ) (m : Measured s i o t) (q : Outp
             absurd (omega arith)
 
 -- the same of the front parts of the rooms lent
-module _ (s stim : List ℕ) (i o t many : ℕ) (m : Measured s i o t) (q : OutputsLong i o (length stim) many) (out next : List ℕ)
+module _ (s stim : List ℕ) (i o t many : ℕ) (m : Measured s i o t) (q : OutputsMeasured i o (length stim) many) (out next : List ℕ)
     (room : (4194240 ≤ length out) × (length s ≤ length next)) where
   out-long : length (take (many - 0) out) ≡ many
   out-long = let h = q .small in let r = room .0 in length-take-le (many - 0) out (omega arith) ∙ omega arith

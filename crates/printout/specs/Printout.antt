@@ -6,7 +6,6 @@ use mathlib.Core.Bool.{Bool, true, false}
 use mathlib.Core.List.{List}
 use lib.ListN.{length, take, replicate}
 use Rattle.picoella.specs.Language.{leaves}
-use Rattle.records.specs.Limits.{mostLeaves}
 use Rattle.records.specs.Trees.{typeAt}
 use Rattle.answers.specs.Answers.{code, place, verdictAnswer}
 use Rattle.answers.specs.declared.Answer.{Answer}
@@ -50,5 +49,5 @@ pub record RunTold (s stim : List ℕ) (c p t w many : ℕ) (out′ next′ : Li
   pub text : toldText c p t w (take many out′) ≡ printed s stim
   pub inside : many ≤ length out′
   pub some : 0 < w
-  pub few : w ≤ mostLeaves
+  pub few : w ≤ 64
   pub next : c ≡ 0 → take (length s) next′ ≡ runSheet s stim

@@ -3,7 +3,7 @@ ghost use mathlib.Core.Path.{_≡_};
 ghost use Prim.Native.Nat.{_≤_, _<_};
 ghost use lib.ListN.{length};
 ghost use Rattle.printout.specs.Printout.{RunTold};
-ghost use Rattle.printout.specs.OutputsLong.{OutputsLong, mostOutput};
+ghost use Rattle.printout.specs.Lengths.{OutputsMeasured, mostOutput};
 ghost use Rattle.records.specs.Limits.{mostLeaves};
 use answers::code_of;
 use answers::place_of;
@@ -41,7 +41,7 @@ fn width(leaves: usize) -> usize
 // The length of the outputs for a stimulus of so many bytes; of one that is refused, none.
 fn outputs_length(input: usize, output: usize, all: usize) -> usize
     requires { ⌜ output ≤ mostLeaves ⌝ }
-    ensures { λ r. ⌜ OutputsLong input output all r ⌝ }
+    ensures { λ r. ⌜ OutputsMeasured input output all r ⌝ }
 {
     if input == 0 {
         return 0;

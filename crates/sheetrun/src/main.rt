@@ -3,7 +3,7 @@ ghost use Prim.Native.Nat.{_≤_};
 ghost use mathlib.Core.Path.{_≡_};
 ghost use lib.ListN.{length, take};
 ghost use Rattle.printout.specs.Printout.{runSheet, unopenedFile};
-ghost use Rattle.printout.specs.OutputsLong.{mostOutput, sheetRoom};
+ghost use Rattle.printout.specs.Lengths.{mostOutput, sheetRoom};
 use files::print;
 use files::read_named;
 use files::refuse_file;
