@@ -1,38 +1,23 @@
 -- What evaluating a record gives, by its kind, from what evaluating its parts gives: a law a kind, for the value and for the table.
--- A feedback's value is the first that an application gives back unchanged, and a second evaluation of its part replaces what
--- the first one entered; so the round that finds the value unchanged leaves the table of the settled value. And the circuit's
--- value and table are those of the root.
+-- A second evaluation of a feedback's part replaces what the first one entered; so the round that finds the value unchanged leaves the
+-- table of the settled value. And the circuit's value and table are those of the root.
 -- Assumes nothing.
-use Prim.Native.Nat.{ℕ, _≤_, _<_}
+use Prim.Native.Nat.{ℕ, _<_}
 use mathlib.Core.List.{List, [], _∷_, _++_}
 use mathlib.Core.Path.{_≡_, refl, _∙_}
 use lib.ListN.{getD, take, drop}
-use Rattle.picoella.specs.Language.{Ty, leaves}
+use Rattle.picoella.specs.Language.{leaves}
 use Rattle.records.specs.Words.{count, wordA, wordB, wordC, wordD}
-use Rattle.records.specs.Kinds.{
-  expression,
-  constant,
-  name,
-  tuple,
-  first,
-  second,
-  letIn,
-  feedback,
-  ifMatches,
-  delay,
-}
+use Rattle.records.specs.Kinds.{expression, constant, name, tuple, first, second, letIn, feedback, ifMatches, delay}
 use Rattle.records.specs.Says.{kindAt}
 use Rattle.records.specs.Trees.{typeAt, chain, alternatives, treeAt, circuit, typeRecordOf}
 use Rattle.records.specs.Decoding.{leafValues, patternOf}
 use Rattle.records.specs.Written.{Written}
 use Rattle.records.proofs.Trees.{tree-of}
 use Rattle.verdict.specs.Scopes.{inputs}
-use Rattle.meaning.specs.Values.{undefined}
 use Rattle.meaning.specs.Undecided.{undecidedRule}
 use Rattle.meaning.specs.Matching.{matches}
-use Rattle.meaning.specs.Elaboration.{Term}
-use Rattle.meaning.specs.Evaluation.{iter, choose, eval, application, settled, next}
-use Rattle.meaning.proofs.FixedPoint.{iter-stays}
+use Rattle.meaning.specs.Evaluation.{choose, eval, settled, next}
 use Rattle.behaviour.specs.Terms.{term, circuitTerm}
 use Rattle.behaviour.specs.Delays.{entries, store}
 use Rattle.behaviour.specs.Entries.{assigned, putAll, enter}
@@ -51,12 +36,6 @@ pub root-stored : (s i h : List ℕ)
     → store (next undecidedRule (i ∷ []) (circuitTerm s)) h ≡ storedAt undecidedRule s (inputs s) (i ∷ []) (wordB s 0) h
 unfolding storedAt circuitTerm circuit
 root-stored s i h = refl
-
--- the value of a feedback's name: any in the chain from undefined that an application gives back unchanged
-pub stopped-settled : (ρ : List (List ℕ)) (σ : Ty) (t : Term) (k : ℕ) → k ≤ leaves σ
-    → application undecidedRule ρ t (iter (application undecidedRule ρ t) k (undefined σ)) ≡ iter (application undecidedRule ρ t) k (undefined σ)
-    → settled undecidedRule ρ σ t ≡ iter (application undecidedRule ρ t) k (undefined σ)
-stopped-settled ρ σ t k h e = iter-stays (application undecidedRule ρ t) k (undefined σ) e (leaves σ) h
 
 -- a second evaluation of a record replaces what the first one entered
 pub stored-again : (s Γ : List ℕ) (ρ π : List (List ℕ)) (r : ℕ) (h : List ℕ)
