@@ -91,7 +91,7 @@ enum sheet_code {
      * done, a translation's the length of the sheet in bytes, that of every other call 0.
      */
     SHEET_DONE = 0,
-    /* The check's and the run's word for it. A translation's 0 does not say that the sheet is accepted: it checks nothing. */
+    /* The check's and the run's word for it. A translation's 0 does not say that the sheet is accepted: it does not check it. */
     SHEET_ACCEPTED = SHEET_DONE,
 
     /* The sheet is refused, by every call that takes one; in carrying, the old one. */
