@@ -46,7 +46,7 @@ int main(int count, char **words)
         return refuse(SHEET_NO_FILE, 2);
 
     uint64_t result = sheet_carry(old_sheet, old_length, new_sheet, new_length, next, new_length);
-    if (sheet_code_of(result) != SHEET_ACCEPTED)
+    if (sheet_code_of(result) != SHEET_DONE)
         return refuse(sheet_code_of(result), sheet_place_of(result));
     if (!write_file(words[3], next, new_length)) {
         fprintf(stderr, "%s cannot be written.\n", words[3]);

@@ -16,12 +16,12 @@ static uint8_t sheet[SHEET_LONGEST + 1];
 
 static int tell(uint32_t code, uint32_t place)
 {
-    if (code == SHEET_ACCEPTED)
-        printf("type %lu\n", (unsigned long)place);
-    else
-        printf("refused %lu at %lu\n", (unsigned long)code, (unsigned long)place);
-    puts(sheet_sentence(code));
-    return code == SHEET_ACCEPTED ? 0 : 1;
+    if (code == SHEET_ACCEPTED) {
+        printf("type %lu\nThe sheet is accepted.\n", (unsigned long)place);
+        return 0;
+    }
+    printf("refused %lu at %lu\n%s\n", (unsigned long)code, (unsigned long)place, sheet_sentence(code));
+    return 1;
 }
 
 int main(int count, char **words)

@@ -13,7 +13,7 @@
 
 /* One byte more than the longest of each: a longer file is refused for its length, whatever follows. */
 static uint8_t sheet[SHEET_LONGEST + 1], input[SHEET_LONGEST_STIMULUS + 1];
-static uint16_t fired[SHEET_LONGEST / 12];
+static uint16_t fired[SHEET_MOST_RECORDS];
 
 static int refuse(uint32_t code, uint32_t place)
 {
@@ -37,7 +37,7 @@ int main(int count, char **words)
     /* A sheet that is accepted has whole records, at most as many as there is room for. */
     size_t records = length / 12;
     uint64_t result = sheet_fired(sheet, length, input, input_length, fired, records);
-    if (sheet_code_of(result) != SHEET_ACCEPTED)
+    if (sheet_code_of(result) != SHEET_DONE)
         return refuse(sheet_code_of(result), sheet_place_of(result));
     for (size_t record = 0; record < records; record++)
         if (fired[record] != 0)

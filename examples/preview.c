@@ -33,15 +33,15 @@ int main(int count, char **words)
     if (!read_file(words[2], stimulus, sizeof stimulus, &stimulus_length))
         return refuse(SHEET_NO_FILE, 2);
 
-    /* With no room for outputs a good preview is refused with code 10 and the length that they need, at most 64. */
-    uint8_t out[64];
+    /* With no room for outputs a good preview is refused with code 10 and the length that they need, at most SHEET_MOST_LEAVES. */
+    uint8_t out[SHEET_MOST_LEAVES];
     size_t leaves = 0;
     uint64_t result = sheet_preview(sheet, length, stimulus, stimulus_length, out, 0);
     if (sheet_code_of(result) == SHEET_WRONG_OUTPUT_LENGTH) {
         leaves = sheet_place_of(result);
         result = sheet_preview(sheet, length, stimulus, stimulus_length, out, leaves);
     }
-    if (sheet_code_of(result) != SHEET_ACCEPTED)
+    if (sheet_code_of(result) != SHEET_DONE)
         return refuse(sheet_code_of(result), sheet_place_of(result));
     fputs("shows", stdout);
     for (size_t leaf = 0; leaf < leaves; leaf++)

@@ -56,7 +56,7 @@ int main(int count, char **words)
         return refuse(SHEET_NO_FILE, 1);
 
     uint64_t result = sheet_translate(text, length, sheet, sizeof sheet);
-    if (sheet_code_of(result) != SHEET_ACCEPTED)
+    if (sheet_code_of(result) != SHEET_DONE)
         return refuse(sheet_code_of(result), sheet_place_of(result));
     if (!write_file(words[2], sheet, sheet_place_of(result))) {
         fprintf(stderr, "%s cannot be written.\n", words[2]);

@@ -90,13 +90,13 @@ static int carry_differs(const uint8_t *sheet, size_t length, uint64_t verdict)
 {
     uint8_t *copy = memcpy(block(length), sheet, length), *next = block(length);
     uint64_t result = sheet_carry(sheet, length, copy, length, next, length);
-    if (sheet_code_of(result) == SHEET_ACCEPTED)
+    if (sheet_code_of(result) == SHEET_DONE)
         look_at(next, length);
     free(copy);
     free(next);
     if (sheet_code_of(verdict) != SHEET_ACCEPTED)
         return result != verdict;
-    return sheet_code_of(result) != SHEET_ACCEPTED && sheet_code_of(result) != SHEET_LABEL_TWICE;
+    return sheet_code_of(result) != SHEET_DONE && sheet_code_of(result) != SHEET_LABEL_TWICE;
 }
 
 int main(int count, char **words)

@@ -202,7 +202,7 @@ void expect_carry_refused(const char *name, const struct carry_call *call, uint3
 void expect_carried(const char *name, const struct carry_call *call, const uint8_t *next)
 {
     struct carry_answer answer = guarded_carry(name, call);
-    tally_result(name, "carry", answer.result, SHEET_ACCEPTED, 0);
+    tally_result(name, "carry", answer.result, SHEET_DONE, 0);
     tally_bytes(name, "next", answer.next, next, call->next_length);
 }
 

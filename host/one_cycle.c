@@ -68,7 +68,7 @@ void expect_one_cycle(const char *name, const struct one_cycle *lent, const uint
     struct one_cycle_answer answer = guarded_one_cycle(name, lent);
     size_t at = 0;
     char what[128] = "";
-    tally_answer(name, answer.result, SHEET_ACCEPTED, 0);
+    tally_answer(name, answer.result, SHEET_DONE, 0);
     while (at < lent->slice_bytes && answer.slice[at] == slice[at])
         at++;
     if (at < lent->slice_bytes)

@@ -162,11 +162,22 @@ static void measure(const char *name, void (*call)(void), size_t figure)
     tally(most >= figure / 2, name, "the call never uses half of the stack that sheet.h says");
 }
 
-/* Codes and places are taken apart, and each code has its own sentence. */
+/*
+ * Codes and places are taken apart, 0 has two names, and each code has its own sentence; that of 0 is true of a translation too. The
+ * limits fit each other, and so do the three forms of the version.
+ */
 static void header_calls(void)
 {
     uint64_t result = (uint64_t)SHEET_ILL_TYPED << 32 | 4095;
     tally(sheet_code_of(result) == 7 && sheet_place_of(result) == 4095, "sheet.h", "a result taken apart");
+    tally(SHEET_DONE == 0 && SHEET_ACCEPTED == 0, "sheet.h", "a name of code 0");
+    tally(strstr(sheet_sentence(SHEET_DONE), "accepted") == NULL, "sheet.h", "the sentence of code 0 says that a sheet is accepted");
+    tally(SHEET_LONGEST == SHEET_MOST_RECORDS * RECORD_BYTES, "sheet.h", "the longest sheet has another number of records");
+    tally(SHEET_LONGEST_OUTPUT == SHEET_LONGEST_STIMULUS * SHEET_MOST_LEAVES, "sheet.h", "the longest output has other leaves");
+    char version[16];
+    int number = SHEET_VERSION_NUMBER;
+    snprintf(version, sizeof version, "%d.%d.%d", number / 10000, number / 100 % 100, number % 100);
+    tally(strcmp(version, SHEET_VERSION) == 0, "sheet.h", "the version as text is not the version as a number");
     static const uint32_t codes[] = {0, 1, 2, 3, 4, 5, 6, 7, 8, 9, 10, 11, 12, 13, 14, 15, 16, 18, 19, 255};
     for (size_t one = 0; one < sizeof codes / sizeof *codes; one++)
         for (size_t other = 0; other < one; other++)

@@ -219,7 +219,7 @@ static void damaged(void)
             struct translated answer = guarded_translate("T's text with a byte changed", &call);
             uint32_t code = sheet_code_of(answer.result), place = sheet_place_of(answer.result);
             int within = (code == SHEET_WRONG_TEXT && place <= made.length) || (code == SHEET_WRONG_NAME && place < made.length);
-            int whole = code == SHEET_ACCEPTED && place % RECORD_BYTES == 0 && 36 <= place && place <= 300;
+            int whole = code == SHEET_DONE && place % RECORD_BYTES == 0 && 36 <= place && place <= 300;
             tally((within && answer.untouched) || whole, "T's text with a byte changed", "an answer that no text of this length has");
         }
         made.bytes[at] = kept;

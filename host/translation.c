@@ -65,7 +65,7 @@ void expect_translated(const char *name, const struct translation *lent, const u
     struct translated answer = guarded_translate(name, lent);
     size_t at = 0;
     char what[128] = "";
-    tally_answer(name, answer.result, SHEET_ACCEPTED, (uint32_t)length);
+    tally_answer(name, answer.result, SHEET_DONE, (uint32_t)length);
     while (at < lent->sheet_length && answer.sheet[at] == (at < length ? sheet[at] : 0))
         at++;
     if (at < lent->sheet_length)
@@ -76,7 +76,7 @@ void expect_translated(const char *name, const struct translation *lent, const u
 void expect_length(const char *name, const struct translation *lent, size_t length)
 {
     struct translated answer = guarded_translate(name, lent);
-    tally_answer(name, answer.result, SHEET_ACCEPTED, (uint32_t)length);
+    tally_answer(name, answer.result, SHEET_DONE, (uint32_t)length);
     tally(length <= lent->sheet_length && all_are(answer.sheet + length, lent->sheet_length - length, 0), name,
           "the slice is not zero after the sheet");
 }

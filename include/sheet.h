@@ -15,7 +15,8 @@
  *         What is the sheet of a circuit typed with names?
  *
  * A result holds a code and a place: take them with sheet_code_of and sheet_place_of, and turn a code into a sentence with
- * sheet_sentence. What a sheet is, what a cycle computes and when each code is given is in docs/SHEETS.md.
+ * sheet_sentence. What a sheet is, what a cycle computes and when each code is given is in docs/SHEETS.md. Above the declaration of
+ * each call stands a sample, which takes from the host around it the slices and lengths that it does not declare.
  *
  * RULES FOR EVERY CALL
  *
@@ -56,11 +57,17 @@ extern "C" {
  */
 #define SHEET_VERSION_MAJOR 1
 #define SHEET_VERSION_MINOR 5
-#define SHEET_VERSION_PATCH 0
+#define SHEET_VERSION_PATCH 1
 
 /* The same as text, and as one number to compare: 1.2.3 is 10203. */
-#define SHEET_VERSION "1.5.0"
+#define SHEET_VERSION "1.5.1"
 #define SHEET_VERSION_NUMBER (SHEET_VERSION_MAJOR * 10000 + SHEET_VERSION_MINOR * 100 + SHEET_VERSION_PATCH)
+
+/* The most records that a sheet may have. */
+#define SHEET_MOST_RECORDS 4096
+
+/* The most leaves that a type may have, and so the most bytes that one cycle takes in or puts out. */
+#define SHEET_MOST_LEAVES 64
 
 /* The most bytes that a sheet may have: 4,096 records of 12. */
 #define SHEET_LONGEST 49152
@@ -75,15 +82,17 @@ extern "C" {
 #define SHEET_LONGEST_TEXT 65535
 
 /*
- * A result is code * 2^32 + place. Of the checks that a call makes, in its order, the first that applies is answered, with its place. Above each code stands what its
- * place says; sheet_sentence has a sentence on it for people.
+ * A result is code * 2^32 + place. Of the checks that a call makes, in its order, the first that applies is answered, with its
+ * place. Above each code stands what its place says; sheet_sentence has a sentence on it for people.
  */
 enum sheet_code {
     /*
-     * The check's place is the record of the output's type, a run's the number of cycles done, a translation's the length of the
-     * sheet in bytes, that of every other call 0.
+     * Nothing is refused, by whichever call. The check's place is the record of the output's type, a run's the number of cycles
+     * done, a translation's the length of the sheet in bytes, that of every other call 0.
      */
-    SHEET_ACCEPTED = 0,
+    SHEET_DONE = 0,
+    /* The check's and the run's word for it. A translation's 0 does not say that the sheet is accepted: it does not check it. */
+    SHEET_ACCEPTED = SHEET_DONE,
 
     /* The sheet is refused, by every call that takes one; in carrying, the old one. */
     /* Place 0. */
@@ -101,7 +110,7 @@ enum sheet_code {
     /* The sheet is accepted and the run, the preview or sheet_fired is refused. */
     /* Place 0. */
     SHEET_WRONG_STIMULUS = 8,
-    /* The first such byte of the stimulus, counted from 0. */
+    /* The first byte of the stimulus that is above the constructor count of its leaf, counted from 0. */
     SHEET_WRONG_INPUT = 9,
     /* Codes 10 and 11: the length that is needed, in bytes. Carrying gives 11 too. */
     SHEET_WRONG_OUTPUT_LENGTH = 10,
@@ -113,9 +122,9 @@ enum sheet_code {
     /* A text is not translated. Its bytes are counted from 0. */
     /* The first byte at which no legal text goes on, 65,535 at the latest; the text's length where it ends too soon. */
     SHEET_WRONG_TEXT = 13,
-    /* The first byte of the first such name; where no name is wrong, that of the first such pair's bracket. */
+    /* The first byte of the first wrong name; where no name is wrong, the bracket of the first constant pair that has no type. */
     SHEET_WRONG_NAME = 14,
-    /* The length that the sheet needs, in bytes; over SHEET_LONGEST where it would have over 4,096 records. */
+    /* The length that the sheet needs, in bytes; over SHEET_LONGEST where it would have over SHEET_MOST_RECORDS records. */
     SHEET_NO_ROOM = 15,
 
     /* Of sheet_fired: the number of words that is needed. */
@@ -144,7 +153,7 @@ static inline uint32_t sheet_place_of(uint64_t result)
 static inline const char *sheet_sentence(uint32_t code)
 {
     static const char *const sentences[] = {
-        "The sheet is accepted.",
+        "Done: nothing is refused.",
         "The sheet is under 12 bytes long, over 49,152, or no multiple of 12.",
         "The header's kind, count or last word is wrong, or it names no record or one of the wrong sort.",
         "A record has an unknown kind, or a word that its kind, the numbering rule or the sort it asks for does not allow.",
@@ -227,9 +236,7 @@ uint64_t sheet_check(const uint8_t *sheet, size_t length);
 uint64_t sheet_run(const uint8_t *sheet, size_t sheet_length, const uint8_t *stim, size_t stim_length, uint8_t *out,
                    size_t out_length, uint8_t *next, size_t next_length);
 
-/*
- * Carrying's stack need, measured as the check's. A table of 65,536 labels, 128 KiB of it, is held while no check runs.
- */
+/* Carrying's stack need, measured as the check's. A table of 65,536 labels, 128 KiB of it, is held while no check runs. */
 #define SHEET_CARRY_STACK 245760
 
 /*
@@ -243,13 +250,13 @@ uint64_t sheet_run(const uint8_t *sheet, size_t sheet_length, const uint8_t *sti
  * run led to into the sheet that the run began from gives the former, byte for byte.
  *
  *     uint64_t result = sheet_carry(running, running_length, changed, changed_length, next, changed_length);
- *     if (sheet_code_of(result) == SHEET_ACCEPTED)
+ *     if (sheet_code_of(result) == SHEET_DONE)
  *         result = sheet_run(next, changed_length, stim, stim_length, out, out_length, after, changed_length);
  */
 uint64_t sheet_carry(const uint8_t *old_sheet, size_t old_length, const uint8_t *new_sheet, size_t new_length, uint8_t *next,
                      size_t next_length);
 
-/* The stack need of the call for fired alternatives, bounded as the run's. */
+/* The stack need of the call for fired alternatives, measured as the check's and bounded as the run's. */
 #define SHEET_FIRED_STACK 131072
 
 /*
@@ -260,10 +267,11 @@ uint64_t sheet_carry(const uint8_t *old_sheet, size_t old_length, const uint8_t 
  * The stimulus is exactly one cycle: an empty one and more than one cycle are refused by code 8. `fired` is one word for each record,
  * so as long as the sheet's length divided by 12; any other length is refused by code 16, whose place is the number of words needed.
  * The length counts words of 16 bits, and `fired` is aligned to 2. The sheet is not written: the cycle is looked at, not taken.
+ * In this sample the sheet's slice has at most SHEET_LONGEST bytes, so that `fired` has the words that are lent.
  *
- *     static uint16_t fired[4096];
+ *     static uint16_t fired[SHEET_MOST_RECORDS];
  *     uint64_t result = sheet_fired(sheet, length, stim, stim_length, fired, length / 12);
- *     if (sheet_code_of(result) == SHEET_ACCEPTED)
+ *     if (sheet_code_of(result) == SHEET_DONE)
  *         for (size_t record = 0; record < length / 12; record++)
  *             if (fired[record] != 0)
  *                 printf("record %zu: alternative %d\n", record, fired[record]);
@@ -271,7 +279,7 @@ uint64_t sheet_carry(const uint8_t *old_sheet, size_t old_length, const uint8_t 
 uint64_t sheet_fired(const uint8_t *sheet, size_t sheet_length, const uint8_t *stim, size_t stim_length, uint16_t *fired,
                      size_t fired_length);
 
-/* The preview's stack need, from the caller's frame down: no more than this. */
+/* The preview's stack need, measured as the check's and bounded as the run's. */
 #define SHEET_PREVIEW_STACK 131072
 
 /*
@@ -280,15 +288,16 @@ uint64_t sheet_fired(const uint8_t *sheet, size_t sheet_length, const uint8_t *s
  *
  * `stim` is exactly one cycle, as many bytes as the input has leaves; an empty stimulus and one of several cycles are refused by 8. On
  * success `out` holds the output's leaves, the bytes that sheet_run puts out for that cycle; the sheet is only read. `out` is to be as
- * long as the output has leaves: lent with length 0, a good preview is refused with code 10, whose place is that length, 1 to 64.
+ * long as the output has leaves: lent with length 0, a good preview is refused with code 10, whose place is that length, 1 to
+ * SHEET_MOST_LEAVES.
  *
- *     uint8_t out[64];
+ *     uint8_t out[SHEET_MOST_LEAVES];
  *     uint64_t result = sheet_preview(sheet, length, stim, stim_length, out, 0);
  *     if (sheet_code_of(result) == SHEET_WRONG_OUTPUT_LENGTH) {
  *         size_t needed = sheet_place_of(result);
  *         result = sheet_preview(sheet, length, stim, stim_length, out, needed);
  *     }
- *     if (sheet_code_of(result) == SHEET_ACCEPTED)
+ *     if (sheet_code_of(result) == SHEET_DONE)
  *         printf("first leaf %d\n", out[0]);
  */
 uint64_t sheet_preview(const uint8_t *sheet, size_t sheet_length, const uint8_t *stim, size_t stim_length, uint8_t *out,
@@ -307,8 +316,8 @@ uint64_t sheet_preview(const uint8_t *sheet, size_t sheet_length, const uint8_t 
  * the input's type, and one expression. On success the place is the length of the sheet in bytes, a multiple of 12 from 36 to
  * SHEET_LONGEST; `sheet` holds it from its start, and zeros from there to its end. A longer slice is as good, and one of
  * SHEET_LONGEST bytes is long enough for every sheet. The length can be asked for: lend `sheet` with length 0, and a good text is
- * refused with code 15, whose place is the length. A text of more than 4,096 records is refused with 15 whatever the slice; its
- * place is then above SHEET_LONGEST.
+ * refused with code 15, whose place is the length. A text of more than SHEET_MOST_RECORDS records is refused with 15 whatever the
+ * slice; its place is then above SHEET_LONGEST.
  *
  * Codes 13 and 14 have as their place a byte of the text, counted from 0: for 13 the first one with which no legal text goes on,
  * also inside a word, or the text's length if more was to come; for 14 the first byte of a name that is declared twice, not declared,
@@ -322,7 +331,7 @@ uint64_t sheet_preview(const uint8_t *sheet, size_t sheet_length, const uint8_t 
  *     static uint8_t sheet[SHEET_LONGEST];
  *     uint64_t result = sheet_translate((const uint8_t *)text, strlen(text), sheet, sizeof sheet);
  *     size_t length = sheet_place_of(result);
- *     if (sheet_code_of(result) == SHEET_ACCEPTED)
+ *     if (sheet_code_of(result) == SHEET_DONE)
  *         result = sheet_check(sheet, length);
  *     else
  *         printf("byte %zu: %s\n", length, sheet_sentence(sheet_code_of(result)));

@@ -4,7 +4,7 @@
 use std::collections::HashMap;
 
 use crate::accepted::Circuit;
-use crate::answers::Answer;
+use crate::answers::{Answer, LABEL_TWICE, NEW_SHEET_REFUSED, WRONG_NEXT_LENGTH};
 use crate::carry_mistakes::CarryMistake;
 use crate::labels::without_labels;
 use crate::records::{A, B, D, FLAT, KIND};
@@ -28,7 +28,7 @@ pub struct Outcome {
 pub fn carry(call: &Call, mistake: Option<CarryMistake>) -> Outcome {
     match judge(call, mistake) {
         Ok((old, new)) => {
-            let answer = Answer { code: 0, place: 0 };
+            let answer = Answer::accepted(0);
             Outcome { answer, next: Some(carried(&old, &new, call.new, mistake)) }
         }
         Err(answer) => {
@@ -43,8 +43,8 @@ pub fn carry(call: &Call, mistake: Option<CarryMistake>) -> Outcome {
 fn judge(call: &Call, mistake: Option<CarryMistake>) -> Result<(Circuit, Circuit), Answer> {
     let new = Circuit::read(call.new).map_err(|answer| match mistake {
         Some(CarryMistake::CodeOfNew) => answer,
-        Some(CarryMistake::PlaceOfNew) => Answer { code: 18, place: answer.place },
-        _ => Answer { code: 18, place: u32::from(answer.code) },
+        Some(CarryMistake::PlaceOfNew) => Answer { code: NEW_SHEET_REFUSED, place: answer.place },
+        _ => Answer { code: NEW_SHEET_REFUSED, place: u32::from(answer.code) },
     });
     let old = Circuit::read(call.old);
     let (old, new) = match (old, new) {
@@ -55,12 +55,12 @@ fn judge(call: &Call, mistake: Option<CarryMistake>) -> Result<(Circuit, Circuit
         Some(CarryMistake::LengthOfOld) => call.old.len(),
         _ => call.new.len(),
     };
-    let wrong_length =
-        (call.next_length != needed).then_some(Answer { code: 11, place: needed as u32 });
+    let wrong_next_length = (call.next_length != needed)
+        .then_some(Answer { code: WRONG_NEXT_LENGTH, place: needed as u32 });
     let twice = |circuit: &Circuit| {
-        borne_twice(circuit, mistake).map(|delay| Answer { code: 19, place: delay as u32 })
+        label_twice(circuit, mistake).map(|delay| Answer { code: LABEL_TWICE, place: delay as u32 })
     };
-    let mut faults = [twice(&old), twice(&new), wrong_length];
+    let mut faults = [twice(&old), twice(&new), wrong_next_length];
     match mistake {
         Some(CarryMistake::NewLabelsFirst) => faults.swap(0, 1),
         Some(CarryMistake::ElevenFirst) => faults.rotate_right(1),
@@ -87,7 +87,7 @@ fn bearers(circuit: &Circuit, mistake: Option<CarryMistake>) -> HashMap<u16, usi
 }
 
 /// The lowest delay whose label a lower one bears.
-fn borne_twice(circuit: &Circuit, mistake: Option<CarryMistake>) -> Option<usize> {
+fn label_twice(circuit: &Circuit, mistake: Option<CarryMistake>) -> Option<usize> {
     let bearers = bearers(circuit, mistake);
     let first = |delay: usize| {
         let lowest = bearers.get(&label(circuit, delay, mistake)?).copied()?;
@@ -103,7 +103,7 @@ fn borne_twice(circuit: &Circuit, mistake: Option<CarryMistake>) -> Option<usize
 
 /// Whether two types have the same shape: pairs, and flats of equal counts, in
 /// the same places.
-pub fn alike(one: &Circuit, of: u16, other: &Circuit, as_of: u16) -> bool {
+pub fn same_shape(one: &Circuit, of: u16, other: &Circuit, as_of: u16) -> bool {
     let mut open = vec![(of, as_of)];
     while let Some((of, as_of)) = open.pop() {
         let (first, second) = (one.records[usize::from(of)], other.records[usize::from(as_of)]);
@@ -139,7 +139,7 @@ fn carries(
         Some(CarryMistake::LeafCountAlone) => old.counts(from).len() == new.counts(to).len(),
         Some(CarryMistake::PairsNotCompared) => old.counts(from) == new.counts(to),
         Some(CarryMistake::AnyShape) => true,
-        _ => alike(old, from, new, to),
+        _ => same_shape(old, from, new, to),
     }
 }
 

@@ -9,11 +9,11 @@ pub enum CarryMistake {
     FirstBearer,
     /// The place of 19 is the highest delay whose label a lower one bears.
     HighestBearer,
-    /// Flat types are alike whatever their counts.
+    /// Flat types have the same shape whatever their counts.
     CountsNotCompared,
-    /// Types are alike where they have as many leaves.
+    /// Types have the same shape where they have as many leaves.
     LeafCountAlone,
-    /// Types are alike where their leaves have the same counts.
+    /// Types have the same shape where their leaves have the same counts.
     PairsNotCompared,
     /// A value is carried whatever the types.
     AnyShape,

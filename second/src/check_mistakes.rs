@@ -1,6 +1,8 @@
 //! Mistakes that the check can be told to make, so that a comparison can be
 //! shown to find them.
 
+use crate::answers::{ILL_TYPED, TOO_DEEP, WRONG_NAMING, WRONG_RECORD, WRONG_TYPE};
+
 #[derive(Clone, Copy, PartialEq, Eq, Debug)]
 pub enum CheckMistake {
     /// No sheet is accepted.
@@ -38,11 +40,11 @@ pub enum CheckMistake {
 /// Every mistake and its name.
 pub const MISTAKES: [(&str, CheckMistake); 23] = [
     ("refuse-all", CheckMistake::RefuseAll),
-    ("no-code-3", CheckMistake::NoCode(3)),
-    ("no-code-4", CheckMistake::NoCode(4)),
-    ("no-code-5", CheckMistake::NoCode(5)),
-    ("no-code-6", CheckMistake::NoCode(6)),
-    ("no-code-7", CheckMistake::NoCode(7)),
+    ("no-code-3", CheckMistake::NoCode(WRONG_RECORD)),
+    ("no-code-4", CheckMistake::NoCode(WRONG_NAMING)),
+    ("no-code-5", CheckMistake::NoCode(WRONG_TYPE)),
+    ("no-code-6", CheckMistake::NoCode(TOO_DEEP)),
+    ("no-code-7", CheckMistake::NoCode(ILL_TYPED)),
     ("highest-record", CheckMistake::HighestRecord),
     ("pattern-late", CheckMistake::PatternLate),
     ("leaves-65", CheckMistake::Leaves(65)),

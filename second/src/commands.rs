@@ -3,11 +3,13 @@
 
 use std::process::ExitCode;
 
-use second::answers::Answer;
-use second::printout::{listing, refusal};
+use second::answers::{Answer, ACCEPTED};
+use second::printout::printout;
 use second::records::{MAX_RECORDS, RECORD_BYTES};
-use second::text::translator::translate;
+use second::text::translator::{translate, Outcome};
 use second::{samples, shapes};
+
+use crate::files;
 
 pub const USAGE: &str = "       second shapes
        second emit NAME FILE
@@ -40,62 +42,47 @@ fn emit(name: &str, file: &str) -> ExitCode {
         eprintln!("no sheet is named {name}; `second shapes` lists the names");
         return ExitCode::from(2);
     };
-    write(file, &bytes)
+    files::write(file, &bytes)
 }
 
-/// The listing and next sheet of two files; 12 where one can't be read.
+/// The printout and next sheet of two files.
 fn of_files(sheet: &str, stimulus: &str) -> Result<(String, Vec<u8>), Answer> {
-    let open = |file: &str, place: u32| std::fs::read(file).map_err(|_| Answer { code: 12, place });
-    let sheet = open(sheet, 1)?;
-    let stimulus = open(stimulus, 2)?;
-    listing(&sheet, &stimulus, None)
+    let sheet = files::read(sheet, 1)?;
+    let stimulus = files::read(stimulus, 2)?;
+    printout(&sheet, &stimulus, None)
 }
 
 fn list(sheet: &str, stimulus: &str, file: Option<&str>) -> ExitCode {
     match of_files(sheet, stimulus) {
         Ok((text, next)) => {
             print!("{text}");
-            file.map_or(ExitCode::SUCCESS, |file| write(file, &next))
+            file.map_or(ExitCode::SUCCESS, |file| files::write(file, &next))
         }
-        Err(answer) => {
-            print!("{}", refusal(answer));
-            ExitCode::SUCCESS
-        }
-    }
-}
-
-fn write(file: &str, bytes: &[u8]) -> ExitCode {
-    match std::fs::write(file, bytes) {
-        Ok(()) => ExitCode::SUCCESS,
-        Err(error) => {
-            eprintln!("{file}: {error}");
-            ExitCode::FAILURE
-        }
+        Err(answer) => files::refuse(answer, ExitCode::SUCCESS),
     }
 }
 
 fn write_next(sheet: &str, stimulus: &str, file: &str) -> ExitCode {
     match of_files(sheet, stimulus) {
-        Ok((_, next)) => write(file, &next),
-        Err(answer) => {
-            print!("{}", refusal(answer));
-            ExitCode::FAILURE
-        }
+        Ok((_, next)) => files::write(file, &next),
+        Err(answer) => files::refuse(answer, ExitCode::FAILURE),
     }
 }
 
-/// Writes the sheet of a text, or prints the refusal; 12 if it can't be read.
+/// The sheet of a text in a file.
+fn translated(text: &str) -> Result<Vec<u8>, Answer> {
+    let text = files::read(text, 1)?;
+    let Outcome { answer, mut written } = translate(&text, MAX_RECORDS * RECORD_BYTES, None);
+    if answer.code != ACCEPTED {
+        return Err(answer);
+    }
+    written.truncate(answer.place as usize);
+    Ok(written)
+}
+
 fn write_translated(text: &str, file: &str) -> ExitCode {
-    let Ok(text) = std::fs::read(text) else {
-        print!("{}", refusal(Answer { code: 12, place: 1 }));
-        return ExitCode::FAILURE;
-    };
-    let outcome = translate(&text, MAX_RECORDS * RECORD_BYTES, None);
-    match outcome.answer.code {
-        0 => write(file, &outcome.written[..outcome.answer.place as usize]),
-        _ => {
-            print!("{}", refusal(outcome.answer));
-            ExitCode::FAILURE
-        }
+    match translated(text) {
+        Ok(sheet) => files::write(file, &sheet),
+        Err(answer) => files::refuse(answer, ExitCode::FAILURE),
     }
 }

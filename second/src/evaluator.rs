@@ -135,14 +135,14 @@ impl<'a> Evaluator<'a> {
     /// An IF evaluates all three parts.
     fn choice(&mut self, number: usize, record: &Record) -> Value {
         let tested = self.part(record, A);
-        let answer = chain(self.circuit, record[D], &tested, self.mistake);
+        let said = chain(self.circuit, record[D], &tested, self.mistake);
         self.tested[number].note(tested);
         if self.mistake == Some(RunMistake::ChosenBranchOnly) {
-            return self.chosen_only(record, answer);
+            return self.chosen_only(record, said);
         }
         let then = self.part(record, B);
         let other = self.part(record, C);
-        match answer {
+        match said {
             Match::Yes => then,
             Match::No => other,
             Match::Undecided => self.undecided(then, other),
@@ -161,15 +161,15 @@ impl<'a> Evaluator<'a> {
     }
 
     /// The mistake: the delays of a branch that is not taken keep their values.
-    fn chosen_only(&mut self, record: &Record, answer: Match) -> Value {
+    fn chosen_only(&mut self, record: &Record, said: Match) -> Value {
         for (word, taken) in [(B, Match::Yes), (C, Match::No)] {
-            if answer != taken {
+            if said != taken {
                 for delay in self.circuit.delays_in(usize::from(record[word])) {
                     self.coming[delay] = self.held[delay].clone();
                 }
             }
         }
-        match answer {
+        match said {
             Match::Yes => self.part(record, B),
             Match::No => self.part(record, C),
             Match::Undecided => {

@@ -2,10 +2,10 @@
 //! one word for each record.
 
 use crate::accepted::Circuit;
-use crate::answers::Answer;
+use crate::answers::{Answer, WRONG_WORDS};
 use crate::evaluator::Tested;
 use crate::firing_mistakes::FiringMistake;
-use crate::matching::{answers, Match};
+use crate::matching::{said_by_each, Match};
 use crate::records::{A, D, IF, KIND, RECORD_BYTES};
 use crate::rule::IN_FORCE;
 use crate::stepper::Stepper;
@@ -34,7 +34,7 @@ pub fn firing(call: &Call, mistake: Option<FiringMistake>) -> Outcome {
         Ok(circuit) => {
             let input = first_cycle(&circuit, call.stimulus);
             let fired = Some(fired(&circuit, &input, mistake));
-            Outcome { answer: Answer { code: 0, place: 0 }, fired }
+            Outcome { answer: Answer::accepted(0), fired }
         }
         Err(answer) => {
             let clears = mistake == Some(FiringMistake::RefusalClears);
@@ -49,8 +49,8 @@ fn judge(call: &Call, mistake: Option<FiringMistake>) -> Result<Circuit, Answer>
     let circuit = Circuit::read(call.sheet)?;
     let mut faults = [
         not_one_cycle(&circuit, call.stimulus, mistake),
-        stimulus::above_count(&circuit, call.stimulus, None),
-        wrong_slice(&circuit, call, mistake),
+        stimulus::wrong_input(&circuit, call.stimulus, None),
+        wrong_words(&circuit, call, mistake),
     ];
     if mistake == Some(FiringMistake::SixteenBeforeNine) {
         faults.swap(1, 2);
@@ -73,13 +73,13 @@ fn not_one_cycle(
 }
 
 /// Code 16: not one word for each record; the place is the words needed.
-fn wrong_slice(circuit: &Circuit, call: &Call, mistake: Option<FiringMistake>) -> Option<Answer> {
+fn wrong_words(circuit: &Circuit, call: &Call, mistake: Option<FiringMistake>) -> Option<Answer> {
     let needed = circuit.records.len();
     let place = match mistake {
         Some(FiringMistake::PlaceInBytes) => call.sheet.len() / RECORD_BYTES * 2,
         _ => needed,
     };
-    (call.fired_length != needed).then_some(Answer { code: 16, place: place as u32 })
+    (call.fired_length != needed).then_some(Answer { code: WRONG_WORDS, place: place as u32 })
 }
 
 /// The input of the one cycle. Only a mistake takes an empty stimulus.
@@ -92,15 +92,15 @@ fn first_cycle(circuit: &Circuit, given: &[u8]) -> Value {
 pub fn tested(circuit: &Circuit, input: &[u8]) -> Vec<Tested> {
     let mut watch = Watch::nothing();
     let mut stepper = Stepper::new(circuit, IN_FORCE, None, &mut watch);
-    stepper.cycle(input);
+    stepper.look(input);
     stepper.tested().to_vec()
 }
 
 /// The first alternative of an IF's own chain that says yes on a value; 0
 /// where none does.
 pub fn first_yes(circuit: &Circuit, choice: usize, value: &[u8]) -> u16 {
-    let said = answers(circuit, circuit.records[choice][D], value);
-    said.into_iter().find(|(_, answer)| *answer == Match::Yes).map_or(0, |(pattern, _)| pattern)
+    let each = said_by_each(circuit, circuit.records[choice][D], value);
+    each.into_iter().find(|(_, said)| *said == Match::Yes).map_or(0, |(pattern, _)| pattern)
 }
 
 /// One word for each record: at an IF the alternative that fires on what it
@@ -131,13 +131,13 @@ fn fired(circuit: &Circuit, input: &[u8], mistake: Option<FiringMistake>) -> Vec
 /// The number told of an IF, or what a mistake makes of it.
 fn told(circuit: &Circuit, choice: usize, value: &[u8], mistake: Option<FiringMistake>) -> u16 {
     let start = circuit.records[choice][D];
-    let said = answers(circuit, start, value);
-    let yes = |(_, answer): &&(u16, Match)| *answer == Match::Yes;
+    let each = said_by_each(circuit, start, value);
+    let yes = |(_, said): &&(u16, Match)| *said == Match::Yes;
     let found = match mistake {
-        Some(FiringMistake::LastYes) => said.iter().rfind(yes),
-        Some(FiringMistake::ChainStart) => said.iter().find(yes).and(said.first()),
+        Some(FiringMistake::LastYes) => each.iter().rfind(yes),
+        Some(FiringMistake::ChainStart) => each.iter().find(yes).and(each.first()),
         Some(FiringMistake::UndecidedHides) => {
-            said.iter().find(|(_, answer)| *answer != Match::No).filter(yes)
+            each.iter().find(|(_, said)| *said != Match::No).filter(yes)
         }
         _ => return first_yes(circuit, choice, value),
     };

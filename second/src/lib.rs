@@ -15,6 +15,7 @@ pub mod evaluator;
 pub mod firing;
 pub mod firing_mistakes;
 pub mod labels;
+pub mod listing;
 pub mod matching;
 pub mod order;
 pub mod preview;
@@ -59,11 +60,15 @@ mod order_tests;
 #[cfg(test)]
 mod preview_tests;
 #[cfg(test)]
+mod printout_tests;
+#[cfg(test)]
 mod rule_tests;
 #[cfg(test)]
 mod sharing_tests;
 #[cfg(test)]
 mod simulator_tests;
+#[cfg(test)]
+mod stepper_tests;
 #[cfg(test)]
 mod text_tests;
 #[cfg(test)]

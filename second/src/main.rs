@@ -6,6 +6,7 @@ mod carries;
 mod checks;
 mod commands;
 mod external;
+mod files;
 mod firings;
 mod memory;
 mod one_cycle;

@@ -30,7 +30,7 @@ pub fn chain(circuit: &Circuit, first: u16, value: &[u8], mistake: Option<RunMis
 }
 
 /// The alternatives of a chain, in order, and what each of them says.
-pub fn answers(circuit: &Circuit, first: u16, value: &[u8]) -> Vec<(u16, Match)> {
+pub fn said_by_each(circuit: &Circuit, first: u16, value: &[u8]) -> Vec<(u16, Match)> {
     let next = |&pattern: &u16| Some(circuit.records[usize::from(pattern)][NEXT]);
     let patterns = std::iter::successors(Some(first), next).take_while(|&pattern| pattern != 0);
     patterns.map(|p| (p, alternative(circuit, usize::from(p), value, None))).collect()
@@ -63,7 +63,7 @@ fn alternative(
 
 /// A pair: no if either part says no, yes if both say yes.
 fn both(first: Match, second: Match, mistake: Option<RunMistake>) -> Match {
-    let either = |answer: Match| first == answer || second == answer;
+    let either = |said: Match| first == said || second == said;
     if mistake == Some(RunMistake::PairMatchUndecided) && either(Match::Undecided) {
         return Match::Undecided;
     }

@@ -2,7 +2,7 @@
 //! 10 and a place.
 
 use crate::accepted::Circuit;
-use crate::answers::Answer;
+use crate::answers::{Answer, WRONG_OUTPUT_LENGTH};
 use crate::preview_mistakes::PreviewMistake;
 use crate::rule::IN_FORCE;
 use crate::stepper::Stepper;
@@ -30,7 +30,7 @@ pub fn preview(call: &Call, mistake: Option<PreviewMistake>) -> Outcome {
         Ok(circuit) => {
             let place = u32::from(mistake == Some(PreviewMistake::PlaceOfRun));
             let outputs = Some(shown(&circuit, call.stimulus, mistake));
-            Outcome { answer: Answer { code: 0, place }, outputs }
+            Outcome { answer: Answer::accepted(place), outputs }
         }
         Err(answer) => {
             let clears = mistake == Some(PreviewMistake::RefusalClearsOut);
@@ -45,8 +45,8 @@ fn judge(call: &Call, mistake: Option<PreviewMistake>) -> Result<Circuit, Answer
     let circuit = Circuit::read(call.sheet)?;
     let mut faults = [
         not_one_cycle(&circuit, call.stimulus, mistake),
-        stimulus::above_count(&circuit, call.stimulus, None),
-        wrong_output(&circuit, call, mistake),
+        stimulus::wrong_input(&circuit, call.stimulus, None),
+        wrong_output_length(&circuit, call, mistake),
     ];
     match mistake {
         Some(PreviewMistake::NineBeforeEight) => faults.swap(0, 1),
@@ -71,13 +71,18 @@ fn not_one_cycle(
 }
 
 /// Code 10: not as long as one cycle's outputs.
-fn wrong_output(circuit: &Circuit, call: &Call, mistake: Option<PreviewMistake>) -> Option<Answer> {
+fn wrong_output_length(
+    circuit: &Circuit,
+    call: &Call,
+    mistake: Option<PreviewMistake>,
+) -> Option<Answer> {
     let needed = match mistake {
         Some(PreviewMistake::InputLeaves) => stimulus::leaves(circuit),
         Some(PreviewMistake::EmptyTaken) if call.stimulus.is_empty() => 0,
         _ => circuit.width(circuit.root()),
     };
-    (call.output_length != needed).then_some(Answer { code: 10, place: needed as u32 })
+    (call.output_length != needed)
+        .then_some(Answer { code: WRONG_OUTPUT_LENGTH, place: needed as u32 })
 }
 
 /// The outputs of the cycle, with each delay holding what the sheet says.
@@ -88,5 +93,5 @@ fn shown(circuit: &Circuit, given: &[u8], mistake: Option<PreviewMistake>) -> Va
     if mistake == Some(PreviewMistake::DelaysAfter) {
         stepper.cycle(input);
     }
-    stepper.cycle(input)
+    stepper.look(input)
 }

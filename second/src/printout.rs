@@ -1,13 +1,12 @@
 //! What the program prints for a sheet and a stimulus.
 
-use std::fmt::Write;
-
 use crate::answers::Answer;
+use crate::listing::{cycle_line, last_line, type_line};
 use crate::run_mistakes::RunMistake;
 use crate::simulator::{ready, run, Call};
 
 /// The listing and the next sheet, or the refusal.
-pub fn listing(
+pub fn printout(
     sheet: &[u8],
     stimulus: &[u8],
     mistake: Option<RunMistake>,
@@ -19,19 +18,11 @@ pub fn listing(
     let (Some(outputs), Some(next)) = (outcome.outputs, outcome.next) else {
         return Err(outcome.answer);
     };
-    let mut text = format!("type {}\n", ready.circuit.typed.output);
+    let mut text = String::new();
+    type_line(&mut text, ready.circuit.typed.output);
     for (cycle, leaves) in outputs.chunks_exact(ready.leaves).enumerate() {
-        let _ = write!(text, "{cycle}:");
-        for leaf in leaves {
-            let _ = write!(text, " {leaf}");
-        }
-        text.push('\n');
+        cycle_line(&mut text, cycle, leaves);
     }
-    let _ = writeln!(text, "cycles {}", outcome.answer.place);
+    last_line(&mut text, outcome.answer.place);
     Ok((text, next))
-}
-
-/// The one line of a refusal.
-pub fn refusal(answer: Answer) -> String {
-    format!("refused {} at {}\n", answer.code, answer.place)
 }

@@ -2,7 +2,7 @@
 //! outputs and the next sheet.
 
 use crate::accepted::Circuit;
-use crate::answers::Answer;
+use crate::answers::{Answer, WRONG_NEXT_LENGTH, WRONG_OUTPUT_LENGTH};
 use crate::labels::without_labels;
 use crate::rule::{Rule, IN_FORCE};
 use crate::run_mistakes::RunMistake;
@@ -71,13 +71,13 @@ fn refused(call: &Call, answer: Answer, mistake: Option<RunMistake>) -> Outcome 
 /// Codes 1 to 9.
 pub fn ready(sheet: &[u8], stimulus: &[u8]) -> Result<Ready, Answer> {
     let ready = in_cycles(sheet, stimulus, None)?;
-    stimulus::above_count(&ready.circuit, stimulus, None).map_or(Ok(ready), Err)
+    stimulus::wrong_input(&ready.circuit, stimulus, None).map_or(Ok(ready), Err)
 }
 
 /// Codes 1 to 8.
 fn in_cycles(sheet: &[u8], stimulus: &[u8], mistake: Option<RunMistake>) -> Result<Ready, Answer> {
     let circuit = Circuit::read(sheet)?;
-    if let Some(answer) = stimulus::wrong_length(&circuit, stimulus, mistake) {
+    if let Some(answer) = stimulus::wrong_stimulus(&circuit, stimulus, mistake) {
         return Err(answer);
     }
     let cycles = stimulus::cycles(&circuit, stimulus).len();
@@ -89,16 +89,16 @@ fn in_cycles(sheet: &[u8], stimulus: &[u8], mistake: Option<RunMistake>) -> Resu
 fn judge(call: &Call, mistake: Option<RunMistake>) -> Result<Ready, Answer> {
     if mistake == Some(RunMistake::NineBeforeEight) {
         let circuit = Circuit::read(call.sheet)?;
-        stimulus::above_count(&circuit, call.stimulus, None).map_or(Ok(()), Err)?;
+        stimulus::wrong_input(&circuit, call.stimulus, None).map_or(Ok(()), Err)?;
     }
     let ready = in_cycles(call.sheet, call.stimulus, mistake)?;
     let length = |code: u8, given: usize, needed: usize| {
         (given != needed).then_some(Answer { code, place: needed as u32 })
     };
     let mut faults = [
-        stimulus::above_count(&ready.circuit, call.stimulus, mistake),
-        length(10, call.output_length, ready.output_length),
-        length(11, call.next_length, call.sheet.len()),
+        stimulus::wrong_input(&ready.circuit, call.stimulus, mistake),
+        length(WRONG_OUTPUT_LENGTH, call.output_length, ready.output_length),
+        length(WRONG_NEXT_LENGTH, call.next_length, call.sheet.len()),
     ];
     match mistake {
         Some(RunMistake::TenBeforeNine) => faults.swap(0, 1),
@@ -133,6 +133,6 @@ fn all_cycles(
         Some(RunMistake::OutputOneLeafOff) => outputs.rotate_right(1.min(ready.output_length)),
         _ => {}
     }
-    let answer = Answer { code: 0, place: place as u32 };
+    let answer = Answer::accepted(place as u32);
     Outcome { answer, outputs: Some(outputs), next: Some(next) }
 }

@@ -3,7 +3,6 @@
 use crate::accepted::Circuit;
 use crate::evaluator::Evaluator;
 use crate::matching::{chain, Match};
-use crate::printout::{listing, refusal};
 use crate::records::{bytes, read, A, D, FEEDBACK, IF, KIND};
 use crate::rule::IN_FORCE;
 use crate::run_mistakes::MISTAKES;
@@ -113,26 +112,8 @@ fn t() {
     assert_eq!((outputs, leaves(&next, &[4])), (vec![2, 2, 0, 0], vec![0]));
 }
 
-#[test]
-fn t_listing() {
-    let text = "type 1\n0: 2\n1: 1\n2: 1\ncycles 3\n";
-    let t = samples::t();
-    assert!(
-        matches!(listing(&t, &[1, 2, 1], None), Ok((found, next)) if found == text && next == t)
-    );
-    let pairs = listing(&samples::pair_feedback(), &[2], None);
-    assert!(matches!(pairs, Ok((found, _)) if found == "type 2\n0: 1 1\ncycles 1\n"));
-    let none = listing(&t, &[], None);
-    assert!(matches!(none, Ok((found, next)) if found == "type 1\ncycles 0\n" && next == t));
-    let refusals = [(&t[..], &[1, 3][..]), (&t[..], &[1; 65_536]), (&t[1..], &[])];
-    let lines = ["refused 9 at 1\n", "refused 8 at 0\n", "refused 1 at 0\n"];
-    for ((sheet, stimulus), line) in refusals.into_iter().zip(lines) {
-        assert_eq!(listing(sheet, stimulus, None).map_err(refusal).err().as_deref(), Some(line));
-    }
-}
-
-/// How the pattern of the one IF of a sheet answers on values.
-fn answers(sheet: &[u8], values: &[&[u8]]) -> Vec<Match> {
+/// What the pattern of the one IF of a sheet says on values.
+fn said(sheet: &[u8], values: &[&[u8]]) -> Vec<Match> {
     let Ok(circuit) = Circuit::read(sheet) else { return Vec::new() };
     let choice = circuit.records.iter().find(|r| r[KIND] == IF);
     let pattern = choice.map_or(0, |record| record[D]);
@@ -144,9 +125,9 @@ fn patterns() {
     use Match::{No, Undecided, Yes};
     let values: [&[u8]; 6] = [&[0, 0], &[1, 1], &[2, 2], &[1, 2], &[1, 0], &[0, 2]];
     let two_pairs = [Undecided, Yes, Yes, No, Undecided, Undecided];
-    assert_eq!(answers(&samples::two_pairs(), &values), two_pairs);
+    assert_eq!(said(&samples::two_pairs(), &values), two_pairs);
     let and = [Undecided, Yes, No, No, Undecided, No];
-    assert_eq!(answers(&samples::and(), &values), and);
+    assert_eq!(said(&samples::and(), &values), and);
     let on_bit = |first: &[u16], second: &[u16]| {
         bytes(&from_words(&[
             &[1, 1, 1, 2],
@@ -160,11 +141,11 @@ fn patterns() {
         ]))
     };
     let either = on_bit(&[49, 5, 1, 1], &[49, 0, 1, 2]);
-    assert_eq!(answers(&either, &[&[0], &[1], &[2]]), [Undecided, Yes, Yes]);
+    assert_eq!(said(&either, &[&[0], &[1], &[2]]), [Undecided, Yes, Yes]);
     let whole = on_bit(&[49, 5, 1, 1], &[48, 0, 1]);
-    assert_eq!(answers(&whole, &[&[0], &[1], &[2]]), [Yes, Yes, Yes]);
+    assert_eq!(said(&whole, &[&[0], &[1], &[2]]), [Yes, Yes, Yes]);
     let once = on_bit(&[49, 5, 1, 1], &[49, 0, 1, 1]);
-    assert_eq!(answers(&once, &[&[0], &[1], &[2]]), [Undecided, Yes, No]);
+    assert_eq!(said(&once, &[&[0], &[1], &[2]]), [Undecided, Yes, No]);
 }
 
 #[test]

@@ -24,11 +24,17 @@ impl<'a> Stepper<'a> {
         Stepper { circuit, mistake, evaluator: Evaluator::new(circuit, rule, mistake, watch) }
     }
 
-    /// The root's value for one input; the delays then hold their next values.
+    /// The root's value for one input, while each delay goes on holding what it
+    /// holds: the cycle is looked at, not taken.
+    pub fn look(&mut self, input: &[u8]) -> Value {
+        self.evaluator.names = vec![input.to_vec()];
+        self.evaluator.value(self.circuit.root())
+    }
+
+    /// One cycle: a look, after which each delay holds its next value.
     pub fn cycle(&mut self, input: &[u8]) -> Value {
+        let output = self.look(input);
         let evaluator = &mut self.evaluator;
-        evaluator.names = vec![input.to_vec()];
-        let output = evaluator.value(self.circuit.root());
         std::mem::swap(&mut evaluator.held, &mut evaluator.coming);
         if self.mistake == Some(RunMistake::StartedFromLastCycle) {
             evaluator.settled_before.clone_from(&evaluator.settled);

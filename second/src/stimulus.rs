@@ -1,31 +1,31 @@
 //! A stimulus for an accepted sheet: codes 8 and 9, and its cycles.
 
 use crate::accepted::Circuit;
-use crate::answers::Answer;
+use crate::answers::{Answer, WRONG_INPUT, WRONG_STIMULUS};
 use crate::run_mistakes::RunMistake;
 
 /// The greatest length of a stimulus.
-pub const MAX_STIMULUS: usize = 65_535;
+pub const LONGEST_STIMULUS: usize = 65_535;
 
 /// Code 8: too long or not whole cycles. An empty one is of no cycles.
-pub fn wrong_length(
+pub fn wrong_stimulus(
     circuit: &Circuit,
     stimulus: &[u8],
     mistake: Option<RunMistake>,
 ) -> Option<Answer> {
     let refused = mistake == Some(RunMistake::EmptyRefused) && stimulus.is_empty();
     let whole = stimulus.len().is_multiple_of(leaves(circuit));
-    let holds = stimulus.len() <= MAX_STIMULUS && whole && !refused;
-    (!holds).then_some(Answer { code: 8, place: 0 })
+    let holds = stimulus.len() <= LONGEST_STIMULUS && whole && !refused;
+    (!holds).then_some(Answer { code: WRONG_STIMULUS, place: 0 })
 }
 
 /// Code 8 of a call that takes exactly one cycle.
 pub fn not_one_cycle(circuit: &Circuit, stimulus: &[u8]) -> Option<Answer> {
-    (stimulus.len() != leaves(circuit)).then_some(Answer { code: 8, place: 0 })
+    (stimulus.len() != leaves(circuit)).then_some(Answer { code: WRONG_STIMULUS, place: 0 })
 }
 
 /// Code 9: the first byte above its leaf's constructor count.
-pub fn above_count(
+pub fn wrong_input(
     circuit: &Circuit,
     stimulus: &[u8],
     mistake: Option<RunMistake>,
@@ -37,7 +37,7 @@ pub fn above_count(
         Some(RunMistake::PlaceOfNineInCycle) => place % counts.len(),
         _ => place,
     };
-    Some(Answer { code: 9, place: place as u32 })
+    Some(Answer { code: WRONG_INPUT, place: place as u32 })
 }
 
 /// The inputs of the cycles, in order.

@@ -2,7 +2,9 @@
 
 use std::collections::HashSet;
 
-use crate::answers::Answer;
+use crate::answers::{
+    Answer, TOO_DEEP, WRONG_HEADER, WRONG_LENGTH, WRONG_NAMING, WRONG_RECORD, WRONG_TYPE,
+};
 use crate::check_mistakes::{CheckMistake, Limits};
 use crate::records::{
     expression_parts, read, root, sort, words, Record, Sort, Word, A, B, C, D, FEEDBACK, FLAT,
@@ -23,11 +25,11 @@ pub fn judge(sheet: &[u8], mistake: Option<CheckMistake>) -> Result<Structure, A
     let length_holds = (RECORD_BYTES..=limits.length).contains(&sheet.len())
         && sheet.len().is_multiple_of(RECORD_BYTES);
     if !length_holds {
-        return Err(Answer { code: 1, place: 0 });
+        return Err(Answer { code: WRONG_LENGTH, place: 0 });
     }
     let records = read(sheet);
     if !header_holds(&records) {
-        return Err(Answer { code: 2, place: 0 });
+        return Err(Answer { code: WRONG_HEADER, place: 0 });
     }
     let lowest = |code: u8, breaks: &dyn Fn(usize) -> bool| {
         let mut numbers = 1..records.len();
@@ -38,15 +40,15 @@ pub fn judge(sheet: &[u8], mistake: Option<CheckMistake>) -> Result<Structure, A
         };
         found.map_or(Ok(()), |i| Err(Answer { code, place: i as u32 }))
     };
-    lowest(3, &|i| !record_holds(&records, i, mistake))?;
+    lowest(WRONG_RECORD, &|i| !record_holds(&records, i, mistake))?;
     let namings = namings(&records, mistake);
-    lowest(4, &|i| !namings[i].hold())?;
+    lowest(WRONG_NAMING, &|i| !namings[i].hold())?;
     let leaves = type_leaves(&records);
     let repeated = repeated_pairs(&records);
-    lowest(5, &|i| repeated[i] || leaves[i] > limits.leaves)?;
+    lowest(WRONG_TYPE, &|i| repeated[i] || leaves[i] > limits.leaves)?;
     let depths = depths(&records);
     let nestings = nestings(&records);
-    lowest(6, &|i| depths[i] > limits.depth || nestings[i] > limits.nesting)?;
+    lowest(TOO_DEEP, &|i| depths[i] > limits.depth || nestings[i] > limits.nesting)?;
     Ok(Structure { records, leaves })
 }
 

@@ -3,7 +3,7 @@
 
 use std::collections::HashMap;
 
-use crate::answers::Answer;
+use crate::answers::{Answer, ILL_TYPED};
 use crate::check_mistakes::CheckMistake;
 use crate::records::{
     root, Record, A, B, C, CONSTANT, D, DELAY, FEEDBACK, FIRST, FLAT, IF, KIND, LET, NAME, NEXT,
@@ -40,7 +40,7 @@ struct Typing<'a> {
 /// Derives the type of every expression, or finds the first fault.
 pub fn judge(structure: &Structure, mistake: Option<CheckMistake>) -> Result<Typed, Answer> {
     derive(&structure.records, &structure.leaves, mistake)
-        .map_err(|place| Answer { code: 7, place: place as u32 })
+        .map_err(|place| Answer { code: ILL_TYPED, place: place as u32 })
 }
 
 fn derive(

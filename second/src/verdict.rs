@@ -9,7 +9,7 @@ use crate::typing::{self, Typed};
 /// The verdict on any byte string.
 pub fn check(sheet: &[u8], mistake: Option<CheckMistake>) -> Answer {
     match judge(sheet, mistake) {
-        Ok(typed) => Answer { code: 0, place: u32::from(typed.output) },
+        Ok(typed) => Answer::accepted(u32::from(typed.output)),
         Err(answer) => answer,
     }
 }
@@ -18,13 +18,13 @@ pub fn check(sheet: &[u8], mistake: Option<CheckMistake>) -> Answer {
 pub fn judge(sheet: &[u8], mistake: Option<CheckMistake>) -> Result<Typed, Answer> {
     structure::judge(sheet, mistake)
         .and_then(|structure| typing::judge(&structure, mistake))
-        .map_err(|answer| refusal(sheet, answer, mistake))
+        .map_err(|answer| mistaken(sheet, answer, mistake))
 }
 
 /// The answer to a refused sheet, or what a mistake makes of it.
-fn refusal(sheet: &[u8], answer: Answer, mistake: Option<CheckMistake>) -> Answer {
+fn mistaken(sheet: &[u8], answer: Answer, mistake: Option<CheckMistake>) -> Answer {
     if mistake == Some(CheckMistake::NoCode(answer.code)) {
-        return Answer { code: 0, place: u32::from(read(sheet)[0][A]) };
+        return Answer::accepted(u32::from(read(sheet)[0][A]));
     }
     answer
 }

@@ -119,9 +119,9 @@ fn take_jobs<J, T: Count, D>(
     }
 }
 
-/// The answer where no difference was found: a mistake that was not seen,
+/// What the command ends with where no difference was found: a mistake that was not seen,
 /// quotas that are not met, or success.
-pub fn answer<M>(options: &Options<M>, unmet: &[String], compared: u64, what: &str) -> ExitCode {
+pub fn conclude<M>(options: &Options<M>, unmet: &[String], compared: u64, what: &str) -> ExitCode {
     if let Some((name, _)) = &options.mistake {
         println!("compared {compared} {what}, and the mistake {name} was not seen");
         return ExitCode::from(2);

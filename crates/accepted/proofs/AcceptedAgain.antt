@@ -43,7 +43,7 @@ use Rattle.typing.specs.Judgements.{patternFits}
 use Rattle.structure.specs.Rules.{Passes}
 use Rattle.verdict.specs.Verdict.{verdict}
 use Rattle.verdict.specs.Scopes.{inputs}
-use Rattle.verdict.specs.declared.Verdict.the-variants.{Accepted}
+use Rattle.answers.specs.declared.Verdict.the-variants.{Accepted}
 use Rattle.structure.proofs.Passes.{written}
 use Rattle.verdict.proofs.Places.{accepted-by-types}
 use Rattle.typing.proofs.Judged.{RulesHold, judged-passed}

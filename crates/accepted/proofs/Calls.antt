@@ -6,16 +6,15 @@ use mathlib.Core.List.{List, _++_}
 use mathlib.Core.Path.{_≡_, refl, sym, ap, subst, _∙_}
 use native.Mathlib.Omega.{arith}
 use lib.ListN.{length}
-use Rattle.answers.specs.Answers.{place, onDone, Check, firstApplying, SaysOf}
+use Rattle.answers.specs.Answers.{place, onDone, Check, firstApplying, SaysOf, verdictAnswer}
 use Rattle.answers.specs.declared.Answer.{Answer}
 use Rattle.answers.specs.declared.Answer.the-variants.{Done, Refused}
 use Rattle.answers.proofs.First.{first-says, first-both, first-then}
 use Rattle.verdict.specs.Verdict.{sheetChecks, outputType, verdict}
-use Rattle.verdict.specs.Scopes.{verdictAnswer}
 use Rattle.verdict.specs.CheckedTable.{Checked}
-use Rattle.verdict.specs.declared.Verdict.{Verdict}
-use Rattle.verdict.specs.declared.Verdict.the-variants.{Accepted}
-use Rattle.verdict.specs.declared.Verdict.the-variants as Verdicts
+use Rattle.answers.specs.declared.Verdict.{Verdict}
+use Rattle.answers.specs.declared.Verdict.the-variants.{Accepted}
+use Rattle.answers.specs.declared.Verdict.the-variants as Verdicts
 use Rattle.verdict.proofs.PlacesSmall.{verdict-place}
 use Rattle.verdict.proofs.VerdictFirst.{verdict-first}
 use Rattle.accepted.specs.Accepting.{Accepting}

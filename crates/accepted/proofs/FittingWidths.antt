@@ -41,7 +41,7 @@ use Rattle.typing.specs.ExpressionWidth.{width}
 use Rattle.verdict.specs.Verdict.{verdict}
 use Rattle.verdict.specs.Scopes.{Scope, if-tested}
 use Rattle.verdict.specs.Widths.{patternLeaves, Widths}
-use Rattle.verdict.specs.declared.Verdict.the-variants.{Accepted}
+use Rattle.answers.specs.declared.Verdict.the-variants.{Accepted}
 use Rattle.accepted.proofs.Scopes.{scope-checked, judged-by-kind, checked-type}
 
 pub fitting-leaves : {s : List ℕ} → Written s → (p : Alternatives) (t : ℕ) → TypeRecord s t → GrownPattern s p

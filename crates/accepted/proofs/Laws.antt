@@ -11,6 +11,6 @@ pub use Rattle.typing.proofs.Typings.{within-fits}
 pub use Rattle.verdict.proofs.Exact.{exact, accepted-judged, input-context}
 pub use Rattle.verdict.proofs.OneWay.{Carried, to-root, to-part, carried-only}
 pub use Rattle.verdict.proofs.Places.{accepted-by-types}
-pub use Rattle.verdict.proofs.PlacesSmall.{code-small, verdict-place}
+pub use Rattle.verdict.proofs.PlacesSmall.{verdict-place}
 pub use Rattle.verdict.proofs.VerdictFirst.{verdict-first, first-accepted}
 pub use Rattle.accepted.proofs.Refusing.{Refusing, refusing-answer}

@@ -49,7 +49,7 @@ use Rattle.typing.specs.Judgements.{patternFits}
 use Rattle.typing.specs.Judging.{Judging, Closing, Fitting, PartAt, at-first, at-second}
 use Rattle.typing.specs.PatternTable.{PatternsTyped, TypingPattern, TypeTables}
 use Rattle.verdict.specs.Verdict.{byTypes, byRecords, verdict}
-use Rattle.verdict.specs.declared.Verdict.the-variants.{Accepted}
+use Rattle.answers.specs.declared.Verdict.the-variants.{Accepted}
 use Rattle.verdict.proofs.Exact.{exact}
 use Rattle.accepted.proofs.TypeTables.{search-ends}
 use Rattle.accepted.proofs.Callable as Callable

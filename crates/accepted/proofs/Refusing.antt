@@ -6,10 +6,10 @@ use mathlib.Core.Path.{_≡_, refl}
 use denote.Enum.Declared.{tagOf}
 use types.Run.{OneOf, miss}
 use Rattle.answers.specs.declared.Answer.the-variants.{Refused}
-use Rattle.verdict.specs.Scopes.{verdictAnswer}
-use Rattle.verdict.specs.declared.Verdict.{Verdict}
-use Rattle.verdict.specs.declared.Verdict.the-variants as Verdicts
-use Rattle.verdict.proofs.Verdict as Verdict-type
+use Rattle.answers.specs.Answers.{verdictAnswer}
+use Rattle.answers.specs.declared.Verdict.{Verdict}
+use Rattle.answers.specs.declared.Verdict.the-variants as Verdicts
+use Rattle.answers.proofs.Verdict as Verdict-type
 
 -- what code knows of a verdict that it has not matched with `Accepted`
 abbrev pub Refusing : Verdict → Type 0

@@ -53,7 +53,7 @@ use Rattle.verdict.specs.Scopes.{
   if-else,
   of-delay,
 }
-use Rattle.verdict.specs.declared.Verdict.the-variants.{Accepted}
+use Rattle.answers.specs.declared.Verdict.the-variants.{Accepted}
 use Rattle.structure.proofs.Passes.{written, well-named, types-fit, not-deep}
 use Rattle.structure.proofs.Depths.{depth-of-part, depth-of-root}
 use Rattle.typing.proofs.Judged.{RulesHold}

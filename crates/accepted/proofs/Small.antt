@@ -18,7 +18,7 @@ use Rattle.records.proofs.Types.{few-leaves}
 use Rattle.structure.specs.Rules.{Passes, wrongLength}
 use Rattle.structure.proofs.Passes.{types-fit}
 use Rattle.verdict.specs.Verdict.{verdict}
-use Rattle.verdict.specs.declared.Verdict.the-variants.{Accepted}
+use Rattle.answers.specs.declared.Verdict.the-variants.{Accepted}
 use Rattle.verdict.proofs.Exact.{exact}
 use Rattle.accepted.proofs.Requirements.{sized}
 

@@ -5,7 +5,7 @@ use mathlib.Core.List.{List}
 use Rattle.records.specs.Sized.{Sized}
 use Rattle.verdict.specs.Verdict.{verdict}
 use Rattle.verdict.specs.Widths.{Widths}
-use Rattle.verdict.specs.declared.Verdict.the-variants.{Accepted}
+use Rattle.answers.specs.declared.Verdict.the-variants.{Accepted}
 
 pub record Accepting (s : List ℕ) (n : ℕ) (widths : List ℕ) : Type 0 where
   pub sized : Sized s n

@@ -1,4 +1,5 @@
 -- The laws of answers, of lists of checks and of searches.
 pub mod Lowest
 pub mod First
+pub mod VerdictCodes
 pub mod Kept

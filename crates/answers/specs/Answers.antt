@@ -1,8 +1,19 @@
 -- The answer of a call, the lowest number that passes a test, and the checks of a call as a list.
-use Prim.Native.Nat.{ℕ, _+_, _*_, _^_, zero, suc}
+use Prim.Native.Nat.{ℕ, _+_, _*_, _/_, _%_, _^_, zero, suc}
 use mathlib.Core.List.{List, [], _∷_, _++_}
 use Rattle.answers.specs.declared.Answer.{Answer}
 use Rattle.answers.specs.declared.Answer.the-variants.{Done, Refused}
+use Rattle.answers.specs.declared.Verdict.{Verdict}
+use Rattle.answers.specs.declared.Verdict.the-variants.{
+  Accepted,
+  WrongLength,
+  WrongHeader,
+  WrongRecord,
+  WrongNaming,
+  WrongType,
+  TooDeep,
+  IllTyped,
+}
 use mathlib.Core.Bool.{Bool, true, false}
 use mathlib.Core.Option.{Option, none, some}
 use mathlib.Core.Path.{_≡_}
@@ -26,10 +37,28 @@ inOne c p = c * 2 ^ 32 + p
 abbrev pub packed : Answer → ℕ
 packed a = inOne (code a) (place a)
 
+-- and read back from it
+abbrev pub codeOfResult : (result : ℕ) → ℕ
+codeOfResult r = r / 2 ^ 32
+
+abbrev pub placeOfResult : (result : ℕ) → ℕ
+placeOfResult r = r % 2 ^ 32
+
 -- what a lent slice holds at the end: where the call is done what is computed, on a refusal the bytes at entry
 abbrev pub whenDone : Answer → (computed entry : List ℕ) → List ℕ
 whenDone (Done p) new old = new
 whenDone (Refused c p) new old = old
+
+-- the answer of the check: the code and the place of each case of its enum
+abbrev pub verdictAnswer : Verdict → Answer
+verdictAnswer (Accepted t) = Done t
+verdictAnswer WrongLength = Refused 1 0
+verdictAnswer WrongHeader = Refused 2 0
+verdictAnswer (WrongRecord r) = Refused 3 r
+verdictAnswer (WrongNaming r) = Refused 4 r
+verdictAnswer (WrongType r) = Refused 5 r
+verdictAnswer (TooDeep r) = Refused 6 r
+verdictAnswer (IllTyped r) = Refused 7 r
 
 -- a refusal stays one; where there is none, what comes after it answers
 abbrev pub onDone : Answer → (ℕ → Answer) → Answer

@@ -1,11 +1,11 @@
 -- What is promised of answers, as named types; one term of each stands in `proofs/Kept.antt`.
-use Prim.Native.Nat.{ℕ, _+_, _*_, _/_, _%_, _^_, _<_}
+use Prim.Native.Nat.{ℕ, _^_, _<_}
 use mathlib.Core.Path.{_≡_}
 use mathlib.Core.Logic.{_↔_}
 use mathlib.Core.Bool.{Bool, true, false}
 use mathlib.Core.List.{List}
 use mathlib.Core.Option.{none, some}
-use Rattle.answers.specs.Answers.{inOne, lowest, Check, firstApplying, SaysOf}
+use Rattle.answers.specs.Answers.{inOne, codeOfResult, placeOfResult, lowest, Check, firstApplying, SaysOf}
 use Rattle.answers.specs.declared.Answer.{Answer}
 use Rattle.answers.specs.declared.Answer.the-variants.{Done}
 
@@ -27,7 +27,7 @@ FirstThatApplies =
 
 -- A code and a place below 2^32 are read back from the one number.
 abbrev pub TakenApart : Type 0
-TakenApart = (c p : ℕ) → p < 2 ^ 32 → (inOne c p / 2 ^ 32 ≡ c) × (inOne c p % 2 ^ 32 ≡ p)
+TakenApart = (c p : ℕ) → p < 2 ^ 32 → (codeOfResult (inOne c p) ≡ c) × (placeOfResult (inOne c p) ≡ p)
 
 -- all of them
 pub record AnswerPromises : Type 0 where

@@ -5,7 +5,7 @@ use Prim.Native.Nat.{ℕ, zero, suc, _+_, _-_, _≤_, _<_}
 use native.Mathlib.Omega.{arith}
 use native.Mathlib.Numerals.{add-one}
 use mathlib.Core.Path.{_≡_, refl, sym, ap, ap₂, _∙_}
-use mathlib.Core.Bool.{true, false, cond}
+use mathlib.Core.Bool.{true, false}
 use mathlib.Core.List.{List, [], _∷_}
 use lib.ListN.{length, getD, set, length-set}
 use lib.Seq.{getD-set-same, getD-set-other}
@@ -14,6 +14,12 @@ use Rattle.instructions.specs.Assembly.{DeclaredType, beginsPattern, patternOnt
 use Rattle.assembling.specs.Held.{heldNumbers, heldOnto, Threefold}
 use Rattle.assembling.proofs.TypeLaws.{ap₃}
 
+-- what is known of n instructions that wait when the last pattern among them is sought from the top and number k is reached
+pub record PatternSought (O F S : List ℕ) (n k : ℕ) : Type 0 where
+  pub below : patternsBelow (heldCode O F S n) ≡ patternsBelow (heldCode O F S k)
+  pub onto : (C : List Instruction) → patternOnto (heldCode O F S n) C ≡ heldOnto O F S k (n - k) (patternOnto (heldCode O F S k) C)
+
+-- the tables stand only under functions here
 module _ (O F S : List ℕ) where
   abbrev pub codeAt : ℕ → Instruction
   codeAt k = instructionOf (getD O k 0) (getD F k 0) (getD S k 0)
@@ -26,6 +32,26 @@ module _ (O F S : List ℕ) where
       (getD-set-other S k n z 0 (λ e. omega arith)))
       (code-apart k n x y z (omega arith))
 
+  -- one instruction more below those that go onto others
+  onto-below : (m c : ℕ) (C : List Instruction) → heldOnto O F S (suc m) c (codeAt m ∷ C) ≡ heldOnto O F S m (suc c) C
+  onto-below m zero C = let e : m ≡ m + 0 = omega arith in ap (λ k. codeAt k ∷ C) e
+  onto-below m (suc c) C =
+      let e : suc m + c ≡ m + suc c = omega arith in ap₂ (λ k X. codeAt k ∷ X) e (onto-below m c C)
+
+  onto-step : (n m : ℕ) (C : List Instruction) → suc m ≤ n → heldOnto O F S (suc m) (n - suc m) (codeAt m ∷ C) ≡ heldOnto O F S m (n - m) C
+  onto-step n m C l =
+      let e : suc (n - suc m) ≡ n - m = omega arith in onto-below m (n - suc m) C ∙ ap (λ c. heldOnto O F S m c C) e
+
+  pub onto-more : (from k : ℕ) (C : List Instruction) → from ≤ k → codeAt k ∷ heldOnto O F S from (k - from) C ≡ heldOnto O F S from (k + 1 - from) C
+  onto-more from k C l =
+      let e : k + 1 - from ≡ suc (k - from) = omega arith in
+      let f : k ≡ from + (k - from) = omega arith in
+      ap (λ n. codeAt n ∷ heldOnto O F S from (k - from) C) f ∙ sym (ap (λ n. heldOnto O F S from n C) e)
+
+  pub onto-none : (s : ℕ) (C : List Instruction) → C ≡ heldOnto O F S s (s - s) C
+  onto-none s C = let e : 0 ≡ s - s = omega arith in ap (λ n. heldOnto O F S s n C) e
+
+module _ {O F S : List ℕ} where
   pub code-pushed : (k x y z : ℕ) → Threefold O F S → k < 65536
       → Threefold (set O k x) (set F k y) (set S k z)
       × (heldCode (set O k x) (set F k y) (set S k z) (k + 1) ≡ instructionOf x y z ∷ heldCode O F S k)
@@ -39,83 +65,39 @@ module _ (O F S : List ℕ) where
         ∙ ap₂ _∷_
         (ap₃ instructionOf (getD-set-same O k x 0 (let h = t .ops-long in omega arith)) (getD-set-same F k y 0 (let h = t .firsts-long in omega arith))
         (getD-set-same S k z 0 (let h = t .seconds-long in omega arith)))
-        (code-apart k k x y z (omega arith)),
+        (code-apart O F S k k x y z (omega arith)),
   )
 
-  -- one instruction more below those that go onto others
-  onto-below : (m c : ℕ) (C : List Instruction) → heldOnto O F S (suc m) c (codeAt m ∷ C) ≡ heldOnto O F S m (suc c) C
-  onto-below m zero C = let e : m ≡ m + 0 = omega arith in ap (λ k. codeAt k ∷ C) e
-  onto-below m (suc c) C =
-      let e : suc m + c ≡ m + suc c = omega arith in ap₂ (λ k X. codeAt k ∷ X) e (onto-below m c C)
+  pub sought-from-top : (n : ℕ) → PatternSought O F S n n
+  sought-from-top n =
+      record {
+        below = refl;
+        onto = λ C. let e : n - n ≡ 0 = omega arith in sym (ap (λ c. heldOnto O F S n c (patternOnto (heldCode O F S n) C)) e);
+      }
 
-  pub onto-more : (from k : ℕ) (C : List Instruction) → from ≤ k → codeAt k ∷ heldOnto O F S from (k - from) C ≡ heldOnto O F S from (k + 1 - from) C
-  onto-more from k C l =
-      let e : k + 1 - from ≡ suc (k - from) = omega arith in
-      let f : k ≡ from + (k - from) = omega arith in
-      ap (λ n. codeAt n ∷ heldOnto O F S from (k - from) C) f ∙ sym (ap (λ n. heldOnto O F S from n C) e)
+  module _ {n k : ℕ} (p : PatternSought O F S n k) (l : k ≤ n) (z : k ≡ 0 → ⊥) where
+    -- one instruction more is there to look at
+    sought-below : PatternSought O F S n (suc (k - 1))
+    sought-below = let e : k ≡ suc (k - 1) = omega (arith, z) in rw e at p
 
-  pub onto-none : (s : ℕ) (C : List Instruction) → C ≡ heldOnto O F S s (s - s) C
-  onto-none s C = let e : 0 ≡ s - s = omega arith in ap (λ n. heldOnto O F S s n C) e
-
-  -- what is known of the patterns from number k on, of n that wait
-  abbrev pub BelowFrom : (n k : ℕ) → Type 0
-  BelowFrom n k = patternsBelow (heldCode O F S n) ≡ patternsBelow (heldCode O F S k)
-
-  abbrev pub OntoFrom : (n k : ℕ) → Type 0
-  OntoFrom n k = (C : List Instruction) → patternOnto (heldCode O F S n) C ≡ heldOnto O F S k (n - k) (patternOnto (heldCode O F S k) C)
-
-  pub onto-first : (n : ℕ) → OntoFrom n n
-  onto-first n C = let e : n - n ≡ 0 = omega arith in sym (ap (λ c. heldOnto O F S n c (patternOnto (heldCode O F S n) C)) e)
-
-  onto-step : (n m : ℕ) (C X : List Instruction) → suc m ≤ n → heldOnto O F S (suc m) (n - suc m) (codeAt m ∷ X) ≡ heldOnto O F S m (n - m) X
-  onto-step n m C X l =
-      let e : suc (n - suc m) ≡ n - m = omega arith in onto-below m (n - suc m) X ∙ ap (λ c. heldOnto O F S m c X) e
-
-  below-begun : (n m : ℕ) → beginsPattern (codeAt m) ≡ true → BelowFrom n (suc m) → patternsBelow (heldCode O F S n) ≡ heldCode O F S m
-  below-begun n m b h = h ∙ ap (λ x. cond x (heldCode O F S m) (patternsBelow (heldCode O F S m))) b
-
-  onto-begun : (n m : ℕ) → suc m ≤ n → beginsPattern (codeAt m) ≡ true → OntoFrom n (suc m) → (C : List Instruction)
-      → patternOnto (heldCode O F S n) C ≡ heldOnto O F S m (n - m) C
-  onto-begun n m l b h C =
-      h C
-      ∙ ap (λ x. heldOnto O F S (suc m) (n - suc m) (cond x (codeAt m ∷ C) (codeAt m ∷ patternOnto (heldCode O F S m) C))) b
-      ∙ onto-step n m C C l
-
-  below-passed : (n m : ℕ) → beginsPattern (codeAt m) ≡ false → BelowFrom n (suc m) → BelowFrom n m
-  below-passed n m b h = h ∙ ap (λ x. cond x (heldCode O F S m) (patternsBelow (heldCode O F S m))) b
-
-  onto-passed : (n m : ℕ) → suc m ≤ n → beginsPattern (codeAt m) ≡ false → OntoFrom n (suc m) → OntoFrom n m
-  onto-passed n m l b h C =
-      h C
-      ∙ ap (λ x. heldOnto O F S (suc m) (n - suc m) (cond x (codeAt m ∷ C) (codeAt m ∷ patternOnto (heldCode O F S m) C))) b
-      ∙ onto-step n m C (patternOnto (heldCode O F S m) C) l
-
-  module _ {n k : ℕ} (below : BelowFrom n k) (onto : OntoFrom n k) (l : k ≤ n) (z : k ≡ 0 → ⊥) where
-    k-is : k ≡ suc (k - 1)
-    k-is = omega (arith, z)
-
-    pub pattern-begun : beginsPattern (codeAt (k - 1)) ≡ true
+    pub pattern-begun : beginsPattern (codeAt O F S (k - 1)) ≡ true
         → (patternsBelow (heldCode O F S n) ≡ heldCode O F S (k - 1))
         × ((C : List Instruction) → patternOnto (heldCode O F S n) C ≡ heldOnto O F S (k - 1) (n - (k - 1)) C)
     pattern-begun b = (
-      below-begun n (k - 1) b (below ∙ ap (λ x. patternsBelow (heldCode O F S x)) k-is),
-      onto-begun n (k - 1) (omega (arith, z)) b
-          (λ C. onto C ∙ ap (λ x. heldOnto O F S x (n - x) (patternOnto (heldCode O F S x) C)) k-is),
+      sought-below .below ∙ rw b refl,
+      λ C. sought-below .onto C ∙ rw b (onto-step O F S n (k - 1) C (omega (arith, z))),
     )
 
-    pub pattern-passed : beginsPattern (codeAt (k - 1)) ≡ false → BelowFrom n (k - 1) × OntoFrom n (k - 1)
-    pattern-passed b = (
-      below-passed n (k - 1) b (below ∙ ap (λ x. patternsBelow (heldCode O F S x)) k-is),
-      onto-passed n (k - 1) (omega (arith, z)) b
-          (λ C. onto C ∙ ap (λ x. heldOnto O F S x (n - x) (patternOnto (heldCode O F S x) C)) k-is),
-    )
+    pub pattern-passed : beginsPattern (codeAt O F S (k - 1)) ≡ false → PatternSought O F S n (k - 1)
+    pattern-passed b =
+        record {
+          below = sought-below .below ∙ rw b refl;
+          onto = λ C. sought-below .onto C ∙ rw b (onto-step O F S n (k - 1) (patternOnto (heldCode O F S (k - 1)) C) (omega (arith, z)));
+        }
 
-  pub no-pattern-below : (n k : ℕ) → k ≡ 0 → BelowFrom n k → OntoFrom n k
+  pub no-pattern-below : {n k : ℕ} → k ≡ 0 → PatternSought O F S n k
       → (patternsBelow (heldCode O F S n) ≡ heldCode O F S 0) × ((C : List Instruction) → patternOnto (heldCode O F S n) C ≡ heldOnto O F S 0 (n - 0) C)
-  no-pattern-below n k z b o = (
-    b ∙ ap (λ x. patternsBelow (heldCode O F S x)) z,
-    λ C. o C ∙ ap (λ x. heldOnto O F S x (n - x) (patternOnto (heldCode O F S x) C)) z,
-  )
+  no-pattern-below z p = let q = rw z at p in (q .below, q .onto)
 
 -- the table of the types of constants
 module _ (N : List ℕ) where

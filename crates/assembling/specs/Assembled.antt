@@ -5,6 +5,7 @@ use mathlib.Core.Bool.{Bool}
 use mathlib.Core.List.{List}
 use mathlib.Core.Option.{Option}
 use lib.ListN.{length, getD}
+use Rattle.grammar.specs.Sizes.{textTable}
 use Rattle.instructions.specs.Instruction.{Instruction, heldCode}
 use Rattle.instructions.specs.Assembly.{DeclaredType, leavesNumbered, Assembly, assembly}
 use Rattle.assembling.specs.Held.{untypedAt, Threefold}
@@ -38,5 +39,5 @@ pub record Assembled (A : Assembly) (n : ℕ) (pairs firsts seconds leaves codeO
   pub code-bounded : code ≤ n
   pub records-bounded : records ≤ 65 * n
   pub type-tables : Threefold pairs firsts seconds
-  pub leaf-table : length leaves ≡ 65536
+  pub leaf-table : length leaves ≡ textTable
   pub code-tables : Threefold codeOps codeFirsts codeSeconds

@@ -6,6 +6,7 @@ use mathlib.Core.List.{List, [], _∷_}
 use mathlib.Core.Option.{Option, none, some}
 use lib.ListN.{length, getD}
 use lib.Dec.{eqb}
+use Rattle.grammar.specs.Sizes.{textTable}
 use Rattle.instructions.specs.Instruction.{Instruction, instructionOf, heldCode}
 use Rattle.instructions.specs.Assembly.{typeHeld, heldTypes}
 use Rattle.instructions.specs.Assembly.{DeclaredType, flatType, pairedType, leavesNumbered, oneMore, withFirst, withSecond, Assembly, assembly}
@@ -35,14 +36,14 @@ leavesOver T (pairedType a b) = min 64 (leavesNumbered T a + leavesNumbered T b)
 
 -- tables of instructions
 pub record Threefold (ops firsts seconds : List ℕ) : Type 0 where
-  pub ops-long : length ops ≡ 65536
-  pub firsts-long : length firsts ≡ 65536
-  pub seconds-long : length seconds ≡ 65536
+  pub ops-long : length ops ≡ textTable
+  pub firsts-long : length firsts ≡ textTable
+  pub seconds-long : length seconds ≡ textTable
 
 -- the tables of k types, with the leaves of each
 pub record TypesHeld (k : ℕ) (pairs firsts seconds leaves : List ℕ) : Type 0 where
   pub types-long : Threefold pairs firsts seconds
-  pub leaves-long : length leaves ≡ 65536
+  pub leaves-long : length leaves ≡ textTable
   pub leaves-held : (j : ℕ) → j < k
       → getD leaves j 0 ≡ leavesOver (heldTypes pairs firsts seconds j) (typeHeld (getD pairs j 0) (getD firsts j 0) (getD seconds j 0))
 
@@ -82,7 +83,7 @@ pub record Assembling (i : ℕ) (pairs firsts seconds leaves codeOps codeFirsts 
     (types code waiting constants records : ℕ) : Type 0 where
   pub gathered : TypesGathered i types pairs firsts seconds leaves
   pub coded : Threefold codeOps codeFirsts codeSeconds
-  pub numbers-long : length numbers ≡ 65536
+  pub numbers-long : length numbers ≡ textTable
   pub few-instructions : code + waiting ≤ i
   pub few-constants : constants ≤ i
   pub few-records : records ≤ 65 * i

@@ -7,7 +7,7 @@ ghost use Rattle.instructions.specs.Instruction.{heldFrom, heldCode};
 ghost use Rattle.instructions.specs.Assembly.{nothingAssembled, assembleAll};
 ghost use Rattle.assembling.specs.Held.{Threefold, heldAssembly, Assembling};
 ghost use Rattle.assembling.specs.Assembled.{Assembled};
-ghost use Rattle.grammar.specs.Legal.{limit};
+ghost use Rattle.grammar.specs.Legal.{textBytes};
 ghost use Rattle.grammar.specs.Sizes.{textTable};
 use crate::steps::Progress;
 use crate::steps::assembly_step;
@@ -63,7 +63,7 @@ fn assemble_all(
     wait_seconds: &mut Operands,
     numbers: &mut Operands,
 ) -> Progress
-    requires { ⌜ (n ≤ limit) × Threefold (now pairs) (now «type_firsts») (now «type_seconds») × (length (now leaves) ≡ textTable) × Threefold (now «code_ops») (now «code_firsts») (now «code_seconds») × Threefold (now «wait_ops») (now «wait_firsts») (now «wait_seconds») × (length (now numbers) ≡ textTable) ⌝ }
+    requires { ⌜ (n ≤ textBytes) × Threefold (now pairs) (now «type_firsts») (now «type_seconds») × (length (now leaves) ≡ textTable) × Threefold (now «code_ops») (now «code_firsts») (now «code_seconds») × Threefold (now «wait_ops») (now «wait_firsts») (now «wait_seconds») × (length (now numbers) ≡ textTable) ⌝ }
     ensures { λ r. ⌜ Assembling n (now (pairs .exit)) (now («type_firsts» .exit)) (now («type_seconds» .exit)) (now (leaves .exit)) (now («code_ops» .exit)) (now («code_firsts» .exit)) (now («code_seconds» .exit)) (now (numbers .exit)) (r .types) (r .code) (r .waiting) (r .constants) (r .records) × (heldAssembly (now (pairs .exit)) (now («type_firsts» .exit)) (now («type_seconds» .exit)) (r .types) (r .input) (now («code_ops» .exit)) (now («code_firsts» .exit)) (now («code_seconds» .exit)) (r .code) (heldCode (now («wait_ops» .exit)) (now («wait_firsts» .exit)) (now («wait_seconds» .exit)) (r .waiting)) (now (numbers .exit)) (r .constants) (r .place) (r .records) (r .ok) (r .bad) ≡ assembleAll nothingAssembled (heldFrom (now (ops .entry)) (now (firsts .entry)) (now (seconds .entry)) 0 n)) ⌝ }
 {
     let mut s = no_progress();
@@ -106,7 +106,7 @@ pub fn assemble(
     type_seconds: &mut Operands,
     leaves: &mut Ops,
 ) -> Totals
-    requires { ⌜ (n ≤ limit) × Threefold (now pairs) (now «type_firsts») (now «type_seconds») × (length (now leaves) ≡ textTable) × Threefold (now «code_ops») (now «code_firsts») (now «code_seconds») ⌝ }
+    requires { ⌜ (n ≤ textBytes) × Threefold (now pairs) (now «type_firsts») (now «type_seconds») × (length (now leaves) ≡ textTable) × Threefold (now «code_ops») (now «code_firsts») (now «code_seconds») ⌝ }
     ensures { λ r. ⌜ Assembled (assembleAll nothingAssembled (heldFrom (now (ops .entry)) (now (firsts .entry)) (now (seconds .entry)) 0 n)) n (now (pairs .exit)) (now («type_firsts» .exit)) (now («type_seconds» .exit)) (now (leaves .exit)) (now («code_ops» .exit)) (now («code_firsts» .exit)) (now («code_seconds» .exit)) (r .types) (r .input) (r .code) (r .records) (r .ok) (r .place) ⌝ }
 {
     let mut wait_ops = no_ops();

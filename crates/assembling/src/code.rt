@@ -5,7 +5,7 @@ ghost use Prim.Native.Nat.{ℕ, _+_, _-_, _≤_, _<_};
 ghost use Rattle.instructions.specs.Instruction.{Instruction, instructionOf, close, heldCode};
 ghost use Rattle.instructions.specs.Assembly.{patternOnto, patternsBelow};
 ghost use Rattle.assembling.specs.Held.{Threefold, heldOnto};
-ghost use Rattle.grammar.specs.Legal.{limit};
+ghost use Rattle.grammar.specs.Legal.{textBytes};
 ghost use Rattle.grammar.specs.Sizes.{textTable};
 use instructions::BEGIN_PATTERN;
 use instructions::CLOSE;
@@ -63,7 +63,7 @@ fn move_onto(
     wait_firsts: &Operands,
     wait_seconds: &Operands,
 ) -> usize
-    requires { ⌜ Threefold (now ops) (now firsts) (now seconds) × (from ≤ to) × (code + to ≤ limit) ⌝ }
+    requires { ⌜ Threefold (now ops) (now firsts) (now seconds) × (from ≤ to) × (code + to ≤ textBytes) ⌝ }
     ensures { λ r. ⌜ Threefold (now (ops .exit)) (now (firsts .exit)) (now (seconds .exit)) × (r ≡ code + (to - from)) × (heldCode (now (ops .exit)) (now (firsts .exit)) (now (seconds .exit)) r ≡ heldOnto (now («wait_ops» .entry)) (now («wait_firsts» .entry)) (now («wait_seconds» .entry)) from (to - from) (heldCode (now (ops .entry)) (now (firsts .entry)) (now (seconds .entry)) code)) ⌝ }
 {
     let mut n = code;
@@ -95,7 +95,7 @@ pub fn close_if(
     wait_firsts: &Operands,
     wait_seconds: &Operands,
 ) -> Shifted
-    requires { ⌜ Threefold (now ops) (now firsts) (now seconds) × (code + waiting ≤ limit) ⌝ }
+    requires { ⌜ Threefold (now ops) (now firsts) (now seconds) × (code + waiting ≤ textBytes) ⌝ }
     ensures { λ r. ⌜ Threefold (now (ops .exit)) (now (firsts .exit)) (now (seconds .exit)) × (r .code + r .waiting ≡ code + waiting + 1) × (heldCode (now (ops .exit)) (now (firsts .exit)) (now (seconds .exit)) (r .code) ≡ close ∷ patternOnto (heldCode (now («wait_ops» .entry)) (now («wait_firsts» .entry)) (now («wait_seconds» .entry)) waiting) (heldCode (now (ops .entry)) (now (firsts .entry)) (now (seconds .entry)) code)) × (heldCode (now («wait_ops» .entry)) (now («wait_firsts» .entry)) (now («wait_seconds» .entry)) (r .waiting) ≡ patternsBelow (heldCode (now («wait_ops» .entry)) (now («wait_firsts» .entry)) (now («wait_seconds» .entry)) waiting)) ⌝ }
 {
     let start = pattern_start(waiting, wait_ops);

@@ -6,7 +6,7 @@ ghost use lib.ListN.{length};
 ghost use Rattle.instructions.specs.Assembly.{outermost, pairClosed, topConstant};
 ghost use Rattle.assembling.specs.Held.{heldNumbers};
 ghost use Rattle.instructions.specs.Assembly.{heldTypes};
-ghost use Rattle.grammar.specs.Legal.{limit};
+ghost use Rattle.grammar.specs.Legal.{textBytes};
 ghost use Rattle.grammar.specs.Sizes.{textTable};
 use crate::types::constant_pair;
 use instructions::Operands;
@@ -50,7 +50,7 @@ pub fn close_pair(
     firsts: &Operands,
     seconds: &Operands,
 ) -> usize
-    requires { ⌜ (length (now numbers) ≡ textTable) × (n ≤ textTable) × (length (now pairs) ≡ textTable) × (length (now firsts) ≡ textTable) × (length (now seconds) ≡ textTable) × (k ≤ limit) ⌝ }
+    requires { ⌜ (length (now numbers) ≡ textTable) × (n ≤ textTable) × (length (now pairs) ≡ textTable) × (length (now firsts) ≡ textTable) × (length (now seconds) ≡ textTable) × (k ≤ textBytes) ⌝ }
     ensures { λ r. ⌜ (length (now (numbers .exit)) ≡ textTable) × (r ≤ n) × (heldNumbers (now (numbers .exit)) r ≡ pairClosed (heldTypes (now (pairs .entry)) (now (firsts .entry)) (now (seconds .entry)) k) (heldNumbers (now (numbers .entry)) n)) ⌝ }
 {
     if n < 3 {

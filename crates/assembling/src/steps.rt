@@ -7,7 +7,7 @@ ghost use Rattle.instructions.specs.Instruction.{Instruction, instructionOf, he
 ghost use Rattle.instructions.specs.Assembly.{assembleOne, firstUntyped};
 ghost use Rattle.assembling.specs.Held.{TypesHeld, Threefold, recordCounts, recordsAdded, untypedAt, heldAssembly, Assembling, addedBound};
 ghost use Rattle.instructions.specs.Assembly.{heldTypes};
-ghost use Rattle.grammar.specs.Legal.{limit};
+ghost use Rattle.grammar.specs.Legal.{textBytes};
 ghost use Rattle.grammar.specs.Sizes.{textTable};
 use crate::code::close_if;
 use crate::code::push_instruction;
@@ -137,7 +137,7 @@ fn step_constant(
     code_seconds: &mut Operands,
     numbers: &mut Operands,
 ) -> Progress
-    requires { ⌜ Assembling i (now pairs) (now firsts) (now seconds) (now leaves) (now «code_ops») (now «code_firsts») (now «code_seconds») (now numbers) (s .types) (s .code) (s .waiting) (s .constants) (s .records) × (i < limit) × (24 ≤ op) ⌝ }
+    requires { ⌜ Assembling i (now pairs) (now firsts) (now seconds) (now leaves) (now «code_ops») (now «code_firsts») (now «code_seconds») (now numbers) (s .types) (s .code) (s .waiting) (s .constants) (s .records) × (i < textBytes) × (24 ≤ op) ⌝ }
     ensures { λ r. ⌜ Assembling (i + 1) (now (pairs .entry)) (now (firsts .entry)) (now (seconds .entry)) (now (leaves .entry)) (now («code_ops» .exit)) (now («code_firsts» .exit)) (now («code_seconds» .exit)) (now (numbers .exit)) (r .types) (r .code) (r .waiting) (r .constants) (r .records) × ((waits : ℕ → List Instruction) → heldAssembly (now (pairs .entry)) (now (firsts .entry)) (now (seconds .entry)) (r .types) (r .input) (now («code_ops» .exit)) (now («code_firsts» .exit)) (now («code_seconds» .exit)) (r .code) (waits (r .waiting)) (now (numbers .exit)) (r .constants) (r .place) (r .records) (r .ok) (r .bad) ≡ assembleOne (heldAssembly (now (pairs .entry)) (now (firsts .entry)) (now (seconds .entry)) (s .types) (s .input) (now («code_ops» .entry)) (now («code_firsts» .entry)) (now («code_seconds» .entry)) (s .code) (waits (s .waiting)) (now (numbers .entry)) (s .constants) (s .place) (s .records) (s .ok) (s .bad)) (instructionOf op a b)) ⌝ }
 {
     let mut r = s;
@@ -199,7 +199,7 @@ pub fn assembly_step(
     wait_seconds: &mut Operands,
     numbers: &mut Operands,
 ) -> Progress
-    requires { ⌜ Assembling i (now pairs) (now firsts) (now seconds) (now leaves) (now «code_ops») (now «code_firsts») (now «code_seconds») (now numbers) (s .types) (s .code) (s .waiting) (s .constants) (s .records) × (i < limit) × Threefold (now «wait_ops») (now «wait_firsts») (now «wait_seconds») ⌝ }
+    requires { ⌜ Assembling i (now pairs) (now firsts) (now seconds) (now leaves) (now «code_ops») (now «code_firsts») (now «code_seconds») (now numbers) (s .types) (s .code) (s .waiting) (s .constants) (s .records) × (i < textBytes) × Threefold (now «wait_ops») (now «wait_firsts») (now «wait_seconds») ⌝ }
     ensures { λ r. ⌜ Assembling (i + 1) (now (pairs .exit)) (now (firsts .exit)) (now (seconds .exit)) (now (leaves .exit)) (now («code_ops» .exit)) (now («code_firsts» .exit)) (now («code_seconds» .exit)) (now (numbers .exit)) (r .types) (r .code) (r .waiting) (r .constants) (r .records) × Threefold (now («wait_ops» .exit)) (now («wait_firsts» .exit)) (now («wait_seconds» .exit)) × (heldAssembly (now (pairs .exit)) (now (firsts .exit)) (now (seconds .exit)) (r .types) (r .input) (now («code_ops» .exit)) (now («code_firsts» .exit)) (now («code_seconds» .exit)) (r .code) (heldCode (now («wait_ops» .exit)) (now («wait_firsts» .exit)) (now («wait_seconds» .exit)) (r .waiting)) (now (numbers .exit)) (r .constants) (r .place) (r .records) (r .ok) (r .bad) ≡ assembleOne (heldAssembly (now (pairs .entry)) (now (firsts .entry)) (now (seconds .entry)) (s .types) (s .input) (now («code_ops» .entry)) (now («code_firsts» .entry)) (now («code_seconds» .entry)) (s .code) (heldCode (now («wait_ops» .entry)) (now («wait_firsts» .entry)) (now («wait_seconds» .entry)) (s .waiting)) (now (numbers .entry)) (s .constants) (s .place) (s .records) (s .ok) (s .bad)) (instructionOf op a b)) ⌝ }
 {
     let mut r = s;

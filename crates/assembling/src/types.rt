@@ -6,7 +6,7 @@ ghost use lib.ListN.{length};
 ghost use Rattle.instructions.specs.Assembly.{leavesNumbered, pairNumbered, constantPairNumbered, oneMore, withFirst, withSecond};
 ghost use Rattle.assembling.specs.Held.{leavesOver, TypesHeld, TypesGathered, typesAfter};
 ghost use Rattle.instructions.specs.Assembly.{typeHeld, heldTypes};
-ghost use Rattle.grammar.specs.Legal.{limit};
+ghost use Rattle.grammar.specs.Legal.{textBytes};
 ghost use Rattle.grammar.specs.Sizes.{textTable};
 ghost use Rattle.records.specs.Limits.{mostLeaves};
 use instructions::COUNT_CONSTRUCTOR;
@@ -86,7 +86,7 @@ fn set_type(
 
 // The first declared pair type of two among k types, or 0.
 fn pair_number(a: u16, b: u16, k: usize, pairs: &Ops, firsts: &Operands, seconds: &Operands) -> u16
-    requires { ⌜ (length (now pairs) ≡ textTable) × (length (now firsts) ≡ textTable) × (length (now seconds) ≡ textTable) × (k ≤ limit) ⌝ }
+    requires { ⌜ (length (now pairs) ≡ textTable) × (length (now firsts) ≡ textTable) × (length (now seconds) ≡ textTable) × (k ≤ textBytes) ⌝ }
     ensures { λ r. ⌜ r ≡ pairNumbered (heldTypes (now (pairs .entry)) (now (firsts .entry)) (now (seconds .entry)) k) a b ⌝ }
 {
     let mut j = 0;
@@ -112,7 +112,7 @@ pub fn constant_pair(
     firsts: &Operands,
     seconds: &Operands,
 ) -> u16
-    requires { ⌜ (length (now pairs) ≡ textTable) × (length (now firsts) ≡ textTable) × (length (now seconds) ≡ textTable) × (k ≤ limit) ⌝ }
+    requires { ⌜ (length (now pairs) ≡ textTable) × (length (now firsts) ≡ textTable) × (length (now seconds) ≡ textTable) × (k ≤ textBytes) ⌝ }
     ensures { λ r. ⌜ r ≡ constantPairNumbered (heldTypes (now (pairs .entry)) (now (firsts .entry)) (now (seconds .entry)) k) a b ⌝ }
 {
     if a == 0 {
@@ -133,7 +133,7 @@ fn count_constructor(
     seconds: &mut Operands,
     leaves: &mut Ops,
 )
-    requires { ⌜ TypesGathered i k (now pairs) (now firsts) (now seconds) (now leaves) × (i < limit) ⌝ }
+    requires { ⌜ TypesGathered i k (now pairs) (now firsts) (now seconds) (now leaves) × (i < textBytes) ⌝ }
     ensures { λ _. ⌜ TypesGathered (i + 1) k (now (pairs .exit)) (now (firsts .exit)) (now (seconds .exit)) (now (leaves .exit)) × (heldTypes (now (pairs .exit)) (now (firsts .exit)) (now (seconds .exit)) k ≡ oneMore (heldTypes (now (pairs .entry)) (now (firsts .entry)) (now (seconds .entry)) k)) ⌝ }
 {
     if k == 0 {
@@ -157,7 +157,7 @@ fn first_type(
     seconds: &mut Operands,
     leaves: &mut Ops,
 )
-    requires { ⌜ TypesGathered i k (now pairs) (now firsts) (now seconds) (now leaves) × (i < limit) ⌝ }
+    requires { ⌜ TypesGathered i k (now pairs) (now firsts) (now seconds) (now leaves) × (i < textBytes) ⌝ }
     ensures { λ _. ⌜ TypesGathered (i + 1) k (now (pairs .exit)) (now (firsts .exit)) (now (seconds .exit)) (now (leaves .exit)) × (heldTypes (now (pairs .exit)) (now (firsts .exit)) (now (seconds .exit)) k ≡ withFirst a (heldTypes (now (pairs .entry)) (now (firsts .entry)) (now (seconds .entry)) k)) ⌝ }
 {
     if k == 0 {
@@ -178,7 +178,7 @@ fn second_type(
     seconds: &mut Operands,
     leaves: &mut Ops,
 )
-    requires { ⌜ TypesGathered i k (now pairs) (now firsts) (now seconds) (now leaves) × (i < limit) ⌝ }
+    requires { ⌜ TypesGathered i k (now pairs) (now firsts) (now seconds) (now leaves) × (i < textBytes) ⌝ }
     ensures { λ _. ⌜ TypesGathered (i + 1) k (now (pairs .exit)) (now (firsts .exit)) (now (seconds .exit)) (now (leaves .exit)) × (heldTypes (now (pairs .exit)) (now (firsts .exit)) (now (seconds .exit)) k ≡ withSecond b (heldTypes (now (pairs .entry)) (now (firsts .entry)) (now (seconds .entry)) k)) ⌝ }
 {
     if k == 0 {
@@ -204,7 +204,7 @@ pub fn note_type(
     seconds: &mut Operands,
     leaves: &mut Ops,
 ) -> usize
-    requires { ⌜ TypesGathered i k (now pairs) (now firsts) (now seconds) (now leaves) × (i < limit) × (op < 4) ⌝ }
+    requires { ⌜ TypesGathered i k (now pairs) (now firsts) (now seconds) (now leaves) × (i < textBytes) × (op < 4) ⌝ }
     ensures { λ r. ⌜ TypesGathered (i + 1) r (now (pairs .exit)) (now (firsts .exit)) (now (seconds .exit)) (now (leaves .exit)) × (heldTypes (now (pairs .exit)) (now (firsts .exit)) (now (seconds .exit)) r ≡ typesAfter op a (heldTypes (now (pairs .entry)) (now (firsts .entry)) (now (seconds .entry)) k)) ⌝ }
 {
     if op == DECLARE_TYPE {

@@ -5,13 +5,13 @@ use Prim.Native.Nat.{ℕ}
 use mathlib.Core.List.{List, []}
 use mathlib.Core.Path.{_≡_}
 use Rattle.verdict.specs.Verdict.{verdict}
-use Rattle.verdict.specs.declared.Verdict.the-variants.{Accepted}
+use Rattle.answers.specs.declared.Verdict.the-variants.{Accepted}
 use Rattle.meaning.specs.Values.{no-values, AllOf}
-use Rattle.meaning.specs.Undecided.{Lawful}
+use Rattle.meaning.specs.RuleLaws.{Lawful}
 use Rattle.meaning.specs.Run.{after}
 use Rattle.meaning.proofs.NextTyped.{after-typed, after-frame}
 use Rattle.behaviour.specs.Terms.{circuitTerm}
-use Rattle.behaviour.specs.Sheets.{Writable}
+use Rattle.behaviour.specs.Writable.{Writable}
 use Rattle.behaviour.specs.Afterwards.{OnlyDelays}
 use Rattle.stimulus.specs.Stimulus.{inputType}
 use Rattle.behaviour.specs.Run.{sheetAfter}

@@ -82,16 +82,16 @@ module _ {s stim out next : List ℕ} {t : ℕ} (h : WellFormed s stim out next 
   accepted k = accepted-before rule-lawful s (h .accepted) inputs-typed k
 
   each-after : (k : ℕ) → k < cycleCount s stim → sheet (suc k) ≡ sheetAfterCycle (sheet k) (inputOf s stim k)
-  each-after k b = rw (← cycle-at s stim k b) (sheet-next undecidedRule s (cycles s stim) k (in-list k b))
+  each-after k b = rw (← cycle-at s stim k b) (sheet-next s (cycles s stim) k (in-list k b))
 
   only-delays : (k : ℕ) → k < cycleCount s stim → OnlyDelays (sheet k) (sheet (suc k))
   only-delays k b =
-      rw (sheet-next undecidedRule s (cycles s stim) k (in-list k b))
-      (after-only-delays rule-lawful (sheet k) (accepted k ∙ h .accepted)
+      rw (sheet-next s (cycles s stim) k (in-list k b))
+      (after-only-delays rule-lawful (accepted k ∙ h .accepted)
       (input-at rule-lawful s (h .accepted) inputs-typed k (in-list k b)))
 
   among-outputs : (k : ℕ) → k < cycleCount s stim → k < length outs
-  among-outputs k b = rw (outputs-counted undecidedRule s (cycles s stim)) (in-list k b)
+  among-outputs k b = rw (outputs-counted s (cycles s stim)) (in-list k b)
 
   -- the part of the output slice that is cycle k's is its output
   output-part : (k : ℕ) → k < cycleCount s stim
@@ -105,21 +105,21 @@ module _ {s stim out next : List ℕ} {t : ℕ} (h : WellFormed s stim out next 
   afterwards = record {
     all-done = rw answer-done;
     sheets = sheet;
-    first = sheet-first undecidedRule s (cycles s stim);
+    first = sheet-first s (cycles s stim);
     each-after = each-after;
     only-delays = only-delays;
     bytes = λ b k c.
         sheet-bytes rule-lawful s (h .accepted) inputs-typed b k;
-    last = next-is ∙ sym (sheet-last undecidedRule s (cycles s stim)) ∙ ap sheet (cycles-counted s stim);
-    equals-first = rw (next-is, ← sheet-last undecidedRule s (cycles s stim))
+    last = next-is ∙ sym (sheet-last s (cycles s stim)) ∙ ap sheet (cycles-counted s stim);
+    equals-first = rw (next-is, ← sheet-last s (cycles s stim))
         (sheet-only-delays rule-lawful s (h .accepted) inputs-typed (length (cycles s stim)));
     outputs = λ k b. output-part k b
-        ∙ output-at undecidedRule s (cycles s stim) k (in-list k b)
+        ∙ output-at s (cycles s stim) k (in-list k b)
         ∙ ap (output (sheet k)) (cycle-at s stim k b);
     out-length = ap length out-is
         ∙ joined-length (leaves (typeAt s t)) outs (typed-wide outs-typed)
-        ∙ ap (λ n. n * leaves (typeAt s t)) (outputs-counted undecidedRule s (cycles s stim) ∙ cycles-counted s stim);
-    again = ap verdict (next-is ∙ sym (sheet-last undecidedRule s (cycles s stim))) ∙ accepted (length (cycles s stim)) ∙ h .accepted;
+        ∙ ap (λ n. n * leaves (typeAt s t)) (outputs-counted s (cycles s stim) ∙ cycles-counted s stim);
+    again = ap verdict (next-is ∙ sym (sheet-last s (cycles s stim))) ∙ accepted (length (cycles s stim)) ∙ h .accepted;
     typed = λ k b. rw (output-part k b) (all-at outs-typed k (among-outputs k b));
     feedbacks = λ q b e. feedback-at s (h .accepted) b (feedback-kind s q e) sheet (cycleCount s stim)
         (λ k c. accepted k ∙ h .accepted)

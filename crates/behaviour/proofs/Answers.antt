@@ -12,23 +12,7 @@ use native.Mathlib.Nat.{mul-le-mul-left}
 use lib.ListN.{length}
 use lib.Dec.{eqb}
 use borrow.Author.Tests.{eqb-true, eqb-false, eq-eqb, ne-eqb, not-false}
-use Rattle.answers.specs.Answers.{
-  code,
-  place,
-  inOne,
-  packed,
-  whenDone,
-  onDone,
-  Check,
-  check,
-  when,
-  orRefused,
-  firstApplying,
-  NoneApplies,
-  Refuses,
-  SaysOf,
-  lowest,
-}
+use Rattle.answers.specs.Answers.{code, place, inOne, packed, whenDone, onDone, Check, check, when, orRefused, firstApplying, NoneApplies, Refuses, SaysOf, lowest, verdictAnswer}
 use Rattle.answers.specs.declared.Answer.{Answer}
 use Rattle.answers.specs.declared.Answer.the-variants.{Done, Refused}
 use Rattle.answers.proofs.Lowest.{lowest-some-passes}
@@ -45,10 +29,9 @@ use Rattle.answers.proofs.First.{
   kept-bytes,
 }
 use Rattle.verdict.specs.Verdict.{sheetChecks, outputType, verdict}
-use Rattle.verdict.specs.Scopes.{verdictAnswer}
-use Rattle.verdict.specs.declared.Verdict.{Verdict}
-use Rattle.verdict.specs.declared.Verdict.the-variants.{Accepted}
-use Rattle.verdict.specs.declared.Verdict.the-variants as Verdicts
+use Rattle.answers.specs.declared.Verdict.{Verdict}
+use Rattle.answers.specs.declared.Verdict.the-variants.{Accepted}
+use Rattle.answers.specs.declared.Verdict.the-variants as Verdicts
 use Rattle.picoella.specs.Language.{leaves}
 use Rattle.records.specs.Trees.{typeAt}
 use Rattle.records.proofs.Types.{some-leaves}

@@ -51,7 +51,7 @@ module _ {s stim out next : List ℕ} {t : ℕ} (h : WellFormed s stim out next 
         one-each = counted ∙ cycles-counted s stim;
         outputs = os;
         outputs-typed = o;
-        equally-many = sym (length-map os flatten) ∙ ap length q ∙ outputs-counted undecidedRule s (cycles s stim) ∙ sym counted;
+        equally-many = sym (length-map os flatten) ∙ ap length q ∙ outputs-counted s (cycles s stim) ∙ sym counted;
         expression-after = erase (after undecidedRule [] (circuitTerm s) (cycles s stim));
         stimulus-is = sym (ap endToEnd p ∙ cycles-joined s stim (h .whole));
         reduces =

@@ -8,12 +8,13 @@ use native.Mathlib.Decide.{ℕ-discrete, decLt}
 use lib.ListN.{length, getD, set}
 use lib.Seq.{getD-set-same, getD-set-other, set-out}
 use Rattle.verdict.specs.Verdict.{verdict}
-use Rattle.verdict.specs.declared.Verdict.the-variants.{Accepted}
+use Rattle.answers.specs.declared.Verdict.the-variants.{Accepted}
 use Rattle.meaning.specs.Elaboration.{Term}
 use Rattle.behaviour.specs.Delays.{entries}
 use Rattle.behaviour.specs.Entries.{Entry, putAll, putWord}
 use Rattle.records.specs.Words.{lowByte, highByte}
-use Rattle.behaviour.specs.Sheets.{write, Writable}
+use Rattle.behaviour.specs.Sheets.{write}
+use Rattle.behaviour.specs.Writable.{Writable}
 use Rattle.behaviour.specs.Afterwards.{Bytes}
 use Rattle.behaviour.proofs.Frames.{ByteEntries}
 use Rattle.behaviour.proofs.Stores.{written-small}

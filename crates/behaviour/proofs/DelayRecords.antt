@@ -66,12 +66,13 @@ use Rattle.verdict.specs.Scopes.{
   if-else,
   of-delay,
 }
-use Rattle.verdict.specs.declared.Verdict.the-variants.{Accepted}
+use Rattle.answers.specs.declared.Verdict.the-variants.{Accepted}
 use Rattle.accepted.proofs.Laws.{accepted-by-types}
 use Rattle.accepted.proofs.Scopes.{scope-checked}
 use Rattle.meaning.specs.Elaboration.{Term}
 use Rattle.behaviour.specs.Delays.{store}
-use Rattle.behaviour.specs.Sheets.{write, Writable}
+use Rattle.behaviour.specs.Sheets.{write}
+use Rattle.behaviour.specs.Writable.{Writable}
 use Rattle.behaviour.specs.Copies.{copied, leavesByKind, delayChains}
 use Rattle.behaviour.proofs.Members.{either, Among}
 use Rattle.behaviour.proofs.Scoped.{every-expression}

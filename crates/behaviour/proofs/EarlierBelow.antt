@@ -12,7 +12,8 @@ use Rattle.records.specs.Trees.{typeWithin, typeAt, pairOf, chainWithin, chain,
 use Rattle.structure.specs.Rules.{ancestryWithin, ancestry, depth, nesting, wrongLength, wrongHeader, wrongRecord, wrongNaming, wrongType, tooDeep}
 use Rattle.verdict.specs.Verdict.{byTypes, byRecords, verdict}
 use Rattle.meaning.specs.Values.{AllOf, all-none, all-more}
-use Rattle.meaning.specs.Undecided.{undefinedLeaves, undecidedRule}
+use Rattle.meaning.specs.Undecided.{undecidedRule}
+use Rattle.meaning.specs.RuleLaws.{undefinedLeaves}
 use Rattle.meaning.specs.Ordered.{AllBoth, both-all-none, both-all-more}
 use Rattle.meaning.specs.Evaluation.{eval, next}
 use Rattle.meaning.proofs.Order.{both-refl}

@@ -38,6 +38,7 @@ use Rattle.records.specs.Trees.{
 }
 use Rattle.records.specs.Written.{Written}
 use Rattle.records.proofs.Trees.{tree-of}
+use Rattle.meaning.specs.Undecided.{undecidedRule}
 use Rattle.behaviour.specs.Entries.{enter}
 use Rattle.behaviour.specs.Evaluated.{valueAt}
 use Rattle.behaviour.specs.Firing.{firstYes, firings}
@@ -59,92 +60,91 @@ ifsOf (feedbackOf r t a b) = ifsOf a ++ ifsOf b
 ifsOf (ifOf r a p b c) = ifsOf a ++ (ifsOf b ++ (ifsOf c ++ (r ∷ [])))
 ifsOf (delayOf r t ls a) = ifsOf a
 
-module _ (undecided : List ℕ → List ℕ → List ℕ) where
-  -- the numbers stand there, whatever the names' values are
-  pub firing-places : (s Γ : List ℕ) (ρ : List (List ℕ)) (t : Tree) → placesOf (firings undecided s Γ ρ t) ≡ ifsOf t
-  firing-places s Γ ρ noExpression = refl
-  firing-places s Γ ρ (constantOf r t ls) = refl
-  firing-places s Γ ρ (nameOf r k) = refl
-  firing-places s Γ ρ (tupleOf r a b) =
-      places-append (firings undecided s Γ ρ a) _ ∙ ap₂ _++_ (firing-places s Γ ρ a) (firing-places s Γ ρ b)
-  firing-places s Γ ρ (firstOf r a) = firing-places s Γ ρ a
-  firing-places s Γ ρ (secondOf r a) = firing-places s Γ ρ a
-  firing-places s Γ ρ (letOf r a b) =
-      places-append (firings undecided s Γ ρ a) _ ∙ ap₂ _++_ (firing-places s Γ ρ a) (firing-places s _ _ b)
-  firing-places s Γ ρ (feedbackOf r t a b) =
-      places-append (firings undecided s (t ∷ Γ) _ a) _ ∙ ap₂ _++_ (firing-places s (t ∷ Γ) _ a) (firing-places s (t ∷ Γ) _ b)
-  firing-places s Γ ρ (ifOf r a p b c) =
-      places-append (firings undecided s Γ ρ a) _
-      ∙ ap₂ _++_ (firing-places s Γ ρ a)
-      (places-append (firings undecided s Γ ρ b) _
-      ∙ ap₂ _++_ (firing-places s Γ ρ b)
-      (places-append (firings undecided s Γ ρ c) _ ∙ ap (λ ls. ls ++ (r ∷ [])) (firing-places s Γ ρ c)))
-  firing-places s Γ ρ (delayOf r t ls a) = firing-places s Γ ρ a
+-- the numbers stand there, whatever the names' values are
+pub firing-places : (s Γ : List ℕ) (ρ : List (List ℕ)) (t : Tree) → placesOf (firings undecidedRule s Γ ρ t) ≡ ifsOf t
+firing-places s Γ ρ noExpression = refl
+firing-places s Γ ρ (constantOf r t ls) = refl
+firing-places s Γ ρ (nameOf r k) = refl
+firing-places s Γ ρ (tupleOf r a b) =
+    places-append (firings undecidedRule s Γ ρ a) _ ∙ ap₂ _++_ (firing-places s Γ ρ a) (firing-places s Γ ρ b)
+firing-places s Γ ρ (firstOf r a) = firing-places s Γ ρ a
+firing-places s Γ ρ (secondOf r a) = firing-places s Γ ρ a
+firing-places s Γ ρ (letOf r a b) =
+    places-append (firings undecidedRule s Γ ρ a) _ ∙ ap₂ _++_ (firing-places s Γ ρ a) (firing-places s _ _ b)
+firing-places s Γ ρ (feedbackOf r t a b) =
+    places-append (firings undecidedRule s (t ∷ Γ) _ a) _ ∙ ap₂ _++_ (firing-places s (t ∷ Γ) _ a) (firing-places s (t ∷ Γ) _ b)
+firing-places s Γ ρ (ifOf r a p b c) =
+    places-append (firings undecidedRule s Γ ρ a) _
+    ∙ ap₂ _++_ (firing-places s Γ ρ a)
+    (places-append (firings undecidedRule s Γ ρ b) _
+    ∙ ap₂ _++_ (firing-places s Γ ρ b)
+    (places-append (firings undecidedRule s Γ ρ c) _ ∙ ap (λ ls. ls ++ (r ∷ [])) (firing-places s Γ ρ c)))
+firing-places s Γ ρ (delayOf r t ls a) = firing-places s Γ ρ a
 
-  pub fired-long : (s Γ : List ℕ) (ρ : List (List ℕ)) (r : ℕ) (f : List ℕ) → length (firedAt undecided s Γ ρ r f) ≡ length f
+pub fired-long : (s Γ : List ℕ) (ρ : List (List ℕ)) (r : ℕ) (f : List ℕ) → length (firedAt undecidedRule s Γ ρ r f) ≡ length f
+unfolding firedAt
+fired-long s Γ ρ r f = put-leaves enter length (firings undecidedRule s Γ ρ (treeAt s r)) (λ l m v a. length-set a l v) f
+
+-- a second evaluation of a record replaces what the first one entered
+pub fired-again : (s Γ : List ℕ) (ρ π : List (List ℕ)) (r : ℕ) (f : List ℕ)
+    → firedAt undecidedRule s Γ ρ r (firedAt undecidedRule s Γ π r f) ≡ firedAt undecidedRule s Γ ρ r f
+unfolding firedAt
+fired-again s Γ ρ π r f =
+    entered-again (firings undecidedRule s Γ ρ (treeAt s r)) (firings undecidedRule s Γ π (treeAt s r)) f
+    (firing-places s Γ ρ (treeAt s r) ∙ sym (firing-places s Γ π (treeAt s r)))
+
+module _ {s : List ℕ} (w : Written s) (Γ : List ℕ) (ρ : List (List ℕ)) {r : ℕ} (b : r < count s) where
+  pub constant-fired : kindAt s r ≡ expression constant → (f : List ℕ) → firedAt undecidedRule s Γ ρ r f ≡ f
   unfolding firedAt
-  fired-long s Γ ρ r f = put-leaves enter length (firings undecided s Γ ρ (treeAt s r)) (λ l m v a. length-set a l v) f
+  constant-fired e f = rw (tree-of w r b (expression constant) e) refl
 
-  module _ (s : List ℕ) (w : Written s) (Γ : List ℕ) (ρ : List (List ℕ)) (r : ℕ) (b : r < count s) where
-    pub constant-fired : kindAt s r ≡ expression constant → (f : List ℕ) → firedAt undecided s Γ ρ r f ≡ f
-    unfolding firedAt
-    constant-fired e f = rw (tree-of w r b (expression constant) e) refl
+  pub name-fired : kindAt s r ≡ expression name → (f : List ℕ) → firedAt undecidedRule s Γ ρ r f ≡ f
+  unfolding firedAt
+  name-fired e f = rw (tree-of w r b (expression name) e) refl
 
-    pub name-fired : kindAt s r ≡ expression name → (f : List ℕ) → firedAt undecided s Γ ρ r f ≡ f
-    unfolding firedAt
-    name-fired e f = rw (tree-of w r b (expression name) e) refl
+  pub tuple-fired : kindAt s r ≡ expression tuple → (f : List ℕ)
+      → firedAt undecidedRule s Γ ρ r f ≡ firedAt undecidedRule s Γ ρ (wordB s r) (firedAt undecidedRule s Γ ρ (wordA s r) f)
+  unfolding firedAt
+  tuple-fired e f =
+      rw (tree-of w r b (expression tuple) e) (put-append enter (firings undecidedRule s Γ ρ (treeAt s (wordA s r))) _ f)
 
-    pub tuple-fired : kindAt s r ≡ expression tuple → (f : List ℕ)
-        → firedAt undecided s Γ ρ r f ≡ firedAt undecided s Γ ρ (wordB s r) (firedAt undecided s Γ ρ (wordA s r) f)
-    unfolding firedAt
-    tuple-fired e f =
-        rw (tree-of w r b (expression tuple) e) (put-append enter (firings undecided s Γ ρ (treeAt s (wordA s r))) _ f)
+  pub first-fired : kindAt s r ≡ expression first → (f : List ℕ) → firedAt undecidedRule s Γ ρ r f ≡ firedAt undecidedRule s Γ ρ (wordA s r) f
+  unfolding firedAt
+  first-fired e f = rw (tree-of w r b (expression first) e) refl
 
-    pub first-fired : kindAt s r ≡ expression first → (f : List ℕ) → firedAt undecided s Γ ρ r f ≡ firedAt undecided s Γ ρ (wordA s r) f
-    unfolding firedAt
-    first-fired e f = rw (tree-of w r b (expression first) e) refl
+  pub second-fired : kindAt s r ≡ expression second → (f : List ℕ)
+      → firedAt undecidedRule s Γ ρ r f ≡ firedAt undecidedRule s Γ ρ (wordA s r) f
+  unfolding firedAt
+  second-fired e f = rw (tree-of w r b (expression second) e) refl
 
-    pub second-fired : kindAt s r ≡ expression second → (f : List ℕ)
-        → firedAt undecided s Γ ρ r f ≡ firedAt undecided s Γ ρ (wordA s r) f
-    unfolding firedAt
-    second-fired e f = rw (tree-of w r b (expression second) e) refl
+  pub let-fired : kindAt s r ≡ expression letIn → (f : List ℕ)
+      → firedAt undecidedRule s Γ ρ r f
+      ≡ firedAt undecidedRule s (typeRecordOf s Γ (treeAt s (wordA s r)) ∷ Γ) (valueAt undecidedRule s Γ ρ (wordA s r) ∷ ρ) (wordB s r)
+      (firedAt undecidedRule s Γ ρ (wordA s r) f)
+  unfolding firedAt valueAt
+  let-fired e f =
+      rw (tree-of w r b (expression letIn) e) (put-append enter (firings undecidedRule s Γ ρ (treeAt s (wordA s r))) _ f)
 
-    pub let-fired : kindAt s r ≡ expression letIn → (f : List ℕ)
-        → firedAt undecided s Γ ρ r f
-        ≡ firedAt undecided s (typeRecordOf s Γ (treeAt s (wordA s r)) ∷ Γ) (valueAt undecided s Γ ρ (wordA s r) ∷ ρ) (wordB s r)
-        (firedAt undecided s Γ ρ (wordA s r) f)
-    unfolding firedAt valueAt
-    let-fired e f =
-        rw (tree-of w r b (expression letIn) e) (put-append enter (firings undecided s Γ ρ (treeAt s (wordA s r))) _ f)
+  pub feedback-fired : kindAt s r ≡ expression feedback → (f : List ℕ)
+      → firedAt undecidedRule s Γ ρ r f
+      ≡ firedAt undecidedRule s (wordA s r ∷ Γ) (settledAt s Γ ρ r ∷ ρ) (wordC s r)
+      (firedAt undecidedRule s (wordA s r ∷ Γ) (settledAt s Γ ρ r ∷ ρ) (wordB s r) f)
+  unfolding firedAt
+  feedback-fired e f =
+      rw (tree-of w r b (expression feedback) e)
+      (put-append enter (firings undecidedRule s (wordA s r ∷ Γ) (settledAt s Γ ρ r ∷ ρ) (treeAt s (wordB s r))) _ f)
 
-    pub feedback-fired : kindAt s r ≡ expression feedback → (f : List ℕ)
-        → firedAt undecided s Γ ρ r f
-        ≡ firedAt undecided s (wordA s r ∷ Γ) (settledAt undecided s w Γ ρ r b ∷ ρ) (wordC s r)
-        (firedAt undecided s (wordA s r ∷ Γ) (settledAt undecided s w Γ ρ r b ∷ ρ) (wordB s r) f)
-    unfolding firedAt
-    feedback-fired e f =
-        rw (tree-of w r b (expression feedback) e)
-        (put-append enter (firings undecided s (wordA s r ∷ Γ) (settledAt undecided s w Γ ρ r b ∷ ρ) (treeAt s (wordB s r))) _ f)
+  pub if-fired : kindAt s r ≡ expression ifMatches → (f : List ℕ)
+      → firedAt undecidedRule s Γ ρ r f
+      ≡ set (firedAt undecidedRule s Γ ρ (wordC s r) (firedAt undecidedRule s Γ ρ (wordB s r) (firedAt undecidedRule s Γ ρ (wordA s r) f))) r
+      (firstYes s (alternatives s (wordD s r)) (valueAt undecidedRule s Γ ρ (wordA s r)))
+  unfolding firedAt valueAt
+  if-fired e f =
+      rw (tree-of w r b (expression ifMatches) e)
+      (put-append enter (firings undecidedRule s Γ ρ (treeAt s (wordA s r))) _ f
+      ∙ put-append enter (firings undecidedRule s Γ ρ (treeAt s (wordB s r))) _ _
+      ∙ put-append enter (firings undecidedRule s Γ ρ (treeAt s (wordC s r))) _ _)
 
-    pub if-fired : kindAt s r ≡ expression ifMatches → (f : List ℕ)
-        → firedAt undecided s Γ ρ r f
-        ≡ set (firedAt undecided s Γ ρ (wordC s r) (firedAt undecided s Γ ρ (wordB s r) (firedAt undecided s Γ ρ (wordA s r) f))) r
-        (firstYes s (alternatives s (wordD s r)) (valueAt undecided s Γ ρ (wordA s r)))
-    unfolding firedAt valueAt
-    if-fired e f =
-        rw (tree-of w r b (expression ifMatches) e)
-        (put-append enter (firings undecided s Γ ρ (treeAt s (wordA s r))) _ f
-        ∙ put-append enter (firings undecided s Γ ρ (treeAt s (wordB s r))) _ _
-        ∙ put-append enter (firings undecided s Γ ρ (treeAt s (wordC s r))) _ _)
-
-    pub delay-fired : kindAt s r ≡ expression delay → (f : List ℕ) → firedAt undecided s Γ ρ r f ≡ firedAt undecided s Γ ρ (wordC s r) f
-    unfolding firedAt
-    delay-fired e f = rw (tree-of w r b (expression delay) e) refl
-
-    -- a second evaluation of a record replaces what the first one entered
-    pub fired-again : (π : List (List ℕ)) (f : List ℕ)
-        → firedAt undecided s Γ ρ r (firedAt undecided s Γ π r f) ≡ firedAt undecided s Γ ρ r f
-    unfolding firedAt
-    fired-again π f =
-        entered-again (firings undecided s Γ ρ (treeAt s r)) (firings undecided s Γ π (treeAt s r)) f
-        (firing-places s Γ ρ (treeAt s r) ∙ sym (firing-places s Γ π (treeAt s r)))
+  pub delay-fired : kindAt s r ≡ expression delay → (f : List ℕ) → firedAt undecidedRule s Γ ρ r f ≡ firedAt undecidedRule s Γ ρ (wordC s r) f
+  unfolding firedAt
+  delay-fired e f = rw (tree-of w r b (expression delay) e) refl

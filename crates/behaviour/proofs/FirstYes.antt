@@ -31,7 +31,8 @@ use Rattle.records.specs.Written.{Written}
 use Rattle.records.proofs.Table.{askOfKind, kind-of-sort}
 use Rattle.records.proofs.Asked.{next-of-kind}
 use Rattle.records.proofs.Trees.{from-above, alternatives-of}
-use Rattle.meaning.specs.Matching.{Decision, Yes, No, Undecided, chainDecision, matches}
+use Rattle.meaning.specs.Matching.{matches}
+use Rattle.meaning.specs.Decisions.{Decision, Yes, No, Undecided, chainDecision}
 use Rattle.behaviour.specs.Firing.{orAfter, firstYes}
 use Rattle.behaviour.specs.Reaching.{OneAlternative, alternativeList, SaysYes, NoneYes, FirstYes, TellsFirst}
 

@@ -9,7 +9,7 @@ use Rattle.picoella.specs.Language.{Ty, Expr}
 use Rattle.records.specs.Decoding.{decode}
 use Rattle.records.proofs.Decoding.{decodes}
 use Rattle.verdict.specs.Verdict.{verdict}
-use Rattle.verdict.specs.declared.Verdict.the-variants.{Accepted}
+use Rattle.answers.specs.declared.Verdict.the-variants.{Accepted}
 use Rattle.meaning.specs.Elaboration.{erase}
 use Rattle.meaning.specs.Values.{AllOf, all-none, all-more}
 use Rattle.meaning.specs.Constants.{ConstantTree, AllConstantsOf, of-none, of-all-none, of-all-more, flatten}

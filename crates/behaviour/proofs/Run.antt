@@ -11,9 +11,10 @@ use Rattle.picoella.specs.Language.{OfType}
 use Rattle.records.specs.Words.{wordA}
 use Rattle.records.specs.Trees.{typeAt}
 use Rattle.verdict.specs.Verdict.{verdict}
-use Rattle.verdict.specs.declared.Verdict.the-variants.{Accepted}
+use Rattle.answers.specs.declared.Verdict.the-variants.{Accepted}
 use Rattle.meaning.specs.Values.{AllOf, all-none, all-more}
-use Rattle.meaning.specs.Undecided.{Lawful}
+use Rattle.meaning.specs.RuleLaws.{Lawful}
+use Rattle.meaning.specs.Undecided.{undecidedRule}
 use Rattle.meaning.specs.Evaluation.{next}
 use Rattle.meaning.specs.Run.{outputs, after}
 use Rattle.meaning.proofs.NextTyped.{after-frame}
@@ -37,31 +38,30 @@ use Rattle.stimulus.specs.Stimulus.{inputType}
 use Rattle.behaviour.specs.Run.{outputsBy, sheetAfter}
 use Rattle.behaviour.specs.Midway.{sheetBefore}
 
-module _ (undecided : List ℕ → List ℕ → List ℕ) where
-  -- the sheet before the cycle after the last is the sheet after the last
-  pub sheet-last : (s : List ℕ) (is : List (List ℕ)) → sheetBefore undecided s is (length is) ≡ sheetAfter undecided s is
-  sheet-last s [] = refl
-  sheet-last s (i ∷ is) = sheet-last (afterBy undecided s i) is
+-- the sheet before the cycle after the last is the sheet after the last
+pub sheet-last : (s : List ℕ) (is : List (List ℕ)) → sheetBefore undecidedRule s is (length is) ≡ sheetAfter undecidedRule s is
+sheet-last s [] = refl
+sheet-last s (i ∷ is) = sheet-last (afterBy undecidedRule s i) is
 
-  pub sheet-first : (s : List ℕ) (is : List (List ℕ)) → sheetBefore undecided s is 0 ≡ s
-  sheet-first s [] = refl
-  sheet-first s (i ∷ is) = refl
+pub sheet-first : (s : List ℕ) (is : List (List ℕ)) → sheetBefore undecidedRule s is 0 ≡ s
+sheet-first s [] = refl
+sheet-first s (i ∷ is) = refl
 
-  pub sheet-next : (s : List ℕ) (is : List (List ℕ)) (k : ℕ) → k < length is
-      → sheetBefore undecided s is (suc k) ≡ afterBy undecided (sheetBefore undecided s is k) (getD is k [])
-  sheet-next s [] k h = absurd (omega arith)
-  sheet-next s (i ∷ is) zero h = sheet-first (afterBy undecided s i) is
-  sheet-next s (i ∷ is) (suc k) h = sheet-next (afterBy undecided s i) is k (omega arith)
+pub sheet-next : (s : List ℕ) (is : List (List ℕ)) (k : ℕ) → k < length is
+    → sheetBefore undecidedRule s is (suc k) ≡ afterBy undecidedRule (sheetBefore undecidedRule s is k) (getD is k [])
+sheet-next s [] k h = absurd (omega arith)
+sheet-next s (i ∷ is) zero h = sheet-first (afterBy undecidedRule s i) is
+sheet-next s (i ∷ is) (suc k) h = sheet-next (afterBy undecidedRule s i) is k (omega arith)
 
-  pub output-at : (s : List ℕ) (is : List (List ℕ)) (k : ℕ) → k < length is
-      → getD (outputsBy undecided s is) k [] ≡ outputBy undecided (sheetBefore undecided s is k) (getD is k [])
-  output-at s [] k h = absurd (omega arith)
-  output-at s (i ∷ is) zero h = refl
-  output-at s (i ∷ is) (suc k) h = output-at (afterBy undecided s i) is k (omega arith)
+pub output-at : (s : List ℕ) (is : List (List ℕ)) (k : ℕ) → k < length is
+    → getD (outputsBy undecidedRule s is) k [] ≡ outputBy undecidedRule (sheetBefore undecidedRule s is k) (getD is k [])
+output-at s [] k h = absurd (omega arith)
+output-at s (i ∷ is) zero h = refl
+output-at s (i ∷ is) (suc k) h = output-at (afterBy undecidedRule s i) is k (omega arith)
 
-  pub outputs-counted : (s : List ℕ) (is : List (List ℕ)) → length (outputsBy undecided s is) ≡ length is
-  outputs-counted s [] = refl
-  outputs-counted s (i ∷ is) = ap suc (outputs-counted (afterBy undecided s i) is)
+pub outputs-counted : (s : List ℕ) (is : List (List ℕ)) → length (outputsBy undecidedRule s is) ≡ length is
+outputs-counted s [] = refl
+outputs-counted s (i ∷ is) = ap suc (outputs-counted (afterBy undecidedRule s i) is)
 
 module _ {undecided : List ℕ → List ℕ → List ℕ} (law : Lawful undecided) where
   -- inputs of the sheet's type are of that of the sheet after a cycle
@@ -112,7 +112,7 @@ module _ {undecided : List ℕ → List ℕ → List ℕ} (law : Lawful undecide
   sheet-only-delays s v {is = []} all-none k = only-delays-same s
   sheet-only-delays s v {is = i ∷ is} (all-more h r) zero = only-delays-same s
   sheet-only-delays s {t} v {is = i ∷ is} (all-more h r) (suc k) =
-      only-delays-chain v (after-only-delays law s v h) (sheet-only-delays (afterBy undecided s i) (after-accepted law s v h ∙ v) (given-again s v h r) k)
+      only-delays-chain v (after-only-delays law v h) (sheet-only-delays (afterBy undecided s i) (after-accepted law s v h ∙ v) (given-again s v h r) k)
 
   -- each input is of the input type of the sheet that its cycle begins from
   pub input-at : (s : List ℕ) {t : ℕ} → verdict s ≡ Accepted t → {is : List (List ℕ)} → AllOf (inputType s) is

@@ -21,7 +21,7 @@ use Rattle.picoella.specs.Language.{Ty, Within, within-none, within-leaf}
 use Rattle.records.specs.Words.{wordA}
 use Rattle.records.specs.Trees.{typeAt, Declared, circuit, delayLeaves}
 use Rattle.verdict.specs.Verdict.{verdict}
-use Rattle.verdict.specs.declared.Verdict.the-variants.{Accepted}
+use Rattle.answers.specs.declared.Verdict.the-variants.{Accepted}
 use Rattle.meaning.specs.Values.{LeafBelow, Both, both-none, both-leaf}
 use Rattle.meaning.specs.Elaboration.{
   Term,

@@ -12,9 +12,10 @@ use Rattle.records.specs.Words.{wordA}
 use Rattle.records.specs.Trees.{typeAt, Declared}
 use Rattle.records.proofs.Rewritten.{same-type}
 use Rattle.verdict.specs.Verdict.{verdict}
-use Rattle.verdict.specs.declared.Verdict.the-variants.{Accepted}
+use Rattle.answers.specs.declared.Verdict.the-variants.{Accepted}
 use Rattle.meaning.specs.Values.{_⊑_, below-none, below-leaf, both-no-values, AllOf, all-none, all-more}
-use Rattle.meaning.specs.Undecided.{undecidedRule, Lawful}
+use Rattle.meaning.specs.Undecided.{undecidedRule}
+use Rattle.meaning.specs.RuleLaws.{Lawful}
 use Rattle.meaning.specs.Ordered.{RuleBelow, Ordered, AllBoth, both-all-none, both-all-more}
 use Rattle.meaning.proofs.Order.{both-lower, both-upper, both-below, both-of}
 use Rattle.meaning.proofs.EvaluationOrdered.{rule-below-itself, outputs-ordered, after-ordered}

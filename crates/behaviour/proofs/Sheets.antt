@@ -28,13 +28,14 @@ use Rattle.structure.specs.Rules.{Passes}
 use Rattle.accepted.proofs.Laws.{written, well-named, accepted-by-types, input-context, accepted-judged}
 use Rattle.verdict.specs.Verdict.{verdict}
 use Rattle.verdict.specs.Scopes.{inputs}
-use Rattle.verdict.specs.declared.Verdict.the-variants.{Accepted}
+use Rattle.answers.specs.declared.Verdict.the-variants.{Accepted}
 use Rattle.accepted.proofs.AcceptedAgain.{accepted-again}
 use Rattle.meaning.specs.Elaboration.{Term, frame}
 use Rattle.behaviour.specs.Terms.{circuitTerm}
 use Rattle.behaviour.specs.Delays.{entries, places}
 use Rattle.behaviour.specs.Entries.{Entry, putAll, putWord}
-use Rattle.behaviour.specs.Sheets.{write, Writable}
+use Rattle.behaviour.specs.Sheets.{write}
+use Rattle.behaviour.specs.Writable.{Writable}
 use Rattle.behaviour.specs.Afterwards.{OnlyDelays}
 use Rattle.behaviour.proofs.Terms.{circuit-typed}
 use Rattle.behaviour.proofs.Entries.{placesOf, put-leaves, put-elsewhere, put-read}

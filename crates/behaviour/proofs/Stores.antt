@@ -16,14 +16,15 @@ use Rattle.records.proofs.Leaves.{circuit-leaves}
 use Rattle.records.proofs.Distinct.{circuit-distinct}
 use Rattle.accepted.proofs.Laws.{well-named, accepted-by-types}
 use Rattle.verdict.specs.Verdict.{verdict}
-use Rattle.verdict.specs.declared.Verdict.the-variants.{Accepted}
+use Rattle.answers.specs.declared.Verdict.the-variants.{Accepted}
 use Rattle.meaning.specs.Elaboration.{Term, frame}
 use Rattle.meaning.specs.Evaluation.{next}
 use Rattle.meaning.proofs.NextTyped.{next-frame}
 use Rattle.behaviour.specs.Terms.{circuitTerm}
 use Rattle.behaviour.specs.Delays.{entries, places, store}
 use Rattle.behaviour.specs.Entries.{Entry, assigned, putAll, enter, putWord}
-use Rattle.behaviour.specs.Sheets.{write, Writable}
+use Rattle.behaviour.specs.Sheets.{write}
+use Rattle.behaviour.specs.Writable.{Writable}
 use Rattle.behaviour.specs.Copies.{copied}
 use Rattle.behaviour.proofs.Entries.{placesOf, put-append, put-leaves, put-again, put-elsewhere, put-read}
 use Rattle.behaviour.proofs.Cells.{entryAt, InTable, table-cells, InSheet, sheet-cells}

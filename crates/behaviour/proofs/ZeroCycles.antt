@@ -15,7 +15,7 @@ use Rattle.records.specs.Trees.{typeAt}
 use Rattle.answers.specs.Answers.{firstApplying}
 use Rattle.answers.specs.declared.Answer.the-variants.{Done, Refused}
 use Rattle.verdict.specs.Verdict.{verdict}
-use Rattle.verdict.specs.declared.Verdict.the-variants.{Accepted}
+use Rattle.answers.specs.declared.Verdict.the-variants.{Accepted}
 use Rattle.stimulus.specs.Stimulus.{inputLeaves, cycleCount, pieces, cycles, wrongStimulus, stimulusChecks}
 use Rattle.behaviour.specs.Run.{outputNeeded, answer, finalOut, finalNext}
 use Rattle.behaviour.specs.Afterwards.{WellFormed}

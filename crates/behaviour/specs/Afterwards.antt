@@ -15,7 +15,7 @@ use Rattle.records.specs.Decoding.{expressionOf, allThere, whenThere}
 use Rattle.answers.specs.Answers.{inOne, lowest}
 use Rattle.verdict.specs.Verdict.{verdict}
 use Rattle.verdict.specs.Scopes.{Scope}
-use Rattle.verdict.specs.declared.Verdict.the-variants.{Accepted}
+use Rattle.answers.specs.declared.Verdict.the-variants.{Accepted}
 use Rattle.meaning.specs.Values.{undefined, _⊑_, ValuesOf}
 use Rattle.meaning.specs.Elaboration.{Term, erase}
 use Rattle.meaning.specs.Constants.{ConstantTree, ConstantOf, ConstantsOf, flatten, bottomOfType}

@@ -11,8 +11,9 @@ use Rattle.records.specs.Trees.{typeAt, alternatives, treeAt}
 use Rattle.records.specs.Decoding.{patternOf}
 use Rattle.verdict.specs.Verdict.{verdict}
 use Rattle.verdict.specs.Scopes.{inputs}
-use Rattle.verdict.specs.declared.Verdict.the-variants.{Accepted}
-use Rattle.meaning.specs.Matching.{Decision, Yes, Undecided, matches}
+use Rattle.answers.specs.declared.Verdict.the-variants.{Accepted}
+use Rattle.meaning.specs.Matching.{matches}
+use Rattle.meaning.specs.Decisions.{Decision, Yes, Undecided}
 use Rattle.meaning.specs.Undecided.{undecidedRule}
 use Rattle.meaning.specs.Evaluation.{applications}
 use Rattle.behaviour.specs.Terms.{term}

@@ -9,7 +9,8 @@ use Rattle.records.specs.Words.{count, wordA}
 use Rattle.records.specs.Trees.{typeAt, Alternatives, end, noPattern, wholeType, oneConstructor, pairOfPatterns, Tree, noExpression, constantOf, nameOf, tupleOf, firstOf, secondOf, letOf, feedbackOf, ifOf, delayOf, circuit, typeRecordOf}
 use Rattle.records.specs.Decoding.{patternOf}
 use Rattle.verdict.specs.Scopes.{inputs}
-use Rattle.meaning.specs.Matching.{Decision, Yes, No, Undecided, matches}
+use Rattle.meaning.specs.Matching.{matches}
+use Rattle.meaning.specs.Decisions.{Decision, Yes, No, Undecided}
 use Rattle.meaning.specs.Undecided.{undecidedRule}
 use Rattle.meaning.specs.Evaluation.{eval, settled}
 use Rattle.behaviour.specs.Terms.{term}

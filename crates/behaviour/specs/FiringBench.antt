@@ -7,7 +7,7 @@ use mathlib.Core.List.{List, [], _∷_}
 use lib.ListN.{replicate}
 use Rattle.records.specs.Words.{count}
 use Rattle.verdict.specs.Verdict.{verdict}
-use Rattle.verdict.specs.declared.Verdict.the-variants.{Accepted}
+use Rattle.answers.specs.declared.Verdict.the-variants.{Accepted}
 use Rattle.behaviour.specs.Entries.{Entry, putAll, enter}
 use Rattle.behaviour.specs.Bench.{bytes, gateAnd, eitherBit, equalBits, notFedBack, toggle, agreeing}
 use Rattle.behaviour.specs.Firing.{fired}

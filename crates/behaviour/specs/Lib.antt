@@ -7,8 +7,9 @@ pub mod Reaching
 pub mod Evaluated
 pub mod Entries
 pub mod SheetOrder
+pub mod Writable
 pub mod Promises
--- What the promises pin down, so that it need not be believed, but of `Sheets`, for `WriteReads`, what can be written:
+-- What the promises pin down, so that it need not be believed:
 pub mod Terms
 pub mod Delays
 pub mod Sheets

@@ -15,16 +15,18 @@ use Rattle.answers.specs.declared.Answer.{Answer}
 use Rattle.answers.specs.declared.Answer.the-variants.{Done, Refused}
 use Rattle.verdict.specs.Verdict.{verdict}
 use Rattle.verdict.specs.Scopes.{Scope}
-use Rattle.verdict.specs.declared.Verdict.the-variants.{Accepted}
+use Rattle.answers.specs.declared.Verdict.the-variants.{Accepted}
 use Rattle.meaning.specs.Elaboration.{Term, Elaborated, erase}
 use Rattle.meaning.specs.Values.{_⊑_, AllOf}
 use Rattle.meaning.specs.Constants.{ConstantTree, AllConstantsOf, flatten}
-use Rattle.meaning.specs.Undecided.{undefinedLeaves, undecidedRule, undecidedConstant, Lawful}
+use Rattle.meaning.specs.Undecided.{undecidedRule, undecidedConstant}
+use Rattle.meaning.specs.RuleLaws.{undefinedLeaves, Lawful}
 use Rattle.meaning.specs.Ordered.{RuleBelow, AllBoth}
 use Rattle.meaning.specs.Rules.{ReducesSeq}
 use Rattle.meaning.specs.Run as Meaning
 use Rattle.behaviour.specs.Terms.{term, circuitTerm}
-use Rattle.behaviour.specs.Sheets.{write, Writable}
+use Rattle.behaviour.specs.Sheets.{write}
+use Rattle.behaviour.specs.Writable.{Writable}
 use Rattle.behaviour.specs.Afterwards.{OnlyDelays, WellFormed, Afterwards}
 use Rattle.stimulus.specs.Stimulus.{inputType, endToEnd, cycles, cycleCount, wrongStimulus}
 use Rattle.behaviour.specs.Run.{outputsBy, sheetAfter, callChecks, answer, finalOut, finalNext, RunGiven, RunsByRules}
@@ -124,7 +126,7 @@ SheetRunOrdered =
     → AllBoth (typeAt s t) (outputsBy rule s inputs) (outputsBy other s′ inputs′)
     × SheetBelow (sheetAfter rule s inputs) (sheetAfter other s′ inputs′)
 
--- A late scanner (docs/LANDINGS.md, (c)): two well-formed calls on sheets in order, whose stimuli are of equal length and the
+-- A late scanner (docs/SHEETS.md, "Runs in order"): two well-formed calls on sheets in order, whose stimuli are of equal length and the
 -- first leaf by leaf at or below the second. Every output leaf of the first is at or below that of the second, and so is each
 -- delay leaf of the next sheets, which again differ in delay leaves alone. Any number of cycles, none included.
 abbrev pub LateScanner : Type 0
@@ -142,7 +144,7 @@ LateInput = StrictlyBelow toggle toggle (0 ∷ 1 ∷ []) (1 ∷ 1 ∷ []) (2 ∷
 abbrev pub LateDelay : Type 0
 LateDelay = StrictlyBelow (holding 0) toggle (1 ∷ []) (1 ∷ []) (0 ∷ []) (2 ∷ []) (holding 0) (holding 1)
 
--- The earlier rule for an undecided IF, undefined in every leaf, stays as a definition (docs/LANDINGS.md, (e)): on every accepted
+-- The earlier rule for an undecided IF, undefined in every leaf, stays as a definition (docs/SHEETS.md, "Runs in order"): on every accepted
 -- sheet, over any number of cycles of well-formed input, each output leaf and each delay leaf under it is at or below what the run
 -- gives.
 abbrev pub EarlierBelow : Type 0

@@ -15,7 +15,8 @@ use Rattle.records.specs.Says.{kindAt, Naming}
 use Rattle.records.specs.Trees.{typeAt, Alternatives, end, noPattern, wholeType, oneConstructor, pairOfPatterns, alternatives, treeAt, typeRecordOf}
 use Rattle.records.specs.Decoding.{patternOf}
 use Rattle.verdict.specs.Scopes.{inputs}
-use Rattle.meaning.specs.Matching.{Yes, matches}
+use Rattle.meaning.specs.Matching.{matches}
+use Rattle.meaning.specs.Decisions.{Yes}
 use Rattle.meaning.specs.Undecided.{undecidedRule}
 use Rattle.meaning.specs.Evaluation.{settled}
 use Rattle.behaviour.specs.Terms.{term}

@@ -1,4 +1,4 @@
--- The order of sheets and of calls of the run (docs/LANDINGS.md, (c)): two sheets that are the same or differ only in delay
+-- The order of sheets and of calls of the run (docs/SHEETS.md, "Runs in order"): two sheets that are the same or differ only in delay
 -- leaves, each of the first at or below that of the second; and a call whose sheet is accepted, whose stimulus is well formed
 -- and whose slices have the right lengths, with what it gave by its contract.
 use Prim.Native.Nat.{ℕ, _<_}

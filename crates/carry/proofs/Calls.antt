@@ -11,7 +11,7 @@ use lib.Seq.{drop-length}
 use Rattle.records.specs.Words.{count}
 use Rattle.records.specs.Sized.{Sized}
 use Rattle.records.specs.Written.{Written}
-use Rattle.answers.specs.Answers.{lowest, code, place, inOne, packed, onDone, firstApplying}
+use Rattle.answers.specs.Answers.{lowest, code, place, inOne, packed, onDone, firstApplying, verdictAnswer}
 use Rattle.answers.specs.Searches.{found}
 use Rattle.answers.specs.declared.Answer.{Answer}
 use Rattle.answers.specs.declared.Answer.the-variants.{Done, Refused}
@@ -19,9 +19,8 @@ use Rattle.answers.specs.declared.Found.{Found}
 use Rattle.answers.specs.declared.Found.the-variants.{At, Nothing}
 use Rattle.answers.proofs.Lowest.{lowest-some-passes}
 use Rattle.verdict.specs.Verdict.{sheetChecks, outputType, verdict}
-use Rattle.verdict.specs.Scopes.{verdictAnswer}
-use Rattle.verdict.specs.declared.Verdict.{Verdict}
-use Rattle.verdict.specs.declared.Verdict.the-variants as Verdicts
+use Rattle.answers.specs.declared.Verdict.{Verdict}
+use Rattle.answers.specs.declared.Verdict.the-variants as Verdicts
 use Rattle.accepted.proofs.Laws.{verdict-first, verdict-place}
 use Rattle.accepted.proofs.Small.{accepted-sized}
 use Rattle.behaviour.specs.Entries.{putAll, putWord}

@@ -38,7 +38,7 @@ use Rattle.records.proofs.Trees.{from-above, tree-of}
 use Rattle.records.proofs.Leaves.{chain-leaves}
 use Rattle.records.proofs.Rewritten.{same-type}
 use Rattle.verdict.specs.Verdict.{verdict}
-use Rattle.verdict.specs.declared.Verdict.the-variants.{Accepted}
+use Rattle.answers.specs.declared.Verdict.the-variants.{Accepted}
 use Rattle.accepted.proofs.Small.{accepted-passes}
 use Rattle.accepted.proofs.AcceptedAgain.{ValuesFit, accepted-again}
 use Rattle.accepted.proofs.Scopes.{scope-checked, constant-fits}
@@ -110,7 +110,7 @@ assigned-small (l ∷ ls) [] small e (List·Memᴰ·tail m) = assigned-small ls 
 assigned-small (l ∷ ls) (v ∷ vs) small e (List·Memᴰ·head p) = rw p (small v (List·Memᴰ·head refl))
 assigned-small (l ∷ ls) (v ∷ vs) small e (List·Memᴰ·tail m) = assigned-small ls vs (λ x n. small x (List·Memᴰ·tail n)) e m
 
-module _ (old new : List ℕ) (t′ t : ℕ) (v′ : verdict old ≡ Accepted t′) (v : verdict new ≡ Accepted t) where
+module _ (old new : List ℕ) {t′ t : ℕ} (v′ : verdict old ≡ Accepted t′) (v : verdict new ≡ Accepted t) where
   w : Written new
   w = is-written v
 

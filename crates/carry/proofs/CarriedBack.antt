@@ -24,7 +24,7 @@ use Rattle.records.proofs.Leaves.{circuit-leaves}
 use Rattle.answers.specs.Answers.{lowest}
 use Rattle.answers.proofs.Lowest.{lowest-is, lowest-none-fails}
 use Rattle.verdict.specs.Verdict.{verdict}
-use Rattle.verdict.specs.declared.Verdict.the-variants.{Accepted}
+use Rattle.answers.specs.declared.Verdict.the-variants.{Accepted}
 use Rattle.behaviour.specs.Afterwards.{OnlyDelays}
 use Rattle.behaviour.proofs.Cells.{word-a}
 use Rattle.behaviour.proofs.Members.{member-or-not}
@@ -99,7 +99,7 @@ module _ {old new next : List ℕ} (f : CarryFormed old new next) where
   carries-over =
       record {
         only-delays = carried-only-delays old new (f .new-accepted);
-        again = carried-again old new (f .oldType) (f .newType) (f .old-accepted) (f .new-accepted);
+        again = carried-again old new (f .old-accepted) (f .new-accepted);
         taken = λ q r p.
             ap (leafValues (carried old new)) (leaves-same old new (f .new-accepted) r)
             ∙ holds-taken old new (f .new-accepted) (f .oldType) (f .old-accepted) q r (p .new-there) (partner-gives q r p);

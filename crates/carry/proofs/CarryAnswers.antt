@@ -12,15 +12,15 @@ use borrow.Author.Tests.{eq-eqb}
 use lib.ListN.{length}
 use lib.Dec.{eqb}
 use Rattle.records.specs.Words.{count}
-use Rattle.answers.specs.Answers.{lowest, code, place, onDone, when, orRefused, firstApplying, NoneApplies, SaysOf}
+use Rattle.answers.specs.Answers.{lowest, code, place, onDone, when, orRefused, firstApplying, NoneApplies, SaysOf, verdictAnswer}
 use Rattle.answers.specs.declared.Answer.{Answer}
 use Rattle.answers.specs.declared.Answer.the-variants.{Done, Refused}
 use Rattle.answers.proofs.Lowest.{lowest-some-passes}
 use Rattle.answers.proofs.First.{first-says, says-first}
 use Rattle.verdict.specs.Verdict.{sheetChecks, outputType, verdict}
-use Rattle.verdict.specs.Scopes.{verdictAnswer}
-use Rattle.verdict.specs.declared.Verdict.the-variants.{Accepted}
-use Rattle.accepted.proofs.Laws.{code-small, verdict-place, first-accepted}
+use Rattle.answers.specs.declared.Verdict.the-variants.{Accepted}
+use Rattle.answers.proofs.VerdictCodes.{code-small}
+use Rattle.accepted.proofs.Laws.{verdict-place, first-accepted}
 use Rattle.accepted.proofs.Small.{accepted-length}
 use Rattle.answers.proofs.First.{none-split, same-length-by, place-or, when-some, kept-bytes}
 use Rattle.carry.specs.Labels.{labelTwice}

@@ -23,7 +23,7 @@ use Rattle.records.proofs.Distinct.{chain-only}
 use Rattle.records.proofs.Rewritten.{same-chain}
 use Rattle.answers.specs.Answers.{when}
 use Rattle.verdict.specs.Verdict.{verdict}
-use Rattle.verdict.specs.declared.Verdict.the-variants.{Accepted}
+use Rattle.answers.specs.declared.Verdict.the-variants.{Accepted}
 use Rattle.behaviour.specs.Entries.{Entry, putAll, putWord}
 use Rattle.behaviour.specs.Afterwards.{OnlyDelays}
 use Rattle.behaviour.proofs.Entries.{placesOf, place-of-member, put-append, put-leaves, put-elsewhere, put-read}

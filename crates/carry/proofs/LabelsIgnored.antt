@@ -38,10 +38,10 @@ use Rattle.records.specs.Rewritten.{Rewritten}
 use Rattle.records.specs.OnlyLabels.{OnlyLabels}
 use Rattle.records.proofs.Rewritten.{same-type, same-circuit}
 use Rattle.records.proofs.Labels.{labels-words, labels-rewritten}
-use Rattle.answers.specs.Answers.{lowest, whenDone, onDone, check, when, firstApplying}
+use Rattle.answers.specs.Answers.{lowest, whenDone, onDone, check, when, firstApplying, verdictAnswer}
 use Rattle.answers.specs.declared.Answer.{Answer}
 use Rattle.answers.specs.declared.Answer.the-variants.{Done, Refused}
-use Rattle.verdict.specs.Scopes.{inputs, verdictAnswer}
+use Rattle.verdict.specs.Scopes.{inputs}
 use Rattle.accepted.proofs.LabelsAgain.{leaf-values-same, type-record-same, verdict-same}
 use Rattle.meaning.specs.Undecided.{undecidedRule}
 use Rattle.meaning.specs.Evaluation.{eval, next}

@@ -22,7 +22,7 @@ use Rattle.structure.specs.Rules.{ancestryWithin, ancestry, depth, nesting, wro
 use Rattle.answers.specs.Answers.{lowest}
 use Rattle.answers.proofs.Lowest.{lowest-none-fails}
 use Rattle.verdict.specs.Verdict.{byTypes, byRecords, verdict}
-use Rattle.verdict.specs.declared.Verdict.the-variants.{Accepted}
+use Rattle.answers.specs.declared.Verdict.the-variants.{Accepted}
 use Rattle.accepted.proofs.Small.{accepted-sized}
 use Rattle.carry.specs.Labels.{label, labelTwice}
 use Rattle.carry.specs.Bearers.{Bearers, Labelling, Labelled}

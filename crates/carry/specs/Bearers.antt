@@ -6,6 +6,7 @@ use mathlib.Core.Bool.{Bool, false}
 use mathlib.Core.List.{List}
 use mathlib.Core.Option.{Option, none, some}
 use lib.ListN.{length, getD}
+use Rattle.records.specs.Limits.{wordBound}
 use Rattle.records.specs.Sized.{Sized}
 use Rattle.records.specs.Written.{Written}
 use Rattle.answers.specs.Answers.{lowest}
@@ -20,8 +21,8 @@ entryBearer (suc r) = some (suc r)
 
 -- the delays below m
 pub record Bearers (s : List ℕ) (m : ℕ) (table : List ℕ) : Type 0 where
-  pub long : length table ≡ 65536
-  pub entries : (l : ℕ) → l < 65536 → entryBearer (getD table l 0) ≡ lowest (bears s l) m
+  pub long : length table ≡ wordBound
+  pub entries : (l : ℕ) → l < wordBound → entryBearer (getD table l 0) ≡ lowest (bears s l) m
 
 -- record rec is entered
 pub record Labelling (s : List ℕ) (n rec : ℕ) (table : List ℕ) : Type 0 where
@@ -33,7 +34,7 @@ pub record Labelling (s : List ℕ) (n rec : ℕ) (table : List ℕ) : Type 0 wh
 -- whether a lower one bears its label; where none does it is entered
 pub record Labelled (s : List ℕ) (rec : ℕ) (twice : Bool) (table : List ℕ) : Type 0 where
   pub answered : twice ≡ labelTwice s rec
-  pub long : length table ≡ 65536
+  pub long : length table ≡ wordBound
   pub entered : twice ≡ false → Bearers s (rec + 1) table
 
 -- and all records, up to the first whose label stands twice

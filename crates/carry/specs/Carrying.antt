@@ -11,7 +11,7 @@ use Rattle.records.specs.Sized.{Sized}
 use Rattle.records.specs.Written.{Written}
 use Rattle.records.specs.Trees.{TypeRecord, chain}
 use Rattle.verdict.specs.Verdict.{verdict}
-use Rattle.verdict.specs.declared.Verdict.the-variants.{Accepted}
+use Rattle.answers.specs.declared.Verdict.the-variants.{Accepted}
 use Rattle.answers.specs.Answers.{lowest}
 use Rattle.carry.specs.Labels.{labelTwice}
 use Rattle.carry.specs.Bearers.{Bearers}

@@ -15,9 +15,9 @@ use Rattle.answers.specs.Answers.{lowest, code, place, Refuses}
 use Rattle.answers.specs.declared.Answer.{Answer}
 use Rattle.answers.specs.declared.Answer.the-variants.{Done, Refused}
 use Rattle.verdict.specs.Verdict.{verdict}
-use Rattle.verdict.specs.declared.Verdict.the-variants.{Accepted}
+use Rattle.answers.specs.declared.Verdict.the-variants.{Accepted}
 use Rattle.meaning.specs.Values.{AllOf}
-use Rattle.meaning.specs.Undecided.{Lawful}
+use Rattle.meaning.specs.RuleLaws.{Lawful}
 use Rattle.stimulus.specs.Stimulus.{inputType}
 use Rattle.behaviour.specs.Afterwards.{OnlyDelays}
 use Rattle.behaviour.specs.Run.{outputsBy, sheetAfter, answer, finalOut, finalNext}

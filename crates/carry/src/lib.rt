@@ -21,8 +21,11 @@ ghost use Rattle.records.specs.Limits.{wordBound};
 use answers::Found;
 use answers::LABEL_TWICE;
 use answers::NEW_SHEET_REFUSED;
-use answers::WRONG_NEXT;
+use answers::Verdict;
+use answers::WRONG_NEXT_LENGTH;
 use answers::in_one;
+use answers::packed_verdict;
+use answers::verdict_code;
 use records::KIND_DELAY;
 use records::KIND_FLAT_TYPE;
 use records::WORD_A;
@@ -30,15 +33,12 @@ use records::WORD_B;
 use records::WORD_D;
 use records::WORD_KIND;
 use records::WORD_NEXT;
+use records::no_widths;
 use records::offset;
 use records::records_in;
 use records::word;
 use values::put;
-use verdict::Verdict;
 use verdict::check_into;
-use verdict::no_widths;
-use verdict::packed_verdict;
-use verdict::verdict_code;
 
 // The labels that there are, 0 for none among them.
 pub const LABELS: usize = 65536;
@@ -221,7 +221,7 @@ fn carry_accepted(old: &[u8], n: usize, new: &[u8], m: usize, next: &mut [u8]) -
         return in_one(LABEL_TWICE, r as u64);
     }
     if next.len() != new.len() {
-        return in_one(WRONG_NEXT, new.len() as u64);
+        return in_one(WRONG_NEXT_LENGTH, new.len() as u64);
     }
     put(new, next);
     carry_values(old, n, new, m, next);

@@ -1,9 +1,8 @@
 // The check and the translation of texts for hosts in C, without the simulator: libchecker.a.
 ghost use mathlib.Core.Path.{_≡_};
-ghost use Rattle.answers.specs.Answers.{packed};
+ghost use Rattle.answers.specs.Answers.{packed, verdictAnswer};
 ghost use Rattle.verdict.specs.Verdict.{verdict};
-ghost use Rattle.verdict.specs.Scopes.{verdictAnswer};
-ghost use Rattle.translator.specs.Translation.{TranslatedInOne};
+ghost use Rattle.translator.specs.Translated.{TranslatedInOne};
 use translator::translate;
 use verdict::check_sheet;
 

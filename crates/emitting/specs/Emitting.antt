@@ -5,6 +5,9 @@ use Prim.Native.Nat.{ℕ, suc, _+_, _-_, _*_, _≤_, _<_}
 use mathlib.Core.Path.{_≡_}
 use mathlib.Core.List.{List, [], _∷_, _++_}
 use lib.ListN.{length, drop, getD, replicate}
+use Rattle.grammar.specs.Legal.{textBytes}
+use Rattle.records.specs.Limits.{mostRecords}
+use Rattle.grammar.specs.Sizes.{textTable}
 use Rattle.records.specs.SheetOf.{Record, sheetOf}
 use Rattle.instructions.specs.Instruction.{Instruction, heldCode}
 use Rattle.instructions.specs.Assembly.{DeclaredType, leavesNumbered, heldTypes}
@@ -19,9 +22,9 @@ pub record RecordPut (before after : List ℕ) (cursor : ℕ) (w : Record) (r : 
 
 -- the tables of a stack with so many slots
 pub record Stacking (kinds values : List ℕ) (height : ℕ) : Type 0 where
-  pub kinds-long : length kinds ≡ 65536
-  pub values-long : length values ≡ 65536
-  pub high : height ≤ 65536
+  pub kinds-long : length kinds ≡ textTable
+  pub values-long : length values ≡ textTable
+  pub high : height ≤ textTable
 
 -- a slot more
 pub record Stacked (s : Slot) (kinds values kinds′ values′ : List ℕ) (height : ℕ) : Type 0 where
@@ -32,7 +35,7 @@ pub record Stacked (s : Slot) (kinds values kinds′ values′ : List ℕ) (heig
 pub record Advancing (sheet kinds values : List ℕ) (cursor height : ℕ) : Type 0 where
   pub sheet-long : 12 * cursor ≤ length sheet
   pub stacking : Stacking kinds values height
-  pub room : height < 65536
+  pub room : height < textTable
 
 -- what it gives: from records R and a cursor on, the emission F
 pub record Advanced (R : List Record) (c : ℕ) (F : Emission) (before after kinds values : List ℕ) (cursor height next : ℕ) : Type 0 where
@@ -83,9 +86,9 @@ pub record TypesPut (pairs firsts seconds : List ℕ) (types : ℕ) (before afte
 
 -- what `write_sheet` asks, and gives
 pub record Emitting (T : List DeclaredType) (ops firsts seconds : List ℕ) (m : ℕ) (leaves : List ℕ) (types records : ℕ) (sheet : List ℕ) : Type 0 where
-  pub few : records ≤ 4096
+  pub few : records ≤ mostRecords
   pub sheet-long : 12 * records ≤ length sheet
-  pub code-few : m ≤ 65535
+  pub code-few : m ≤ textBytes
   pub types-few : types < records
   pub counted : (k : ℕ) → k < types → getD leaves k 0 ≡ leavesNumbered T (suc k)
   pub ends : cursorOf (emittedFrom T ops firsts seconds m records) ≡ suc types

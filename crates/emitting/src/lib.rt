@@ -8,7 +8,7 @@ ghost use Rattle.instructions.specs.Emission.{typeRecord};
 ghost use Rattle.instructions.specs.Assembly.{typeHeld, heldTypes};
 ghost use Rattle.emitting.specs.Tables.{SomeLeaves};
 ghost use Rattle.emitting.specs.Emitting.{RecordPut, emittedFrom, Emitting, Emitted, CodeWritten, TypesPut};
-ghost use Rattle.grammar.specs.Legal.{limit};
+ghost use Rattle.grammar.specs.Legal.{textBytes};
 ghost use Rattle.records.specs.Limits.{mostRecords};
 use bytes::clear_from;
 use bytes::put_record;
@@ -46,7 +46,7 @@ fn write_code(
     records: u16,
     sheet: &mut [u8],
 )
-    requires { ⌜ (m ≤ limit) × (12 * records ≤ length (now sheet)) × SomeLeaves (now leaves) types ⌝ }
+    requires { ⌜ (m ≤ textBytes) × (12 * records ≤ length (now sheet)) × SomeLeaves (now leaves) types ⌝ }
     ensures { λ _. ⌜ CodeWritten (now (ops .entry)) (now (firsts .entry)) (now (seconds .entry)) m (now (leaves .entry)) types records (now (sheet .entry)) (now (sheet .exit)) ⌝ }
 {
     let mut kinds = no_kinds();

@@ -199,9 +199,9 @@ module _ {s : List ℕ} {n : ℕ} {W env : List ℕ} {names rec : ℕ} {out Γ :
                 let chosen = rw (tested-is, otherwise-is, d₁ .value, then-value, else-value, ex, ey, ez, ep) at (g .chosen) in
                 let number-is = rw (tested-is, d₁ .value, ex, ep) at (g .tells) in
                 record {
-                  value = chosen ∙ sym (if-value undecidedRule s w Γ ρ rec b e);
-                  stored = h₃ ∙ rw (h₂, d₁ .stored, ex, ey, ez) (sym (if-stored undecidedRule s w Γ ρ rec b e held));
-                  noted = rw (number-is, k₃, k₂, d₁ .noted, ex, ey, ez) (sym (if-fired undecidedRule s w Γ ρ rec b e fired));
+                  value = chosen ∙ sym (if-value w Γ ρ b e);
+                  stored = h₃ ∙ rw (h₂, d₁ .stored, ex, ey, ez) (sym (if-stored w Γ ρ b e held));
+                  noted = rw (number-is, k₃, k₂, d₁ .noted, ex, ey, ez) (sym (if-fired w Γ ρ b e fired));
                   wide = d₃ .wide;
                   kept = d₃ .kept ∙ kept₂;
                 }
@@ -236,7 +236,7 @@ module _ {s : List ℕ} {n : ℕ} {W env : List ℕ} {names rec : ℕ} {out Γ :
           sort = rw el (q .2);
           many =
               rw el
-              (sym (length-map (chain s (wordB s rec)) (wordA s)) ∙ ap length (sym (delay-value undecidedRule s w Γ ρ rec b e))
+              (sym (length-map (chain s (wordB s rec)) (wordA s)) ∙ ap length (sym (delay-value w Γ ρ b e))
               ∙ ready-value r ∙ sym eo);
         }
 
@@ -246,9 +246,9 @@ module _ {s : List ℕ} {n : ℕ} {W env : List ℕ} {names rec : ℕ} {out Γ :
     delay-done {held} {fired} p₁ h g =
         let d = p₁ .done Γ delayed-ready in
         record {
-          value = g ∙ rw el (sym (delay-value undecidedRule s w Γ ρ rec b e));
-          stored = h ∙ rw (d .value, d .stored, ex, el) (sym (delay-stored undecidedRule s w Γ ρ rec b e held));
-          noted = d .noted ∙ rw ex (sym (delay-fired undecidedRule s w Γ ρ rec b e fired));
+          value = g ∙ rw el (sym (delay-value w Γ ρ b e));
+          stored = h ∙ rw (d .value, d .stored, ex, el) (sym (delay-stored w Γ ρ b e held));
+          noted = d .noted ∙ rw ex (sym (delay-fired w Γ ρ b e fired));
           wide = d .wide;
           kept = d .kept;
         }

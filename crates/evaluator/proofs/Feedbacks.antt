@@ -170,7 +170,7 @@ module _ {s : List ℕ} {n : ℕ} {W env : List ℕ} {names rec : ℕ} {out Γ :
             (more-values (feedback-typed rule-lawful {ρ = π} {t = body-part} part-typed (r .values)) (r .values))
 
         body-value : valueAt undecidedRule s Γ π rec ≡ valueAt undecidedRule s (t ∷ Γ) (frames s (t ∷ Γ) env₂) y
-        body-value = rw (framed₂, ed, ey) (feedback-value undecidedRule s w Γ π rec b e)
+        body-value = rw (framed₂, ed, ey) (feedback-value w Γ π b e)
 
         pub feedback-body-ready : EvaluatingIn s n W env₂ (names + 1) y out (t ∷ Γ)
         feedback-body-ready =
@@ -189,8 +189,8 @@ module _ {s : List ℕ} {n : ℕ} {W env : List ℕ} {names rec : ℕ} {out Γ :
             let k₂ : fired₂ ≡ firedAt undecidedRule s (t ∷ Γ) (u ∷ π) y fired₁ = rw framed₂ at (d₂ .noted) in
             record {
               value = d₂ .value ∙ sym body-value;
-              stored = h₂ ∙ rw (h₁, ed, ey) (sym (feedback-stored undecidedRule s w Γ π rec b e held));
-              noted = k₂ ∙ rw (k₁, ed, ey) (sym (feedback-fired undecidedRule s w Γ π rec b e fired));
+              stored = h₂ ∙ rw (h₁, ed, ey) (sym (feedback-stored w Γ π b e held));
+              noted = k₂ ∙ rw (k₁, ed, ey) (sym (feedback-fired w Γ π b e fired));
               wide = d₂ .wide;
               kept = front-kept (64 * names) (64 * (names + 1)) env₃ env₂ (omega arith) (d₂ .kept) ∙ kept₂;
             }

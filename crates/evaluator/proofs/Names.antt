@@ -83,9 +83,9 @@ module _ {s : List ℕ} {n : ℕ} {W env : List ℕ} {names rec : ℕ} {out Γ :
         let there : slot (names - 1 - k) (length out) env ≡ getD ρ k [] =
         rw (name-leaves, ← r .many) (sym (frame-at s Γ env k (let h = name-in-scope in let m = r .many in omega arith))) in
         record {
-          value = g ∙ there ∙ rw ek (sym (name-value undecidedRule s w Γ ρ rec b e));
-          stored = sym (name-stored undecidedRule s w Γ ρ rec b e held);
-          noted = sym (name-fired undecidedRule s w Γ ρ rec b e fired);
+          value = g ∙ there ∙ rw ek (sym (name-value w Γ ρ b e));
+          stored = sym (name-stored w Γ ρ b e held);
+          noted = sym (name-fired w Γ ρ b e fired);
           wide = r .wide;
           kept = refl;
         }
@@ -149,7 +149,7 @@ module _ {s : List ℕ} {n : ℕ} {W env : List ℕ} {names rec : ℕ} {out Γ :
         body-values = name-values r t few o₁ typed env₁ (d₁ .wide) (d₁ .kept) small env₂ entered-is
 
         body-value : valueAt undecidedRule s Γ ρ rec ≡ valueAt undecidedRule s (t ∷ Γ) (frames s (t ∷ Γ) env₂) y
-        body-value = rw (framed, ex, ey) (let-value undecidedRule s w Γ ρ rec b e)
+        body-value = rw (framed, ex, ey) (let-value w Γ ρ b e)
 
         pub let-body-ready : EvaluatingIn s n W env₂ (names + 1) y out (t ∷ Γ)
         let-body-ready =
@@ -169,8 +169,8 @@ module _ {s : List ℕ} {n : ℕ} {W env : List ℕ} {names rec : ℕ} {out Γ :
             let k₂ : fired₂ ≡ firedAt undecidedRule s (t ∷ Γ) (valueAt undecidedRule s Γ ρ x ∷ ρ) y fired₁ = rw framed at (d₂ .noted) in
             record {
               value = d₂ .value ∙ sym body-value;
-              stored = h₂ ∙ rw (d₁ .stored, ex, ey) (sym (let-stored undecidedRule s w Γ ρ rec b e held));
-              noted = k₂ ∙ rw (d₁ .noted, ex, ey) (sym (let-fired undecidedRule s w Γ ρ rec b e fired));
+              stored = h₂ ∙ rw (d₁ .stored, ex, ey) (sym (let-stored w Γ ρ b e held));
+              noted = k₂ ∙ rw (d₁ .noted, ex, ey) (sym (let-fired w Γ ρ b e fired));
               wide = d₂ .wide;
               kept =
                   front-kept (64 * names) (64 * (names + 1)) env₃ env₂ (omega arith) (d₂ .kept)

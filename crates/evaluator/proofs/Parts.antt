@@ -52,7 +52,7 @@ module _ {s : List ℕ} {n : ℕ} {W env : List ℕ} {names rec : ℕ} {out Γ :
           written = sheet-written;
           there = omega (arith, p .1, ex);
           sort = rw ex (p .2);
-          many = rw ex (sym (long (chain s (wordB s rec))) ∙ ap length (sym (constant-value undecidedRule s sheet-written Γ ρ rec record-there e)) ∙ ready-value r);
+          many = rw ex (sym (long (chain s (wordB s rec))) ∙ ap length (sym (constant-value sheet-written Γ ρ record-there e)) ∙ ready-value r);
         }
       where
         long : (ls : List ℕ) → length (leafValues s ls) ≡ length ls
@@ -62,9 +62,9 @@ module _ {s : List ℕ} {n : ℕ} {W env : List ℕ} {names rec : ℕ} {out Γ :
         → EvaluatedIn s Γ env names rec held fired env held fired out′
     constant-done ex {held} {fired} g =
         record {
-          value = g ∙ rw ex (sym (constant-value undecidedRule s sheet-written Γ ρ rec record-there e));
-          stored = sym (constant-stored undecidedRule s sheet-written Γ ρ rec record-there e held);
-          noted = sym (constant-fired undecidedRule s sheet-written Γ ρ rec record-there e fired);
+          value = g ∙ rw ex (sym (constant-value sheet-written Γ ρ record-there e));
+          stored = sym (constant-stored sheet-written Γ ρ record-there e held);
+          noted = sym (constant-fired sheet-written Γ ρ record-there e fired);
           wide = r .wide;
           kept = refl;
         }
@@ -77,7 +77,7 @@ module _ {s : List ℕ} {n : ℕ} {W env : List ℕ} {names rec : ℕ} {out Γ :
     scope-b = rw ey (tuple-second e (r .scope))
 
     parts : val rec ≡ val x ++ val y
-    parts = rw (ex, ey) (tuple-value undecidedRule s sheet-written Γ ρ rec record-there e)
+    parts = rw (ex, ey) (tuple-value sheet-written Γ ρ record-there e)
 
     pub pair-width-small : getD W x 0 ≤ 64
     pair-width-small = entry-few r scope-a
@@ -131,8 +131,8 @@ module _ {s : List ℕ} {n : ℕ} {W env : List ℕ} {names rec : ℕ} {out Γ :
             let k₂ : fired₂ ≡ firedAt undecidedRule s Γ ρ y fired₁ = rw f at (d₂ .noted) in
             record {
               value = both-back out o₁ first-wide pair-cut o₂ ∙ rw (d₁ .value, v₂) (sym parts);
-              stored = h₂ ∙ rw (d₁ .stored, ex, ey) (sym (tuple-stored undecidedRule s sheet-written Γ ρ rec record-there e held));
-              noted = k₂ ∙ rw (d₁ .noted, ex, ey) (sym (tuple-fired undecidedRule s sheet-written Γ ρ rec record-there e fired));
+              stored = h₂ ∙ rw (d₁ .stored, ex, ey) (sym (tuple-stored sheet-written Γ ρ record-there e held));
+              noted = k₂ ∙ rw (d₁ .noted, ex, ey) (sym (tuple-fired sheet-written Γ ρ record-there e fired));
               wide = d₂ .wide;
               kept = d₂ .kept ∙ d₁ .kept;
             }
@@ -167,7 +167,7 @@ module _ {s : List ℕ} {n : ℕ} {W env : List ℕ} {names rec : ℕ} {out Γ :
 
       front : val rec ≡ take cut o₁
       front =
-          first-value undecidedRule s sheet-written Γ ρ rec record-there e
+          first-value sheet-written Γ ρ record-there e
           ∙ ap (take cut) (rw ex at (sym (room-done first-scope ew eR p₁ .value)))
 
       cut-long : length out ≡ length (take cut o₁)
@@ -202,8 +202,8 @@ module _ {s : List ℕ} {n : ℕ} {W env : List ℕ} {names rec : ℕ} {out Γ :
           let d = room-done first-scope ew eR p₁ in
           record {
             value = put-whole (take (length out - 0) (o₁ ++ drop (w - 0) R)) out out′ first-fits g ∙ part-is ∙ sym front;
-            stored = d .stored ∙ rw ex (sym (first-stored undecidedRule s sheet-written Γ ρ rec record-there e held));
-            noted = d .noted ∙ rw ex (sym (first-fired undecidedRule s sheet-written Γ ρ rec record-there e fired));
+            stored = d .stored ∙ rw ex (sym (first-stored sheet-written Γ ρ record-there e held));
+            noted = d .noted ∙ rw ex (sym (first-fired sheet-written Γ ρ record-there e fired));
             wide = d .wide;
             kept = d .kept;
           }
@@ -219,7 +219,7 @@ module _ {s : List ℕ} {n : ℕ} {W env : List ℕ} {names rec : ℕ} {out Γ :
 
       end : val rec ≡ drop cut′ o₁
       end =
-          second-value undecidedRule s sheet-written Γ ρ rec record-there e
+          second-value sheet-written Γ ρ record-there e
           ∙ ap (drop cut′) (rw ex at (sym (room-done second-scope ew eR p₁ .value)))
 
       end-long : length out ≡ length (drop cut′ o₁)
@@ -257,8 +257,8 @@ module _ {s : List ℕ} {n : ℕ} {W env : List ℕ} {names rec : ℕ} {out Γ :
           let d = room-done second-scope ew eR p₁ in
           record {
             value = put-whole piece out out′ second-fits g ∙ piece-is ∙ sym end;
-            stored = d .stored ∙ rw ex (sym (second-stored undecidedRule s sheet-written Γ ρ rec record-there e held));
-            noted = d .noted ∙ rw ex (sym (second-fired undecidedRule s sheet-written Γ ρ rec record-there e fired));
+            stored = d .stored ∙ rw ex (sym (second-stored sheet-written Γ ρ record-there e held));
+            noted = d .noted ∙ rw ex (sym (second-fired sheet-written Γ ρ record-there e fired));
             wide = d .wide;
             kept = d .kept;
           }

@@ -25,11 +25,11 @@ use Rattle.behaviour.specs.Midway.{storedAt}
 use Rattle.behaviour.proofs.Evaluated.{stored-again}
 use Rattle.behaviour.specs.Midway.{firedAt}
 use Rattle.behaviour.proofs.Firings.{fired-again}
-use Rattle.values.specs.Answers.{ValuesCompared}
+use Rattle.values.specs.MatchAnswers.{ValuesCompared}
 use Rattle.values.specs.Slots.{slot, entered, frames}
 use Rattle.evaluator.specs.Evaluating.{EvaluatingIn, EvaluatedIn, Evaluated, SettlingIn, SettledIn, Settled, approximation, leadsTo}
 use Rattle.evaluator.proofs.Frames.{front-kept, slot-kept, frames-kept, entered-kept, entered-slot, entered-long}
-use Rattle.evaluator.proofs.Readiness.{ready-written, ready-there, ready-at, names-few, names-small, elaborated, entry-is, entry-few}
+use Rattle.evaluator.proofs.Readiness.{ready-at, names-few, names-small, elaborated, entry-is, entry-few}
 
 values-parts : {τ : Ty} {Γ : List Ty} {v : List ℕ} {ρ : List (List ℕ)} → ValuesOf (τ ∷ Γ) (v ∷ ρ) → OfType τ v × ValuesOf Γ ρ
 values-parts (more-values h r) = (h, r)
@@ -192,9 +192,8 @@ module _ {s : List ℕ} {n : ℕ} {W env : List ℕ} {names d : ℕ} {value : Li
             record {
               reached = f .reached ∙ leads;
               stored = h ∙ rw held-is
-                  (stored-again undecidedRule s (ready-written r) (t ∷ Γ)
-                  (leadsTo s t Γ d names env ∷ ρ) d (ready-there r) (v ∷ ρ) held);
-              noted = k ∙ rw fired-is (fired-again undecidedRule s (ready-written r) (t ∷ Γ) (leadsTo s t Γ d names env ∷ ρ) d (ready-there r) (v ∷ ρ) fired);
+                  (stored-again s (t ∷ Γ) (leadsTo s t Γ d names env ∷ ρ) (v ∷ ρ) d held);
+              noted = k ∙ rw fired-is (fired-again s (t ∷ Γ) (leadsTo s t Γ d names env ∷ ρ) (v ∷ ρ) d fired);
               wide = f .wide;
               kept = f .kept ∙ kept₂;
             }

@@ -4,13 +4,14 @@ use Prim.Native.Nat.{ℕ, _+_, _*_}
 use mathlib.Core.Path.{_≡_}
 use mathlib.Core.List.{List, _∷_, map}
 use lib.ListN.{length, getD, take}
+use Rattle.records.specs.Limits.{environmentBytes}
 use Rattle.picoella.specs.Language.{bounds, leaves}
 use Rattle.records.specs.Sized.{Sized}
 use Rattle.records.specs.Trees.{typeAt, treeAt, typeRecordOf}
 use Rattle.verdict.specs.Verdict.{verdict}
 use Rattle.verdict.specs.Scopes.{Scope}
 use Rattle.verdict.specs.Widths.{Widths}
-use Rattle.verdict.specs.declared.Verdict.the-variants.{Accepted}
+use Rattle.answers.specs.declared.Verdict.the-variants.{Accepted}
 use Rattle.meaning.specs.Values.{Both, ValuesOf}
 use Rattle.meaning.specs.Undecided.{undecidedRule}
 use Rattle.meaning.specs.Evaluation.{iterate}
@@ -28,7 +29,7 @@ pub record EvaluatingIn (s : List ℕ) (n : ℕ) (widths env : List ℕ) (names 
   pub table : Widths s widths
   pub scope : Scope s rec Γ
   pub many : length Γ ≡ names
-  pub wide : length env ≡ 4096
+  pub wide : length env ≡ environmentBytes
   pub room : length out ≡ getD widths rec 0
   pub values : ValuesOf (map (typeAt s) Γ) (frames s Γ env)
 
@@ -37,7 +38,7 @@ pub record EvaluatedIn (s Γ env : List ℕ) (names rec : ℕ) (held fired env�
   pub value : out′ ≡ valueAt undecidedRule s Γ (frames s Γ env) rec
   pub stored : held′ ≡ storedAt undecidedRule s Γ (frames s Γ env) rec held
   pub noted : fired′ ≡ firedAt undecidedRule s Γ (frames s Γ env) rec fired
-  pub wide : length env′ ≡ 4096
+  pub wide : length env′ ≡ environmentBytes
   pub kept : take (64 * names) env′ ≡ take (64 * names) env
 
 -- an approximation of a feedback's value stands in the slot of its name, which is the innermost in scope at its defining part d
@@ -62,7 +63,7 @@ pub record SettledIn (s : List ℕ) (t : ℕ) (Γ env : List ℕ) (names d : ℕ
   pub reached : approximation s t names env′ ≡ leadsTo s t Γ d names env
   pub stored : held′ ≡ storedAt undecidedRule s (t ∷ Γ) (leadsTo s t Γ d names env ∷ frames s Γ env) d held
   pub noted : fired′ ≡ firedAt undecidedRule s (t ∷ Γ) (leadsTo s t Γ d names env ∷ frames s Γ env) d fired
-  pub wide : length env′ ≡ 4096
+  pub wide : length env′ ≡ environmentBytes
   pub kept : take (64 * names) env′ ≡ take (64 * names) env
 
 -- The contracts: for every list of names in scope with which the call is ready.

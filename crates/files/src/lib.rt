@@ -1,5 +1,5 @@
-// Files for programs: a file read whole or past its limit, a file that cannot be opened refused, what was told printed in pieces, and a
-// file replaced.
+// Files for programs: a file read whole or past its limit, the line of a refusal printed, also that of a file that cannot be opened, what was
+// told printed in pieces, and a file replaced.
 ghost use Prim.Native.Nat.{_≤_, _<_};
 ghost use mathlib.Core.Path.{_≡_};
 ghost use lib.ListN.{length};
@@ -7,6 +7,7 @@ ghost use Rattle.io.specs.Counts.{Counts};
 ghost use Rattle.records.specs.Limits.{mostLeaves};
 use libc::STDOUT_FILENO;
 use listing::LINE_BYTES;
+use listing::put_refused;
 use printing::first_piece;
 use printing::next_piece;
 use printing::put_no_file;
@@ -60,10 +61,17 @@ pub fn read_named(path: &[u8], buffer: &mut [u8]) -> Got
     got
 }
 
-// Prints the line for a file that could not be opened.
-pub fn refuse_file(opened: bool) {
+// Prints the line of a refusal.
+pub fn refuse(code: u64, place: u64) {
     let mut line = [0u8; LINE_BYTES];
-    let end = put_no_file(&mut line, opened);
+    let end = put_refused(&mut line, 0, code, place);
+    io::write_all(STDOUT_FILENO, &line[0..end]);
+}
+
+// Prints the line for a file that could not be opened, from its place among the files of a program: 1 for the first.
+pub fn refuse_file(place: u64) {
+    let mut line = [0u8; LINE_BYTES];
+    let end = put_no_file(&mut line, place);
     io::write_all(STDOUT_FILENO, &line[0..end]);
 }
 

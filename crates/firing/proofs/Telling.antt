@@ -13,14 +13,14 @@ use Rattle.picoella.specs.Language.{leaves}
 use Rattle.records.specs.Words.{count, wordB}
 use Rattle.records.specs.Trees.{typeAt}
 use Rattle.records.proofs.Asked.{past-header}
-use Rattle.answers.specs.Answers.{inOne, packed}
+use Rattle.answers.specs.Answers.{inOne, packed, verdictAnswer}
 use Rattle.answers.specs.declared.Answer.{Answer}
 use Rattle.answers.specs.declared.Answer.the-variants.{Done, Refused}
 use Rattle.answers.proofs.First.{kept-bytes}
 use Rattle.verdict.specs.Verdict.{verdict}
-use Rattle.verdict.specs.Scopes.{verdictAnswer, inputs}
-use Rattle.verdict.specs.declared.Verdict.{Verdict}
-use Rattle.verdict.specs.declared.Verdict.the-variants.{Accepted}
+use Rattle.verdict.specs.Scopes.{inputs}
+use Rattle.answers.specs.declared.Verdict.{Verdict}
+use Rattle.answers.specs.declared.Verdict.the-variants.{Accepted}
 use Rattle.accepted.specs.Accepting.{Accepting}
 use Rattle.accepted.proofs.Laws.{written, Refusing}
 use Rattle.accepted.proofs.Scopes.{scope-checked}

@@ -23,7 +23,7 @@ use Rattle.structure.specs.Rules.{
   Passes,
 }
 use Rattle.verdict.specs.Verdict.{byTypes, byRecords, verdict}
-use Rattle.verdict.specs.declared.Verdict.the-variants.{Accepted}
+use Rattle.answers.specs.declared.Verdict.the-variants.{Accepted}
 use Rattle.accepted.specs.Accepting.{Accepting}
 use Rattle.accepted.proofs.Small.{accepted-passes, accepted-records}
 use Rattle.accepted.proofs.Requirements as Requirements

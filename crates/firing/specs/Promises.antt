@@ -12,7 +12,7 @@ use Rattle.answers.specs.Answers.{code, place}
 use Rattle.answers.specs.declared.Answer.{Answer}
 use Rattle.answers.specs.declared.Answer.the-variants.{Done, Refused}
 use Rattle.verdict.specs.Verdict.{verdict}
-use Rattle.verdict.specs.declared.Verdict.the-variants.{Accepted}
+use Rattle.answers.specs.declared.Verdict.the-variants.{Accepted}
 use Rattle.stimulus.specs.OneCycleCalls.{SaysOfOneCycle}
 use Rattle.behaviour.specs.Bench.{toggle}
 use Rattle.behaviour.specs.Reaching.{Evaluates, EvaluatedOnce, FiredWords, TellsFirst}

@@ -6,7 +6,7 @@ use lib.ListN.{length}
 use Rattle.picoella.specs.Language.{OfType}
 use Rattle.records.specs.Words.{count}
 use Rattle.verdict.specs.Verdict.{verdict}
-use Rattle.verdict.specs.declared.Verdict.the-variants.{Accepted}
+use Rattle.answers.specs.declared.Verdict.the-variants.{Accepted}
 use Rattle.accepted.specs.Accepting.{Accepting}
 use Rattle.stimulus.specs.Stimulus.{inputType}
 

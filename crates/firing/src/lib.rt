@@ -3,19 +3,22 @@ ghost use mathlib.Core.Path.{_≡_};
 ghost use Prim.Native.Nat.{_≤_};
 ghost use lib.ListN.{length, take};
 ghost use Rattle.verdict.specs.Verdict.{verdict};
-ghost use Rattle.verdict.specs.declared.Verdict.the-variants.{Accepted};
+ghost use Rattle.answers.specs.declared.Verdict.the-variants.{Accepted};
 ghost use Rattle.accepted.specs.Accepting.{Accepting};
 ghost use Rattle.behaviour.specs.Firing.{fired};
 ghost use Rattle.firing.specs.Telling.{ToldFired};
 ghost use Rattle.firing.specs.TellingCycle.{TellingFired};
 ghost use Rattle.records.specs.Limits.{mostRecords, mostLeaves};
 use answers::Answer;
+use answers::Verdict;
 use answers::WRONG_WORDS;
 use answers::in_one;
 use answers::packed;
+use answers::packed_verdict;
 use records::RECORDS;
 use records::VALUE_BYTES;
 use records::WidthTable;
+use records::no_widths;
 use records::records_in;
 use stepper::look;
 use stepper::no_names;
@@ -23,10 +26,7 @@ use stepper::no_next_values;
 use stimulus::check_one_cycle;
 use values::Fired;
 use values::none_fired;
-use verdict::Verdict;
 use verdict::check_into;
-use verdict::no_widths;
-use verdict::packed_verdict;
 
 // Copies the first words of a table.
 fn copy_words(table: &Fired, words: &mut [u16])

@@ -17,7 +17,7 @@ use Rattle.grammar.specs.Rows.{inLetBound, inLetBody, initQuery, initTyp
 use Rattle.grammar.specs.Rows.{inRecBody, inTested, pattern, inMatched, inPatternFirst, inPatternSecond, inThen}
 use Rattle.grammar.specs.Rows.{inElse, delayBracket, constant, inDelayConstant, inConstantFirst, inConstantSecond}
 use Rattle.grammar.specs.Rows.{inDelayed, delayClose, index, indexOne, indexTwo}
-use Rattle.grammar.specs.Machine.{dead, live, Word, noWord, naming, spelt, back, afterBytes, ends}
+use Rattle.grammar.specs.Machine.{dead, live, WordLeft, noWord, inName, spelt, back, afterBytes, ends}
 
 -- the bytes that complete what a state is in
 abbrev closing : State → List ℕ
@@ -119,7 +119,7 @@ Unended index = Unit {0}
 Unended indexOne = Unit {0}
 Unended indexTwo = Unit {0}
 
-name-ended : (K : List State) (rest : List ℕ) → afterBytes (back K (naming 1)) (32 ∷ rest) ≡ afterBytes (back K noWord) rest
+name-ended : (K : List State) (rest : List ℕ) → afterBytes (back K (inName 1)) (32 ∷ rest) ≡ afterBytes (back K noWord) rest
 name-ended [] rest = refl
 name-ended (q ∷ K) rest = refl
 
@@ -242,9 +242,9 @@ closes-all [] = refl
 closes-all (q ∷ K) = closes-state q K (allClosing K) (closes-all K)
 
 -- a blank after the letters that a word lacks
-abbrev wordEnding : Word → List ℕ
+abbrev wordEnding : WordLeft → List ℕ
 wordEnding noWord = 32 ∷ []
-wordEnding (naming n) = 32 ∷ []
+wordEnding (inName n) = 32 ∷ []
 wordEnding (spelt left) = left ++ (32 ∷ [])
 
 letters-read : (q : State) (K : List State) (left more : List ℕ)
@@ -253,11 +253,11 @@ letters-read q K [] more = refl
 letters-read q K (c ∷ left) more =
     ap (λ x. afterBytes (cond x (live q K (spelt left)) dead) ((left ++ (32 ∷ [])) ++ more)) (eq-eqb c c refl) ∙ letters-read q K left more
 
-word-ended : (q : State) (K : List State) (w : Word) (more : List ℕ)
+word-ended : (q : State) (K : List State) (w : WordLeft) (more : List ℕ)
     → afterBytes (live q K w) (wordEnding w ++ more) ≡ afterBytes (live q K noWord) more
 word-ended q K noWord more = refl
-word-ended q K (naming n) more = refl
+word-ended q K (inName n) more = refl
 word-ended q K (spelt left) more = letters-read q K left more
 
-pub completable : (q : State) (K : List State) (w : Word) → (more : List ℕ) × (ends (afterBytes (live q K w) more) ≡ true)
+pub completable : (q : State) (K : List State) (w : WordLeft) → (more : List ℕ) × (ends (afterBytes (live q K w) more) ≡ true)
 completable q K w = (wordEnding w ++ allClosing (q ∷ K), ap ends (word-ended q K w (allClosing (q ∷ K))) ∙ closes-all (q ∷ K))

@@ -11,11 +11,11 @@ use lib.ListN.{length, take, length-take}
 use lib.Seq.{take-take, take-all}
 use lib.Dec.{T, ltb, ltb→lt, nltb→le}
 use Rattle.grammar.specs.Tokens.{Token, Tokens}
-use Rattle.grammar.specs.Legal.{Legal, Viable, limit, Leaves, at-byte, at-limit, at-end}
-use Rattle.grammar.specs.Walk.{Told}
+use Rattle.grammar.specs.Legal.{Legal, Viable, textBytes, LeavesGrammar, at-byte, at-limit, at-end}
+use Rattle.grammar.specs.Walk.{PlaceTold}
 use Rattle.grammar.specs.Rows.{State, start}
-use Rattle.grammar.specs.Machine.{Config, dead, live, Word, noWord, onByte, afterBytes, ends, begins}
-use Rattle.grammar.specs.Walk.{Walked, stopped, reached, onward, walk, concluded, firstIllegal}
+use Rattle.grammar.specs.Machine.{Config, dead, live, WordLeft, noWord, onByte, afterBytes, ends, begins}
+use Rattle.grammar.specs.Walk.{Walked, stopped, cameTo, onward, walk, concluded, firstIllegal}
 use Rattle.grammar.proofs.Derived.{derived}
 use Rattle.grammar.proofs.ReadToEnd.{read-to-end}
 use Rattle.grammar.proofs.Endings.{completable}
@@ -68,12 +68,12 @@ record Stops (bs : List ℕ) (i j : ℕ) (c : Config) : Type 0 where
   until : Alive (afterBytes c (take count bs))
   there : afterBytes c (take (suc count) bs) ≡ dead
 
-stops : (bs : List ℕ) (i j : ℕ) (q : State) (K : List State) (w : Word) → walk bs i (live q K w) ≡ stopped j → Stops bs i j (live q K w)
+stops : (bs : List ℕ) (i j : ℕ) (q : State) (K : List State) (w : WordLeft) → walk bs i (live q K w) ≡ stopped j → Stops bs i j (live q K w)
 stops [] i j q K w h = absurd (let z : _≡_ {A = ℕ} 0 1 = cc in omega arith)
 stops (b ∷ bs) i j q K w h = go (onByte b q K w) refl h (λ r L v k. stops bs (suc i) j r L v k)
   where
     go : (c : Config) → onByte b q K w ≡ c → onward (walk bs (suc i)) c i ≡ stopped j
-        → ((r : State) (L : List State) (v : Word) → walk bs (suc i) (live r L v) ≡ stopped j → Stops bs (suc i) j (live r L v))
+        → ((r : State) (L : List State) (v : WordLeft) → walk bs (suc i) (live r L v) ≡ stopped j → Stops bs (suc i) j (live r L v))
         → Stops (b ∷ bs) i j (live q K w)
     go dead e k again = let f : i ≡ j = cc in record { count = 0; place = omega arith; within = omega arith; until = tt; there = e }
     go (live r L v) e k again =
@@ -87,57 +87,57 @@ stops (b ∷ bs) i j q K w h = go (onByte b q K w) refl h (λ r L v k. stops bs 
         }
 
 -- where it does not
-reaches : (bs : List ℕ) (i : ℕ) (q : State) (K : List State) (w : Word) (d : Config)
-    → walk bs i (live q K w) ≡ reached d → (afterBytes (live q K w) bs ≡ d) × Alive d
+reaches : (bs : List ℕ) (i : ℕ) (q : State) (K : List State) (w : WordLeft) (d : Config)
+    → walk bs i (live q K w) ≡ cameTo d → (afterBytes (live q K w) bs ≡ d) × Alive d
 reaches [] i q K w d h = let e : live q K w ≡ d = cc in (e, subst Alive e tt)
 reaches (b ∷ bs) i q K w d h = go (onByte b q K w) refl h (λ r L v k. reaches bs (suc i) r L v d k)
   where
-    go : (c : Config) → onByte b q K w ≡ c → onward (walk bs (suc i)) c i ≡ reached d
-        → ((r : State) (L : List State) (v : Word) → walk bs (suc i) (live r L v) ≡ reached d → (afterBytes (live r L v) bs ≡ d) × Alive d)
+    go : (c : Config) → onByte b q K w ≡ c → onward (walk bs (suc i)) c i ≡ cameTo d
+        → ((r : State) (L : List State) (v : WordLeft) → walk bs (suc i) (live r L v) ≡ cameTo d → (afterBytes (live r L v) bs ≡ d) × Alive d)
         → (afterBytes (onByte b q K w) bs ≡ d) × Alive d
     go dead e k again = absurd (let z : _≡_ {A = ℕ} 0 1 = cc in omega arith)
     go (live r L v) e k again = let s = again r L v k in (ap (λ c. afterBytes c bs) e ∙ s .0, s .1)
 
 module _ (text : List ℕ) where
-  stopped-told : (j : ℕ) → walk (take limit text) 0 begins ≡ stopped j → Leaves text j
+  stopped-told : (j : ℕ) → walk (take textBytes text) 0 begins ≡ stopped j → LeavesGrammar text j
   stopped-told j h =
-      let s = stops (take limit text) 0 j start [] noWord h in
-      let few : s .count < length (take limit text) = s .within in
-      let both = length-take limit text in
-      let below : s .count < limit = omega (arith, few, both) in
+      let s = stops (take textBytes text) 0 j start [] noWord h in
+      let few : s .count < length (take textBytes text) = s .within in
+      let both = length-take textBytes text in
+      let below : s .count < textBytes = omega (arith, few, both) in
       let e : s .count ≡ j = omega (arith, s .place) in
-      subst (Leaves text) e
+      subst (LeavesGrammar text) e
       (at-byte (omega (arith, few, both)) below
       (alive-viable (take (s .count) text)
-      (subst (λ l. Alive (afterBytes begins l)) (take-take (s .count) limit text (omega (arith, below))) (s .until)))
+      (subst (λ l. Alive (afterBytes begins l)) (take-take (s .count) textBytes text (omega (arith, below))) (s .until)))
       (dead-not-viable (take (suc (s .count)) text)
-      (ap (afterBytes begins) (sym (take-take (suc (s .count)) limit text below)) ∙ s .there)))
+      (ap (afterBytes begins) (sym (take-take (suc (s .count)) textBytes text below)) ∙ s .there)))
 
-  module _ (d : Config) (read : afterBytes begins (take limit text) ≡ d) (alive : Alive d) where
-    taken-viable : Viable (take limit text)
-    taken-viable = alive-viable (take limit text) (subst Alive (sym read) alive)
+  module _ (d : Config) (read : afterBytes begins (take textBytes text) ≡ d) (alive : Alive d) where
+    taken-viable : Viable (take textBytes text)
+    taken-viable = alive-viable (take textBytes text) (subst Alive (sym read) alive)
 
-    ended-told : length text ≤ limit → (x : Bool) → ends d ≡ x → Told text (cond x none (some (length text)))
+    ended-told : length text ≤ textBytes → (x : Bool) → ends d ≡ x → PlaceTold text (cond x none (some (length text)))
     ended-told l x e =
-        let all : take limit text ≡ text = take-all limit text l in
+        let all : take textBytes text ≡ text = take-all textBytes text l in
         let whole : afterBytes begins text ≡ d = ap (afterBytes begins) (sym all) ∙ read in
         told x e (ap ends whole) (subst Viable all taken-viable)
       where
-        told : (y : Bool) → ends d ≡ y → ends (afterBytes begins text) ≡ ends d → Viable text → Told text (cond y none (some (length text)))
+        told : (y : Bool) → ends d ≡ y → ends (afterBytes begins text) ≡ ends d → Viable text → PlaceTold text (cond y none (some (length text)))
         told true f g v = record { legal = read-legal text (g ∙ f); short = l }
         told false f g v = at-end l v (λ k. let z : false ≡ true = sym (g ∙ f) ∙ legal-read text k in absurd (let y : _≡_ {A = ℕ} 0 1 = cc in omega arith))
 
-    reached-told : (x : Bool) → (T x → limit < length text) → (T (not x) → length text ≤ limit)
-        → Told text (cond x (some limit) (cond (ends d) none (some (length text))))
+    reached-told : (x : Bool) → (T x → textBytes < length text) → (T (not x) → length text ≤ textBytes)
+        → PlaceTold text (cond x (some textBytes) (cond (ends d) none (some (length text))))
     reached-told true l m = at-limit (l tt) taken-viable
     reached-told false l m = ended-told (m tt) (ends d) refl
 
-  pub first-illegal-exact : Told text (firstIllegal text)
+  pub first-illegal-exact : PlaceTold text (firstIllegal text)
   unfolding firstIllegal
-  first-illegal-exact = go (walk (take limit text) 0 begins) refl
+  first-illegal-exact = go (walk (take textBytes text) 0 begins) refl
     where
-      go : (o : Walked) → walk (take limit text) 0 begins ≡ o → Told text (concluded (length text) o)
+      go : (o : Walked) → walk (take textBytes text) 0 begins ≡ o → PlaceTold text (concluded (length text) o)
       go (stopped j) h = stopped-told j h
-      go (reached d) h =
-          let r = reaches (take limit text) 0 start [] noWord d h in
-          reached-told d (r .0) (r .1) (ltb limit (length text)) (ltb→lt limit (length text)) (nltb→le limit (length text))
+      go (cameTo d) h =
+          let r = reaches (take textBytes text) 0 start [] noWord d h in
+          reached-told d (r .0) (r .1) (ltb textBytes (length text)) (ltb→lt textBytes (length text)) (nltb→le textBytes (length text))

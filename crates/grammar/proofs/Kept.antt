@@ -10,8 +10,8 @@ use lib.ListN.{length, take}
 use Rattle.grammar.specs.Tokens.{Token}
 use Rattle.grammar.specs.Source.{Text}
 use Rattle.grammar.specs.Grammar.{ReadsText}
-use Rattle.grammar.specs.Legal.{Reading, Viable, limit, Leaves, at-byte, at-limit, at-end, Keeps}
-use Rattle.grammar.specs.Walk.{Told}
+use Rattle.grammar.specs.Legal.{Reading, Viable, textBytes, LeavesGrammar, at-byte, at-limit, at-end, Keeps}
+use Rattle.grammar.specs.Walk.{PlaceTold}
 use Rattle.grammar.specs.Walk.{firstIllegal}
 use Rattle.grammar.specs.Promises.{GrammarPromises}
 use Rattle.grammar.proofs.OneLexing.{one-lexing}
@@ -24,23 +24,23 @@ both-one bytes ts us t u r s =
     let e : ts ≡ us = one-lexing (r .lexed) (s .lexed) in
     (e, one-reading (r .parsed) (subst (λ x. ReadsText x u) (sym e) (s .parsed)))
 
-either : (bytes : List ℕ) → Keeps bytes ⊎ ((i : ℕ) × Leaves bytes i)
+either : (bytes : List ℕ) → Keeps bytes ⊎ ((i : ℕ) × LeavesGrammar bytes i)
 either bytes = go (firstIllegal bytes) (first-illegal-exact bytes)
   where
-    go : (o : Option ℕ) → Told bytes o → Keeps bytes ⊎ ((i : ℕ) × Leaves bytes i)
+    go : (o : Option ℕ) → PlaceTold bytes o → Keeps bytes ⊎ ((i : ℕ) × LeavesGrammar bytes i)
     go none h = inl h
     go (some i) h = inr (i, h)
 
-nowhere : (bytes : List ℕ) → Keeps bytes ⊎ ((i : ℕ) × Leaves bytes i) → ((i : ℕ) → Leaves bytes i → ⊥) → Keeps bytes
+nowhere : (bytes : List ℕ) → Keeps bytes ⊎ ((i : ℕ) × LeavesGrammar bytes i) → ((i : ℕ) → LeavesGrammar bytes i → ⊥) → Keeps bytes
 nowhere bytes (inl k) n = k
 nowhere bytes (inr h) n = absurd (n (h .0) (h .1))
 
-after : (bytes : List ℕ) (i k : ℕ) → Leaves bytes i → i < length bytes → i < limit → i < k → Viable (take k bytes) → ⊥
+after : (bytes : List ℕ) (i k : ℕ) → LeavesGrammar bytes i → i < length bytes → i < textBytes → i < k → Viable (take k bytes) → ⊥
 after bytes i k (at-byte l m v n) g h j w = n (viable-earlier (suc i) k bytes j w)
 after bytes i k (at-limit l v) g h j w = omega (arith, h)
 after bytes i k (at-end l v n) g h j w = omega (arith, g)
 
-within : (bytes : List ℕ) (i : ℕ) → Leaves bytes i → (i ≤ length bytes) × (i ≤ limit)
+within : (bytes : List ℕ) (i : ℕ) → LeavesGrammar bytes i → (i ≤ length bytes) × (i ≤ textBytes)
 within bytes i (at-byte l m v n) = (omega (arith, l), omega (arith, m))
 within bytes i (at-limit l v) = (omega (arith, l), omega arith)
 within bytes i (at-end l v n) = (omega arith, l)

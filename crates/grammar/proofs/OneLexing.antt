@@ -10,7 +10,7 @@ use lib.Dec.{eqb}
 use Rattle.grammar.specs.Tokens.{Token, keyword, symbol, Symbol, Keyword, spelling, Tokens, no-token, a-blank, a-symbol, a-word}
 use Rattle.grammar.specs.Tokens.{TYPE, IN, INPUT, LET, INIT, REC, IF, MATCHES, THEN, ELSE, DELAY}
 use Rattle.grammar.specs.Tokens.{isBlank, isLower, isUpper, isSymbol, byteClass, isLetter, NoLetter}
-use Rattle.grammar.specs.Tokens.{Run, run-last, run-more, AllLower, lower-none, lower-more, Spells, spells-keyword, spells-name}
+use Rattle.grammar.specs.Tokens.{LetterRun, run-last, run-more, AllLower, lower-none, lower-more, Spells, spells-keyword, spells-name}
 
 -- no list begins with two kinds of token
 letter-no-blank : (b : ℕ) → isLetter (byteClass b) ≡ true → byteClass b ≡ isBlank → ⊥
@@ -19,15 +19,15 @@ letter-no-blank b h e = let f : true ≡ false = sym h ∙ ap isLetter e in let 
 letter-no-symbol : (b : ℕ) (s : Symbol) → isLetter (byteClass b) ≡ true → byteClass b ≡ isSymbol s → ⊥
 letter-no-symbol b s h e = let f : true ≡ false = sym h ∙ ap isLetter e in let z : _≡_ {A = ℕ} 0 1 = cc in omega arith
 
-run-letter : {b : ℕ} {bs word rest : List ℕ} → Run (b ∷ bs) word rest → isLetter (byteClass b) ≡ true
+run-letter : {b : ℕ} {bs word rest : List ℕ} → LetterRun (b ∷ bs) word rest → isLetter (byteClass b) ≡ true
 run-letter (run-last h n) = h
 run-letter (run-more h r) = h
 
-no-run : {bs word rest : List ℕ} → NoLetter bs → Run bs word rest → ⊥
+no-run : {bs word rest : List ℕ} → NoLetter bs → LetterRun bs word rest → ⊥
 no-run n (run-last {b} h e) = let f : true ≡ false = sym h ∙ n in let z : _≡_ {A = ℕ} 0 1 = cc in omega arith
 no-run n (run-more {b} h r) = let f : true ≡ false = sym h ∙ n in let z : _≡_ {A = ℕ} 0 1 = cc in omega arith
 
-one-run : {bs v w r q : List ℕ} → Run bs v r → Run bs w q → (v ≡ w) × (r ≡ q)
+one-run : {bs v w r q : List ℕ} → LetterRun bs v r → LetterRun bs w q → (v ≡ w) × (r ≡ q)
 one-run (run-last h n) (run-last k m) = (refl, refl)
 one-run (run-last h n) (run-more k r) = absurd (no-run n r)
 one-run (run-more h r) (run-last k m) = absurd (no-run m r)

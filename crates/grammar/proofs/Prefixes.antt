@@ -7,7 +7,7 @@ use mathlib.Core.Path.{_≡_, refl, sym, ap, subst, _∙_}
 use mathlib.Core.List.{List, [], _∷_, _++_, append-assoc, append-nil}
 use lib.ListN.{length, take, drop, take-append-drop}
 use lib.Seq.{take-take, take-all}
-use Rattle.grammar.specs.Legal.{Legal, Viable, limit, Leaves, at-byte, at-limit, at-end, Keeps}
+use Rattle.grammar.specs.Legal.{Legal, Viable, textBytes, LeavesGrammar, at-byte, at-limit, at-end, Keeps}
 
 pub legal-viable : (bs : List ℕ) → Legal bs → Viable bs
 legal-viable bs h = ([], subst Legal (sym (append-nil bs)) h)
@@ -24,7 +24,7 @@ viable-earlier m n bs l v = subst Viable (take-take m n bs l) (viable-take m (ta
 
 -- a place's prefix can be continued, and with the byte at the place it cannot
 module _ (bs : List ℕ) where
-  pub before : {i : ℕ} → Leaves bs i → Viable (take i bs)
+  pub before : {i : ℕ} → LeavesGrammar bs i → Viable (take i bs)
   before (at-byte l m v n) = v
   before (at-limit l v) = v
   before (at-end l v n) = subst Viable (sym (take-all (length bs) bs (omega arith))) v
@@ -47,18 +47,18 @@ module _ (bs : List ℕ) where
       go (no l) (yes k) = absurd (not-later i k m w)
       go (no l) (no k) = omega (arith, l, k)
 
-  pub one-place : {i j : ℕ} → Leaves bs i → Leaves bs j → i ≡ j
+  pub one-place : {i j : ℕ} → LeavesGrammar bs i → LeavesGrammar bs j → i ≡ j
   one-place {i} {j} (at-byte l m v n) (at-byte l′ m′ v′ n′) = same-byte i j n v′ n′ v
-  one-place (at-byte l m v n) (at-limit l′ v′) = absurd (not-later limit m n v′)
+  one-place (at-byte l m v n) (at-limit l′ v′) = absurd (not-later textBytes m n v′)
   one-place (at-byte l m v n) (at-end l′ v′ n′) = absurd (not-later (length bs) l n (whole-taken v′))
-  one-place (at-limit l v) (at-byte l′ m′ v′ n′) = absurd (not-later limit m′ n′ v)
+  one-place (at-limit l v) (at-byte l′ m′ v′ n′) = absurd (not-later textBytes m′ n′ v)
   one-place (at-limit l v) (at-limit l′ v′) = refl
   one-place (at-limit l v) (at-end l′ v′ n′) = absurd (omega arith)
   one-place (at-end l v n) (at-byte l′ m′ v′ n′) = absurd (not-later (length bs) l′ n′ (whole-taken v))
   one-place (at-end l v n) (at-limit l′ v′) = absurd (omega arith)
   one-place (at-end l v n) (at-end l′ v′ n′) = refl
 
-  pub not-both : {i : ℕ} → Leaves bs i → Keeps bs → ⊥
+  pub not-both : {i : ℕ} → LeavesGrammar bs i → Keeps bs → ⊥
   not-both (at-byte l m v n) k = not-later (length bs) l n (whole-taken (keeps-viable k))
-  not-both (at-limit l v) k = let h : length bs ≤ limit = k .short in omega arith
+  not-both (at-limit l v) k = let h : length bs ≤ textBytes = k .short in omega arith
   not-both (at-end l v n) k = n (k .legal)

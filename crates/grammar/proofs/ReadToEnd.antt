@@ -11,7 +11,7 @@ use Rattle.grammar.specs.Tokens.{Token, keyword, symbol, nameToken}
 use Rattle.grammar.specs.Source.{identifier, Text, text}
 use Rattle.grammar.specs.Grammar.{ReadsText, reads-text}
 use Rattle.grammar.specs.Rows.{State, start, done, stateNumber, Lead, Action, Transition, on, transitions}
-use Rattle.grammar.specs.Machine.{Config, dead, live, Word, noWord, find, perform, taken, onToken, afterTokens, ends, canEnd}
+use Rattle.grammar.specs.Machine.{Config, dead, live, WordLeft, noWord, find, perform, taken, onToken, afterTokens, ends, canEnd}
 use Rattle.grammar.specs.Machine.{leadOf, leadByte, leadNumber}
 use Rattle.grammar.proofs.Awaiting.{Indexing, indexing, await-end}
 use Rattle.grammar.proofs.Sound.{Empty, SoundFrom, SoundAt, Moves, EachTransition, moves}
@@ -53,7 +53,7 @@ by-tokens ts (t ∷ b) dead h = tt
 by-tokens ts (t ∷ b) (live q K w) h = by-tokens ts b (onToken t q K) (by-token ts q K b t h)
 
 -- the end is reached in one state alone
-pub ends-done : (q : State) (K : List State) (w : Word) → ends (live q K w) ≡ true → q ≡ done
+pub ends-done : (q : State) (K : List State) (w : WordLeft) → ends (live q K w) ≡ true → q ≡ done
 ends-done q K w h = go (canEnd w) h
   where
     test : (x : Bool) → (T x → stateNumber q ≡ 16) → x ≡ true → q ≡ done

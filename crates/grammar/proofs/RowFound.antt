@@ -10,7 +10,7 @@ use lib.Dec.{T, eqb, eqb→eq}
 use borrow.Author.Tests.{eq-eqb}
 use Rattle.grammar.specs.Tokens.{Token, ByteClass, isBlank, isLower, isUpper, isOther, isSymbol, isLetter}
 use Rattle.grammar.specs.Rows.{State, done, Lead, Action, go, call, return, Transition, on, transitions}
-use Rattle.grammar.specs.Machine.{dead, live, Word, noWord, find, performFound, beginToken, fresh, perform, taken, afterTokens, afterBytes, ends}
+use Rattle.grammar.specs.Machine.{dead, live, WordLeft, noWord, find, performFound, beginToken, fresh, perform, taken, afterTokens, afterBytes, ends}
 use Rattle.grammar.specs.Machine.{leadByte, leadNumber, leadWord, alike}
 use Rattle.grammar.proofs.Numbered.{same-lead}
 
@@ -18,7 +18,7 @@ use Rattle.grammar.proofs.Numbered.{same-lead}
 pub record Performed (a : Action) (K : List State) : Type 0 where
   pub state : State
   pub stack : List State
-  pub reaches : (w : Word) → perform a K w ≡ live state stack w
+  pub reaches : (w : WordLeft) → perform a K w ≡ live state stack w
 
 pub performed : (a : Action) (K : List State) → Performed a K
 performed (go q) K = record { state = q; stack = K; reaches = λ w. refl }

@@ -9,16 +9,16 @@ use lib.ListN.{length}
 use lib.Dec.{T, eqb, eqb→eq, ltb, ltb→lt}
 use Rattle.grammar.specs.Tokens.{Token, keyword, symbol, nameToken, Symbol, Keyword, spelling, Tokens, no-token, a-blank, a-symbol, a-word}
 use Rattle.grammar.specs.Tokens.{ByteClass, isBlank, isLower, isUpper, isOther, isSymbol, byteClass, isLetter}
-use Rattle.grammar.specs.Tokens.{TYPE, IN, INPUT, LET, INIT, REC, IF, MATCHES, THEN, ELSE, DELAY, Run, run-last, run-more, AllLower, lower-none, lower-more, spells-keyword, spells-name}
+use Rattle.grammar.specs.Tokens.{TYPE, IN, INPUT, LET, INIT, REC, IF, MATCHES, THEN, ELSE, DELAY, LetterRun, run-last, run-more, AllLower, lower-none, lower-more, spells-keyword, spells-name}
 use Rattle.grammar.specs.Rows.{State, Lead, aSymbol, aKeyword, aName, transitions}
-use Rattle.grammar.specs.Machine.{dead, live, Word, noWord, naming, spelt, fresh, further, afterBytes, ends}
+use Rattle.grammar.specs.Machine.{dead, live, WordLeft, noWord, inName, spelt, fresh, further, afterBytes, ends}
 use Rattle.grammar.specs.Machine.{afterTokens, leadByte, leadWord, firstLetter, afterFirst, alike, leadOf, taken, find}
 use Rattle.grammar.proofs.ByteKinds.{found-kind, alike-upper}
 use Rattle.grammar.proofs.Words.{Continued, no-word, name-end, name-more, keyword-end, keyword-more}
 use Rattle.grammar.proofs.RowFound.{performed, ByByte, by-byte, takes-token, dead-bytes}
 
 -- the end of the word that is begun, and the tokens after it
-pub record Lexed (q : State) (K : List State) (w : Word) (i : ℕ) (bs : List ℕ) : Type 0 where
+pub record Lexed (q : State) (K : List State) (w : WordLeft) (i : ℕ) (bs : List ℕ) : Type 0 where
   pub letters : List ℕ
   pub rest : List ℕ
   pub later : List Token
@@ -31,12 +31,12 @@ keyword-left : {left bs v rest : List ℕ} → Continued (spelt left) bs v rest 
 keyword-left (keyword-end h) = refl
 keyword-left (keyword-more {c} h) = ap (λ l. c ∷ l) (keyword-left h)
 
-name-left : {n : ℕ} {bs v rest : List ℕ} → Continued (naming n) bs v rest → n ≤ 16 → AllLower v × (n + length v ≤ 16)
+name-left : {n : ℕ} {bs v rest : List ℕ} → Continued (inName n) bs v rest → n ≤ 16 → AllLower v × (n + length v ≤ 16)
 name-left (name-end h) l = (lower-none, omega arith)
 name-left (name-more e m h) l = let k = name-left h (omega arith) in (lower-more e (k .0), omega (arith, k .1))
 
 -- a word with its first letter is a run
-name-run : {n b : ℕ} {bs v rest : List ℕ} → isLetter (byteClass b) ≡ true → Continued (naming n) bs v rest → Run (b ∷ bs) (b ∷ v) rest
+name-run : {n b : ℕ} {bs v rest : List ℕ} → isLetter (byteClass b) ≡ true → Continued (inName n) bs v rest → LetterRun (b ∷ bs) (b ∷ v) rest
 name-run h (name-end e) = run-last h e
 name-run h (name-more e m k) = run-more h (name-run (ap isLetter e) k)
 
@@ -45,7 +45,7 @@ data AllLetters : List ℕ → Type 0 where
   letter-left : {b : ℕ} {bs : List ℕ} → isLetter (byteClass b) ≡ true → AllLetters bs → AllLetters (b ∷ bs)
 
 keyword-run : {b : ℕ} {left bs v rest : List ℕ}
-    → isLetter (byteClass b) ≡ true → AllLetters left → Continued (spelt left) bs v rest → Run (b ∷ bs) (b ∷ v) rest
+    → isLetter (byteClass b) ≡ true → AllLetters left → Continued (spelt left) bs v rest → LetterRun (b ∷ bs) (b ∷ v) rest
 keyword-run h a (keyword-end e) = run-last h e
 keyword-run h (letter-left f a) (keyword-more k) = run-more h (keyword-run f a k)
 
@@ -78,7 +78,7 @@ whole-spelling b v DELAY e f = ap₂ _∷_ e f
 
 module _
     (bs : List ℕ)
-    (again : (i : ℕ) (q : State) (K : List State) (w : Word) → ends (afterBytes (live q K w) bs) ≡ true → Lexed q K w i bs)
+    (again : (i : ℕ) (q : State) (K : List State) (w : WordLeft) → ends (afterBytes (live q K w) bs) ≡ true → Lexed q K w i bs)
     (b i : ℕ)
     (q : State)
     (K : List State)
@@ -153,7 +153,7 @@ module _
     fresh-read isOther e h = absurd (dead-bytes bs h)
 
     -- a byte after a word that ends before it
-    word-over : (w : Word) → Continued w (b ∷ bs) [] (b ∷ bs)
+    word-over : (w : WordLeft) → Continued w (b ∷ bs) [] (b ∷ bs)
         → Lexed q K noWord i (b ∷ bs) → Lexed q K w i (b ∷ bs)
     word-over w over z = over-with (z .continued) (z .lexed)
       where
@@ -161,12 +161,12 @@ module _
         over-with no-word t = record { letters = []; rest = b ∷ bs; later = z .later; continued = over; lexed = t; ending = z .ending }
 
     name-read : (n : ℕ) (k : ByteClass) → byteClass b ≡ k
-        → ends (afterBytes (further k (cond (ltb n 16) (live q K (naming (n + 1))) dead) b q K) bs) ≡ true → Lexed q K (naming n) i (b ∷ bs)
+        → ends (afterBytes (further k (cond (ltb n 16) (live q K (inName (n + 1))) dead) b q K) bs) ≡ true → Lexed q K (inName n) i (b ∷ bs)
     name-read n isLower e h = few (ltb n 16) (ltb→lt n 16) h
       where
-        few : (x : Bool) → (T x → n < 16) → ends (afterBytes (cond x (live q K (naming (n + 1))) dead) bs) ≡ true → Lexed q K (naming n) i (b ∷ bs)
+        few : (x : Bool) → (T x → n < 16) → ends (afterBytes (cond x (live q K (inName (n + 1))) dead) bs) ≡ true → Lexed q K (inName n) i (b ∷ bs)
         few true l k =
-            let z = again (suc i) q K (naming (n + 1)) k in
+            let z = again (suc i) q K (inName (n + 1)) k in
             record {
               letters = b ∷ z .letters;
               rest = z .rest;
@@ -177,8 +177,8 @@ module _
             }
         few false l k = absurd (dead-bytes bs k)
     name-read n isUpper e h = absurd (dead-bytes bs h)
-    name-read n (isSymbol s) e h = word-over (naming n) (name-end (ap isLetter e)) (fresh-read (isSymbol s) e h)
-    name-read n isBlank e h = word-over (naming n) (name-end (ap isLetter e)) (fresh-read isBlank e h)
+    name-read n (isSymbol s) e h = word-over (inName n) (name-end (ap isLetter e)) (fresh-read (isSymbol s) e h)
+    name-read n isBlank e h = word-over (inName n) (name-end (ap isLetter e)) (fresh-read isBlank e h)
     name-read n isOther e h = absurd (dead-bytes bs h)
 
     keyword-over : (k : ByteClass) → byteClass b ≡ k → ends (afterBytes (further k dead b q K) bs) ≡ true → Lexed q K (spelt []) i (b ∷ bs)
@@ -203,16 +203,16 @@ module _
     keyword-read c left false e h = absurd (dead-bytes bs h)
 
 -- the end of the bytes
-end-read : (i : ℕ) (q : State) (K : List State) (w : Word) → ends (live q K w) ≡ true → Lexed q K w i []
+end-read : (i : ℕ) (q : State) (K : List State) (w : WordLeft) → ends (live q K w) ≡ true → Lexed q K w i []
 end-read i q K noWord h = record { letters = []; rest = []; later = []; continued = no-word; lexed = no-token; ending = h }
-end-read i q K (naming n) h = record { letters = []; rest = []; later = []; continued = name-end tt; lexed = no-token; ending = h }
+end-read i q K (inName n) h = record { letters = []; rest = []; later = []; continued = name-end tt; lexed = no-token; ending = h }
 end-read i q K (spelt []) h = record { letters = []; rest = []; later = []; continued = keyword-end tt; lexed = no-token; ending = h }
 end-read i q K (spelt (c ∷ left)) h = absurd (let z : _≡_ {A = ℕ} 0 1 = cc in omega arith)
 
-pub tokens-of-bytes : (bs : List ℕ) (i : ℕ) (q : State) (K : List State) (w : Word) → ends (afterBytes (live q K w) bs) ≡ true → Lexed q K w i bs
+pub tokens-of-bytes : (bs : List ℕ) (i : ℕ) (q : State) (K : List State) (w : WordLeft) → ends (afterBytes (live q K w) bs) ≡ true → Lexed q K w i bs
 tokens-of-bytes [] i q K w h = end-read i q K w h
 tokens-of-bytes (b ∷ bs) i q K noWord h = fresh-read bs (λ j r L v k. tokens-of-bytes bs j r L v k) b i q K (byteClass b) refl h
-tokens-of-bytes (b ∷ bs) i q K (naming n) h = name-read bs (λ j r L v k. tokens-of-bytes bs j r L v k) b i q K n (byteClass b) refl h
+tokens-of-bytes (b ∷ bs) i q K (inName n) h = name-read bs (λ j r L v k. tokens-of-bytes bs j r L v k) b i q K n (byteClass b) refl h
 tokens-of-bytes (b ∷ bs) i q K (spelt []) h = keyword-over bs (λ j r L v k. tokens-of-bytes bs j r L v k) b i q K (byteClass b) refl h
 tokens-of-bytes (b ∷ bs) i q K (spelt (c ∷ left)) h =
     keyword-read bs (λ j r L v k. tokens-of-bytes bs j r L v k) b i q K c left (eqb b c) (eqb→eq b c) h

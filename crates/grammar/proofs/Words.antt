@@ -10,18 +10,18 @@ use lib.ListN.{length}
 use lib.Dec.{ltb}
 use borrow.Author.Tests.{eq-eqb, lt-ltb}
 use Rattle.grammar.specs.Tokens.{ByteClass, isBlank, isLower, isUpper, isOther, isSymbol, byteClass, isLetter, NoLetter}
-use Rattle.grammar.specs.Tokens.{Run, run-last, run-more, AllLower, lower-more, Spells, spells-keyword, spells-name}
+use Rattle.grammar.specs.Tokens.{LetterRun, run-last, run-more, AllLower, lower-more, Spells, spells-keyword, spells-name}
 use Rattle.grammar.specs.Tokens.{Token, Keyword, spelling}
 use Rattle.grammar.specs.Rows.{State, Lead, aKeyword, aName}
-use Rattle.grammar.specs.Machine.{Config, dead, live, Word, noWord, naming, spelt, afterBytes, ends, fresh, further}
+use Rattle.grammar.specs.Machine.{Config, dead, live, WordLeft, noWord, inName, spelt, afterBytes, ends, fresh, further}
 use Rattle.grammar.specs.Machine.{leadOf, leadByte, leadWord, firstLetter, afterFirst, alike}
 use Rattle.grammar.proofs.ByteKinds.{alike-lower, alike-upper, lead-kind}
 
-pub data Continued : Word → List ℕ → List ℕ → List ℕ → Type 0 where
+pub data Continued : WordLeft → List ℕ → List ℕ → List ℕ → Type 0 where
   no-word : {bs : List ℕ} → Continued noWord bs [] bs
-  name-end : {n : ℕ} {rest : List ℕ} → NoLetter rest → Continued (naming n) rest [] rest
+  name-end : {n : ℕ} {rest : List ℕ} → NoLetter rest → Continued (inName n) rest [] rest
   name-more : {n b : ℕ} {bs v rest : List ℕ}
-      → byteClass b ≡ isLower → n < 16 → Continued (naming (n + 1)) bs v rest → Continued (naming n) (b ∷ bs) (b ∷ v) rest
+      → byteClass b ≡ isLower → n < 16 → Continued (inName (n + 1)) bs v rest → Continued (inName n) (b ∷ bs) (b ∷ v) rest
   keyword-end : {rest : List ℕ} → NoLetter rest → Continued (spelt []) rest [] rest
   keyword-more : {c : ℕ} {left bs v rest : List ℕ}
       → Continued (spelt left) bs v rest → Continued (spelt (c ∷ left)) (c ∷ bs) (c ∷ v) rest
@@ -35,10 +35,10 @@ no-letter-further isOther c b q K h = refl
 no-letter-further (isSymbol s) c b q K h = refl
 
 name-over : (q : State) (K : List State) (n : ℕ) (rest : List ℕ) → NoLetter rest
-    → ends (afterBytes (live q K (naming n)) rest) ≡ ends (afterBytes (live q K noWord) rest)
+    → ends (afterBytes (live q K (inName n)) rest) ≡ ends (afterBytes (live q K noWord) rest)
 name-over q K n [] h = refl
 name-over q K n (b ∷ rest) h =
-    ap (λ c. ends (afterBytes c rest)) (no-letter-further (byteClass b) (cond (ltb n 16) (live q K (naming (n + 1))) dead) b q K h)
+    ap (λ c. ends (afterBytes c rest)) (no-letter-further (byteClass b) (cond (ltb n 16) (live q K (inName (n + 1))) dead) b q K h)
 
 keyword-over : (q : State) (K : List State) (rest : List ℕ) → NoLetter rest
     → ends (afterBytes (live q K (spelt [])) rest) ≡ ends (afterBytes (live q K noWord) rest)
@@ -46,23 +46,23 @@ keyword-over q K [] h = refl
 keyword-over q K (b ∷ rest) h = ap (λ c. ends (afterBytes c rest)) (no-letter-further (byteClass b) dead b q K h)
 
 -- the machine reads a word to its end
-pub through : {w : Word} {bs v rest : List ℕ} (q : State) (K : List State)
+pub through : {w : WordLeft} {bs v rest : List ℕ} (q : State) (K : List State)
     → Continued w bs v rest → ends (afterBytes (live q K w) bs) ≡ ends (afterBytes (live q K noWord) rest)
 through q K no-word = refl
 through q K (name-end {n} {rest} h) = name-over q K n rest h
 through q K (name-more {n} {b} {bs} e l h) =
-    ap (λ k. ends (afterBytes (further k (cond (ltb n 16) (live q K (naming (n + 1))) dead) b q K) bs)) e
-    ∙ ap (λ x. ends (afterBytes (cond x (live q K (naming (n + 1))) dead) bs)) (lt-ltb n 16 l)
+    ap (λ k. ends (afterBytes (further k (cond (ltb n 16) (live q K (inName (n + 1))) dead) b q K) bs)) e
+    ∙ ap (λ x. ends (afterBytes (cond x (live q K (inName (n + 1))) dead) bs)) (lt-ltb n 16 l)
     ∙ through q K h
 through q K (keyword-end {rest} h) = keyword-over q K rest h
 through q K (keyword-more {c} {left} {bs} h) = ap (λ x. ends (afterBytes (cond x (live q K (spelt left)) dead) bs)) (eq-eqb c c refl) ∙ through q K h
 
 -- a run of letters as a keyword's and as a name's
-run-keyword : {bs word rest : List ℕ} → Run bs word rest → Continued (spelt word) bs word rest
+run-keyword : {bs word rest : List ℕ} → LetterRun bs word rest → Continued (spelt word) bs word rest
 run-keyword (run-last h n) = keyword-more (keyword-end n)
 run-keyword (run-more h r) = keyword-more (run-keyword r)
 
-run-name : {bs word rest : List ℕ} (n : ℕ) → Run bs word rest → AllLower word → n + length word ≤ 16 → Continued (naming n) bs word rest
+run-name : {bs word rest : List ℕ} (n : ℕ) → LetterRun bs word rest → AllLower word → n + length word ≤ 16 → Continued (inName n) bs word rest
 run-name n (run-last h e) (lower-more k a) l = name-more {n = n} k (omega arith) (name-end e)
 run-name n (run-more h r) (lower-more k a) l = name-more {n = n} k (omega arith) (run-name (n + 1) r a (omega arith))
 
@@ -79,7 +79,7 @@ pub record BegunWord (bs word rest : List ℕ) (l : Lead) : Type 0 where
 alike-first : (b : ℕ) (k : Keyword) → b ≡ firstLetter (spelling k) → alike b ≡ firstLetter (spelling k)
 alike-first b k e = alike-upper b (ap byteClass e ∙ lead-kind (aKeyword k)) ∙ e
 
-begun-keyword : {bs word rest : List ℕ} (k : Keyword) → Run bs word rest → word ≡ spelling k → BegunWord bs word rest (aKeyword k)
+begun-keyword : {bs word rest : List ℕ} (k : Keyword) → LetterRun bs word rest → word ≡ spelling k → BegunWord bs word rest (aKeyword k)
 begun-keyword k (run-last {b} {rest} h n) e = record {
   first = b;
   following = rest;
@@ -99,12 +99,12 @@ begun-keyword k (run-more {b} {bs} {word} {rest} h r) e = record {
   continued = subst (λ w. Continued (spelt w) bs word rest) (ap afterFirst e) (run-keyword r);
 }
 
-begun-name : {bs word rest : List ℕ} → Run bs word rest → AllLower word → length word ≤ 16 → BegunWord bs word rest aName
+begun-name : {bs word rest : List ℕ} → LetterRun bs word rest → AllLower word → length word ≤ 16 → BegunWord bs word rest aName
 begun-name (run-last {b} {rest} h n) (lower-more k a) l =
     record { first = b; following = rest; letters = []; split = refl; letter = h; leads = alike-lower b k; continued = name-end n }
 begun-name (run-more {b} {bs} {word} h r) (lower-more k a) l =
     record { first = b; following = bs; letters = word; split = refl; letter = h; leads = alike-lower b k; continued = run-name 1 r a (omega arith) }
 
-pub begun : {bs word rest : List ℕ} {i : ℕ} {t : Token} → Run bs word rest → Spells word i t → BegunWord bs word rest (leadOf t)
+pub begun : {bs word rest : List ℕ} {i : ℕ} {t : Token} → LetterRun bs word rest → Spells word i t → BegunWord bs word rest (leadOf t)
 begun r (spells-keyword {k} e) = begun-keyword k r e
 begun r (spells-name a l) = begun-name r a l

@@ -21,18 +21,18 @@ abbrev pub Viable : List ℕ → Type 0
 Viable bytes = (more : List ℕ) × Legal (bytes ++ more)
 
 -- the most bytes that a text has
-abbrev pub limit : ℕ
-limit = 65535
+abbrev pub textBytes : ℕ
+textBytes = 65535
 
 -- the places that code 13 tells: a byte after which no continuation is legal, where one was before it; the limit, where more bytes follow;
 -- the end of a text that could go on
-pub data Leaves : List ℕ → ℕ → Type 0 where
+pub data LeavesGrammar : List ℕ → ℕ → Type 0 where
   at-byte : {bytes : List ℕ} {i : ℕ}
-      → i < length bytes → i < limit → Viable (take i bytes) → (Viable (take (suc i) bytes) → ⊥) → Leaves bytes i
-  at-limit : {bytes : List ℕ} → limit < length bytes → Viable (take limit bytes) → Leaves bytes limit
-  at-end : {bytes : List ℕ} → length bytes ≤ limit → Viable bytes → (Legal bytes → ⊥) → Leaves bytes (length bytes)
+      → i < length bytes → i < textBytes → Viable (take i bytes) → (Viable (take (suc i) bytes) → ⊥) → LeavesGrammar bytes i
+  at-limit : {bytes : List ℕ} → textBytes < length bytes → Viable (take textBytes bytes) → LeavesGrammar bytes textBytes
+  at-end : {bytes : List ℕ} → length bytes ≤ textBytes → Viable bytes → (Legal bytes → ⊥) → LeavesGrammar bytes (length bytes)
 
 -- a text that keeps to the grammar: legal, and no longer than the limit
 pub record Keeps (bytes : List ℕ) : Type 0 where
   pub legal : Legal bytes
-  pub short : length bytes ≤ limit
+  pub short : length bytes ≤ textBytes

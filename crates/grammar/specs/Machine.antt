@@ -11,14 +11,14 @@ use Rattle.grammar.specs.Tokens.{ByteClass, isBlank, isLower, isUpper, i
 use Rattle.grammar.specs.Rows.{State, start, done, stateNumber, Lead, aSymbol, aKeyword, aName, Action, go, call, return, Transition, on, transitions}
 
 -- the rest of a word: no word, a name of so many letters so far, the letters of a keyword that are still to come
-pub data Word : Type 0 where
-  noWord : Word
-  naming : (letters : ℕ) → Word
-  spelt : (left : List ℕ) → Word
+pub data WordLeft : Type 0 where
+  noWord : WordLeft
+  inName : (letters : ℕ) → WordLeft
+  spelt : (left : List ℕ) → WordLeft
 
 pub data Config : Type 0 where
   dead : Config
-  live : State → List State → Word → Config
+  live : State → List State → WordLeft → Config
 
 abbrev pub symbolByte : Symbol → ℕ
 symbolByte opens = 40
@@ -46,10 +46,10 @@ leadByte (aSymbol s) = symbolByte s
 leadByte (aKeyword k) = firstLetter (spelling k)
 leadByte aName = 97
 
-abbrev pub leadWord : Lead → Word
+abbrev pub leadWord : Lead → WordLeft
 leadWord (aSymbol s) = noWord
 leadWord (aKeyword k) = spelt (afterFirst (spelling k))
-leadWord aName = naming 1
+leadWord aName = inName 1
 
 -- the letters that begin a name are alike
 abbrev pub alike : ℕ → ℕ
@@ -60,11 +60,11 @@ find b [] = none
 find b (on l a ∷ more) = cond (eqb b (leadByte l)) (some (on l a)) (find b more)
 
 -- back to the state that waits on the stack; under the last one the text's expression is complete
-abbrev pub back : List State → Word → Config
+abbrev pub back : List State → WordLeft → Config
 back [] w = live done [] w
 back (q ∷ K) w = live q K w
 
-abbrev pub perform : Action → List State → Word → Config
+abbrev pub perform : Action → List State → WordLeft → Config
 perform (go q) K w = live q K w
 perform (call r q) K w = live q (r ∷ K) w
 perform return K w = back K w
@@ -93,16 +93,16 @@ further (isSymbol s) c b q K = beginToken b q K
 further isBlank c b q K = live q K noWord
 further isOther c b q K = dead
 
-abbrev pub onByte : ℕ → State → List State → Word → Config
+abbrev pub onByte : ℕ → State → List State → WordLeft → Config
 onByte b q K noWord = fresh (byteClass b) b q K
-onByte b q K (naming n) = further (byteClass b) (cond (ltb n 16) (live q K (naming (n + 1))) dead) b q K
+onByte b q K (inName n) = further (byteClass b) (cond (ltb n 16) (live q K (inName (n + 1))) dead) b q K
 onByte b q K (spelt []) = further (byteClass b) dead b q K
 onByte b q K (spelt (c ∷ left)) = cond (eqb b c) (live q K (spelt left)) dead
 
 -- whether a word can end here
-abbrev pub canEnd : Word → Bool
+abbrev pub canEnd : WordLeft → Bool
 canEnd noWord = true
-canEnd (naming n) = true
+canEnd (inName n) = true
 canEnd (spelt []) = true
 canEnd (spelt (c ∷ left)) = false
 

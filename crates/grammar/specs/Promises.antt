@@ -8,7 +8,7 @@ use lib.ListN.{length, take}
 use Rattle.grammar.specs.Tokens.{Token, Tokens}
 use Rattle.grammar.specs.Source.{Text}
 use Rattle.grammar.specs.Grammar.{ReadsText}
-use Rattle.grammar.specs.Legal.{Reading, Viable, limit, Leaves, Keeps}
+use Rattle.grammar.specs.Legal.{Reading, Viable, textBytes, LeavesGrammar, Keeps}
 
 -- 1. The grammar admits one reading: bytes have one list of tokens, tokens one abstract text.
 abbrev pub OneLexing : Type 0
@@ -23,29 +23,29 @@ OneReading =
 
 -- 2. Every text keeps to the grammar or leaves it at a place; never both, and at one place only.
 abbrev pub KeepsOrLeaves : Type 0
-KeepsOrLeaves = (bytes : List ℕ) → Keeps bytes ⊎ ((i : ℕ) × Leaves bytes i)
+KeepsOrLeaves = (bytes : List ℕ) → Keeps bytes ⊎ ((i : ℕ) × LeavesGrammar bytes i)
 
 abbrev pub NeverBoth : Type 0
-NeverBoth = (bytes : List ℕ) (i : ℕ) → Leaves bytes i → Keeps bytes → ⊥
+NeverBoth = (bytes : List ℕ) (i : ℕ) → LeavesGrammar bytes i → Keeps bytes → ⊥
 
 abbrev pub OnePlace : Type 0
-OnePlace = (bytes : List ℕ) (i j : ℕ) → Leaves bytes i → Leaves bytes j → i ≡ j
+OnePlace = (bytes : List ℕ) (i j : ℕ) → LeavesGrammar bytes i → LeavesGrammar bytes j → i ≡ j
 
 -- 3. So a text is legal and within the limit exactly where it leaves the grammar nowhere.
 abbrev pub NoPlace : Type 0
-NoPlace = (bytes : List ℕ) → Keeps bytes ↔ ((i : ℕ) → Leaves bytes i → ⊥)
+NoPlace = (bytes : List ℕ) → Keeps bytes ↔ ((i : ℕ) → LeavesGrammar bytes i → ⊥)
 
 -- 4. The place is the first: up to it some continuation is legal, and past a byte's place none is.
 abbrev pub LegalBefore : Type 0
-LegalBefore = (bytes : List ℕ) (i k : ℕ) → Leaves bytes i → k ≤ i → Viable (take k bytes)
+LegalBefore = (bytes : List ℕ) (i k : ℕ) → LeavesGrammar bytes i → k ≤ i → Viable (take k bytes)
 
 abbrev pub IllegalAfter : Type 0
 IllegalAfter =
-    (bytes : List ℕ) (i k : ℕ) → Leaves bytes i → i < length bytes → i < limit → i < k → Viable (take k bytes) → ⊥
+    (bytes : List ℕ) (i k : ℕ) → LeavesGrammar bytes i → i < length bytes → i < textBytes → i < k → Viable (take k bytes) → ⊥
 
 -- 5. The place lies in the text or at its end, and no further than the limit.
 abbrev pub PlaceWithin : Type 0
-PlaceWithin = (bytes : List ℕ) (i : ℕ) → Leaves bytes i → (i ≤ length bytes) × (i ≤ limit)
+PlaceWithin = (bytes : List ℕ) (i : ℕ) → LeavesGrammar bytes i → (i ≤ length bytes) × (i ≤ textBytes)
 
 pub record GrammarPromises : Type 0 where
   pub one-lexing : OneLexing

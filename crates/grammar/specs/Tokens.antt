@@ -76,10 +76,10 @@ pub data Token : Type 0 where
   symbol : Symbol → (place : ℕ) → Token
   nameToken : (letters : List ℕ) (place : ℕ) → Token
 
--- `Run bs word rest`: bs begins with a run of letters, word, and rest is what follows it
-pub data Run : List ℕ → List ℕ → List ℕ → Type 0 where
-  run-last : {b : ℕ} {rest : List ℕ} → isLetter (byteClass b) ≡ true → NoLetter rest → Run (b ∷ rest) (b ∷ []) rest
-  run-more : {b : ℕ} {bs word rest : List ℕ} → isLetter (byteClass b) ≡ true → Run bs word rest → Run (b ∷ bs) (b ∷ word) rest
+-- `LetterRun bs word rest`: bs begins with a run of letters, word, and rest is what follows it
+pub data LetterRun : List ℕ → List ℕ → List ℕ → Type 0 where
+  run-last : {b : ℕ} {rest : List ℕ} → isLetter (byteClass b) ≡ true → NoLetter rest → LetterRun (b ∷ rest) (b ∷ []) rest
+  run-more : {b : ℕ} {bs word rest : List ℕ} → isLetter (byteClass b) ≡ true → LetterRun bs word rest → LetterRun (b ∷ bs) (b ∷ word) rest
 
 pub data AllLower : List ℕ → Type 0 where
   lower-none : AllLower []
@@ -97,4 +97,4 @@ pub data Tokens : ℕ → List ℕ → List Token → Type 0 where
   a-symbol : {i b : ℕ} {bs : List ℕ} {ts : List Token} {s : Symbol}
       → byteClass b ≡ isSymbol s → Tokens (suc i) bs ts → Tokens i (b ∷ bs) (symbol s i ∷ ts)
   a-word : {i : ℕ} {bs word rest : List ℕ} {t : Token} {ts : List Token}
-      → Run bs word rest → Spells word i t → Tokens (i + length word) rest ts → Tokens i bs (t ∷ ts)
+      → LetterRun bs word rest → Spells word i t → Tokens (i + length word) rest ts → Tokens i bs (t ∷ ts)

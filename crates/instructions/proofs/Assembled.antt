@@ -25,7 +25,7 @@ use Rattle.naming.specs.Declared.{isAmong, isDeclared, typeRole, constructorRol
 use Rattle.naming.specs.Checks.{PlacedCheck, checkAt, AllPass, no-check-left, one-holds, firstBadPlace}
 use Rattle.naming.specs.Constants.{letters, constantType, isTyped, constantPlace, constantChecks, constantsOfText}
 use Rattle.naming.specs.Names.{afterAll, bind, isOne, declarationsChecks, patternChecks, constantNames, expressionChecks, nameChecks}
-use Rattle.naming.specs.Records.{leafCounts, patternRecords, constantLeaves}
+use Rattle.naming.specs.RecordsNeeded.{leafCounts, patternRecords, constantLeaves}
 use Rattle.translation.specs.Resolved.{typeNumber, typeEntries, distance}
 use Rattle.translation.specs.Layout.{numberOr, roomOf}
 use Rattle.translation.proofs.ConstructorTables.{pass-both, passes, pass-rest, after-new}

@@ -26,7 +26,7 @@ use Rattle.naming.specs.Declared.{isDeclared, typeRole, atFirst}
 use Rattle.naming.specs.Checks.{PlacedCheck, checkAt, AllPass, firstBadPlace}
 use Rattle.naming.specs.Constants.{letters, constantType, isTyped}
 use Rattle.naming.specs.Names.{afterAll, declarationsChecks, constantNames}
-use Rattle.naming.specs.Records.{leafCounts, patternRecords, constantLeaves}
+use Rattle.naming.specs.RecordsNeeded.{leafCounts, patternRecords, constantLeaves}
 use Rattle.translation.specs.Resolved.{TypeEntry, afterEntry, typeNumber, typeEntries}
 use Rattle.translation.specs.Layout.{numberOr}
 use Rattle.translation.proofs.ConstructorTables.{pass-both}

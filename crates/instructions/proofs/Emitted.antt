@@ -27,7 +27,7 @@ use Rattle.naming.specs.Declared.{isAmong, isDeclared, atFirst, typeRole, const
 use Rattle.naming.specs.Checks.{AllPass}
 use Rattle.naming.specs.Constants.{letters, constantType}
 use Rattle.naming.specs.Names.{afterAll, bind, patternChecks, constantNames, expressionChecks}
-use Rattle.naming.specs.Records.{leafCountOf, leafCounts, patternRecords, constantLeaves}
+use Rattle.naming.specs.RecordsNeeded.{leafCountOf, leafCounts, patternRecords, constantLeaves}
 use Rattle.translation.specs.Resolved.{typeMeant, typeEntries, distance}
 use Rattle.translation.specs.Distances.{constantValues}
 use Rattle.translation.specs.Layout.{leavesLaid, numberOr, roomOf, patternLaid, laid}

@@ -8,7 +8,7 @@ use lib.ListN.{length}
 use Rattle.records.specs.SheetOf.{Record}
 use Rattle.grammar.specs.Source.{identifier, Declaration, Constructors, PairOf, OfConstructor, Undefined, ConstantPair, Alone, PatternPair, Either, Text, text}
 use Rattle.grammar.specs.Source.{NameUse, UndefinedOf, PairExpression, FirstOf, SecondOf, LetExpression, LetRecExpression, IfExpression, DelayExpression}
-use Rattle.naming.specs.Records.{recordsNeeded}
+use Rattle.naming.specs.RecordsNeeded.{recordsNeeded}
 use Rattle.translation.specs.Layout.{laid, textRecords}
 use Rattle.translation.specs.Resolved.{typeNumber, typeEntries}
 use Rattle.naming.specs.Constants.{letters}

@@ -13,7 +13,7 @@ use Rattle.grammar.specs.Source.{Declaration, Constructors, PairOf}
 use Rattle.naming.specs.Declared.{sameName}
 use Rattle.naming.proofs.SameName.{same-equal}
 use Rattle.naming.specs.Constants.{letters}
-use Rattle.naming.specs.Records.{LeafCount, leafCountOf, leafCounts}
+use Rattle.naming.specs.RecordsNeeded.{LeafCount, leafCountOf, leafCounts}
 use Rattle.translation.specs.Resolved.{TypeEntry, typeNumber, typeEntriesFrom, typeEntries}
 use Rattle.instructions.specs.Assembly.{DeclaredType, leavesNumbered, heldTypes}
 use Rattle.instructions.specs.RecordOrder.{typesOnto, declaredTypes}

@@ -15,7 +15,7 @@ use Rattle.naming.proofs.SameName.{same-equal, equal-same}
 use Rattle.naming.specs.Checks.{AllPass}
 use Rattle.naming.specs.Constants.{letters, allLetters, typeOfConstructor, firstPairType, pairTypeOf, constantType, isTyped}
 use Rattle.naming.specs.Names.{afterDeclaration, afterAll, declarationChecks, declarationsChecks, constantNames}
-use Rattle.naming.specs.Records.{LeafCount}
+use Rattle.naming.specs.RecordsNeeded.{LeafCount}
 use Rattle.translation.specs.Resolved.{
   TypeEntry,
   typeNumber,

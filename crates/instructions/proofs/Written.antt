@@ -10,7 +10,7 @@ use Rattle.grammar.specs.Source.{Identifier, identifier, Declaration, Construct
 use Rattle.naming.specs.Checks.{AllPass}
 use Rattle.naming.specs.Constants.{letters}
 use Rattle.naming.specs.Names.{textChecks}
-use Rattle.naming.specs.Records.{recordsNeeded}
+use Rattle.naming.specs.RecordsNeeded.{recordsNeeded}
 use Rattle.translation.specs.Resolved.{TypeEntry, afterEntry, typeNumber, typeEntries}
 use Rattle.translation.specs.Layout.{nextType, typesLaid, roomOf, laid, textRecords}
 use Rattle.translation.proofs.Sizes.{expression-length}

@@ -1,4 +1,5 @@
--- The instructions between a text and its records. What the code of the translation goes by, and no part of what is promised.
+-- The instructions between a text and its records.
+-- What functions ask and give, and their proofs need; no part of what is promised:
 pub mod Instruction
 pub mod TextOrder
 pub mod TokenOrder

@@ -10,7 +10,8 @@ use lib.ListN.{length, take, drop}
 use lib.Seq.{drop-drop}
 use Rattle.listing.specs.Lines.{cycleLine, cycleLines}
 use Rattle.listing.specs.Wrote.{TextPut}
-use Rattle.listing.specs.Fills.{FillingLines, Filling, FilledLines, Printed, nothing, piece, WholeListing}
+use Rattle.listing.specs.Fills.{FillingLines, Filling, FilledLines}
+use Rattle.listing.specs.Promises.{LinesLaid, nothing, piece, WholeListing}
 use Rattle.listing.proofs.Written.{wrote-none, wrote-then}
 
 -- the lines of m cycles and then of n more
@@ -84,7 +85,7 @@ filled-some {w = w} (suc count) f some room left = let e = f .lines .taken in le
 -- what is printed are the lines of the first k cycles
 printed-lines :
     (w k first : ℕ) (outputs text : List ℕ) →
-    Printed w outputs k first text →
+    LinesLaid w outputs k first text →
     (text ≡ cycleLines w k 0 outputs) × (first ≡ k * w)
 printed-lines w k first outputs text nothing = (refl, sym (zero-mul w))
 printed-lines w k first outputs text (piece {k = j} {first = f} {text = t} buffer at after count next end p h) =
@@ -94,7 +95,7 @@ printed-lines w k first outputs text (piece {k = j} {first = f} {text = t} buffe
       h .lines .taken ∙ rw (before .1) (sym (add-mul j count w)),
     )
 
-printed-inside : (w k first : ℕ) (outputs text : List ℕ) → Printed w outputs k first text → first ≤ length outputs
+printed-inside : (w k first : ℕ) (outputs text : List ℕ) → LinesLaid w outputs k first text → first ≤ length outputs
 printed-inside w k first outputs text nothing = omega arith
 printed-inside w k first outputs text (piece buffer at after count next end p h) = h .lines .inside
 

@@ -7,7 +7,8 @@ use mathlib.Core.Logic.{_≢_}
 use mathlib.Core.List.{List, [], _∷_, _++_}
 use native.Mathlib.Omega.{arith}
 use lib.ListN.{length, getD, length-append}
-use Rattle.listing.specs.Digits.{digit, digits, readAfter, AllDigits, Numeral, Right}
+use Rattle.listing.specs.Digits.{digit, digits}
+use Rattle.listing.specs.Promises.{readAfter, AllDigits, Numeral, DigitsExactly}
 use Rattle.listing.proofs.Digits.{digits-one, digits-more, by-digits}
 
 read-snoc : (n : ℕ) (ds : List ℕ) (d : ℕ) → readAfter n (ds ++ (d ∷ [])) ≡ 10 * readAfter n ds + (d - 48)
@@ -116,5 +117,5 @@ unique : (n : ℕ) (text : List ℕ) → Numeral n text → text ≡ digits n
 unfolding Unique
 unique n text m = unique-within (length text) n text (omega arith) m
 
-pub right : Right
-right n text = (unique n text, λ e. subst (Numeral n) (sym e) (numeral n))
+pub digits-exactly : DigitsExactly
+digits-exactly n text = (unique n text, λ e. subst (Numeral n) (sym e) (numeral n))

@@ -1,11 +1,10 @@
--- Lines of cycles written until the leaves or the room run out, so that a listing is printed in large pieces; and that the pieces
--- laid end to end are the lines of all cycles.
-use Prim.Native.Nat.{ℕ, _+_, _*_, _/_, _≤_, _<_}
+-- Lines of cycles written until the leaves or the room run out, so that a listing is printed in large pieces.
+use Prim.Native.Nat.{ℕ, _+_, _*_, _≤_, _<_}
 use mathlib.Core.Path.{_≡_}
-use mathlib.Core.List.{List, [], _++_}
+use mathlib.Core.List.{List}
 use lib.ListN.{length, drop}
 use Rattle.listing.specs.Lines.{cycleLines}
-use Rattle.listing.specs.Wrote.{TextPut}
+use Rattle.listing.specs.Wrote.{TextPut, lineBytes}
 
 -- what is asked: lines of 1 to 64 leaves; cycle k's begin at the leaf `first`
 pub record FillingLines (buffer : List ℕ) (at k w : ℕ) (outputs : List ℕ) (first : ℕ) : Type 0 where
@@ -26,22 +25,4 @@ pub record Filling (buffer : List ℕ) (at k w : ℕ) (outputs : List ℕ) (firs
 -- what is given: it stops only where no cycle is left or a line might not fit
 pub record FilledLines (buffer : List ℕ) (at k w : ℕ) (outputs : List ℕ) (first : ℕ) (after : List ℕ) (count next end : ℕ) : Type 0 where
   pub lines : Filling buffer at k w outputs first after count next end
-  pub full : next + w ≤ length outputs → length buffer < end + 280
-
--- pieces laid end to end, each written from where the one before stopped: up to cycle k, whose leaves begin at `first`
-pub data Printed (w : ℕ) (outputs : List ℕ) : (k first : ℕ) (text : List ℕ) → Type 0 where
-  nothing : Printed w outputs 0 0 []
-  piece :
-      {k first : ℕ} {text : List ℕ} (buffer : List ℕ) (at : ℕ) (after : List ℕ) (count next end : ℕ) →
-      Printed w outputs k first text →
-      FilledLines buffer at k w outputs first after count next end →
-      Printed w outputs (k + count) next (text ++ cycleLines w count k (drop first outputs))
-
--- where no cycle is left, they are the listing's lines and their count; kept by `whole-listing` (proofs/Filling.antt)
-abbrev pub WholeListing : Type 0
-WholeListing =
-    (w k first : ℕ) (outputs text : List ℕ) →
-    0 < w →
-    Printed w outputs k first text →
-    length outputs < first + w →
-    (text ≡ cycleLines w (length outputs / w) 0 outputs) × (k ≡ length outputs / w)
+  pub full : next + w ≤ length outputs → length buffer < end + lineBytes

@@ -2,8 +2,9 @@
 -- To believe:
 pub mod Digits
 pub mod Lines
+pub mod Promises
 -- Worked examples, by computation:
 pub mod Examples
--- What functions ask and give, and their proofs need:
+-- What functions ask and give, and their proofs need; `WholeListing` speaks of what `put_lines` gives:
 pub mod Wrote
 pub mod Fills

@@ -38,7 +38,7 @@ pub fn put_number(buffer: &mut [u8], at: usize, n: u64) -> usize
     requires { ⌜ at + length (digits n) ≤ length (now buffer) ⌝ }
     ensures { λ r. ⌜ TextPut (now (buffer .entry)) at (digits n) (now (buffer .exit)) r ⌝ }
 {
-    let last = 48 + (n % 10) as u8;
+    let last = b'0' + (n % 10) as u8;
     if n < 10 {
         return put_byte(buffer, at, last);
     }

@@ -17,7 +17,7 @@ use Rattle.meaning.specs.Constants.{
   of-all-more,
   flatten,
 }
-use Rattle.meaning.specs.Undecided.{Lawful, Agreeing}
+use Rattle.meaning.specs.RuleLaws.{Lawful, Agreeing}
 use Rattle.meaning.specs.Evaluation.{eval, next}
 use Rattle.meaning.specs.Run.{outputs, after}
 use Rattle.meaning.specs.Rules.{Reduces, ReducesSeq, s-end, s-cycle}

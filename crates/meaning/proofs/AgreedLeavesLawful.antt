@@ -24,7 +24,8 @@ use Rattle.meaning.specs.Constants.{
   glb,
   flatten,
 }
-use Rattle.meaning.specs.Undecided.{leafIf, agreedLeaf, agreedLeaves, Lawful, Agreeing}
+use Rattle.meaning.specs.Undecided.{leafIf, agreedLeaf, agreedLeaves}
+use Rattle.meaning.specs.RuleLaws.{Lawful, Agreeing}
 use Rattle.meaning.specs.Ordered.{RuleBelow}
 use Rattle.meaning.proofs.Order.{both-lower, both-trans, value-length}
 use Rattle.meaning.proofs.FlattenOneToOne.{flatten-typed}

@@ -22,7 +22,8 @@ use Rattle.picoella.specs.Language.{
   here,
   there,
 }
-use Rattle.meaning.specs.Matching.{Yes, Undecided, matches}
+use Rattle.meaning.specs.Matching.{matches}
+use Rattle.meaning.specs.Decisions.{Yes, Undecided}
 use Rattle.meaning.specs.Elaboration.{
   Term,
   Constant,

@@ -11,7 +11,8 @@ use lib.ListN.{getD, take, drop, replicate-append-replicate}
 use Rattle.picoella.specs.Language.{Ty, Flat, TyTuple, bounds, leaves, OfType, Expr, Index1, Index2, Named, here, there}
 use Rattle.meaning.specs.Values.{undefined, Both, ValuesOf, no-values, more-values}
 use Rattle.meaning.proofs.Order.{zeros}
-use Rattle.meaning.specs.Matching.{Decision, Yes, No, Undecided, matches}
+use Rattle.meaning.specs.Matching.{matches}
+use Rattle.meaning.specs.Decisions.{Decision, Yes, No, Undecided}
 use Rattle.meaning.specs.Elaboration.{
   Term,
   erase,
@@ -39,7 +40,7 @@ use Rattle.meaning.specs.Constants.{
   bottomOfType,
   answer3,
 }
-use Rattle.meaning.specs.Undecided.{Lawful, Agreeing}
+use Rattle.meaning.specs.RuleLaws.{Lawful, Agreeing}
 use Rattle.meaning.specs.Evaluation.{choose, eval, application, iterate, next}
 use Rattle.meaning.specs.Rules.{
   Elem,

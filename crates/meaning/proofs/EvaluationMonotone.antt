@@ -14,7 +14,7 @@ use Rattle.meaning.specs.Values.{
   both-more-values,
 }
 use Rattle.meaning.specs.Elaboration.{Term, Elaborated}
-use Rattle.meaning.specs.Undecided.{Lawful}
+use Rattle.meaning.specs.RuleLaws.{Lawful}
 use Rattle.meaning.specs.Evaluation.{eval}
 use Rattle.meaning.proofs.Order.{both-lower, both-refl}
 use Rattle.meaning.proofs.EvaluationOrdered.{ordered-refl, rule-below-itself, eval-ordered}

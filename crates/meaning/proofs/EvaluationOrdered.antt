@@ -9,7 +9,7 @@ use mathlib.Core.List.{List, [], _∷_}
 use lib.ListN.{getD}
 use Rattle.picoella.specs.Language.{Ty, bounds, leaves, Named, here, there}
 use Rattle.meaning.specs.Values.{Both, BothValues, both-more-values}
-use Rattle.meaning.specs.Matching.{Decision, Yes, No, Undecided, DecisionBelow}
+use Rattle.meaning.specs.Decisions.{Decision, Yes, No, Undecided, DecisionBelow}
 use Rattle.meaning.specs.Elaboration.{
   Term,
   Elaborated,
@@ -23,7 +23,7 @@ use Rattle.meaning.specs.Elaboration.{
   e-if,
   e-delay,
 }
-use Rattle.meaning.specs.Undecided.{Lawful}
+use Rattle.meaning.specs.RuleLaws.{Lawful}
 use Rattle.meaning.specs.Ordered.{
   RuleBelow,
   Ordered,

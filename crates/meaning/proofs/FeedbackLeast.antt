@@ -11,7 +11,7 @@ use Rattle.picoella.specs.Language.{Ty, bounds, leaves, OfType}
 use Rattle.meaning.specs.Values.{undefined, Both, ValuesOf, both-more-values}
 use Rattle.meaning.proofs.Order.{zeros}
 use Rattle.meaning.specs.Elaboration.{Term, Elaborated}
-use Rattle.meaning.specs.Undecided.{Lawful}
+use Rattle.meaning.specs.RuleLaws.{Lawful}
 use Rattle.meaning.specs.Evaluation.{iter, application, iterate, settled, applications}
 use Rattle.meaning.proofs.Order.{
   both-lower,

@@ -8,7 +8,8 @@ use Rattle.picoella.specs.Language.{Ty}
 use Rattle.meaning.specs.Values.{ValuesOf}
 use Rattle.meaning.specs.Elaboration.{Term, Elaborated}
 use Rattle.meaning.specs.Constants.{ConstantTree}
-use Rattle.meaning.specs.Undecided.{undecidedRule, undecidedConstant, Lawful, Agreeing}
+use Rattle.meaning.specs.Undecided.{undecidedRule, undecidedConstant}
+use Rattle.meaning.specs.RuleLaws.{Lawful, Agreeing}
 use Rattle.meaning.specs.Evaluation.{eval, next}
 use Rattle.meaning.specs.Promises.{IterateEquations, Settles, Promises, MeaningPromises}
 use Rattle.meaning.proofs.Order.{both-below, both-of}
@@ -30,7 +31,7 @@ use Rattle.meaning.proofs.FeedbackLeast.{
 }
 use Rattle.meaning.proofs.ElaborationUnique.{elaboration-exists, elaboration-unique, erased-typed}
 use Rattle.meaning.proofs.NextTyped.{next-typed, next-frame, outputs-typed, after-typed, after-frame}
-use Rattle.meaning.proofs.AnnotationIgnored.{eval-annotation, next-annotation}
+use Rattle.meaning.proofs.AnnotationIgnored.{places-ignored}
 use Rattle.meaning.proofs.FlattenOneToOne.{flatten-typed, flatten-one, flatten-onto}
 use Rattle.meaning.proofs.MatchAgrees.{match-agrees}
 use Rattle.meaning.proofs.RulesDeterministic.{reduces-one, reduces-seq-one}
@@ -77,7 +78,7 @@ module _
           elaboration-exists = λ Γ e τ d. elaboration-exists Declared d;
           elaboration-unique = λ Γ t s σ τ h k p. elaboration-unique Declared h k p;
           erasure-typed = λ Γ t τ h. erased-typed Declared h;
-          annotation-ignored = λ places ρ t. (eval-annotation undecided places ρ t, next-annotation undecided places ρ t);
+          annotation-ignored = λ places ρ t. (places-ignored ρ t .same-value, places-ignored ρ t .same-next);
           evaluation-typed = λ Γ t τ ρ h env. eval-typed undecided law Declared h env;
           next-typed = λ Γ t τ ρ h env. (next-typed law h env, next-frame undecided ρ t);
           run-typed = λ Γ t σ τ ρ inputs h env given. (

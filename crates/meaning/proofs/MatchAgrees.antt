@@ -6,17 +6,8 @@ use mathlib.Core.Path.{_≡_, refl, ap₂, _∙_}
 use mathlib.Core.Bool.{Bool, true, false}
 use lib.Dec.{eqb}
 use Rattle.picoella.specs.Language.{Ty, Pattern, HasType, p-whole, p-constructor, p-parts, p-bar}
-use Rattle.meaning.specs.Matching.{
-  Decision,
-  Yes,
-  No,
-  Undecided,
-  decided,
-  constructorDecision,
-  pairDecision,
-  chainDecision,
-  matches,
-}
+use Rattle.meaning.specs.Matching.{matches}
+use Rattle.meaning.specs.Decisions.{Decision, Yes, No, Undecided, decided, constructorDecision, pairDecision, chainDecision}
 use Rattle.meaning.specs.Constants.{
   ConstantTree,
   ConstantOf,

@@ -29,7 +29,7 @@ use Rattle.meaning.specs.Elaboration.{
   e-delay,
   frame,
 }
-use Rattle.meaning.specs.Undecided.{Lawful}
+use Rattle.meaning.specs.RuleLaws.{Lawful}
 use Rattle.meaning.specs.Evaluation.{eval, settled, next}
 use Rattle.meaning.specs.Run.{outputs, after}
 use Rattle.meaning.proofs.EvaluationMonotone.{eval-typed}

@@ -17,7 +17,7 @@ use Rattle.meaning.specs.Constants.{
   bottomOfConst,
   flatten,
 }
-use Rattle.meaning.specs.Undecided.{undefinedLeaves, bottomOfThen, Lawful, Agreeing}
+use Rattle.meaning.specs.RuleLaws.{undefinedLeaves, bottomOfThen, Lawful, Agreeing}
 use Rattle.meaning.proofs.Order.{
   both-lower,
   both-upper,

@@ -9,7 +9,7 @@ use mathlib.Core.Bool.{Bool, true, false, _&&_, _||_}
 use mathlib.Core.List.{List, [], _∷_, _++_}
 use lib.Dec.{eqb}
 use Rattle.picoella.specs.Language.{Ty, Flat, TyTuple, Pattern, Whole, Constructor, Parts, Bar}
-use Rattle.meaning.specs.Matching.{Decision, Yes, No, Undecided}
+use Rattle.meaning.specs.Decisions.{Decision, Yes, No, Undecided}
 
 pub data ConstantTree : Type 0 where
   Cons : (constructor type : ℕ) → ConstantTree

@@ -10,7 +10,8 @@ use lib.Dec.{eqb}
 use lib.ListN.{getD, take, drop}
 use Rattle.picoella.specs.Language.{Ty, leaves}
 use Rattle.meaning.specs.Values.{undefined}
-use Rattle.meaning.specs.Matching.{Decision, Yes, No, Undecided, matches}
+use Rattle.meaning.specs.Matching.{matches}
+use Rattle.meaning.specs.Decisions.{Decision, Yes, No, Undecided}
 use Rattle.meaning.specs.Elaboration.{
   Term,
   Constant,

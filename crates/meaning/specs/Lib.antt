@@ -1,12 +1,13 @@
 -- What a circuit means, without bytes: values, matching, one cycle, a run, and the rules of the paper that they agree with.
 -- To believe:
+pub mod Decisions
 pub mod Constants
 pub mod Rules
 pub mod Values
+pub mod RuleLaws
 pub mod Ordered
 pub mod Promises
--- What the promises pin down, so that it need not be believed, but of `Undecided` what is asked of a rule and the earlier rule, which
--- (c) and (e) speak of:
+-- What the promises pin down, so that it need not be believed:
 pub mod Elaboration
 pub mod Matching
 pub mod Undecided

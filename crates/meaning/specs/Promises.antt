@@ -9,7 +9,8 @@ use mathlib.Core.Logic.{_↔_, _≢_}
 use mathlib.Core.List.{List, _∷_, map}
 use Rattle.picoella.specs.Language.{Ty, leaves, OfType, Pattern, HasType, Expr, Typed}
 use Rattle.meaning.specs.Values.{undefined, _⊑_, ValuesOf, BothValues, AllOf}
-use Rattle.meaning.specs.Matching.{matches, DecisionBelow}
+use Rattle.meaning.specs.Matching.{matches}
+use Rattle.meaning.specs.Decisions.{DecisionBelow}
 use Rattle.meaning.specs.Elaboration.{Term, Feedback, Elaborated, erase, moved, frame}
 use Rattle.meaning.specs.Constants.{
   ConstantTree,
@@ -21,15 +22,8 @@ use Rattle.meaning.specs.Constants.{
   answer3,
   match,
 }
-use Rattle.meaning.specs.Undecided.{
-  undefinedLeaves,
-  bottomOfThen,
-  agreedLeaves,
-  undecidedRule,
-  undecidedConstant,
-  Lawful,
-  Agreeing,
-}
+use Rattle.meaning.specs.Undecided.{agreedLeaves, undecidedRule, undecidedConstant}
+use Rattle.meaning.specs.RuleLaws.{undefinedLeaves, bottomOfThen, Lawful, Agreeing}
 use Rattle.meaning.specs.Ordered.{RuleBelow, Ordered, AllBoth}
 use Rattle.meaning.specs.Evaluation.{iter, eval, application, iterate, settled, applications, next}
 use Rattle.meaning.specs.Run.{outputs, after}

@@ -5,7 +5,7 @@ use native.Mathlib.Omega.{arith}
 use mathlib.Core.Bool.{Bool, true, false, cond}
 use mathlib.Core.List.{List, [], _∷_}
 use lib.ListN.{length}
-use Rattle.grammar.specs.Tokens.{Token, Tokens, no-token, a-blank, a-symbol, a-word, Run, run-last, run-more}
+use Rattle.grammar.specs.Tokens.{Token, Tokens, no-token, a-blank, a-symbol, a-word, LetterRun, run-last, run-more}
 use Rattle.grammar.specs.Source.{Identifier, Declaration, Constructors, PairOf, SourceConstant, SourcePattern, Expression, Text}
 use Rattle.grammar.specs.Grammar.{ReadsOthers, no-other, one-other, ReadsDeclaration, reads-constructors, reads-pair-of}
 use Rattle.grammar.specs.Grammar.{ReadsMore, no-more, one-more, ReadsConstant, reads-constructor, reads-undefined, reads-both}
@@ -15,8 +15,8 @@ use Rattle.grammar.specs.Grammar.{reads-let-rec, reads-if, reads-delay, ReadsTe
 use Rattle.naming.specs.Declared.{DeclaredName, sameName, isAmong, isDeclared, constructorRole, atFirst}
 use Rattle.naming.specs.Constants.{letters}
 use Rattle.naming.specs.Names.{afterAll}
-use Rattle.naming.specs.Records.{LeafCount, leafCount, leafCountOf, leafCounts, patternRecords, constantLeaves, nameRecords}
-use Rattle.naming.specs.Records.{recordsOfExpression, recordsNeeded}
+use Rattle.naming.specs.RecordsNeeded.{LeafCount, leafCount, leafCountOf, leafCounts, patternRecords, constantLeaves, nameRecords}
+use Rattle.naming.specs.RecordsNeeded.{recordsOfExpression, recordsNeeded}
 
 -- no type has more than 64 leaves
 abbrev Few : List LeafCount → Type 0
@@ -90,7 +90,7 @@ records-few (reads-text {d} {ds} h k l) =
       expression-few (leafCounts [] (d ∷ ds)) (few-counts [] (d ∷ ds) (λ w. omega arith)) (afterAll atFirst (d ∷ ds)) [] l,
     )
 
-run-length : {bs word rest : List ℕ} → Run bs word rest → length rest + 1 ≤ length bs
+run-length : {bs word rest : List ℕ} → LetterRun bs word rest → length rest + 1 ≤ length bs
 run-length (run-last h n) = omega arith
 run-length (run-more h r) = omega (arith, run-length r)
 

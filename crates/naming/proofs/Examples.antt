@@ -7,7 +7,7 @@ use Rattle.grammar.specs.Source.{identifier, Constructors, PairOf, OfConstructo
 use Rattle.grammar.specs.Source.{NameUse, UndefinedOf, PairExpression, LetExpression, LetRecExpression, IfExpression, DelayExpression}
 use Rattle.naming.specs.Checks.{firstBadPlace}
 use Rattle.naming.specs.Names.{textChecks}
-use Rattle.naming.specs.Records.{recordsNeeded}
+use Rattle.naming.specs.RecordsNeeded.{recordsNeeded}
 use Prim.Native.Nat.{ℕ}
 
 -- TYPE a = a IN INPUT a input: a constructor named like its own type

@@ -4,7 +4,7 @@ use Prim.Native.Nat.{ℕ, suc, _≤_}
 use native.Mathlib.Omega.{arith}
 use mathlib.Core.List.{List, [], _∷_}
 use lib.ListN.{length}
-use Rattle.grammar.specs.Tokens.{Token, Tokens, no-token, a-blank, a-symbol, a-word, Run, run-last, run-more}
+use Rattle.grammar.specs.Tokens.{Token, Tokens, no-token, a-blank, a-symbol, a-word, LetterRun, run-last, run-more}
 use Rattle.grammar.specs.Tokens.{spells-keyword, spells-name}
 use Rattle.naming.specs.Promises.{namePlaces, Increasing, increasing-none, increasing-one, increasing-more}
 
@@ -25,7 +25,7 @@ pub increasing : {i : ℕ} {ps : List ℕ} → PlacesFrom i ps → Increasing ps
 increasing from-none = increasing-none
 increasing (from-one h f) = after f
 
-pub run-long : {bs word rest : List ℕ} → Run bs word rest → 1 ≤ length word
+pub run-long : {bs word rest : List ℕ} → LetterRun bs word rest → 1 ≤ length word
 run-long (run-last h n) = omega arith
 run-long (run-more h r) = omega arith
 

@@ -4,7 +4,7 @@ pub mod Declared
 pub mod Checks
 pub mod Constants
 pub mod Names
-pub mod Records
+pub mod RecordsNeeded
 pub mod Promises
 -- What functions ask and give, and their proofs need:
 pub mod TokenWalk

@@ -14,7 +14,7 @@ use Rattle.grammar.specs.Legal.{Reading}
 use Rattle.naming.specs.Declared.{sameName}
 use Rattle.naming.specs.Checks.{AllPass, FirstFails, checkPlaces}
 use Rattle.naming.specs.Constants.{constantsOfText}
-use Rattle.naming.specs.Records.{recordsNeeded}
+use Rattle.naming.specs.RecordsNeeded.{recordsNeeded}
 use Rattle.naming.specs.Names.{nameChecks, textChecks}
 
 -- 1. All checks of a text hold, or one fails that all before it hold; never both, and at one place.

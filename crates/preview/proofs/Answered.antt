@@ -14,7 +14,7 @@ use Rattle.answers.specs.declared.Answer.{Answer}
 use Rattle.answers.specs.declared.Answer.the-variants.{Done, Refused}
 use Rattle.answers.proofs.First.{first-both, first-then, kept-bytes}
 use Rattle.verdict.specs.Verdict.{sheetChecks, outputType, verdict}
-use Rattle.verdict.specs.declared.Verdict.the-variants.{Accepted}
+use Rattle.answers.specs.declared.Verdict.the-variants.{Accepted}
 use Rattle.accepted.proofs.Calls.{accepted-output}
 use Rattle.accepted.proofs.Small.{accepted-few}
 use Rattle.meaning.proofs.UndecidedRule.{rule-lawful}

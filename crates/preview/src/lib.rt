@@ -1,27 +1,27 @@
 // The preview: the outputs of one cycle, without taking it.
 ghost use mathlib.Core.Path.{_≡_};
 ghost use Rattle.verdict.specs.Verdict.{verdict};
-ghost use Rattle.verdict.specs.declared.Verdict.the-variants.{Accepted};
+ghost use Rattle.answers.specs.declared.Verdict.the-variants.{Accepted};
 ghost use Rattle.accepted.specs.Accepting.{Accepting};
 ghost use Rattle.behaviour.specs.Cycle.{output};
 ghost use Rattle.preview.specs.Preview.{Previewed};
 ghost use Rattle.preview.specs.Showing.{Showing};
 use answers::Answer;
-use answers::WRONG_OUTPUT;
+use answers::Verdict;
+use answers::WRONG_OUTPUT_LENGTH;
 use answers::in_one;
 use answers::packed;
+use answers::packed_verdict;
 use records::RECORDS;
 use records::WidthTable;
+use records::no_widths;
 use records::records_in;
 use stepper::look;
 use stepper::no_names;
 use stepper::no_next_values;
 use stimulus::check_one_cycle;
 use values::none_fired;
-use verdict::Verdict;
 use verdict::check_into;
-use verdict::no_widths;
-use verdict::packed_verdict;
 
 // The outputs of one cycle, with room of its own.
 fn show(sheet: &[u8], n: usize, widths: &WidthTable, input: &[u8], out: &mut [u8])
@@ -62,7 +62,7 @@ fn preview_accepted(
     };
     let needed = widths[t] as usize;
     if out.len() != needed {
-        return in_one(WRONG_OUTPUT, needed as u64);
+        return in_one(WRONG_OUTPUT_LENGTH, needed as u64);
     }
     show(sheet, n, widths, stim, out);
     0

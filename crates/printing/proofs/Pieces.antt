@@ -17,7 +17,7 @@ use Rattle.listing.specs.Fills.{FillingLines, FilledLines}
 use Rattle.listing.proofs.Lengths.{number-few}
 use Rattle.listing.proofs.Filling.{lines-join}
 use Rattle.listing.proofs.Written.{wrote-long, wrote-then}
-use Rattle.printing.specs.Pieces.{toldText, textFrom, textLeft, Pieced, Pieces, last-one, then-more}
+use Rattle.printing.specs.Pieces.{toldText, textFrom, textLeft, Pieced, PiecesLaid, last-one, then-more}
 use Rattle.printing.specs.PutLines.{PuttingLines, PutLines}
 
 -- a line has a byte at least
@@ -198,7 +198,7 @@ piece-less {before = before} {w = w} {outputs = outputs} {after = after} {end = 
     let m = p .more in
     omega arith
 
-pub laid-end-to-end : (w : ℕ) (outputs before text : List ℕ) → Pieces w outputs before text → text ≡ before
+pub laid-end-to-end : (w : ℕ) (outputs before text : List ℕ) → PiecesLaid w outputs before text → text ≡ before
 laid-end-to-end w outputs before text (last-one buffer end k first p) = sym (p .text ∙ append-nil (take end buffer))
 laid-end-to-end w outputs before text (then-more {text = rest} buffer end k first p more) =
     ap (λ (left : List ℕ). take end buffer ++ left) (laid-end-to-end w outputs (textFrom w k outputs) rest more) ∙ sym (p .text)

@@ -13,10 +13,9 @@ abbrev pub toldText : (code place t w : ℕ) (outputs : List ℕ) → List ℕ
 toldText zero p t w outputs = listing t w outputs
 toldText (suc c) p t w outputs = refusedLine (suc c) p
 
--- 12: "a file that the program cannot open; the sheet's is tried first"
-abbrev pub noFileLine : (sheetOpened : Bool) → List ℕ
-noFileLine false = refusedLine 12 1
-noFileLine true = refusedLine 12 2
+-- 12: "a file that the program cannot open", at its place among the program's files
+abbrev pub noFileLine : (place : ℕ) → List ℕ
+noFileLine place = refusedLine 12 place
 
 -- the lines from cycle k on, of outputs of w leaves each, and the last line
 abbrev pub textFrom : (w k : ℕ) (outputs : List ℕ) → List ℕ
@@ -36,10 +35,10 @@ pub record Pieced (before : List ℕ) (w : ℕ) (outputs after : List ℕ) (end 
   pub start : first ≡ k * w
   pub inside : first ≤ length outputs
 
-pub data Pieces (w : ℕ) (outputs : List ℕ) : (before text : List ℕ) → Type 0 where
+pub data PiecesLaid (w : ℕ) (outputs : List ℕ) : (before text : List ℕ) → Type 0 where
   last-one :
       {before : List ℕ} (buffer : List ℕ) (end k first : ℕ) → Pieced before w outputs buffer end k first true
-      → Pieces w outputs before (take end buffer)
+      → PiecesLaid w outputs before (take end buffer)
   then-more :
       {before text : List ℕ} (buffer : List ℕ) (end k first : ℕ) → Pieced before w outputs buffer end k first false
-      → Pieces w outputs (textFrom w k outputs) text → Pieces w outputs before (take end buffer ++ text)
+      → PiecesLaid w outputs (textFrom w k outputs) text → PiecesLaid w outputs before (take end buffer ++ text)

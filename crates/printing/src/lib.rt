@@ -13,11 +13,6 @@ use listing::put_lines;
 use listing::put_refused;
 use listing::put_type;
 
-// The place of the sheet's file and of the stimulus's.
-const SHEET_FILE: u64 = 1;
-
-const STIMULUS_FILE: u64 = 2;
-
 // A piece of text in a buffer, up to `end`; the next begins at cycle k, whose leaves begin at `first`, if this is not the last.
 pub struct Piece {
     pub end: usize,
@@ -83,13 +78,10 @@ pub fn next_piece(buffer: &mut [u8], w: usize, outputs: &[u8], k: usize, first: 
     put_rest(buffer, 0, w, outputs, k, first)
 }
 
-// The line for a file that could not be opened: the sheet's, or where that was opened the stimulus's.
-pub fn put_no_file(buffer: &mut [u8], opened: bool) -> usize
+// The line for a file that could not be opened, from its place among the files of a program: 1 for the first.
+pub fn put_no_file(buffer: &mut [u8], place: u64) -> usize
     requires { ⌜ lineBytes ≤ length (now buffer) ⌝ }
-    ensures { λ r. ⌜ TextPut (now (buffer .entry)) 0 (noFileLine opened) (now (buffer .exit)) r ⌝ }
+    ensures { λ r. ⌜ TextPut (now (buffer .entry)) 0 (noFileLine place) (now (buffer .exit)) r ⌝ }
 {
-    if opened {
-        return put_refused(buffer, 0, NO_FILE, STIMULUS_FILE);
-    }
-    put_refused(buffer, 0, NO_FILE, SHEET_FILE)
+    put_refused(buffer, 0, NO_FILE, place)
 }

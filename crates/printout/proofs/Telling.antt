@@ -1,7 +1,7 @@
 -- What is told: the run's answer with the slices that the code lends is the one with slices of the right lengths, and the numbers that
 -- it is taken apart into give the text of the answer.
 -- Assumes nothing.
-use Prim.Native.Nat.{ℕ, zero, suc, _+_, _*_, _-_, _/_, _%_, _^_, _≤_, _<_}
+use Prim.Native.Nat.{ℕ, zero, suc, _-_, _≤_, _<_}
 use mathlib.Core.Path.{_≡_, refl, sym, ap, subst, _∙_}
 use mathlib.Core.Bool.{true}
 use mathlib.Core.List.{List, [], _∷_, _++_}
@@ -13,15 +13,14 @@ use borrow.Author.Tests.{lt-ltb}
 use Rattle.picoella.specs.Language.{leaves}
 use Rattle.records.specs.Trees.{typeAt}
 use Rattle.records.proofs.Types.{some-leaves}
-use Rattle.answers.specs.Answers.{code, place, packed, Check, firstApplying, Refuses, SaysOf}
+use Rattle.answers.specs.Answers.{code, place, codeOfResult, placeOfResult, verdictAnswer, Check, firstApplying, Refuses, SaysOf}
 use Rattle.answers.specs.declared.Answer.{Answer}
 use Rattle.answers.specs.declared.Answer.the-variants.{Done, Refused}
 use Rattle.answers.proofs.First.{first-says}
 use Rattle.answers.proofs.Kept as Answers
 use Rattle.verdict.specs.Verdict.{sheetChecks, outputType, verdict}
-use Rattle.verdict.specs.Scopes.{verdictAnswer}
-use Rattle.verdict.specs.declared.Verdict.the-variants.{Accepted}
-use Rattle.accepted.proofs.Laws.{verdict-first, verdict-place, first-accepted}
+use Rattle.answers.specs.declared.Verdict.the-variants.{Accepted}
+use Rattle.accepted.proofs.Laws.{verdict-first, first-accepted}
 use Rattle.accepted.proofs.Small.{accepted-few}
 use Rattle.stimulus.specs.Stimulus.{inputType, wrongStimulus, stimulusChecks, cycleCount}
 use Rattle.behaviour.specs.Run.{outputNeeded, callChecks, bySlices, answer, finalOut, finalNext, RunGiven}
@@ -32,7 +31,7 @@ use Rattle.simulator.specs.Calls.{Ran}
 use Rattle.listing.specs.Lines.{refusedLine}
 use Rattle.printing.specs.Pieces.{toldText}
 use Rattle.printout.specs.Printout.{outputRecord, runAnswer, runOutputs, runSheet, printed, RunTold}
-use Rattle.printout.specs.OutputsLong.{OutputsLong}
+use Rattle.printout.specs.Lengths.{OutputsMeasured}
 
 -- an answer depends on the slices' lengths alone
 answer-by-lengths : (s stim out out₂ next next₂ : List ℕ) → length out ≡ length out₂ → length next ≡ length next₂
@@ -71,7 +70,7 @@ refusal-text : (c p t w : ℕ) (outputs : List ℕ) → 0 < c → toldText c p t
 refusal-text zero p t w outputs h = absurd (omega arith)
 refusal-text (suc c) p t w outputs h = refl
 
-module _ (s stim : List ℕ) (i o many : ℕ) (m : Measured s i o) (q : OutputsLong i o (length stim) many) (lo ln : List ℕ) (eo : length lo ≡ many) (en : length ln ≡ length s) where
+module _ (s stim : List ℕ) (i o t many : ℕ) (m : Measured s i o t) (q : OutputsMeasured i o (length stim) many) (lo ln : List ℕ) (eo : length lo ≡ many) (en : length ln ≡ length s) where
   -- by the verdict and the stimulus' length
   same-refused : (c p : ℕ) → verdictAnswer (verdict s) ≡ Refused c p → answer s stim lo ln ≡ runAnswer s stim
   unfolding runAnswer
@@ -79,7 +78,7 @@ module _ (s stim : List ℕ) (i o many : ℕ) (m : Measured s i o) (q : OutputsL
       refused-by-verdict s stim lo ln c p e
       ∙ sym (refused-by-verdict s stim (replicate (outputNeeded s (outputRecord s) stim) 0) (replicate (length s) 0) c p e)
 
-  module _ (t : ℕ) (v : verdict s ≡ Accepted t) where
+  module _ (u : ℕ) (v : verdict s ≡ Accepted u) where
     over-same : 65535 < length stim → answer s stim lo ln ≡ runAnswer s stim
     unfolding runAnswer
     over-same h =
@@ -88,7 +87,7 @@ module _ (s stim : List ℕ) (i o many : ℕ) (m : Measured s i o) (q : OutputsL
 
     needed : length stim ≤ 65535 → many ≡ outputNeeded s (outputRecord s) stim
     needed h =
-        let l = m .leaves-of t v in
+        let l = m .leaves-of u v in
         let some = some-leaves (inputType s) in
         q .needed (let e = l .0 in omega arith) h ∙ rw (l .0, l .1, v) refl
 
@@ -106,21 +105,19 @@ module _ (s stim : List ℕ) (i o many : ℕ) (m : Measured s i o) (q : OutputsL
   same-answer = go (verdictAnswer (verdict s)) refl
     where
       go : (a : Answer) → verdictAnswer (verdict s) ≡ a → answer s stim lo ln ≡ runAnswer s stim
-      go (Done t) e =
-          let says : SaysOf (sheetChecks s) (outputType s) (Done t) =
+      go (Done u) e =
+          let says : SaysOf (sheetChecks s) (outputType s) (Done u) =
           subst (λ (a : Answer). SaysOf (sheetChecks s) (outputType s) a) (sym (verdict-first s) ∙ e) (first-says (sheetChecks s) (outputType s))
           in
           accepted-same (outputType s) (first-accepted s (says .0)) (decLt 65535 (length stim))
       go (Refused c p) e = same-refused c p e
 
-  module _ {r v w : ℕ} {ro rn : List ℕ} (ran : Ran s stim lo ln r ro rn) (ev : v ≡ packed (verdictAnswer (verdict s)))
+  module _ {r c p w : ℕ} {ro rn : List ℕ} (ran : Ran s stim lo ln r ro rn) (ec : c ≡ codeOfResult r) (ep : p ≡ placeOfResult r)
       (ew : (0 < w) × (w ≤ 64) × (0 < o → o ≤ 64 → w ≡ o)) where
-    apart : (r / 2 ^ 32 ≡ code (answer s stim lo ln)) × (r % 2 ^ 32 ≡ place (answer s stim lo ln))
-    apart = rw (ran .gives .result-is) (Answers.kept .taken-apart (code (answer s stim lo ln)) (place (answer s stim lo ln)) (places-small s stim lo ln))
-
-    record-of : v % 2 ^ 32 ≡ outputRecord s
-    record-of =
-        rw ev (Answers.kept .taken-apart (code (verdictAnswer (verdict s))) (place (verdictAnswer (verdict s))) (let h = verdict-place s in omega arith) .1)
+    apart : (c ≡ code (answer s stim lo ln)) × (p ≡ place (answer s stim lo ln))
+    apart =
+        let given = answer s stim lo ln in
+        rw (ec, ep, ran .gives .result-is) (Answers.kept .taken-apart (code given) (place given) (places-small s stim lo ln))
 
     -- done: the outputs and the sheet after them
     module _ (n : ℕ) (e : answer s stim lo ln ≡ Done n) where
@@ -135,31 +132,35 @@ module _ (s stim : List ℕ) (i o many : ℕ) (m : Measured s i o) (q : OutputsL
       unfolding finalNext runSheet
       done-sheet = ran .gives .next-is ∙ rw e refl
 
+      done-record : t ≡ outputRecord s
+      done-record = let a : verdict s ≡ Accepted (formed .0) = formed .1 .accepted in m .typed (formed .0) a ∙ rw a refl
+
       done-width : w ≡ leaves (typeAt s (outputRecord s))
       done-width =
-          let t = formed .0 in
-          let a : verdict s ≡ Accepted t = formed .1 .accepted in
-          let l : o ≡ leaves (typeAt s t) = m .leaves-of t a .1 in
-          let some = some-leaves (typeAt s t) in
+          let u = formed .0 in
+          let a : verdict s ≡ Accepted u = formed .1 .accepted in
+          let l : o ≡ leaves (typeAt s u) = m .leaves-of u a .1 in
+          let some = some-leaves (typeAt s u) in
           let few = accepted-few s a in
           ew .2 (omega arith) (omega arith) ∙ l ∙ rw a refl
 
-      done-text : printed s stim ≡ toldText (r / 2 ^ 32) (r % 2 ^ 32) (v % 2 ^ 32) w ro
+      done-text : printed s stim ≡ toldText c p t w ro
       unfolding printed
       done-text =
-          let z : r / 2 ^ 32 ≡ 0 = apart .0 ∙ ap code e in
-          rw (z, ← same-answer, e, record-of, done-width, done-outputs) refl
+          let z : c ≡ 0 = apart .0 ∙ ap code e in
+          rw (z, ← same-answer, e, done-record, done-width, done-outputs) refl
 
-    refused-text : (c p : ℕ) → answer s stim lo ln ≡ Refused c p
-        → printed s stim ≡ toldText (r / 2 ^ 32) (r % 2 ^ 32) (v % 2 ^ 32) w ro
+    refused-text : (k q : ℕ) → answer s stim lo ln ≡ Refused k q → printed s stim ≡ toldText c p t w ro
     unfolding printed
-    refused-text c p e =
-        let z : r / 2 ^ 32 ≡ c = apart .0 ∙ ap code e in
-        let y : r % 2 ^ 32 ≡ p = apart .1 ∙ ap place e in
-        rw (← same-answer, e, z, y) (sym (refusal-text c p (v % 2 ^ 32) w ro (refused-code s stim lo ln c p e)))
+    refused-text k q e =
+        let z : c ≡ k = apart .0 ∙ ap code e in
+        let y : p ≡ q = apart .1 ∙ ap place e in
+        let some = refused-code s stim lo ln k q e in
+        rw (← same-answer, e, z, y)
+        (refusal-text k q (outputRecord s) (leaves (typeAt s (outputRecord s))) (runOutputs s stim) some ∙ sym (refusal-text k q t w ro some))
 
     pub run-told : (out′ next′ : List ℕ) → take many out′ ≡ ro → many ≤ length out′ → take (length s) next′ ≡ rn
-        → RunTold s stim (r / 2 ^ 32) (r % 2 ^ 32) (v % 2 ^ 32) w many out′ next′
+        → RunTold s stim c p t w many out′ next′
     run-told out′ next′ eo′ inside en′ =
         record {
           coded = apart .0 ∙ ap code same-answer;
@@ -170,19 +171,19 @@ module _ (s stim : List ℕ) (i o many : ℕ) (m : Measured s i o) (q : OutputsL
           next = λ z. en′ ∙ after (answer s stim lo ln) refl z;
         }
       where
-        go : (a : Answer) → answer s stim lo ln ≡ a → printed s stim ≡ toldText (r / 2 ^ 32) (r % 2 ^ 32) (v % 2 ^ 32) w ro
+        go : (a : Answer) → answer s stim lo ln ≡ a → printed s stim ≡ toldText c p t w ro
         go (Done n) e = done-text n e
-        go (Refused c p) e = refused-text c p e
+        go (Refused k q) e = refused-text k q e
 
-        after : (a : Answer) → answer s stim lo ln ≡ a → r / 2 ^ 32 ≡ 0 → rn ≡ runSheet s stim
+        after : (a : Answer) → answer s stim lo ln ≡ a → c ≡ 0 → rn ≡ runSheet s stim
         after (Done n) e z = done-sheet n e
-        after (Refused c p) e z =
-            let h = refused-code s stim lo ln c p e in
-            let y : r / 2 ^ 32 ≡ c = apart .0 ∙ ap code e in
+        after (Refused k q) e z =
+            let h = refused-code s stim lo ln k q e in
+            let y : c ≡ k = apart .0 ∙ ap code e in
             absurd (omega arith)
 
 -- the same of the front parts of the rooms lent
-module _ (s stim : List ℕ) (i o many : ℕ) (m : Measured s i o) (q : OutputsLong i o (length stim) many) (out next : List ℕ)
+module _ (s stim : List ℕ) (i o t many : ℕ) (m : Measured s i o t) (q : OutputsMeasured i o (length stim) many) (out next : List ℕ)
     (room : (4194240 ≤ length out) × (length s ≤ length next)) where
   out-long : length (take (many - 0) out) ≡ many
   out-long = let h = q .small in let r = room .0 in length-take-le (many - 0) out (omega arith) ∙ omega arith
@@ -190,12 +191,12 @@ module _ (s stim : List ℕ) (i o many : ℕ) (m : Measured s i o) (q : OutputsL
   next-long : length (take (length s - 0) next) ≡ length s
   next-long = let r = room .1 in length-take-le (length s - 0) next (omega arith) ∙ omega arith
 
-  pub told-lent : {r v w : ℕ} {ro rn : List ℕ} → Ran s stim (take (many - 0) out) (take (length s - 0) next) r ro rn
+  pub told-lent : {r c p w : ℕ} {ro rn : List ℕ} → Ran s stim (take (many - 0) out) (take (length s - 0) next) r ro rn
       → length ro ≡ length (take (many - 0) out) → length rn ≡ length (take (length s - 0) next)
-      → v ≡ packed (verdictAnswer (verdict s)) → (0 < w) × (w ≤ 64) × (0 < o → o ≤ 64 → w ≡ o)
-      → RunTold s stim (r / 2 ^ 32) (r % 2 ^ 32) (v % 2 ^ 32) w many (ro ++ drop (many - 0) out) (rn ++ drop (length s - 0) next)
-  told-lent {ro = ro} {rn = rn} ran lo ln ev ew =
-      run-told s stim i o many m q (take (many - 0) out) (take (length s - 0) next) out-long next-long ran ev ew
+      → c ≡ codeOfResult r → p ≡ placeOfResult r → (0 < w) × (w ≤ 64) × (0 < o → o ≤ 64 → w ≡ o)
+      → RunTold s stim c p t w many (ro ++ drop (many - 0) out) (rn ++ drop (length s - 0) next)
+  told-lent {ro = ro} {rn = rn} ran lo ln ec ep ew =
+      run-told s stim i o t many m q (take (many - 0) out) (take (length s - 0) next) out-long next-long ran ec ep ew
       (ro ++ drop (many - 0) out) (rn ++ drop (length s - 0) next)
       (take-at ro (drop (many - 0) out) many (lo ∙ out-long))
       (let l = length-append ro (drop (many - 0) out) in let e = out-long in omega arith)

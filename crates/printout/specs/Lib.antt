@@ -3,4 +3,4 @@
 pub mod Printout
 pub mod Promises
 -- What functions ask and give, and their proofs need:
-pub mod OutputsLong
+pub mod Lengths

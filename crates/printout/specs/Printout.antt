@@ -1,21 +1,18 @@
 -- What the program prints and writes (docs/SHEETS.md, "Listing"), for the answer of the run with slices of the right lengths: the
--- listing of its outputs, or the one line of a refusal.
+-- listing of its outputs, or the one line of a refusal; and the place of a file that cannot be opened.
 use Prim.Native.Nat.{ℕ, _≤_, _<_}
 use mathlib.Core.Path.{_≡_}
+use mathlib.Core.Bool.{Bool, true, false}
 use mathlib.Core.List.{List}
 use lib.ListN.{length, take, replicate}
 use Rattle.picoella.specs.Language.{leaves}
-use Rattle.records.specs.Limits.{mostLeaves}
 use Rattle.records.specs.Trees.{typeAt}
-use Rattle.answers.specs.Answers.{code, place}
+use Rattle.answers.specs.Answers.{code, place, verdictAnswer}
 use Rattle.answers.specs.declared.Answer.{Answer}
-use Rattle.answers.specs.declared.Answer.the-variants.{Done, Refused}
 use Rattle.verdict.specs.Verdict.{verdict}
-use Rattle.verdict.specs.Scopes.{verdictAnswer}
 use Rattle.meaning.specs.Undecided.{undecidedRule}
 use Rattle.stimulus.specs.Stimulus.{endToEnd, cycles}
 use Rattle.behaviour.specs.Run.{outputsBy, sheetAfter, outputNeeded, answer}
-use Rattle.listing.specs.Lines.{listing, refusedLine}
 use Rattle.printing.specs.Pieces.{toldText}
 
 -- "the record of the output type": the place of the check's answer
@@ -34,14 +31,16 @@ runOutputs s stim = endToEnd (outputsBy undecidedRule s (cycles s stim))
 unfoldable pub runSheet : (sheet stimulus : List ℕ) → List ℕ
 runSheet s stim = sheetAfter undecidedRule s (cycles s stim)
 
--- the listing of outputs of w leaves each, or the line of a refusal
-abbrev pub answerText : Answer → (t w : ℕ) (outputs : List ℕ) → List ℕ
-answerText (Done n) t w outputs = listing t w outputs
-answerText (Refused c p) t w outputs = refusedLine c p
-
+-- the listing of these outputs, or where the answer's code is not 0 the line of a refusal
 unfoldable pub printed : (sheet stimulus : List ℕ) → List ℕ
 printed s stim =
-    answerText (runAnswer s stim) (outputRecord s) (leaves (typeAt s (outputRecord s))) (runOutputs s stim)
+    toldText (code (runAnswer s stim)) (place (runAnswer s stim)) (outputRecord s) (leaves (typeAt s (outputRecord s)))
+    (runOutputs s stim)
+
+-- the place of a file that cannot be opened: 1 for the sheet's, which "is tried first", and 2 for the stimulus's
+abbrev pub unopenedFile : (sheetOpened : Bool) → ℕ
+unopenedFile false = 1
+unopenedFile true = 2
 
 -- what is told of a sheet and a stimulus: the text to print by these numbers and the first so many bytes of the outputs' room, and
 -- where nothing is refused the sheet for next.bin
@@ -50,5 +49,5 @@ pub record RunTold (s stim : List ℕ) (c p t w many : ℕ) (out′ next′ : Li
   pub text : toldText c p t w (take many out′) ≡ printed s stim
   pub inside : many ≤ length out′
   pub some : 0 < w
-  pub few : w ≤ mostLeaves
+  pub few : w ≤ 64
   pub next : c ≡ 0 → take (length s) next′ ≡ runSheet s stim

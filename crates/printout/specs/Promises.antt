@@ -5,7 +5,7 @@ use mathlib.Core.List.{List, [], _∷_}
 use lib.ListN.{take}
 use Rattle.behaviour.specs.Bench.{toggle}
 use Rattle.listing.specs.Lines.{ascii}
-use Rattle.printing.specs.Pieces.{toldText, Pieces}
+use Rattle.printing.specs.Pieces.{toldText, PiecesLaid}
 use Rattle.printout.specs.Printout.{printed, RunTold}
 
 -- Whatever was told of a sheet and a stimulus, the pieces made from it, laid end to end from the first to the last, are the listing
@@ -13,7 +13,7 @@ use Rattle.printout.specs.Printout.{printed, RunTold}
 abbrev pub PiecesArePrinted : Type 0
 PiecesArePrinted =
     (s stim : List ℕ) (c p t w many : ℕ) (out′ next′ text : List ℕ) → RunTold s stim c p t w many out′ next′
-    → Pieces w (take many out′) (toldText c p t w (take many out′)) text → text ≡ printed s stim
+    → PiecesLaid w (take many out′) (toldText c p t w (take many out′)) text → text ≡ printed s stim
 
 -- So the sheet T is listed (docs/SHEETS.md, "Sheet T").
 abbrev pub ToggleListed : Type 0

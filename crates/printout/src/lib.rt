@@ -3,14 +3,14 @@ ghost use mathlib.Core.Path.{_≡_};
 ghost use Prim.Native.Nat.{_≤_, _<_};
 ghost use lib.ListN.{length};
 ghost use Rattle.printout.specs.Printout.{RunTold};
-ghost use Rattle.printout.specs.OutputsLong.{OutputsLong, mostOutput};
+ghost use Rattle.printout.specs.Lengths.{OutputsMeasured, mostOutput};
 ghost use Rattle.records.specs.Limits.{mostLeaves};
-use answers::PLACES;
+use answers::code_of;
+use answers::place_of;
 use records::MOST_LEAVES;
 use simulator::leaves_of;
 use simulator::run;
 use stimulus::STIMULUS_BYTES;
-use verdict::check_sheet;
 
 // The most leaves of a line.
 const MOST_WIDTH: usize = MOST_LEAVES as usize;
@@ -41,7 +41,7 @@ fn width(leaves: usize) -> usize
 // The length of the outputs for a stimulus of so many bytes; of one that is refused, none.
 fn outputs_length(input: usize, output: usize, all: usize) -> usize
     requires { ⌜ output ≤ mostLeaves ⌝ }
-    ensures { λ r. ⌜ OutputsLong input output all r ⌝ }
+    ensures { λ r. ⌜ OutputsMeasured input output all r ⌝ }
 {
     if input == 0 {
         return 0;
@@ -61,12 +61,14 @@ pub fn tell(sheet: &[u8], stim: &[u8], out: &mut [u8], next: &mut [u8]) -> ToPri
     let many = outputs_length(leaves.input, leaves.output, stim.len());
     let long = sheet.len();
     let result = run(sheet, stim, &mut out[0..many], &mut next[0..long]);
-    let verdict = check_sheet(sheet);
     let w = width(leaves.output);
+    let code = code_of(result);
+    let place = place_of(result);
+    let t = leaves.output_type as u64;
     ToPrint {
-        code: result / PLACES,
-        place: result % PLACES,
-        t: verdict % PLACES,
+        code,
+        place,
+        t,
         w,
         many,
     }

@@ -13,7 +13,7 @@ use lib.Dec.{eqb, ltb}
 use borrow.Author.Tests.{eq-eqb, ne-eqb, lt-ltb, le-ltb}
 use Rattle.grammar.specs.Tokens.{byteClass}
 use Rattle.grammar.specs.Rows.{State, stateNumber}
-use Rattle.grammar.specs.Machine.{noWord, naming, spelt, dead, live, onByte, further, canEnd, ends}
+use Rattle.grammar.specs.Machine.{noWord, inName, spelt, dead, live, onByte, further, canEnd, ends}
 use Rattle.reading.specs.Coded.{stateOf, letterTable, keywordLetters, untilZero, wordOf, classOf, followed}
 use Rattle.reading.proofs.ClassLaws.{fresh-class, further-class}
 use Rattle.reading.proofs.RowLaws.{number-of-state}
@@ -22,22 +22,22 @@ use Rattle.reading.proofs.RowLaws.{number-of-state}
 no-letter : (w : ℕ) → w < 17 → getD letterTable w 0 ≡ 0
 no-letter w h = List·getD-append (replicate 17 0) keywordLetters 0 w h ∙ getD-replicate 17 w 0 0 h
 
-word-name : (w : ℕ) → (w ≡ 0 → ⊥) → w < 17 → wordOf w ≡ naming w
+word-name : (w : ℕ) → (w ≡ 0 → ⊥) → w < 17 → wordOf w ≡ inName w
 word-name w n h = rw (ne-eqb w 0 n, lt-ltb w 17 h)
 
 -- the letters that a keyword's number awaits
 word-spelt : (w : ℕ) → 17 ≤ w → w < 60
     → wordOf w ≡ spelt (cond (eqb (getD letterTable w 0) 0) [] (getD letterTable w 0 ∷ untilZero (drop (suc w) letterTable)))
 word-spelt w h l =
-    ap (λ x. cond x noWord (cond (ltb w 17) (naming w) (spelt (untilZero (drop w letterTable))))) (ne-eqb w 0 (λ e. omega arith))
-    ∙ ap (λ x. cond x (naming w) (spelt (untilZero (drop w letterTable)))) (le-ltb w 17 h)
+    ap (λ x. cond x noWord (cond (ltb w 17) (inName w) (spelt (untilZero (drop w letterTable))))) (ne-eqb w 0 (λ e. omega arith))
+    ∙ ap (λ x. cond x (inName w) (spelt (untilZero (drop w letterTable)))) (le-ltb w 17 h)
     ∙ ap (λ x. spelt (untilZero x)) (drop-cons letterTable w 0 l)
 
 -- the number after a keyword's number
 word-after : (w : ℕ) → 17 ≤ w → wordOf (w + 1) ≡ spelt (untilZero (drop (suc w) letterTable))
 word-after w h =
-    ap (λ x. cond x noWord (cond (ltb (w + 1) 17) (naming (w + 1)) (spelt (untilZero (drop (w + 1) letterTable))))) (ne-eqb (w + 1) 0 (λ e. omega arith))
-    ∙ ap (λ x. cond x (naming (w + 1)) (spelt (untilZero (drop (w + 1) letterTable)))) (le-ltb (w + 1) 17 (omega arith))
+    ap (λ x. cond x noWord (cond (ltb (w + 1) 17) (inName (w + 1)) (spelt (untilZero (drop (w + 1) letterTable))))) (ne-eqb (w + 1) 0 (λ e. omega arith))
+    ∙ ap (λ x. cond x (inName (w + 1)) (spelt (untilZero (drop (w + 1) letterTable)))) (le-ltb (w + 1) 17 (omega arith))
     ∙ ap (λ n. spelt (untilZero (drop n letterTable))) (add-one w)
 
 module _ {w : ℕ} (few : w < 60) where
@@ -69,7 +69,7 @@ module _ {w : ℕ} (few : w < 60) where
   name-then b q K n h =
       ap (onByte b q K) (word-name w n h) ∙ ap (λ x. further (byteClass b) x b q K) (same (ltb w 16) refl)
     where
-      same : (t : Bool) → ltb w 16 ≡ t → cond t (live q K (naming (w + 1))) dead ≡ cond t (live q K (wordOf (w + 1))) dead
+      same : (t : Bool) → ltb w 16 ≡ t → cond t (live q K (inName (w + 1))) dead ≡ cond t (live q K (wordOf (w + 1))) dead
       same true e = ap (live q K) (sym (word-name (w + 1) (λ z. omega arith) (omega (arith, borrow.Author.Tests.ltb-true w 16 e))))
       same false e = refl
 

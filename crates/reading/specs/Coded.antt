@@ -6,12 +6,13 @@ use mathlib.Core.List.{List, [], _∷_, _++_, map}
 use mathlib.Core.Option.{Option, none, some}
 use lib.ListN.{length, getD, drop, replicate}
 use lib.Dec.{eqb, ltb, leb}
+use Rattle.grammar.specs.Sizes.{textTable}
 use Rattle.grammar.specs.Tokens.{Keyword, TYPE, IN, INPUT, LET, INIT, REC, IF, MATCHES, THEN, ELSE, DELAY}
 use Rattle.grammar.specs.Tokens.{Symbol, opens, closes, comma, equals, bar, query, indexOpens, indexCloses, one, two}
 use Rattle.grammar.specs.Tokens.{ByteClass, isBlank, isLower, isUpper, isOther, isSymbol, byteClass}
 use Rattle.grammar.specs.Rows.{State, start, stateNumber, states, Lead, aSymbol, aKeyword, aName, Action, go, call, return, Transition, on, transitions}
-use Rattle.grammar.specs.Machine.{Word, noWord, naming, spelt, Config, dead, live, back, performFound, find}
-use Rattle.grammar.specs.Legal.{limit}
+use Rattle.grammar.specs.Machine.{WordLeft, noWord, inName, spelt, Config, dead, live, back, performFound, find}
+use Rattle.grammar.specs.Legal.{textBytes}
 use Rattle.reading.specs.declared.Illegal.{Illegal}
 use Rattle.reading.specs.declared.Illegal.the-variants.{Offset, Nowhere}
 
@@ -51,8 +52,8 @@ abbrev pub untilZero : List ℕ → List ℕ
 untilZero [] = []
 untilZero (c ∷ more) = cond (eqb c 0) [] (c ∷ untilZero more)
 
-abbrev pub wordOf : ℕ → Word
-wordOf n = cond (eqb n 0) noWord (cond (ltb n 17) (naming n) (spelt (untilZero (drop n letterTable))))
+abbrev pub wordOf : ℕ → WordLeft
+wordOf n = cond (eqb n 0) noWord (cond (ltb n 17) (inName n) (spelt (untilZero (drop n letterTable))))
 
 abbrev pub keywordWord : Keyword → ℕ
 keywordWord TYPE = 17
@@ -174,8 +175,8 @@ configOf false s w d K = dead
 pub record Stepping (state word depth : ℕ) (stack : List ℕ) : Type 0 where
   pub few-states : state < 47
   pub few-words : word < 60
-  pub room : depth < 65536
-  pub long : length stack ≡ 65536
+  pub room : depth < textTable
+  pub long : length stack ≡ textTable
   pub waiting : (k : ℕ) → k < depth → getD stack k 0 < 47
 
 -- what it gives: the configuration c, from a stack of that depth
@@ -184,7 +185,7 @@ pub record Stepped (c : Config) (depth : ℕ) (ok : Bool) (state word depth′ :
   pub few-states : state < 47
   pub few-words : word < 60
   pub higher : depth′ ≤ depth + 1
-  pub long : length stack ≡ 65536
+  pub long : length stack ≡ textTable
   pub waiting : (k : ℕ) → k < depth′ → getD stack k 0 < 47
 
 -- a letter inside a word changes the word alone
@@ -200,7 +201,7 @@ spelledOut b letter word q K = cond (eqb b letter) (live q K (wordOf (word + 1))
 -- the end of a text of so many bytes, read up to the limit
 abbrev pub conclusion : (all state letter : ℕ) → Option ℕ
 conclusion all state letter =
-    cond (ltb limit all) (some limit) (cond (cond (eqb letter 0) (eqb state 16) false) none (some all))
+    cond (ltb textBytes all) (some textBytes) (cond (cond (eqb letter 0) (eqb state 16) false) none (some all))
 
 -- the tables that the code is lent
 pub record Tables (nexts waits words : List (List ℕ)) : Type 0 where

@@ -8,22 +8,22 @@ pub mod tables;
 ghost use mathlib.Core.Path.{_≡_};
 ghost use Prim.Native.Nat.{_+_, _≤_, _<_, min};
 ghost use lib.ListN.{length};
-ghost use Rattle.grammar.specs.Walk.{Told};
+ghost use Rattle.grammar.specs.Walk.{PlaceTold};
 ghost use Rattle.grammar.specs.Machine.{back, onByte};
 ghost use Rattle.reading.specs.Coded.{illegal, stateOf, stackOf, wordOf, letterTable, follows, afterLead, followed, lettered};
 ghost use Rattle.reading.specs.Coded.{spelledOut, conclusion, Stepping, Stepped, Worded, Tables};
-ghost use Rattle.grammar.specs.Legal.{limit};
+ghost use Rattle.grammar.specs.Legal.{textBytes};
 ghost use Rattle.grammar.specs.Sizes.{stateCount};
 use numbers::BACK;
 use numbers::BLANK;
 use numbers::ContextStack;
 use numbers::DONE;
 use numbers::LEADS;
-use numbers::LETTERS;
-use numbers::LIMIT;
 use numbers::LetterTable;
+use numbers::NAME_LETTERS;
 use numbers::SMALL_LETTER;
 use numbers::StateTable;
+use numbers::TEXT_BYTES;
 use numbers::wide;
 
 // Where a text leaves the grammar.
@@ -107,7 +107,7 @@ fn go_on(class: u8, state: u8, word: u8, depth: usize) -> Moved
     ensures { λ r. ⌜ Worded (λ q K. lettered class q K word) state depth (r .ok) (r .state) (r .word) (r .depth) ⌝ }
 {
     if class == SMALL_LETTER {
-        if word < LETTERS {
+        if word < NAME_LETTERS {
             return Moved {
                 ok: true,
                 state,
@@ -241,10 +241,10 @@ pub fn step(
 
 // How many bytes of a text are read.
 fn reach(all: usize) -> usize
-    ensures { λ r. ⌜ r ≡ min limit all ⌝ }
+    ensures { λ r. ⌜ r ≡ min textBytes all ⌝ }
 {
-    if LIMIT < all {
-        return LIMIT;
+    if TEXT_BYTES < all {
+        return TEXT_BYTES;
     }
     all
 }
@@ -253,8 +253,8 @@ fn reach(all: usize) -> usize
 fn conclude(all: usize, state: u8, letter: u8) -> Illegal
     ensures { λ r. ⌜ illegal r ≡ conclusion all state letter ⌝ }
 {
-    if LIMIT < all {
-        return Illegal::Offset(LIMIT);
+    if TEXT_BYTES < all {
+        return Illegal::Offset(TEXT_BYTES);
     }
     if letter != 0 {
         return Illegal::Offset(all);
@@ -267,7 +267,7 @@ fn conclude(all: usize, state: u8, letter: u8) -> Illegal
 
 // The first byte after which no continuation is legal, 65,535 at the latest, or the length of a text that ends early.
 pub fn first_illegal(text: &[u8]) -> Illegal
-    ensures { λ r. ⌜ Told (now (text .entry)) (illegal r) ⌝ }
+    ensures { λ r. ⌜ PlaceTold (now (text .entry)) (illegal r) ⌝ }
 {
     let all = text.len();
     let stop = reach(all);

@@ -64,13 +64,13 @@ pub const LEADS: u8 = OTHER_CAPITAL;
 pub const LEAD_CLASSES: usize = LEADS as usize;
 
 // The most letters of a name.
-pub const LETTERS: u8 = 16;
+pub const NAME_LETTERS: u8 = 16;
 
 // How many numbers the word has that is being read; tables.rt says what they stand for.
 pub const WORD_STATES: usize = 60;
 
 // The most bytes of a text.
-pub const LIMIT: usize = 65535;
+pub const TEXT_BYTES: usize = 65535;
 
 // One more than the bytes of a text, and so than the brackets that are open in it.
 pub const CONTEXTS: usize = 65536;

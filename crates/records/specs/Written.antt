@@ -4,6 +4,7 @@ use Prim.Native.Nat.{ℕ, _≤_, _<_}
 use mathlib.Core.Path.{_≡_}
 use mathlib.Core.Bool.{true, false}
 use mathlib.Core.List.{List, [], _∷_, List·Memᴰ}
+use Rattle.records.specs.Limits.{mostRecords}
 use Rattle.picoella.specs.Language.{leaves}
 use Rattle.records.specs.Words.{count, wordA, wordB}
 use Rattle.records.specs.Kinds.{header, typeOf, pair, isHeader}
@@ -13,7 +14,7 @@ use Rattle.records.specs.Trees.{typeAt, pairBelow, Tree, held}
 -- codes 1 to 3
 pub record Written (s : List ℕ) : Type 0 where
   pub some : 0 < count s
-  pub few : count s ≤ 4096
+  pub few : count s ≤ mostRecords
   pub headed : kindAt s 0 ≡ header
   pub said : (r : ℕ) → r < count s → wellSaid s r ≡ true
   pub others : (r : ℕ) → 0 < r → r < count s → isHeader (kindAt s r) ≡ false

@@ -1,4 +1,8 @@
 // Reading a sheet: words, kinds, sorts, and whether a word is what the table asks. The numbers of the format have their names here.
+ghost use mathlib.Core.Path.{_≡_};
+ghost use lib.ListN.{length};
+ghost use Rattle.records.specs.Limits.{mostRecords};
+
 mod kinds;
 mod says;
 mod words;
@@ -107,3 +111,10 @@ pub type Depths = [u8; RECORDS];
 pub type Namers = [u16; RECORDS];
 
 pub type ScopeTable = [u16; MOST_NAMES];
+
+// Room for a table of widths.
+pub fn no_widths() -> WidthTable
+    ensures { λ r. ⌜ length r ≡ mostRecords ⌝ }
+{
+    [0; RECORDS]
+}

@@ -5,6 +5,8 @@ use mathlib.Core.Bool.{Bool, true, false, cond}
 use mathlib.Core.List.{List, [], _∷_, _++_, map}
 use lib.ListN.{length, getD}
 use lib.Dec.{eqb, leb}
+use Rattle.grammar.specs.Legal.{textBytes}
+use Rattle.grammar.specs.Sizes.{textTable}
 use Rattle.grammar.specs.Rows.{State, states}
 use Rattle.naming.specs.Declared.{DeclaredName, isDeclared, typeRole}
 use Rattle.reading.specs.Coded.{leadBytes}
@@ -17,14 +19,14 @@ sayingTable = map (λ q. map (λ b. opBy q b) leadBytes) states
 
 -- the tables of the instructions, of which there are so many
 pub record CodeSized (ops firsts seconds : List ℕ) (count : ℕ) : Type 0 where
-  pub ops-long : length ops ≡ 65536
-  pub firsts-long : length firsts ≡ 65536
-  pub seconds-long : length seconds ≡ 65536
-  pub few : count ≤ 65536
+  pub ops-long : length ops ≡ textTable
+  pub firsts-long : length firsts ≡ textTable
+  pub seconds-long : length seconds ≡ textTable
+  pub few : count ≤ textTable
 
 -- instructions for which there is room are held
 abbrev pub CodeHeld : (ops firsts seconds : List ℕ) (count : ℕ) → List Instruction → Type 0
-CodeHeld ops firsts seconds count code = length code ≤ 65536 → heldFrom ops firsts seconds 0 count ≡ code
+CodeHeld ops firsts seconds count code = length code ≤ textTable → heldFrom ops firsts seconds 0 count ≡ code
 
 -- what saying some instructions gives
 pub record CodeSaid (ops firsts seconds : List ℕ) (count : ℕ) (more : List Instruction) (ops′ firsts′ seconds′ : List ℕ) (count′ : ℕ) : Type 0 where
@@ -42,8 +44,8 @@ ranksBelow roles (suc k) = cond (eqb (getD roles k 0) 0) 0 (suc (ranksBelow role
 
 -- the numbers of the declared names
 pub record Numbered (roles types ranks : List ℕ) (base : ℕ) : Type 0 where
-  pub types-long : length types ≡ 65536
-  pub ranks-long : length ranks ≡ 65536
+  pub types-long : length types ≡ textTable
+  pub ranks-long : length ranks ≡ textTable
   pub types-right : (k : ℕ) → k < base → getD types k 0 ≡ typesBelow roles (suc k)
   pub ranks-right : (k : ℕ) → k < base → getD ranks k 0 ≡ ranksBelow roles (suc k)
 
@@ -72,7 +74,7 @@ pub record Saying (text : List ℕ) (base n : ℕ) (spans links heads roles type
   pub named : Roles roles base
   pub bound-roles : BoundRoles text spans roles base n
   pub above : base ≤ n
-  pub narrow : n ≤ 65535
+  pub narrow : n ≤ textBytes
   pub numbered : Numbered roles types ranks base
   pub sized : CodeSized ops firsts seconds count
 

@@ -7,7 +7,7 @@ use mathlib.Core.Option.{none, some}
 use lib.ListN.{length, drop}
 use Rattle.grammar.specs.Tokens.{Token, keyword, symbol, nameToken, Tokens}
 use Rattle.grammar.specs.Source.{Text}
-use Rattle.grammar.specs.Legal.{Reading}
+use Rattle.grammar.specs.Legal.{Reading, textBytes}
 use Rattle.grammar.specs.Rows.{State}
 use Rattle.grammar.specs.Machine.{live, noWord, begins, leadOf, afterTokens, ends}
 use Rattle.reading.specs.Coded.{Stepping, stateOf, stackOf}
@@ -59,7 +59,7 @@ pub record FoundWith (text : List ℕ) (start end class span effect : ℕ) (q : 
 -- what the walk asks of the tables at a place, and keeps
 pub record TakingToken (text : List ℕ) (i state depth base n m count : ℕ) (stack spans links heads roles pendings types ranks ops firsts seconds : List ℕ) : Type 0
   where
-    pub short : length text ≤ 65535
+    pub short : length text ≤ textBytes
     pub scoping : Scoping text i base n m spans links heads roles pendings
     pub ready : Stepping state 0 depth stack
     pub shallow : depth ≤ i

@@ -13,7 +13,7 @@ ghost use Prim.Native.Nat.{_≤_};
 ghost use lib.ListN.{length};
 ghost use Rattle.grammar.specs.Tokens.{Token};
 ghost use Rattle.grammar.specs.Source.{Text};
-ghost use Rattle.grammar.specs.Legal.{Reading, limit};
+ghost use Rattle.grammar.specs.Legal.{Reading, textBytes};
 ghost use Rattle.resolving.specs.Said.{CodeSized};
 ghost use Rattle.resolving.specs.Walked.{TextResolved};
 use instructions::Operands;
@@ -45,7 +45,7 @@ pub fn resolve(
     firsts: &mut Operands,
     seconds: &mut Operands,
 ) -> Resolved
-    requires { ⌜ (length (now text) ≤ limit) × CodeSized (now ops) (now firsts) (now seconds) 0 ⌝ }
+    requires { ⌜ (length (now text) ≤ textBytes) × CodeSized (now ops) (now firsts) (now seconds) 0 ⌝ }
     ensures { λ r. ⌜ CodeSized (now (ops .exit)) (now (firsts .exit)) (now (seconds .exit)) 0 × ((ts : List Token) (t : Text) → Reading (now (text .entry)) ts t → TextResolved (now (text .entry)) t (now (ops .exit)) (now (firsts .exit)) (now (seconds .exit)) r) ⌝ }
 {
     let nexts = next_table();

@@ -5,7 +5,7 @@ ghost use Prim.Native.Nat.{suc, _≤_, _<_};
 ghost use lib.ListN.{length};
 ghost use lib.Dec.{eqb};
 ghost use Rattle.resolving.specs.Said.{Numbered, entryIn, roleAt};
-ghost use Rattle.grammar.specs.Legal.{limit};
+ghost use Rattle.grammar.specs.Legal.{textBytes};
 ghost use Rattle.grammar.specs.Sizes.{textTable};
 use instructions::Operands;
 use symbols::NameRoles;
@@ -38,7 +38,7 @@ pub fn has_role(k: usize, kind: u8, roles: &NameRoles) -> bool
 
 // The number of types after a name of a role.
 fn types_after(kind: u8, before: u16) -> u16
-    requires { ⌜ before < limit ⌝ }
+    requires { ⌜ before < textBytes ⌝ }
     ensures { λ r. ⌜ r ≡ cond (eqb kind 0) (suc before) before ⌝ }
 {
     if kind == ROLE_TYPE {
@@ -49,7 +49,7 @@ fn types_after(kind: u8, before: u16) -> u16
 
 // The number of constructors since the last type.
 fn ranks_after(kind: u8, before: u16) -> u16
-    requires { ⌜ before < limit ⌝ }
+    requires { ⌜ before < textBytes ⌝ }
     ensures { λ r. ⌜ r ≡ cond (eqb kind 0) 0 (suc before) ⌝ }
 {
     if kind == ROLE_TYPE {
@@ -66,7 +66,7 @@ pub fn number_names(
     types: &mut Operands,
     ranks: &mut Operands,
 )
-    requires { ⌜ Numbered (now roles) (now types) (now ranks) from × (from ≤ to) × (to ≤ limit) × (length (now roles) ≡ textTable) ⌝ }
+    requires { ⌜ Numbered (now roles) (now types) (now ranks) from × (from ≤ to) × (to ≤ textBytes) × (length (now roles) ≡ textTable) ⌝ }
     ensures { λ _. ⌜ Numbered (now (roles .entry)) (now (types .exit)) (now (ranks .exit)) to ⌝ }
 {
     let mut k = from;

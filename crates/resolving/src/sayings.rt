@@ -6,7 +6,7 @@ ghost use Rattle.reading.specs.Coded.{stateOf};
 ghost use Rattle.symbols.specs.Names.{lettersAt, Inside, declaredNames, boundNames};
 ghost use Rattle.instructions.specs.TokenOrder.{declaredOp, nameSaid, otherSaid, valueSaid, pairBefore};
 ghost use Rattle.resolving.specs.Said.{CodeSized, CodeSaid, Saying, namedSaid, classSaid};
-ghost use Rattle.grammar.specs.Legal.{limit};
+ghost use Rattle.grammar.specs.Legal.{textBytes};
 ghost use Rattle.grammar.specs.Sizes.{stateCount};
 use crate::code::say;
 use crate::numbering::entry;
@@ -213,7 +213,7 @@ fn say_other(
     firsts: &mut Operands,
     seconds: &mut Operands,
 ) -> usize
-    requires { ⌜ CodeSized (now ops) (now firsts) (now seconds) count × (place ≤ limit) ⌝ }
+    requires { ⌜ CodeSized (now ops) (now firsts) (now seconds) count × (place ≤ textBytes) ⌝ }
     ensures { λ r. ⌜ CodeSaid (now (ops .entry)) (now (firsts .entry)) (now (seconds .entry)) count (otherSaid op place) (now (ops .exit)) (now (firsts .exit)) (now (seconds .exit)) r ⌝ }
 {
     if op == SILENT {
@@ -244,7 +244,7 @@ pub fn say_token(
     firsts: &mut Operands,
     seconds: &mut Operands,
 ) -> usize
-    requires { ⌜ Saying (now text) base n (now spans) (now links) (now heads) (now roles) (now types) (now ranks) count (now ops) (now firsts) (now seconds) × Inside (now text) span × (state < stateCount) × (start ≤ limit) ⌝ }
+    requires { ⌜ Saying (now text) base n (now spans) (now links) (now heads) (now roles) (now types) (now ranks) count (now ops) (now firsts) (now seconds) × Inside (now text) span × (state < stateCount) × (start ≤ textBytes) ⌝ }
     ensures { λ r. ⌜ CodeSaid (now (ops .entry)) (now (firsts .entry)) (now (seconds .entry)) count (classSaid class start (stateOf state) op delayed (lettersAt (now (text .entry)) span) (boundNames (now (text .entry)) (now (spans .entry)) base (n - base)) (declaredNames (now (text .entry)) (now (spans .entry)) (now (roles .entry)) base)) (now (ops .exit)) (now (firsts .exit)) (now (seconds .exit)) r ⌝ }
 {
     if class != SMALL_LETTER {

@@ -11,7 +11,7 @@ ghost use Rattle.symbols.specs.Names.{Inside};
 ghost use Rattle.instructions.specs.TokenOrder.{inConstant};
 ghost use Rattle.resolving.specs.Said.{spanBetween, NamesDeclared, sayingTable};
 ghost use Rattle.resolving.specs.Walked.{TokenNoted, FoundWith, TakingToken, TokenTaken};
-ghost use Rattle.grammar.specs.Legal.{limit};
+ghost use Rattle.grammar.specs.Legal.{textBytes};
 ghost use Rattle.grammar.specs.Sizes.{textTable, stateCount};
 use crate::numbering::number_names;
 use crate::sayings::say_token;
@@ -22,7 +22,7 @@ use reading::begin;
 use reading::classes::class_of;
 use reading::numbers::ContextStack;
 use reading::numbers::LEADS;
-use reading::numbers::LETTERS;
+use reading::numbers::NAME_LETTERS;
 use reading::numbers::SMALL_LETTER;
 use reading::numbers::StateTable;
 use reading::numbers::wide;
@@ -39,7 +39,7 @@ use symbols::SPAN;
 use symbols::Spans;
 
 // The most letters of a name.
-const MOST_LETTERS: usize = LETTERS as usize;
+const MOST_LETTERS: usize = NAME_LETTERS as usize;
 
 // The states of a DELAY's constant that wait, from the first to the last.
 const CONSTANT_WAITS: u8 = 39;
@@ -60,7 +60,7 @@ pub struct Taken {
 
 // The span of a token from its place to its end; one without letters where it has too many for a name.
 fn span_of(start: usize, end: usize) -> u32
-    requires { ⌜ (start < end) × (end ≤ limit) ⌝ }
+    requires { ⌜ (start < end) × (end ≤ textBytes) ⌝ }
     ensures { λ r. ⌜ r ≡ spanBetween start end ⌝ }
 {
     let letters = end - start;
@@ -102,7 +102,7 @@ fn note_token(
     pendings: &mut Spans,
     admissions: &Admissions,
 ) -> ScopeCounts
-    requires { ⌜ Scoping (now text) (limit - 1) base n m (now spans) (now links) (now heads) (now roles) (now pendings) × Inside (now text) span × (state < stateCount) × (now admissions ≡ admissionTable) ⌝ }
+    requires { ⌜ Scoping (now text) (textBytes - 1) base n m (now spans) (now links) (now heads) (now roles) (now pendings) × Inside (now text) span × (state < stateCount) × (now admissions ≡ admissionTable) ⌝ }
     ensures { λ r. ⌜ (r .ok ≡ true → Scoping (now (text .entry)) (n + m + 1) (r .base) (r .all) (r .waiting) (now (spans .exit)) (now (links .exit)) (now (heads .exit)) (now (roles .exit)) (now (pendings .exit)) × NamesDeclared (now (text .entry)) (now (spans .entry)) (now (roles .entry)) base (now (spans .exit)) (now (roles .exit)) (r .base)) × ((start end : ℕ) (t : Token) (others : List Token) → FoundWith (now (text .entry)) start end class span effect (stateOf state) t others → TokenNoted (stateOf state) t (heldScope (now (text .entry)) base n m (now (spans .entry)) (now (roles .entry)) (now (pendings .entry))) (r .ok) (heldScope (now (text .entry)) (r .base) (r .all) (r .waiting) (now (spans .exit)) (now (roles .exit)) (now (pendings .exit)))) ⌝ }
 {
     if class == SMALL_LETTER {

@@ -14,7 +14,7 @@ use borrow.Author.Tests.{lt-ltb, le-ltb}
 use Rattle.grammar.specs.Tokens.{ByteClass, isBlank, isLower, isUpper, isOther, isSymbol, byteClass, isLetter, NoLetter, Token, keyword, symbol, nameToken}
 use Rattle.grammar.specs.Tokens.{Keyword, TYPE, IN, INPUT, LET, INIT, REC, IF, MATCHES, THEN, ELSE, DELAY, spelling, AllLower, lower-more}
 use Rattle.grammar.specs.Tokens.{Symbol, opens, closes, comma, equals, bar, query, indexOpens, indexCloses, one, two}
-use Rattle.grammar.specs.Tokens.{Run, run-last, run-more, Spells, spells-keyword, spells-name, Tokens, no-token, a-blank, a-symbol, a-word}
+use Rattle.grammar.specs.Tokens.{LetterRun, run-last, run-more, Spells, spells-keyword, spells-name, Tokens, no-token, a-blank, a-symbol, a-word}
 use Rattle.grammar.specs.Machine.{leadByte, leadOf, symbolByte}
 use Rattle.reading.specs.Coded.{leadBytes, classOf, classNumber, symbolClass}
 use Rattle.reading.proofs.ClassLaws.{symbol-below}
@@ -29,7 +29,7 @@ letter-unblank isBlank h = absurd (let z : _≡_ {A = ℕ} 0 1 = cc in omega ari
 letter-unblank isOther h = refl
 letter-unblank (isSymbol s) h = refl
 
-run-unblank : {bs word rest : List ℕ} → Run bs word rest → blanksIn bs ≡ 0
+run-unblank : {bs word rest : List ℕ} → LetterRun bs word rest → blanksIn bs ≡ 0
 run-unblank (run-last {b} {rest} h n) = ap (λ x. cond x (suc (blanksIn rest)) 0) (letter-unblank (byteClass b) h)
 run-unblank (run-more {b} {bs} h r) = ap (λ x. cond x (suc (blanksIn bs)) 0) (letter-unblank (byteClass b) h)
 
@@ -54,7 +54,7 @@ no-letters : (bs : List ℕ) → NoLetter bs → lettersIn bs ≡ 0
 no-letters [] n = refl
 no-letters (b ∷ bs) n = ap (λ x. cond x (suc (lettersIn bs)) 0) n
 
-run-letters : {bs word rest : List ℕ} → Run bs word rest
+run-letters : {bs word rest : List ℕ} → LetterRun bs word rest
     → (lettersIn bs ≡ length word) × (take (length word) bs ≡ word) × (drop (length word) bs ≡ rest)
 run-letters (run-last {b} {rest} h n) =
     (ap (λ x. cond x (suc (lettersIn rest)) 0) h ∙ ap suc (no-letters rest n), refl, refl)
@@ -132,7 +132,7 @@ module _ {text : List ℕ} {start : ℕ} (h : start < length text) where
             (ap (λ n. drop n text) (sym (f ∙ add-one start))) t;
       }
 
-  word-first : {word rest : List ℕ} {t : Token} {others : List Token} → Run (drop start text) word rest → Spells word start t
+  word-first : {word rest : List ℕ} {t : Token} {others : List Token} → LetterRun (drop start text) word rest → Spells word start t
       → Tokens (start + length word) rest others
       → FirstToken text start (tokenEnd text start (classOf (getD text start 0))) (classOf (getD text start 0)) t others
   word-first {word} {t} r s u =
@@ -159,19 +159,19 @@ module _ {text : List ℕ} {start : ℕ} (h : start < length text) where
       length-of : {n : ℕ} → n ≡ start + length word → n - start ≡ length word
       length-of e = omega arith
 
-      some-letter : {bs w rest : List ℕ} → Run bs w rest → 1 ≤ length w
+      some-letter : {bs w rest : List ℕ} → LetterRun bs w rest → 1 ≤ length w
       some-letter (run-last k n) = omega arith
       some-letter (run-more k q) = omega arith
 
-      run-inside : {bs w rest : List ℕ} → Run bs w rest → length w ≤ length bs
+      run-inside : {bs w rest : List ℕ} → LetterRun bs w rest → length w ≤ length bs
       run-inside (run-last k n) = omega arith
       run-inside (run-more k q) = omega (arith, run-inside q)
 
-      first-of : {bs w rest : List ℕ} {p : ℕ} {v : Token} → Run bs w rest → Spells w p v → WordClass v (classOf (getD bs 0 0))
+      first-of : {bs w rest : List ℕ} {p : ℕ} {v : Token} → LetterRun bs w rest → Spells w p v → WordClass v (classOf (getD bs 0 0))
       first-of (run-last k n) q = word-class q
       first-of (run-more k r′) q = word-class q
 
-      class-here : {w rest : List ℕ} {p : ℕ} {v : Token} → Run (drop start text) w rest → Spells w p v → WordClass v (classOf (getD text start 0))
+      class-here : {w rest : List ℕ} {p : ℕ} {v : Token} → LetterRun (drop start text) w rest → Spells w p v → WordClass v (classOf (getD text start 0))
       class-here {v} q q′ =
           subst (λ b. WordClass v (classOf b)) (ap (λ l. getD l 0 0) (drop-cons text start 0 h)) (first-of q q′)
 
@@ -184,7 +184,7 @@ module _ {text : List ℕ} {start : ℕ} (h : start < length text) where
       let g : b ≡ getD text start 0 = ap (λ l. getD l 0 0) f in
       let m : bs ≡ drop (suc start) text = ap (drop 1) f in
       symbol-first s (ap byteClass (sym g) ∙ k) (moved {i = suc start} refl m u)
-  first-here e z (a-word {word} {rest} r s u) = word-first (subst (λ l. Run l word rest) e r) s u
+  first-here e z (a-word {word} {rest} r s u) = word-first (subst (λ l. LetterRun l word rest) e r) s u
 
 -- no blank follows the blanks
 no-blank : (bs : List ℕ) → blanksIn (drop (blanksIn bs) bs) ≡ 0
@@ -209,7 +209,7 @@ module _ (text : List ℕ) (i start : ℕ) (skipped : start ≡ i + blanksIn (dr
   pub none-from : length text ≤ start → {ts : List Token} → Tokens i (drop i text) ts → ts ≡ []
   none-from h u = go (moved {j = start} (sym skipped) (rest-here ∙ drop-of-length-le text {i = start} h) (past-blanks u))
     where
-      some-byte : {bs word rest : List ℕ} → Run bs word rest → 1 ≤ length bs
+      some-byte : {bs word rest : List ℕ} → LetterRun bs word rest → 1 ≤ length bs
       some-byte (run-last k n) = omega arith
       some-byte (run-more k r) = omega arith
 

@@ -5,6 +5,7 @@ use mathlib.Core.Bool.{Bool, true, false, cond}
 use mathlib.Core.List.{List, [], _∷_, map}
 use lib.ListN.{length, getD}
 use lib.Dec.{eqb}
+use Rattle.grammar.specs.Sizes.{textTable}
 use Rattle.grammar.specs.Rows.{State, stateNumber, states}
 use Rattle.grammar.specs.Machine.{leadByte}
 use Rattle.reading.specs.Coded.{leadBytes, stateOf}
@@ -68,10 +69,10 @@ pub record Scoping (text : List ℕ) (room base n m : ℕ) (spans links heads ro
   pub named : Roles roles base
   pub bound-roles : BoundRoles text spans roles base n
   pub above : base ≤ n
-  pub pendings-long : length pendings ≡ 65536
+  pub pendings-long : length pendings ≡ textTable
   pub pendings-inside : (k : ℕ) → k < m → Inside text (getD pendings k 0)
   pub few : n + m ≤ room
-  pub roomy : room ≤ 65536
+  pub roomy : room ≤ textTable
 
 -- what binding a name gives
 pub record NameBound (text : List ℕ) (span base n : ℕ) (spans roles spans′ links′ heads′ roles′ : List ℕ) : Type 0 where

@@ -8,7 +8,7 @@ ghost use Rattle.naming.specs.TokenWalk.{holdsIn, declarePending, declaresFirst
 ghost use Rattle.reading.specs.Coded.{stateOf};
 ghost use Rattle.symbols.specs.Names.{lettersAt, Inside, Hashed, Roles, BoundRoles, roleNamed, declaredNames};
 ghost use Rattle.scoping.specs.Scoped.{admissionTable, heldScope, Scoping, Rescoped, NameBound, NameNoted};
-ghost use Rattle.grammar.specs.Legal.{limit};
+ghost use Rattle.grammar.specs.Legal.{textBytes};
 ghost use Rattle.grammar.specs.Sizes.{textTable, stateCount};
 use crate::tables::Admissions;
 use reading::numbers::wide;
@@ -81,7 +81,7 @@ pub fn declare_pending(
     roles: &mut NameRoles,
     pendings: &Spans,
 ) -> ScopeCounts
-    requires { ⌜ Scoping (now text) limit base base m (now spans) (now links) (now heads) (now roles) (now pendings) ⌝ }
+    requires { ⌜ Scoping (now text) textBytes base base m (now spans) (now links) (now heads) (now roles) (now pendings) ⌝ }
     ensures { λ r. ⌜ Rescoped (declarePending (heldScope (now (text .entry)) base base m (now (spans .entry)) (now (roles .entry)) (now (pendings .entry)))) (now (text .entry)) (base + m) (r .base) (r .all) (r .waiting) (now (spans .exit)) (now (links .exit)) (now (heads .exit)) (now (roles .exit)) (now (pendings .entry)) × (r .base ≡ r .all) × (r .ok ≡ true) ⌝ }
 {
     if m == 0 {
@@ -150,7 +150,7 @@ pub fn note_first(
     pendings: &Spans,
     admissions: &Admissions,
 ) -> ScopeCounts
-    requires { ⌜ Scoping (now text) (limit - 1) base n m (now spans) (now links) (now heads) (now roles) (now pendings) × Inside (now text) span × (state < stateCount) × (now admissions ≡ admissionTable) ⌝ }
+    requires { ⌜ Scoping (now text) (textBytes - 1) base n m (now spans) (now links) (now heads) (now roles) (now pendings) × Inside (now text) span × (state < stateCount) × (now admissions ≡ admissionTable) ⌝ }
     ensures { λ r. ⌜ NameNoted (stateOf state) declaresFirst (lettersAt (now (text .entry)) span) (heldScope (now (text .entry)) base n m (now (spans .entry)) (now (roles .entry)) (now (pendings .entry))) (now (text .entry)) (n + m + 1) (r .ok) (r .base) (r .all) (r .waiting) (now (spans .exit)) (now (links .exit)) (now (heads .exit)) (now (roles .exit)) (now (pendings .entry)) ⌝ }
 {
     if base != n {
@@ -216,7 +216,7 @@ pub fn note_next(
     pendings: &Spans,
     admissions: &Admissions,
 ) -> ScopeCounts
-    requires { ⌜ Scoping (now text) (limit - 1) base n m (now spans) (now links) (now heads) (now roles) (now pendings) × Inside (now text) span × (state < stateCount) × (now admissions ≡ admissionTable) ⌝ }
+    requires { ⌜ Scoping (now text) (textBytes - 1) base n m (now spans) (now links) (now heads) (now roles) (now pendings) × Inside (now text) span × (state < stateCount) × (now admissions ≡ admissionTable) ⌝ }
     ensures { λ r. ⌜ NameNoted (stateOf state) declaresNext (lettersAt (now (text .entry)) span) (heldScope (now (text .entry)) base n m (now (spans .entry)) (now (roles .entry)) (now (pendings .entry))) (now (text .entry)) (n + m + 1) (r .ok) (r .base) (r .all) (r .waiting) (now (spans .exit)) (now (links .exit)) (now (heads .exit)) (now (roles .exit)) (now (pendings .entry)) ⌝ }
 {
     if base != n {

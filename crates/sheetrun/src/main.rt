@@ -2,8 +2,8 @@
 ghost use Prim.Native.Nat.{_≤_};
 ghost use mathlib.Core.Path.{_≡_};
 ghost use lib.ListN.{length, take};
-ghost use Rattle.printout.specs.Printout.{runSheet};
-ghost use Rattle.printout.specs.OutputsLong.{mostOutput, sheetRoom};
+ghost use Rattle.printout.specs.Printout.{runSheet, unopenedFile};
+ghost use Rattle.printout.specs.Lengths.{mostOutput, sheetRoom};
 use files::print;
 use files::read_named;
 use files::refuse_file;
@@ -17,6 +17,11 @@ use stimulus::STIMULUS_BYTES;
 const SHEET_ROOM: usize = SHEET_BYTES + 1;
 
 const OUTPUT_ROOM: usize = STIMULUS_BYTES * VALUE_BYTES;
+
+// The places of the two files, by which one that cannot be opened is refused.
+const SHEET_FILE: u64 = 1;
+
+const STIMULUS_FILE: u64 = 2;
 
 // A longer file is refused for its length and not cut.
 fn sheet_room() -> [u8; SHEET_ROOM]
@@ -60,17 +65,27 @@ fn run_files(sheet: &[u8], stim: &[u8])
     keep_next(sheet, stim, &next);
 }
 
+// The place of a file that could not be opened: the sheet's, or where that was opened the stimulus's.
+fn unopened_file(opened: bool) -> u64
+    ensures { λ r. ⌜ r ≡ unopenedFile opened ⌝ }
+{
+    if opened {
+        return STIMULUS_FILE;
+    }
+    SHEET_FILE
+}
+
 fn main() {
     let mut sheet = sheet_room();
     let mut stim = io::large_buffer();
     let sheet_got = read_named(b"sheet.bin", &mut sheet);
     if !sheet_got.ok {
-        refuse_file(sheet_got.ok);
+        refuse_file(unopened_file(sheet_got.ok));
         return;
     }
     let stim_got = read_named(b"stim.bin", &mut stim);
     if !stim_got.ok {
-        refuse_file(sheet_got.ok);
+        refuse_file(unopened_file(sheet_got.ok));
         return;
     }
     let n = sheet_got.n;

@@ -1,13 +1,12 @@
 // Every call for hosts in C: libsheets.a.
 ghost use mathlib.Core.Path.{_≡_};
-ghost use Rattle.answers.specs.Answers.{packed};
+ghost use Rattle.answers.specs.Answers.{packed, verdictAnswer};
 ghost use Rattle.verdict.specs.Verdict.{verdict};
-ghost use Rattle.verdict.specs.Scopes.{verdictAnswer};
 ghost use Rattle.simulator.specs.Calls.{Ran};
 ghost use Rattle.carry.specs.Carry.{CarryGiven};
 ghost use Rattle.firing.specs.Telling.{ToldFired};
 ghost use Rattle.preview.specs.Preview.{Previewed};
-ghost use Rattle.translator.specs.Translation.{TranslatedInOne};
+ghost use Rattle.translator.specs.Translated.{TranslatedInOne};
 use carry::carry;
 use firing::fired_of;
 use preview::preview;

@@ -11,16 +11,15 @@ use mir.Syntax.{w8}
 use mir.Val.{Fits}
 use lib.ListN.{length, getD, drop}
 use Rattle.records.specs.Words.{word}
-use Rattle.answers.specs.Answers.{code, place, inOne, packed, firstApplying, SaysOf, lowest}
+use Rattle.answers.specs.Answers.{code, place, inOne, packed, firstApplying, SaysOf, lowest, verdictAnswer}
 use Rattle.answers.specs.declared.Answer.{Answer}
 use Rattle.answers.specs.declared.Answer.the-variants.{Done, Refused}
 use Rattle.answers.proofs.First.{when-none, first-says}
 use Rattle.verdict.specs.Verdict.{verdict}
-use Rattle.verdict.specs.Scopes.{verdictAnswer}
 use Rattle.verdict.specs.Widths.{Widths}
 use Rattle.verdict.specs.CheckedTable.{Checked}
-use Rattle.verdict.specs.declared.Verdict.{Verdict}
-use Rattle.verdict.specs.declared.Verdict.the-variants as Verdicts
+use Rattle.answers.specs.declared.Verdict.{Verdict}
+use Rattle.answers.specs.declared.Verdict.the-variants as Verdicts
 use Rattle.accepted.specs.Accepting.{Accepting}
 use Rattle.accepted.proofs.Laws.{Refusing, refusing-answer}
 use Rattle.accepted.proofs.Small.{output-typed, accepted-sized, accepted-few}
@@ -157,23 +156,28 @@ accepted-call s n c w before table t l e =
     record { sized = rw c (accepted-sized v); accepted = v; table = l .accepted (rw e refl) }
 
 -- the leaves that a host asks for
-pub measured-refused : (s : List ℕ) (w : Verdict) → w ≡ verdict s → Refusing w → Measured s 0 0
+pub measured-refused : (s : List ℕ) (w : Verdict) → w ≡ verdict s → Refusing w → Measured s 0 0 0
 measured-refused s w e o =
     let r = refusing-answer w o in
+    let never : (t : ℕ) → verdict s ≡ Verdicts.Accepted t → ⊥ =
+    λ t v. let z : _≡_ {A = ℕ} 0 1 = cc (ap verdictAnswer (e ∙ v), r .2) in omega arith
+    in
     record {
-      leaves-of = λ t v. let z : _≡_ {A = ℕ} 0 1 = cc (ap verdictAnswer (e ∙ v), r .2) in absurd (omega arith);
+      leaves-of = λ t v. absurd (never t v);
+      typed = λ t v. absurd (never t v);
       few-input = omega arith;
       few-output = omega arith;
     }
 
 pub measured-accepted : {s : List ℕ} {n : ℕ} {W : List ℕ} {t : ℕ} (g : RunningAccepted s n W t) {a : ℕ} → a ≡ word s 0 2
-    → Measured s (getD W a 0) (getD W t 0)
+    → Measured s (getD W a 0) (getD W t 0) t
 measured-accepted {s} {n} {W} {t} g {a} ea =
     record {
       leaves-of = λ u v.
           let same : Verdicts.Accepted t ≡ Verdicts.Accepted u = sym (g .accepted) ∙ v in
           let eu : t ≡ u = cc in
           (Holding.takes (call-accepting g) ea, g .table .types t (output-typed (g .accepted)) ∙ rw eu refl);
+      typed = λ u v. let same : Verdicts.Accepted t ≡ Verdicts.Accepted u = sym (g .accepted) ∙ v in cc;
       few-input = Holding.input-few (call-accepting g) ea;
       few-output = output-few g;
     }

@@ -18,7 +18,7 @@ use Rattle.records.proofs.Types.{few-leaves, some-leaves}
 use Rattle.accepted.proofs.Laws.{types-fit}
 use Rattle.accepted.proofs.Laws.{exact}
 use Rattle.verdict.specs.Verdict.{verdict}
-use Rattle.verdict.specs.declared.Verdict.the-variants.{Accepted}
+use Rattle.answers.specs.declared.Verdict.the-variants.{Accepted}
 use Rattle.meaning.specs.Values.{AllOf}
 use Rattle.meaning.specs.Undecided.{undecidedRule}
 use Rattle.meaning.proofs.UndecidedRule.{rule-lawful}
@@ -88,7 +88,7 @@ module _ {s : List ℕ} {n : ℕ} {W stim : List ℕ} {wi wo count : ℕ} {curre
     in-list k h = let c = cycles-counted s stim in let e = r .counted in omega arith
 
     in-outs : (k : ℕ) → k < count → k < length outs
-    in-outs k h = let c = outputs-counted undecidedRule s (cycles s stim) in let i = in-list k h in omega arith
+    in-outs k h = let c = outputs-counted s (cycles s stim) in let i = in-list k h in omega arith
 
     one-more : (k : ℕ) → k < length outs → endToEnd (take k outs) ++ getD outs k [] ≡ endToEnd (take (k + 1) outs)
     one-more k h = sym (rw (add-one k, take-suc outs k [] h) (joined-one (take k outs) (getD outs k [])))
@@ -124,7 +124,7 @@ module _ {s : List ℕ} {n : ℕ} {W stim : List ℕ} {wi wo count : ℕ} {curre
           done = sym (zero-mul wo);
           wide = w;
           long = l;
-          sheet = r .start ∙ sym (sheet-first undecidedRule s (cycles s stim));
+          sheet = r .start ∙ sym (sheet-first s (cycles s stim));
           same = refl;
           outputs = refl;
         }
@@ -215,7 +215,7 @@ module _ {s : List ℕ} {n : ℕ} {W stim : List ℕ} {wi wo count : ℕ} {curre
             ∙ rw (same-type begins-leaves (r .type)) (sym (r .gives))
 
         next-output : getD outs k [] ≡ output begins input
-        next-output = output-at undecidedRule s (cycles s stim) k (in-list k h) ∙ ap (output begins) input-is
+        next-output = output-at s (cycles s stim) k (in-list k h) ∙ ap (output begins) input-is
 
         pub cycle-gone-on : {from′ at′ : ℕ} {env′ held′ current′ out′ : List ℕ} → from′ ≡ from + wi → at′ ≡ at + wo
             → Lent stim from wi current out at wo env′ held′ current′ out′
@@ -235,7 +235,7 @@ module _ {s : List ℕ} {n : ℕ} {W stim : List ℕ} {wi wo count : ℕ} {curre
               wide = l .wide;
               long = l .long;
               sheet = l .next
-                  ∙ rw (b .sheet, add-one k, ← input-is) (sym (sheet-next undecidedRule s (cycles s stim) k (in-list k h)));
+                  ∙ rw (b .sheet, add-one k, ← input-is) (sym (sheet-next s (cycles s stim) k (in-list k h)));
               same =
                   ap length split
                   ∙ (let a = length-append (take at out ++ output begins input) (drop (at + wo) out) in
@@ -263,8 +263,8 @@ module _ {s : List ℕ} {n : ℕ} {W stim : List ℕ} {wi wo count : ℕ} {curre
         let c = cycles-counted s stim in
         let l : count ≡ length (cycles s stim) = r .counted ∙ sym c in
         let all : at ≡ length out = b .done ∙ rw e (sym (b .same ∙ r .room)) in
-        let m : length outs ≤ k = let q = outputs-counted undecidedRule s (cycles s stim) in omega arith in
+        let m : length outs ≤ k = let q = outputs-counted s (cycles s stim) in omega arith in
         record {
           outputs = sym (take-length out) ∙ rw all at (b .outputs) ∙ ap endToEnd (take-all k outs m);
-          next = b .sheet ∙ rw (e, l) (sheet-last undecidedRule s (cycles s stim));
+          next = b .sheet ∙ rw (e, l) (sheet-last s (cycles s stim));
         }

@@ -6,13 +6,15 @@ use mathlib.Core.Bool.{false}
 use mathlib.Core.List.{List, _++_}
 use mathlib.Core.Option.{none}
 use lib.ListN.{length, take, drop}
+use Rattle.records.specs.Limits.{mostRecords, mostLeaves, environmentBytes}
+use Rattle.stimulus.specs.Tests.{stimulusBytes}
 use Rattle.picoella.specs.Language.{leaves}
 use Rattle.records.specs.Sized.{Sized}
 use Rattle.records.specs.Trees.{typeAt}
 use Rattle.answers.specs.Answers.{lowest}
 use Rattle.verdict.specs.Verdict.{verdict}
 use Rattle.verdict.specs.Widths.{Widths}
-use Rattle.verdict.specs.declared.Verdict.the-variants.{Accepted}
+use Rattle.answers.specs.declared.Verdict.the-variants.{Accepted}
 use Rattle.meaning.specs.Undecided.{undecidedRule}
 use Rattle.behaviour.specs.Cycle.{output, sheetAfterCycle}
 use Rattle.stimulus.specs.Stimulus.{inputLeaves, cycleCount, endToEnd, cycles, wrongStimulus, wrongByte}
@@ -30,17 +32,17 @@ pub record Lending
     : Type 0
   where
     pub inside : from + wi ≤ length stim
-    pub few : length stim ≤ 65535
+    pub few : length stim ≤ stimulusBytes
     pub room : at + wo ≤ length out
-    pub small : length out ≤ 4194240
+    pub small : length out ≤ stimulusBytes * mostLeaves
     pub cycling : Cycling s n widths env held (take wi (drop from stim)) current (take wo (drop at out))
 
 -- and fills only that
 pub record Lent (stim : List ℕ) (from wi : ℕ) (current out : List ℕ) (at wo : ℕ) (env′ held′ current′ out′ : List ℕ) : Type 0 where
   pub filled : out′ ≡ take at out ++ (output current (take wi (drop from stim)) ++ drop (at + wo) out)
   pub next : current′ ≡ sheetAfterCycle current (take wi (drop from stim))
-  pub wide : length env′ ≡ 4096
-  pub long : length held′ ≡ 4096
+  pub wide : length env′ ≡ environmentBytes
+  pub long : length held′ ≡ mostRecords
 
 -- all cycles are run, into slices of the right lengths; `current` begins as the sheet
 pub record RunningCycles (s : List ℕ) (n : ℕ) (widths stim : List ℕ) (wi wo count : ℕ) (current out : List ℕ) : Type 0 where
@@ -66,8 +68,9 @@ pub record RunningAccepted (s : List ℕ) (n : ℕ) (widths : List ℕ) (t : ℕ
   pub accepted : verdict s ≡ Accepted t
   pub table : Widths s widths
 
--- the leaves of a cycle's input and output, for an accepted sheet
-pub record Measured (s : List ℕ) (input output : ℕ) : Type 0 where
+-- the leaves of a cycle's input and output and the record of the output type, for an accepted sheet
+pub record Measured (s : List ℕ) (input output type : ℕ) : Type 0 where
   pub leaves-of : (t : ℕ) → verdict s ≡ Accepted t → (input ≡ inputLeaves s) × (output ≡ leaves (typeAt s t))
-  pub few-input : input ≤ 64
-  pub few-output : output ≤ 64
+  pub typed : (t : ℕ) → verdict s ≡ Accepted t → type ≡ t
+  pub few-input : input ≤ mostLeaves
+  pub few-output : output ≤ mostLeaves

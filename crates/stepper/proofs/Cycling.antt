@@ -115,16 +115,16 @@ module _ {s : List ℕ} {n : ℕ} {W env held input current out : List ℕ} (g :
         let d = p .done (inputs current) root-evaluating in
         let v : o₁ ≡ valueAt undecidedRule current (inputs current) (input ∷ []) (wordB current 0) = rw (framed, at-root) at (d .value) in
         let h : held₁ ≡ store (next undecidedRule (input ∷ []) (circuitTerm current)) held =
-        rw (framed, at-root) at (d .stored) ∙ sym (root-stored undecidedRule current input held) in
+        rw (framed, at-root) at (d .stored) ∙ sym (root-stored current input held) in
         let f : fired₁ ≡ firedAt undecidedRule current (inputs current) (input ∷ []) (wordB current 0) fired =
         rw (framed, at-root) at (d .noted) in
         record {
           wide = d .wide;
           long = rw h (store-length (next undecidedRule (input ∷ []) (circuitTerm current)) held ∙ g .long);
-          value = v ∙ sym (root-value undecidedRule current input);
+          value = v ∙ sym (root-value current input);
           stored = h;
           noted = f;
-          same-size = rw f (fired-long undecidedRule current (inputs current) (input ∷ []) (wordB current 0) fired);
+          same-size = rw f (fired-long current (inputs current) (input ∷ []) (wordB current 0) fired);
         }
 
   -- the chains are where they were
@@ -146,7 +146,7 @@ module _ {s : List ℕ} {n : ℕ} {W env held input current out : List ℕ} (g :
   unfolding afterBy
   written-after =
       write-copied-chains (g .again) (next undecidedRule (input ∷ []) (circuitTerm current))
-      (cycle-writable rule-lawful current (g .again) input-typed) held room
+      (cycle-writable rule-lawful (g .again) input-typed) held room
 
   pub cycle-done : {fired env₂ held₁ fired₁ o₁ : List ℕ} → Looked input current held fired env₂ held₁ fired₁ o₁
       → {current′ : List ℕ} → current′ ≡ copied held₁ (delayChains s n) current → Cycled input current env₂ held₁ current′ o₁

@@ -4,6 +4,7 @@ use Prim.Native.Nat.{ℕ}
 use mathlib.Core.Path.{_≡_}
 use mathlib.Core.List.{List, [], _∷_}
 use lib.ListN.{length}
+use Rattle.records.specs.Limits.{mostRecords, environmentBytes}
 use Rattle.picoella.specs.Language.{leaves, OfType}
 use Rattle.records.specs.Words.{wordA, wordB}
 use Rattle.records.specs.Sized.{Sized}
@@ -13,7 +14,7 @@ use Rattle.records.specs.Rewritten.{Rewritten}
 use Rattle.verdict.specs.Verdict.{verdict}
 use Rattle.verdict.specs.Scopes.{inputs}
 use Rattle.verdict.specs.Widths.{Widths}
-use Rattle.verdict.specs.declared.Verdict.the-variants.{Accepted}
+use Rattle.answers.specs.declared.Verdict.the-variants.{Accepted}
 use Rattle.meaning.specs.Undecided.{undecidedRule}
 use Rattle.meaning.specs.Evaluation.{next}
 use Rattle.behaviour.specs.Terms.{circuitTerm}
@@ -35,8 +36,8 @@ pub record Cycling (first : List ℕ) (n : ℕ) (widths env held input current o
   pub table : Widths first widths
   pub leaves-alone : Rewritten first current
   pub again : verdict current ≡ Accepted type
-  pub wide : length env ≡ 4096
-  pub long : length held ≡ 4096
+  pub wide : length env ≡ environmentBytes
+  pub long : length held ≡ mostRecords
   pub typed : OfType (typeAt first (wordA first 0)) input
   pub room : length out ≡ leaves (typeAt first type)
 
@@ -46,13 +47,13 @@ pub record Looked (input current held fired env′ held′ fired′ out′ : Lis
   pub value : out′ ≡ output current input
   pub stored : held′ ≡ store (next undecidedRule (input ∷ []) (circuitTerm current)) held
   pub noted : fired′ ≡ firedAt undecidedRule current (inputs current) (input ∷ []) (wordB current 0) fired
-  pub wide : length env′ ≡ 4096
-  pub long : length held′ ≡ 4096
+  pub wide : length env′ ≡ environmentBytes
+  pub long : length held′ ≡ mostRecords
   pub same-size : length fired′ ≡ length fired
 
 -- and a whole cycle; the room stays as long as it was
 pub record Cycled (input current env′ held′ current′ out′ : List ℕ) : Type 0 where
   pub value : out′ ≡ output current input
   pub next : current′ ≡ sheetAfterCycle current input
-  pub wide : length env′ ≡ 4096
-  pub long : length held′ ≡ 4096
+  pub wide : length env′ ≡ environmentBytes
+  pub long : length held′ ≡ mostRecords

@@ -9,7 +9,7 @@ use mathlib.Core.Path.{_≡_, refl, sym, ap, _∙_}
 use native.Mathlib.Omega.{arith}
 use native.Mathlib.Nat.{mul-le-mul-left}
 use lib.Dec.{ltb}
-use lib.ListN.{length, getD, take, drop, length-append, length-drop}
+use lib.ListN.{length, getD, take, drop, replicate, length-append, length-drop}
 use lib.Seq.{take-at, length-take-le}
 use Rattle.picoella.specs.Language.{bounds, leaves}
 use Rattle.records.specs.Words.{word, wordA}
@@ -32,11 +32,16 @@ use Rattle.stimulus.proofs.Stimulus.{stimulus-whole}
 
 -- the counts of a type's leaves, in some room
 module _ {s : List ℕ} {n : ℕ} {W : List ℕ} (g : Accepting s n W) {t w : ℕ} (u : TypeRecord s t) (e : w ≡ leaves (typeAt s t))
-    (R : List ℕ) (eR : length R ≡ 64)
+    {R : List ℕ} (eR : R ≡ replicate 64 0)
   where
+    room-long : length R ≡ 64
+    room-long = rw eR refl
+
     pub counts-fit : w ≤ length R
     counts-fit =
-        let f = few-leaves (types-fit (exact s (g .type) .0 (g .accepted) .0)) t (u .there) (u .sort) in omega arith
+        let l = room-long in
+        let f = few-leaves (types-fit (exact s (g .type) .0 (g .accepted) .0)) t (u .there) (u .sort) in
+        omega arith
 
     pub counts-long : length (take (w - 0) R) ≡ leaves (typeAt s t)
     counts-long = let h = counts-fit in length-take-le (w - 0) R (omega arith) ∙ omega arith

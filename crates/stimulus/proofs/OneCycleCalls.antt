@@ -11,7 +11,7 @@ use native.Mathlib.Omega.{arith}
 use lib.ListN.{length}
 use lib.Dec.{eqb}
 use borrow.Author.Tests.{eq-eqb, ne-eqb}
-use Rattle.answers.specs.Answers.{place, onDone, lowest, Check, check, when, orRefused, firstApplying, NoneApplies, SaysOf}
+use Rattle.answers.specs.Answers.{place, onDone, lowest, Check, check, when, orRefused, firstApplying, NoneApplies, SaysOf, verdictAnswer}
 use Rattle.answers.specs.declared.Answer.{Answer}
 use Rattle.answers.specs.declared.Answer.the-variants.{Done, Refused}
 use Rattle.answers.proofs.Lowest.{lowest-some-passes}
@@ -27,9 +27,8 @@ use Rattle.answers.proofs.First.{
   place-or,
 }
 use Rattle.verdict.specs.Verdict.{sheetChecks, outputType, verdict}
-use Rattle.verdict.specs.Scopes.{verdictAnswer}
-use Rattle.verdict.specs.declared.Verdict.{Verdict}
-use Rattle.verdict.specs.declared.Verdict.the-variants.{Accepted}
+use Rattle.answers.specs.declared.Verdict.{Verdict}
+use Rattle.answers.specs.declared.Verdict.the-variants.{Accepted}
 use Rattle.accepted.proofs.Calls.{accepted-output, sheet-refused, sheet-accepted, call-place}
 use Rattle.accepted.proofs.Laws.{first-accepted, Refusing, refusing-answer}
 use Rattle.stimulus.specs.Stimulus.{wrongByte}

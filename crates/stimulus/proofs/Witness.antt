@@ -38,7 +38,7 @@ use Rattle.structure.specs.Rules.{
   Passes,
 }
 use Rattle.verdict.specs.Verdict.{byTypes, byRecords, verdict}
-use Rattle.verdict.specs.declared.Verdict.the-variants.{Accepted}
+use Rattle.answers.specs.declared.Verdict.the-variants.{Accepted}
 use Rattle.answers.specs.Answers.{firstApplying}
 use Rattle.answers.specs.declared.Answer.{Answer}
 use Rattle.answers.specs.declared.Answer.the-variants.{Done, Refused}

@@ -10,7 +10,7 @@ use Rattle.answers.specs.Answers.{lowest, Check, Refuses}
 use Rattle.answers.specs.declared.Answer.{Answer}
 use Rattle.answers.specs.declared.Answer.the-variants.{Done, Refused}
 use Rattle.verdict.specs.Verdict.{outputType, verdict}
-use Rattle.verdict.specs.declared.Verdict.the-variants.{Accepted}
+use Rattle.answers.specs.declared.Verdict.the-variants.{Accepted}
 use Rattle.stimulus.specs.Stimulus.{wrongByte}
 use Rattle.stimulus.specs.OneCycle.{notOneCycle}
 

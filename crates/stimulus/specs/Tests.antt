@@ -5,9 +5,13 @@ use mathlib.Core.List.{List}
 use lib.Dec.{eqb, ltb}
 use lib.ListN.{length, getD}
 
+-- the most bytes that a stimulus has
+abbrev pub stimulusBytes : ℕ
+stimulusBytes = 65535
+
 -- a stimulus of so many bytes is refused, where a cycle takes w
 abbrev pub notWhole : (all w : ℕ) → Bool
-notWhole all w = ltb 65535 all || not (eqb (all % w) 0)
+notWhole all w = ltb stimulusBytes all || not (eqb (all % w) 0)
 
 -- byte i of a stimulus is above its leaf's count
 abbrev pub above : (bounds stimulus : List ℕ) → ℕ → Bool

@@ -1,7 +1,7 @@
 // The stimulus: its length held to whole cycles (code 8), and its bytes to their leaves' counts (code 9).
 ghost use mathlib.Core.Path.{_≡_};
 ghost use Prim.Native.Nat.{_<_};
-ghost use lib.ListN.{length};
+ghost use lib.ListN.{length, replicate};
 ghost use Rattle.picoella.specs.Language.{bounds, leaves};
 ghost use Rattle.records.specs.Trees.{typeAt, TypeRecord};
 ghost use Rattle.answers.specs.Answers.{lowest};
@@ -14,7 +14,7 @@ ghost use Rattle.records.specs.Limits.{mostLeaves};
 use accepted::fill_bounds;
 use answers::Answer;
 use answers::Found;
-use answers::WRONG_BYTE;
+use answers::WRONG_INPUT;
 use answers::WRONG_STIMULUS;
 use records::VALUE_BYTES;
 use records::WORD_A;
@@ -26,7 +26,7 @@ pub const STIMULUS_BYTES: usize = 65535;
 
 // Room for the counts of a type's leaves, a byte each.
 fn no_counts() -> [u8; VALUE_BYTES]
-    ensures { λ r. ⌜ length r ≡ mostLeaves ⌝ }
+    ensures { λ r. ⌜ r ≡ replicate mostLeaves 0 ⌝ }
 {
     [0; VALUE_BYTES]
 }
@@ -89,7 +89,7 @@ pub fn check_stimulus(sheet: &[u8], n: usize, widths: &WidthTable, stim: &[u8]) 
     }
     let wrong = first_above(sheet, n, widths, t, w, stim);
     if let Found::At(i) = wrong {
-        return Answer::Refused(WRONG_BYTE, i as u64);
+        return Answer::Refused(WRONG_INPUT, i as u64);
     }
     Answer::Done((all / w) as u64)
 }

@@ -4,6 +4,7 @@ use Prim.Native.Nat.{ℕ, min, _≤_, _<_}
 use mathlib.Core.Path.{_≡_}
 use mathlib.Core.List.{List}
 use lib.ListN.{length, getD}
+use Rattle.records.specs.Limits.{mostRecords}
 use Rattle.records.specs.Sized.{Sized}
 use Rattle.records.specs.Says.{namings}
 use Rattle.records.specs.Written.{Written, WellNamed}
@@ -12,7 +13,7 @@ use Rattle.structure.specs.NamerTable.{NamingsHeld}
 
 -- the table holds f of each record below m, no more than the cap
 pub record Capped (cap : ℕ) (f : ℕ → ℕ) (m : ℕ) (table : List ℕ) : Type 0 where
-  pub long : length table ≡ 4096
+  pub long : length table ≡ mostRecords
   pub below : (r : ℕ) → r < m → getD table r 0 ≡ min cap (f r)
 
 pub record Placed (s : List ℕ) (m : ℕ) (depths nestings : List ℕ) : Type 0 where

@@ -5,6 +5,7 @@ use mathlib.Core.Path.{_≡_}
 use mathlib.Core.Bool.{cond}
 use mathlib.Core.List.{List}
 use lib.ListN.{length, getD}
+use Rattle.records.specs.Limits.{mostRecords}
 use Rattle.picoella.specs.Language.{leaves}
 use Rattle.records.specs.Kinds.{types, sameSort}
 use Rattle.records.specs.Says.{sortAt}
@@ -14,6 +15,6 @@ abbrev pub typeLeaves : List ℕ → ℕ → ℕ
 typeLeaves s r = cond (sameSort (sortAt s r) types) (min 65 (leaves (typeAt s r))) 0
 
 pub record LeavesCounted (s : List ℕ) (m : ℕ) (table : List ℕ) : Type 0 where
-  pub long : length table ≡ 4096
+  pub long : length table ≡ mostRecords
   pub below : (r : ℕ) → r < m → getD table r 0 ≡ typeLeaves s r
-  pub rest : (r : ℕ) → m ≤ r → r < 4096 → getD table r 0 ≡ 0
+  pub rest : (r : ℕ) → m ≤ r → r < mostRecords → getD table r 0 ≡ 0

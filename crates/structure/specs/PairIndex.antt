@@ -8,6 +8,7 @@ use mathlib.Core.Bool.{Bool, true, false, cond, not, _&&_}
 use mathlib.Core.List.{List}
 use lib.ListN.{length, getD}
 use lib.Dec.{eqb}
+use Rattle.records.specs.Limits.{mostRecords}
 use Rattle.records.specs.Words.{wordA, wordB}
 use Rattle.records.specs.Kinds.{isPair}
 use Rattle.records.specs.Says.{kindAt}
@@ -23,7 +24,7 @@ another s index a b slot = not (eqb (getD index slot 0) 0) && not (isPairOf s a 
 
 -- where a search goes on that has these bits of the second part left
 abbrev pub onwards : (index : List ℕ) (slot bits : ℕ) → ℕ
-onwards index slot bits = 4096 + 2 * getD index slot 0 + bits % 2
+onwards index slot bits = mostRecords + 2 * getD index slot 0 + bits % 2
 
 -- in so many steps from a slot the search comes to its end
 abbrev pub Ends : (s index : List ℕ) (a b steps slot bits end : ℕ) → Type 0
@@ -33,18 +34,18 @@ Ends s index a b (suc k) slot bits end =
 
 pub record SlotFound (s index : List ℕ) (a b end : ℕ) : Type 0 where
   pub steps : ℕ
-  pub ends : Ends s index a b steps (a % 4096) b end
+  pub ends : Ends s index a b steps (a % mostRecords) b end
 
 -- each slot holds a record below m, whose own slots come later
 pub record Linked (m : ℕ) (index : List ℕ) : Type 0 where
-  pub long : length index ≡ 12288
+  pub long : length index ≡ pairSlots
   pub lower : (slot : ℕ) → 0 < getD index slot 0 → getD index slot 0 < m
-  pub later : (slot : ℕ) → 0 < getD index slot 0 → slot < 4096 + 2 * getD index slot 0
+  pub later : (slot : ℕ) → 0 < getD index slot 0 → slot < mostRecords + 2 * getD index slot 0
 
 -- each search finds the lowest pair type below m
 pub record Indexed (s : List ℕ) (m : ℕ) (index : List ℕ) : Type 0 where
   pub linked : Linked m index
-  pub unused : (slot : ℕ) → 4096 + 2 * m ≤ slot → getD index slot 0 ≡ 0
+  pub unused : (slot : ℕ) → mostRecords + 2 * m ≤ slot → getD index slot 0 ≡ 0
   pub finds : (a b end : ℕ) → SlotFound s index a b end → getD index end 0 ≡ pairBelow s a b m
 
 -- the lowest pair type below record r with the parts of r, 0 where there is none

@@ -6,6 +6,7 @@ use mathlib.Core.Bool.{Bool, cond}
 use mathlib.Core.List.{List, [], _∷_}
 use lib.ListN.{length, take, drop, getD}
 use lib.Dec.{eqb, leb}
+use Rattle.grammar.specs.Sizes.{textTable}
 use Rattle.naming.specs.Declared.{Role, aType, aConstructor, DeclaredName, declaredAs, sameName, atFirst}
 use Rattle.naming.specs.TokenWalk.{roleIn}
 
@@ -32,7 +33,7 @@ Inside text span = placeOf span + countOf span ≤ length text
 -- letter by letter, below 4,096
 abbrev pub hashedFrom : ℕ → List ℕ → ℕ
 hashedFrom h [] = h
-hashedFrom h (b ∷ w) = hashedFrom ((h * 31 + b) % 4096) w
+hashedFrom h (b ∷ w) = hashedFrom ((h * 31 + b) % hashes) w
 
 abbrev pub hashOf : List ℕ → ℕ
 hashOf w = hashedFrom 0 w
@@ -50,12 +51,12 @@ lastHashed text spans hash (suc k) =
 
 -- the table of the first n names
 pub record Hashed (text : List ℕ) (n : ℕ) (spans links heads : List ℕ) : Type 0 where
-  pub spans-long : length spans ≡ 65536
-  pub links-long : length links ≡ 65536
-  pub heads-long : length heads ≡ 4096
-  pub room : n ≤ 65536
+  pub spans-long : length spans ≡ textTable
+  pub links-long : length links ≡ textTable
+  pub heads-long : length heads ≡ hashes
+  pub room : n ≤ textTable
   pub inside : (k : ℕ) → k < n → Inside text (getD spans k 0)
-  pub heads-right : (b : ℕ) → b < 4096 → getD heads b 0 ≡ lastHashed text spans b n
+  pub heads-right : (b : ℕ) → b < hashes → getD heads b 0 ≡ lastHashed text spans b n
   pub links-right : (k : ℕ) → k < n → getD links k 0 ≡ lastHashed text spans (hashOf (lettersAt text (getD spans k 0))) k
 
 -- the first names are declared, as types or constructors, above `input`; those after them are bound
@@ -74,7 +75,7 @@ boundNames text spans base (suc k) = lettersAt text (getD spans (base + k) 0) �
 
 -- the roles of the declared names
 pub record Roles (roles : List ℕ) (base : ℕ) : Type 0 where
-  pub roles-long : length roles ≡ 65536
+  pub roles-long : length roles ≡ textTable
   pub few-roles : (k : ℕ) → k < base → getD roles k 0 < 2
 
 -- what a name stands for among the declared names and so many bound ones

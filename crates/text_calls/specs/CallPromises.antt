@@ -11,7 +11,7 @@ use Rattle.grammar.specs.Legal.{Reading}
 use Rattle.stimulus.specs.Stimulus.{inputType, cycleCount, cycles, pieces}
 use Rattle.behaviour.specs.Run.{RunGiven}
 use Rattle.behaviour.specs.Afterwards.{WellFormed}
-use Rattle.translator.specs.Translation.{Translated}
+use Rattle.translator.specs.Translated.{Translated}
 use Rattle.text_meaning.specs.NamedValues.{valueOf}
 use Rattle.text_calls.specs.RunRows.{TextsRun}
 use Rattle.text_meaning.specs.TextPromises.{declarations, Means}

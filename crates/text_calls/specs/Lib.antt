@@ -1,4 +1,5 @@
 -- Calls on a text and on its sheet.
--- The rows are examples; to believe:
-pub mod RunRows
+-- To believe:
 pub mod CallPromises
+-- Examples, by computation, with the promise that speaks of them:
+pub mod RunRows

@@ -8,9 +8,9 @@ use lib.ListN.{length, replicate}
 use Rattle.records.specs.SheetOf.{Record, sheetOf}
 use Rattle.answers.specs.declared.Answer.the-variants.{Done}
 use Rattle.verdict.specs.Verdict.{verdict}
-use Rattle.verdict.specs.declared.Verdict.the-variants.{Accepted}
+use Rattle.answers.specs.declared.Verdict.the-variants.{Accepted}
 use Rattle.behaviour.specs.Run.{answer, finalOut}
-use Rattle.translator.specs.Translation.{Translated}
+use Rattle.translator.specs.Translated.{Translated}
 use Rattle.text_table.specs.SheetRows.{SheetRow, sheetRow, sheetRows}
 
 -- the row of the table of sheets by its number, the stimulus, the outputs of one byte a cycle

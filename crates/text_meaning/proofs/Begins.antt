@@ -55,7 +55,7 @@ use Rattle.naming.proofs.SameName.{equal-same, same-equal}
 use Rattle.translation.specs.Resolved.{typeMeant, typeEntries, constructorMeant, constructorEntries, distance}
 use Rattle.translation.specs.Distances.{asConstant, nameMeant, byDistances, unplaced}
 use Rattle.translation.proofs.ConstructorTables.{pass-both, passes, pass-rest, after-new}
-use Rattle.text_meaning.specs.Circuits.{Circuit, Uses, circuitOf}
+use Rattle.text_meaning.specs.Circuits.{NamedCircuit, Uses, circuitOf}
 use Rattle.text_meaning.proofs.Naming.{KnownType}
 use Rattle.text_meaning.proofs.Related.{BoundAt, at-input, at-here, at-there, NotIn, not-input, not-here, Related, related-name, related-constructor, related-always, related-pair, related-first, related-second, related-let, related-feedback, related-if, related-delay}
 use Rattle.text_meaning.proofs.NamesStand.{all-differ, constructor-has-number, type-known, unknown-is}
@@ -214,7 +214,7 @@ module _ {ds : List Declaration} (good : AllPass (declarationsChecks atFirst ds)
       related-delay (held-stands good c (x .0) (passes k)) (circuit-related bound e (x .1) (pass-rest k))
 
 -- the places that delays carry do not matter
-pub unplaced-related : {ds : List Declaration} {bound : List (List ℕ)} {c : Circuit} (e : Expr) → Related ds bound (unplaced e) c → Related ds bound e c
+pub unplaced-related : {ds : List Declaration} {bound : List (List ℕ)} {c : NamedCircuit} (e : Expr) → Related ds bound (unplaced e) c → Related ds bound e c
 unplaced-related (Const τ v) h = h
 unplaced-related (Var n) h = h
 unplaced-related (Tuple e f) (related-pair x y) = related-pair (unplaced-related e x) (unplaced-related f y)

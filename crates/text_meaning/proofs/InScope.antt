@@ -13,7 +13,7 @@ use Rattle.meaning.specs.Constants.{ConstantTree, CoTuple, ConstantOf, of-cons,
 use Rattle.meaning.specs.Rules.{Elem, elem-here, elem-there, branch}
 use Rattle.meaning.proofs.UndecidedRule.{rule-agreeing}
 use Rattle.text_meaning.specs.NamedValues.{NamedValue}
-use Rattle.text_meaning.specs.Circuits.{Circuit}
+use Rattle.text_meaning.specs.Circuits.{NamedCircuit}
 use Rattle.text_meaning.specs.NamedRules.{Binding, nearestBinding, ComesTo}
 use Rattle.text_meaning.proofs.Naming.{nameTree, KnownType, known-pair}
 use Rattle.text_meaning.proofs.Related.{
@@ -38,7 +38,7 @@ bottom-of-type (TyTuple σ τ) = of-tuple (bottom-of-type σ) (bottom-of-type τ
 pub typed-as : {p q : Pattern} {τ : Ty} → p ≡ q → HasType p τ → HasType q τ
 typed-as {τ = τ} e h = subst (λ p. HasType p τ) e h
 
-pub comes-from : {D : List DeclaredName} {ρ : List Binding} {w : List ℕ} {c d : Circuit} {i j v : NamedValue} → i ≡ j
+pub comes-from : {D : List DeclaredName} {ρ : List Binding} {w : List ℕ} {c d : NamedCircuit} {i j v : NamedValue} → i ≡ j
     → ComesTo D ρ w c i v d → ComesTo D ρ w c j v d
 comes-from {D} {ρ} {w} {c} {d} {v = v} e h = subst (λ i. ComesTo D ρ w c i v d) e h
 

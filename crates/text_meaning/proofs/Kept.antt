@@ -33,7 +33,7 @@ use Rattle.translation.proofs.ConstructorTables.{pass-both}
 use Rattle.translation.proofs.Kept as Translation
 use Rattle.translation.proofs.Kept.{names-good}
 use Rattle.text_meaning.specs.NamedValues.{NamedValue, valueOf}
-use Rattle.text_meaning.specs.Circuits.{Circuit, circuitOf}
+use Rattle.text_meaning.specs.Circuits.{NamedCircuit, circuitOf}
 use Rattle.text_meaning.specs.NamedRules.{GivesSeq, no-cycle, one-cycle}
 use Rattle.text_meaning.specs.TextPromises.{declarations, Means, OneMeaning, RunGivesMeaning, MeaningExists, TextPromises}
 use Rattle.text_meaning.proofs.OneMeaning.{run-one}
@@ -71,9 +71,9 @@ unfolding cycles
 as-pieces s stim = refl
 
 -- a run of 000's rules is a run over names
-runs : (ds : List Declaration) (declared : Ty → Type 0) {e f : Expr} {c : Circuit} {σ τ : Ty} {is os : List ConstantTree}
+runs : (ds : List Declaration) (declared : Ty → Type 0) {e f : Expr} {c : NamedCircuit} {σ τ : Ty} {is os : List ConstantTree}
     → ReducesSeq undecidedConstant [] e is os f → Typed declared (σ ∷ []) e τ → AllConstantsOf σ is → KnownType ds σ → Related ds [] e c
-    → (after : Circuit) × GivesSeq (afterAll atFirst ds) c (map (nameTree ds) is) (map (nameTree ds) os) after
+    → (after : NamedCircuit) × GivesSeq (afterAll atFirst ds) c (map (nameTree ds) is) (map (nameTree ds) os) after
 runs ds declared {c = c} s-end t env k r = (c, no-cycle)
 runs ds declared (s-cycle x y) t (of-all-more h hs) k r =
     let u = rules-follow (constructor-has-number ds) x t (of-more h of-none) (one-known k none-known) scoped-input r in

@@ -12,7 +12,7 @@ use Rattle.picoella.specs.Language as Language
 use Rattle.grammar.specs.Source.{Identifier, identifier, Declaration, SourcePattern, Alone, PatternPair, Either}
 use Rattle.naming.specs.Declared.{sameName, DeclaredName, isDeclared, typeRole, constructorRole, patternRoles, atFirst}
 use Rattle.naming.specs.Names.{afterAll, patternChecks}
-use Rattle.meaning.specs.Matching.{Decision, Yes, No, Undecided, decided, pairDecision, chainDecision}
+use Rattle.meaning.specs.Decisions.{Decision, Yes, No, Undecided, decided, pairDecision, chainDecision}
 use Rattle.meaning.specs.Constants.{
   ConstantTree,
   Cons,

@@ -14,7 +14,7 @@ use Rattle.picoella.specs.Language.{Ty, Flat, TyTuple, leaves}
 use Rattle.grammar.specs.Source.{Declaration}
 use Rattle.naming.specs.Declared.{sameName}
 use Rattle.naming.proofs.SameName.{equal-same, same-equal}
-use Rattle.meaning.specs.Matching.{Decision, Yes, No, Undecided, decided}
+use Rattle.meaning.specs.Decisions.{Decision, Yes, No, Undecided, decided}
 use Rattle.meaning.specs.Constants.{
   ConstantTree,
   Cons,

@@ -7,7 +7,7 @@ use mathlib.Core.Option.{Option, none, some}
 use native.Mathlib.Omega.{arith}
 use Rattle.naming.specs.Declared.{DeclaredName}
 use Rattle.text_meaning.specs.NamedValues.{NamedValue, Couple, matchesNamed, chosenValue}
-use Rattle.text_meaning.specs.Circuits.{Circuit, Pairs, FirstPart, SecondPart, Binds, FeedsBack, Chooses, Delays}
+use Rattle.text_meaning.specs.Circuits.{NamedCircuit, Pairs, FirstPart, SecondPart, Binds, FeedsBack, Chooses, Delays}
 use Rattle.text_meaning.specs.NamedRules.{
   Binding,
   binding,
@@ -45,7 +45,7 @@ second-of p = cc
 
 module _ {D : List DeclaredName} where
   mutual
-    pub gives-one : {ρ : List Binding} {c c′ c″ : Circuit} {v w : NamedValue}
+    pub gives-one : {ρ : List Binding} {c c′ c″ : NamedCircuit} {v w : NamedValue}
         → CircuitGives D ρ c v c′ → CircuitGives D ρ c w c″ → (v ≡ w) × (c′ ≡ c″)
     gives-one (gives-bound p) (gives-bound q) = (some-one (sym p ∙ q), refl)
     gives-one (gives-bound p) (gives-constructor q h) = absurd (some-none p q)
@@ -73,7 +73,7 @@ module _ {D : List DeclaredName} where
         (sym e ∙ (λ i. chosenValue (matchesNamed D m (p i)) (r i) (t i)) ∙ f, λ i. Chooses (q i) m (s i) (u i))
     gives-one (gives-delay x) (gives-delay y) = let (p, q) = gives-one x y in (refl, ap₂ Delays p q)
 
-    pub comes-one : {ρ : List Binding} {x : List ℕ} {c c′ c″ : Circuit} {u v w : NamedValue}
+    pub comes-one : {ρ : List Binding} {x : List ℕ} {c c′ c″ : NamedCircuit} {u v w : NamedValue}
         → ComesTo D ρ x c u v c′ → ComesTo D ρ x c u w c″ → (v ≡ w) × (c′ ≡ c″)
     comes-one (comes-unchanged x) (comes-unchanged y) = (refl, (gives-one x y) .1)
     comes-one (comes-unchanged x) (comes-again y differs z) = absurd (differs ((gives-one x y) .0))
@@ -82,7 +82,7 @@ module _ {D : List DeclaredName} where
         let (p, q) = gives-one x z in
         comes-one y (search (p, q, w))
 
-  pub run-one : {c c′ c″ : Circuit} {is os us : List NamedValue}
+  pub run-one : {c c′ c″ : NamedCircuit} {is os us : List NamedValue}
       → GivesSeq D c is os c′ → GivesSeq D c is us c″ → (os ≡ us) × (c′ ≡ c″)
   run-one no-cycle no-cycle = (refl, refl)
   run-one (one-cycle {is = is} x y) (one-cycle {c″ = e} {os = us} z u) =

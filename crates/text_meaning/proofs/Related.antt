@@ -13,7 +13,7 @@ use Rattle.meaning.specs.Constants.{ConstantTree, ConstantOf, flatten, bottomOf
 use Rattle.translation.specs.Distances.{patternMeant}
 use Rattle.text_meaning.specs.NamedValues.{NamedValue, Made}
 use Rattle.text_meaning.specs.Circuits.{
-  Circuit,
+  NamedCircuit,
   Uses,
   Always,
   Pairs,
@@ -50,26 +50,26 @@ pub record StandsFor (ds : List Declaration) (τ : Ty) (v : List ℕ) (x : Named
   pub known : KnownType ds τ
 
 -- a circuit over names, and its form with distances
-pub data Related (ds : List Declaration) : List (List ℕ) → Expr → Circuit → Type 0 where
+pub data Related (ds : List Declaration) : List (List ℕ) → Expr → NamedCircuit → Type 0 where
   related-name : {bound : List (List ℕ)} {w : List ℕ} {k : ℕ} → BoundAt bound w k → Related ds bound (Var k) (Uses w)
   related-constructor : {bound : List (List ℕ)} {w v : List ℕ} {τ : Ty}
       → NotIn bound w → isDeclared constructorRole w (afterAll atFirst ds) ≡ true → StandsFor ds τ v (Made w)
       → Related ds bound (Const τ v) (Uses w)
   related-always : {bound : List (List ℕ)} {v : List ℕ} {τ : Ty} {x : NamedValue}
       → StandsFor ds τ v x → Related ds bound (Const τ v) (Always x)
-  related-pair : {bound : List (List ℕ)} {e f : Expr} {c d : Circuit}
+  related-pair : {bound : List (List ℕ)} {e f : Expr} {c d : NamedCircuit}
       → Related ds bound e c → Related ds bound f d → Related ds bound (Tuple e f) (Pairs c d)
-  related-first : {bound : List (List ℕ)} {e : Expr} {c : Circuit} → Related ds bound e c → Related ds bound (Index1 e) (FirstPart c)
-  related-second : {bound : List (List ℕ)} {e : Expr} {c : Circuit} → Related ds bound e c → Related ds bound (Index2 e) (SecondPart c)
-  related-let : {bound : List (List ℕ)} {w : List ℕ} {e f : Expr} {c d : Circuit}
+  related-first : {bound : List (List ℕ)} {e : Expr} {c : NamedCircuit} → Related ds bound e c → Related ds bound (Index1 e) (FirstPart c)
+  related-second : {bound : List (List ℕ)} {e : Expr} {c : NamedCircuit} → Related ds bound e c → Related ds bound (Index2 e) (SecondPart c)
+  related-let : {bound : List (List ℕ)} {w : List ℕ} {e f : Expr} {c d : NamedCircuit}
       → Related ds bound e c → Related ds (w ∷ bound) f d → Related ds bound (Let e f) (Binds w c d)
-  related-feedback : {bound : List (List ℕ)} {w : List ℕ} {σ : Ty} {i : NamedValue} {e f : Expr} {c d : Circuit}
+  related-feedback : {bound : List (List ℕ)} {w : List ℕ} {σ : Ty} {i : NamedValue} {e f : Expr} {c d : NamedCircuit}
       → KnownType ds σ → nameTree ds (bottomOfType σ) ≡ i → Related ds (w ∷ bound) e c → Related ds (w ∷ bound) f d
       → Related ds bound (LetRec σ e f) (FeedsBack i w c d)
-  related-if : {bound : List (List ℕ)} {m : SourcePattern} {p : Pattern} {e f g : Expr} {c d b : Circuit}
+  related-if : {bound : List (List ℕ)} {m : SourcePattern} {p : Pattern} {e f g : Expr} {c d b : NamedCircuit}
       → p ≡ patternMeant ds m → Related ds bound e c → AllPass (patternChecks (afterAll atFirst ds) m) → Related ds bound f d → Related ds bound g b
       → Related ds bound (If e p f g) (Chooses c m d b)
-  related-delay : {bound : List (List ℕ)} {places v : List ℕ} {τ : Ty} {x : NamedValue} {e : Expr} {c : Circuit}
+  related-delay : {bound : List (List ℕ)} {places v : List ℕ} {τ : Ty} {x : NamedValue} {e : Expr} {c : NamedCircuit}
       → StandsFor ds τ v x → Related ds bound e c → Related ds bound (Delay places τ v e) (Delays x c)
 
 -- the types of the names are known
@@ -84,7 +84,7 @@ pub record Followed
     (Γ : List Ty)
     (bound : List (List ℕ))
     (ρ : List Binding)
-    (c : Circuit)
+    (c : NamedCircuit)
     (τ : Ty)
     (k : ConstantTree)
     (f : Expr)
@@ -93,7 +93,7 @@ pub record Followed
     pub of-type : ConstantOf τ k
     pub known : KnownType ds τ
     pub typed : Typed Declared Γ f τ
-    pub after : Circuit
+    pub after : NamedCircuit
     pub gives : CircuitGives (afterAll atFirst ds) ρ c (nameTree ds k) after
     pub related : Related ds bound f after
 
@@ -105,7 +105,7 @@ pub record FeedbackFollowed
     (bound : List (List ℕ))
     (ρ : List Binding)
     (w : List ℕ)
-    (c : Circuit)
+    (c : NamedCircuit)
     (σ : Ty)
     (j k : ConstantTree)
     (f : Expr)
@@ -113,6 +113,6 @@ pub record FeedbackFollowed
   where
     pub of-type : ConstantOf σ k
     pub typed : Typed Declared Γ f σ
-    pub after : Circuit
+    pub after : NamedCircuit
     pub comes : ComesTo (afterAll atFirst ds) ρ w c (nameTree ds j) (nameTree ds k) after
     pub related : Related ds bound f after

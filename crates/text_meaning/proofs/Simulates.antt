@@ -32,7 +32,7 @@ use Rattle.meaning.proofs.FlattenOneToOne.{flatten-typed, flatten-one}
 use Rattle.translation.specs.Resolved.{constructorMeant, constructorEntries}
 use Rattle.text_meaning.specs.NamedValues.{matchesNamed}
 use Rattle.text_meaning.specs.Circuits.{
-  Circuit,
+  NamedCircuit,
   Uses,
   Always,
   Pairs,
@@ -107,7 +107,7 @@ module _
     → IsNumber ds w (constructorMeant (constructorEntries ds) w))
   where
     mutual
-      pub rules-follow : {Γ : List Ty} {bound : List (List ℕ)} {l : List ConstantTree} {ρ : List Binding} {e f : Expr} {c : Circuit} {τ : Ty}
+      pub rules-follow : {Γ : List Ty} {bound : List (List ℕ)} {l : List ConstantTree} {ρ : List Binding} {e f : Expr} {c : NamedCircuit} {τ : Ty}
           {k : ConstantTree} → Reduces undecidedConstant l e k f → Typed Declared Γ e τ → ConstantsOf Γ l → AllKnown ds Γ
           → Scoped ds bound l ρ → Related ds bound e c → Followed ds Declared Γ bound ρ c τ k f
       rules-follow (r-const {c = k} of p) (t-const h) env types scope (related-constructor {w = w} n d s) =
@@ -220,7 +220,7 @@ module _
             related = related-feedback k e (u .related) (v .related);
           }
 
-      settles : {Γ : List Ty} {bound : List (List ℕ)} {l : List ConstantTree} {ρ : List Binding} {w : List ℕ} {e f : Expr} {c : Circuit}
+      settles : {Γ : List Ty} {bound : List (List ℕ)} {l : List ConstantTree} {ρ : List Binding} {w : List ℕ} {e f : Expr} {c : NamedCircuit}
           {σ : Ty} {j k : ConstantTree} → Iterates undecidedConstant l e j k f → Typed Declared (σ ∷ Γ) e σ → ConstantsOf Γ l → AllKnown ds Γ
           → KnownType ds σ → ConstantOf σ j → Scoped ds bound l ρ → Related ds (w ∷ bound) e c
           → FeedbackFollowed ds Declared (σ ∷ Γ) (w ∷ bound) ρ w c σ j k f

@@ -22,16 +22,16 @@ use Rattle.naming.specs.Declared.{sameName}
 use Rattle.naming.specs.Constants.{letters}
 use Rattle.text_meaning.specs.NamedValues.{NamedValue, Unknown, Made, Couple}
 
-pub data Circuit : Type 0 where
-  Uses : (letters : List ℕ) → Circuit
-  Always : NamedValue → Circuit
-  Pairs : Circuit → Circuit → Circuit
-  FirstPart : Circuit → Circuit
-  SecondPart : Circuit → Circuit
-  Binds : (letters : List ℕ) → Circuit → Circuit → Circuit
-  FeedsBack : (initial : NamedValue) (letters : List ℕ) → Circuit → Circuit → Circuit
-  Chooses : Circuit → SourcePattern → Circuit → Circuit → Circuit
-  Delays : (held : NamedValue) → Circuit → Circuit
+pub data NamedCircuit : Type 0 where
+  Uses : (letters : List ℕ) → NamedCircuit
+  Always : NamedValue → NamedCircuit
+  Pairs : NamedCircuit → NamedCircuit → NamedCircuit
+  FirstPart : NamedCircuit → NamedCircuit
+  SecondPart : NamedCircuit → NamedCircuit
+  Binds : (letters : List ℕ) → NamedCircuit → NamedCircuit → NamedCircuit
+  FeedsBack : (initial : NamedValue) (letters : List ℕ) → NamedCircuit → NamedCircuit → NamedCircuit
+  Chooses : NamedCircuit → SourcePattern → NamedCircuit → NamedCircuit → NamedCircuit
+  Delays : (held : NamedValue) → NamedCircuit → NamedCircuit
 
 -- the undefined values of the types declared so far
 pub data UnknownOf : Type 0 where
@@ -56,7 +56,7 @@ module _ (ds : List Declaration) where
   constantValue (Undefined t) = unknownNamed (letters t)
   constantValue (ConstantPair p c d) = Couple (constantValue c) (constantValue d)
 
-  abbrev pub circuitOf : Expression → Circuit
+  abbrev pub circuitOf : Expression → NamedCircuit
   circuitOf (NameUse n) = Uses (letters n)
   circuitOf (UndefinedOf t) = Always (unknownNamed (letters t))
   circuitOf (PairExpression e f) = Pairs (circuitOf e) (circuitOf f)

@@ -10,7 +10,7 @@ use Rattle.picoella.specs.Language.{Ty, Flat, TyTuple, leaves}
 use Rattle.grammar.specs.Source.{Identifier, Declaration, Constructors, PairOf, SourcePattern, Alone, PatternPair, Either}
 use Rattle.naming.specs.Declared.{sameName, DeclaredName, isDeclared, typeRole}
 use Rattle.naming.specs.Constants.{letters, allLetters}
-use Rattle.meaning.specs.Matching.{Decision, Yes, No, Undecided, decided, pairDecision, chainDecision}
+use Rattle.meaning.specs.Decisions.{Decision, Yes, No, Undecided, decided, pairDecision, chainDecision}
 
 pub data NamedValue : Type 0 where
   Unknown : NamedValue

@@ -15,7 +15,7 @@ use Rattle.behaviour.specs.Run.{RunGiven}
 use Rattle.behaviour.specs.Afterwards.{WellFormed}
 use Rattle.translation.specs.Layout.{sheetOfText}
 use Rattle.text_meaning.specs.NamedValues.{NamedValue, valueOf}
-use Rattle.text_meaning.specs.Circuits.{Circuit, circuitOf}
+use Rattle.text_meaning.specs.Circuits.{NamedCircuit, circuitOf}
 use Rattle.text_meaning.specs.NamedRules as Rules
 
 abbrev pub declarations : Text → List Declaration
@@ -25,12 +25,12 @@ abbrev pub namesOf : Text → List DeclaredName
 namesOf t = afterAll atFirst (declarations t)
 
 -- the circuit that a text begins as
-abbrev pub textCircuit : Text → Circuit
+abbrev pub textCircuit : Text → NamedCircuit
 textCircuit (text d ds t e) = circuitOf (d ∷ ds) e
 
 -- the meaning of a text over its names: over these inputs it gives these outputs, cycle for cycle
 abbrev pub Means : Text → (inputs outputs : List NamedValue) → Type 0
-Means t inputs outputs = (after : Circuit) × Rules.GivesSeq (namesOf t) (textCircuit t) inputs outputs after
+Means t inputs outputs = (after : NamedCircuit) × Rules.GivesSeq (namesOf t) (textCircuit t) inputs outputs after
 
 -- 1. The meaning is unique for every text.
 abbrev pub OneMeaning : Type 0

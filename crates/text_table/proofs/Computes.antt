@@ -16,14 +16,14 @@ use Rattle.grammar.specs.Tokens.{Token}
 use Rattle.grammar.specs.Source.{identifier, Text, text}
 use Rattle.grammar.specs.Grammar.{ReadsText}
 use Rattle.grammar.specs.Legal.{Reading, Keeps}
-use Rattle.grammar.specs.Walk.{Told}
+use Rattle.grammar.specs.Walk.{PlaceTold}
 use Rattle.grammar.specs.Machine.{begins}
 use Rattle.grammar.specs.Walk.{firstIllegal}
 use Rattle.grammar.proofs.Exact.{first-illegal-exact}
 use Rattle.naming.specs.Checks.{AllPass, firstBadPlace}
 use Rattle.naming.specs.Constants.{letters, constantsOfText}
 use Rattle.naming.specs.Names.{nameChecks, textChecks}
-use Rattle.naming.specs.Records.{recordsNeeded}
+use Rattle.naming.specs.RecordsNeeded.{recordsNeeded}
 use Rattle.naming.specs.TokenWalk.{walkChecks}
 use Rattle.naming.proofs.ByTokens.{firstScope, by-tokens}
 use Rattle.translation.specs.Resolved.{typeNumber, typeEntries}
@@ -35,7 +35,7 @@ use Rattle.instructions.specs.Emission.{emission, emitAll, recordsWritten}
 use Rattle.instructions.proofs.Instructed.{instructed}
 use Rattle.instructions.proofs.Assembled.{assembled}
 use Rattle.instructions.proofs.Written.{declared-many, emitted, records-written}
-use Rattle.translator.specs.Translation.{lengthNeeded, noRoom, textAnswer, finalSheet, Translated, outside-grammar, in-grammar}
+use Rattle.translator.specs.Translated.{lengthNeeded, noRoom, textAnswer, finalSheet, Translated, outside-grammar, in-grammar}
 use Rattle.translator.proofs.Answered.{answerBy, answered}
 use Rattle.translator.proofs.Kept as Translator
 use Rattle.naming.proofs.First.{none-bad}
@@ -79,7 +79,7 @@ tokens-answer {ts} t room r =
 pub computes : (bytes entry : List ℕ) → (exit : List ℕ) × Translated bytes entry (computedAnswer bytes (length entry)) exit
 computes bytes entry = go (firstIllegal bytes) (first-illegal-exact bytes)
   where
-    go : (o : Option ℕ) → Told bytes o → (exit : List ℕ) × Translated bytes entry (illegalAnswer o (tokensIn bytes) (length entry)) exit
+    go : (o : Option ℕ) → PlaceTold bytes o → (exit : List ℕ) × Translated bytes entry (illegalAnswer o (tokensIn bytes) (length entry)) exit
     go (some i) l = (entry, outside-grammar l)
     go none k =
         let l = k .legal in

@@ -8,7 +8,7 @@ use Rattle.records.specs.SheetOf.{Record, sheetOf}
 use Rattle.answers.specs.declared.Answer.{Answer}
 use Rattle.answers.specs.declared.Answer.the-variants.{Done}
 use Rattle.grammar.specs.Walk.{firstIllegal}
-use Rattle.translator.specs.Translation.{Translated}
+use Rattle.translator.specs.Translated.{Translated}
 use Rattle.text_table.specs.Computed.{computedAnswer, computedRecords}
 use Rattle.text_table.specs.Rows.{TextRow, textRow, textRows}
 use Rattle.text_table.specs.SheetRows.{SheetRow, sheetRow, sheetRows}

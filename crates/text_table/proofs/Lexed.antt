@@ -8,7 +8,7 @@ use mathlib.Core.List.{List, [], _∷_}
 use lib.ListN.{length}
 use Rattle.grammar.specs.Tokens.{Keyword, TYPE, IN, INPUT, LET, INIT, REC, IF, MATCHES, THEN, ELSE, DELAY, spelling}
 use Rattle.grammar.specs.Tokens.{ByteClass, isBlank, isLower, isUpper, isOther, isSymbol, byteClass, isLetter, NoLetter, Token, keyword, symbol, nameToken}
-use Rattle.grammar.specs.Tokens.{Run, run-last, run-more, AllLower, lower-none, lower-more, Spells, spells-keyword, spells-name}
+use Rattle.grammar.specs.Tokens.{LetterRun, run-last, run-more, AllLower, lower-none, lower-more, Spells, spells-keyword, spells-name}
 use Rattle.grammar.specs.Tokens.{Tokens, no-token, a-blank, a-symbol, a-word}
 use Rattle.text_table.specs.Lexer.{Lexing, lexing, wordToken, wordBegun, wordAt, withLetter, withByte, lexedFrom, tokensIn}
 
@@ -30,7 +30,7 @@ no-word : (j : ℕ) (rest : List ℕ) → NoLetter rest → lexedFrom j rest ≡
 no-word j [] n = refl
 no-word j (b ∷ bs) n = of-other (byteClass b) b j (lexedFrom (suc j) bs) n
 
-run-lexed : {bs word rest : List ℕ} (i : ℕ) → Run bs word rest
+run-lexed : {bs word rest : List ℕ} (i : ℕ) → LetterRun bs word rest
     → lexedFrom i bs ≡ lexing word (wordAt (i + length word) (lexedFrom (i + length word) rest))
 run-lexed i (run-last {b} {rest} h n) =
     let e : i + 1 ≡ suc i = omega arith in
@@ -62,7 +62,7 @@ spelled-word : {word : List ℕ} {p : ℕ} {t : Token} → Spells word p t → w
 spelled-word {p} (spells-keyword {k} e) = ap (λ w. wordToken w p) e ∙ keyword-word k p
 spelled-word {word} {p} (spells-name a l) = name-word word p a
 
-word-first : {bs word rest : List ℕ} (p : ℕ) (ts : List Token) → Run bs word rest → wordAt p (lexing word ts) ≡ wordToken word p ∷ ts
+word-first : {bs word rest : List ℕ} (p : ℕ) (ts : List Token) → LetterRun bs word rest → wordAt p (lexing word ts) ≡ wordToken word p ∷ ts
 word-first p ts (run-last h n) = refl
 word-first p ts (run-more h r) = refl
 

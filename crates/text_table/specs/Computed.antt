@@ -5,6 +5,7 @@ use mathlib.Core.List.{List, [], _∷_}
 use mathlib.Core.Option.{Option, none, some}
 use lib.ListN.{length}
 use lib.Dec.{ltb}
+use Rattle.records.specs.Limits.{mostRecords}
 use Rattle.records.specs.SheetOf.{Record}
 use Rattle.answers.specs.declared.Answer.{Answer}
 use Rattle.answers.specs.declared.Answer.the-variants.{Done, Refused}
@@ -24,7 +25,7 @@ assembledFrom ts = assembleAll nothingAssembled (walkInstructions begins (scope 
 
 -- so many records, into a slice of so many bytes
 abbrev pub roomAnswer : (records room : ℕ) → Answer
-roomAnswer n room = cond (cond (ltb room (12 * n)) true (ltb 4096 n)) (Refused 15 (12 * n)) (Done (12 * n))
+roomAnswer n room = cond (cond (ltb room (12 * n)) true (ltb mostRecords n)) (Refused 15 (12 * n)) (Done (12 * n))
 
 abbrev pub untypedAnswer : Option ℕ → (records room : ℕ) → Answer
 untypedAnswer (some p) n room = Refused 14 p

@@ -1,8 +1,9 @@
 -- Texts with what their translation gives.
--- The rows are examples; to believe:
+-- To believe:
+pub mod Promises
+-- Examples, by computation, of which the promises speak:
 pub mod Rows
 pub mod SheetRows
-pub mod Promises
--- The computation that holds the rows to the translation:
+-- The computation that holds the rows to the translation, which the promises pin down:
 pub mod Lexer
 pub mod Computed

@@ -6,7 +6,7 @@ use lib.ListN.{length, take, replicate}
 use Rattle.records.specs.SheetOf.{sheetOf}
 use Rattle.answers.specs.declared.Answer.{Answer}
 use Rattle.answers.specs.declared.Answer.the-variants.{Done}
-use Rattle.translator.specs.Translation.{Translated}
+use Rattle.translator.specs.Translated.{Translated}
 use Rattle.text_table.specs.Rows.{TextRow, textRow, textRows}
 use Rattle.text_table.specs.SheetRows.{SheetRow, sheetRow, sheetRows}
 

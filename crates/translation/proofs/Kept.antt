@@ -19,7 +19,7 @@ use Rattle.naming.specs.Declared.{atFirst, typeRole}
 use Rattle.naming.specs.Checks.{AllPass}
 use Rattle.naming.specs.Constants.{letters, constantsOfText}
 use Rattle.naming.specs.Names.{afterAll, isOne, declarationsChecks, expressionChecks, nameChecks, textChecks}
-use Rattle.naming.specs.Records.{recordsNeeded}
+use Rattle.naming.specs.RecordsNeeded.{recordsNeeded}
 use Rattle.translation.specs.Resolved.{typeNumber, typeEntries}
 use Rattle.translation.specs.Distances.{expressionMeant, unplaced}
 use Rattle.translation.specs.Layout.{typesLaid, roomOf, laid, textRecords, sheetOfText}

@@ -56,7 +56,7 @@ use Rattle.grammar.specs.Grammar.{ReadsPattern, reads-alone, reads-parts, reads
 use Rattle.naming.specs.Declared.{isAmong, isDeclared, atFirst, typeRole, constructorRole}
 use Rattle.naming.specs.Checks.{AllPass}
 use Rattle.naming.specs.Names.{afterAll, patternChecks}
-use Rattle.naming.specs.Records.{patternRecords}
+use Rattle.naming.specs.RecordsNeeded.{patternRecords}
 use Rattle.translation.specs.Resolved.{typeMeant, typeEntries, typeNumber, constructorMeant, constructorEntries, distance}
 use Rattle.translation.specs.Distances.{patternMeant}
 use Rattle.translation.specs.Layout.{leavesLaid, patternLaid}

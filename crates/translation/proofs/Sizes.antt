@@ -26,7 +26,7 @@ use Rattle.naming.specs.Declared.{isAmong, isDeclared, atFirst, typeRole, const
 use Rattle.naming.specs.Checks.{AllPass}
 use Rattle.naming.specs.Constants.{letters}
 use Rattle.naming.specs.Names.{afterAll, bind, isOne, isNew, patternChecks, constantNames, expressionChecks}
-use Rattle.naming.specs.Records.{leafCountOf, leafCounts, patternRecords, constantLeaves}
+use Rattle.naming.specs.RecordsNeeded.{leafCountOf, leafCounts, patternRecords, constantLeaves}
 use Rattle.translation.specs.Resolved.{TypeEntry, typeMeant, typeEntries, constructorMeant, constructorEntries, distance, afterEntry}
 use Rattle.translation.specs.Distances.{constantValues}
 use Rattle.translation.specs.Layout.{typesLaid, leavesLaid, roomOf, patternLaid, nameLaid, constantLaid, laid}

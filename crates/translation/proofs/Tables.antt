@@ -15,7 +15,7 @@ use Rattle.naming.specs.Declared.{aType, aConstructor, DeclaredName, sameName, 
 use Rattle.naming.specs.Checks.{AllPass}
 use Rattle.naming.specs.Constants.{letters}
 use Rattle.naming.specs.Names.{add, addAll, afterDeclaration, afterAll, declarationChecks, declarationsChecks}
-use Rattle.naming.specs.Records.{LeafCount, leafCount, leafCountOf, leafCounts}
+use Rattle.naming.specs.RecordsNeeded.{LeafCount, leafCount, leafCountOf, leafCounts}
 use Rattle.translation.specs.Resolved.{
   TypeEntry,
   typeEntry,

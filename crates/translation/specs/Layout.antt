@@ -14,7 +14,7 @@ use Rattle.grammar.specs.Source.{Expression, NameUse, UndefinedOf, PairExpressi
 use Rattle.naming.specs.Declared.{isAmong, isDeclared, typeRole, constructorRole, atFirst}
 use Rattle.naming.specs.Constants.{letters, constantType}
 use Rattle.naming.specs.Names.{afterAll, bind}
-use Rattle.naming.specs.Records.{leafCountOf, leafCounts, patternRecords, constantLeaves, recordsOfExpression, recordsNeeded}
+use Rattle.naming.specs.RecordsNeeded.{leafCountOf, leafCounts, patternRecords, constantLeaves, recordsOfExpression, recordsNeeded}
 use Rattle.translation.specs.Resolved.{TypeEntry, afterEntry, typeNumber, typeEntries, constructorMeant, constructorEntries, distance}
 use Rattle.translation.specs.Distances.{constantValues}
 

@@ -14,7 +14,7 @@ use Rattle.grammar.specs.Grammar.{ReadsText}
 use Rattle.naming.specs.Checks.{AllPass}
 use Rattle.naming.specs.Constants.{letters}
 use Rattle.naming.specs.Names.{textChecks}
-use Rattle.naming.specs.Records.{recordsNeeded}
+use Rattle.naming.specs.RecordsNeeded.{recordsNeeded}
 use Rattle.translation.specs.Resolved.{TypeEntry, typeMeant, typeNumber, typeEntries}
 use Rattle.translation.specs.Distances.{expressionMeant, unplaced}
 use Rattle.translation.specs.Layout.{textRecords, sheetOfText}

@@ -17,9 +17,9 @@ use Rattle.grammar.specs.Legal.{Reading, Keeps}
 use Rattle.naming.specs.Checks.{firstBadPlace}
 use Rattle.naming.specs.Constants.{constantsOfText}
 use Rattle.naming.specs.Names.{nameChecks}
-use Rattle.naming.specs.Records.{recordsNeeded}
+use Rattle.naming.specs.RecordsNeeded.{recordsNeeded}
 use Rattle.translation.specs.Layout.{sheetOfText}
-use Rattle.translator.specs.Translation.{lengthNeeded, noRoom, textCallChecks, textAnswer, finalSheet, Translated, in-grammar}
+use Rattle.translator.specs.Translated.{lengthNeeded, noRoom, textCallChecks, textAnswer, finalSheet, Translated, in-grammar}
 
 -- the answer by what the three checks find
 abbrev pub answerBy : (names constants room : Option ℕ) → ℕ → Answer

@@ -16,16 +16,16 @@ use Rattle.answers.specs.declared.Answer.the-variants.{Done, Refused}
 use Rattle.answers.proofs.First.{first-says, says-first, place-or, when-none, when-some, kept-bytes}
 use Rattle.grammar.specs.Tokens.{Token}
 use Rattle.grammar.specs.Source.{Text}
-use Rattle.grammar.specs.Legal.{Reading, Leaves, Keeps}
+use Rattle.grammar.specs.Legal.{Reading, LeavesGrammar, Keeps}
 use Rattle.grammar.proofs.Kept as Grammar
 use Rattle.naming.specs.Checks.{AllPass, firstBadPlace}
 use Rattle.naming.specs.Constants.{constantsOfText}
 use Rattle.naming.specs.Names.{nameChecks, textChecks}
-use Rattle.naming.specs.Records.{recordsNeeded}
+use Rattle.naming.specs.RecordsNeeded.{recordsNeeded}
 use Rattle.naming.proofs.Bounded.{records-bounded}
 use Rattle.translation.specs.Layout.{textRecords, sheetOfText}
 use Rattle.translation.proofs.Kept as Translation
-use Rattle.translator.specs.Translation.{
+use Rattle.translator.specs.Translated.{
   lengthNeeded,
   noRoom,
   textCallChecks,
@@ -42,7 +42,7 @@ use Rattle.translator.proofs.PlacesWithin.{names-within, constants-with
 every : EveryTranslated
 every bytes entry = go (Grammar.kept .keeps-or-leaves bytes)
   where
-    go : Keeps bytes ⊎ ((i : ℕ) × Leaves bytes i) → (a : Answer) × (exit : List ℕ) × Translated bytes entry a exit
+    go : Keeps bytes ⊎ ((i : ℕ) × LeavesGrammar bytes i) → (a : Answer) × (exit : List ℕ) × Translated bytes entry a exit
     go (inl k) =
         let l = k .legal in
         let t = l .1 in

@@ -14,13 +14,13 @@ use Rattle.answers.specs.Answers.{inOne}
 use Rattle.answers.specs.declared.Answer.the-variants.{Done, Refused}
 use Rattle.grammar.specs.Tokens.{Token}
 use Rattle.grammar.specs.Source.{identifier, Text, text}
-use Rattle.grammar.specs.Legal.{Reading, Leaves, Keeps}
-use Rattle.grammar.specs.Walk.{Told}
+use Rattle.grammar.specs.Legal.{Reading, LeavesGrammar, Keeps}
+use Rattle.grammar.specs.Walk.{PlaceTold}
 use Rattle.grammar.proofs.Kept as Grammar
 use Rattle.naming.specs.Checks.{AllPass, firstBadPlace}
 use Rattle.naming.specs.Constants.{constantsOfText}
 use Rattle.naming.specs.Names.{nameChecks, textChecks}
-use Rattle.naming.specs.Records.{recordsNeeded}
+use Rattle.naming.specs.RecordsNeeded.{recordsNeeded}
 use Rattle.translation.specs.Layout.{roomOf, laid, textRecords, sheetOfText}
 use Rattle.instructions.specs.Instruction.{heldFrom, heldCode}
 use Rattle.instructions.specs.TextOrder.{textInstructions}
@@ -38,7 +38,7 @@ use Rattle.resolving.specs.Walked.{SoundText, TextResolved}
 use Rattle.resolving.specs.declared.Resolved.{Resolved}
 use Rattle.resolving.specs.declared.Resolved.the-variants.{BadName, Instructions}
 use Rattle.emitting.specs.Emitting.{emittedFrom, Emitting, Emitted}
-use Rattle.translator.specs.Translation.{lengthNeeded, noRoom, Translated, outside-grammar, TranslatedInOne}
+use Rattle.translator.specs.Translated.{lengthNeeded, noRoom, Translated, outside-grammar, TranslatedInOne}
 use Rattle.translator.specs.LayingOut.{TranslatingResolved, TranslatingAssembled}
 use Rattle.translator.proofs.Answered.{bad-name, untyped-constant, no-room, sheet-written}
 use Rattle.naming.proofs.First.{none-bad, both-pass}
@@ -228,14 +228,14 @@ module _ {bytes : List ℕ} (ops firsts seconds : List ℕ) {r : Resolved} (k : 
       }
 
 -- what the reading of the bytes found
-pub illegal-place : {bytes : List ℕ} (i : ℕ) → Leaves bytes i → i < 65536
+pub illegal-place : {bytes : List ℕ} (i : ℕ) → LeavesGrammar bytes i → i < 65536
 illegal-place {bytes} i l = let w = Grammar.kept .place-within bytes i l .1 in omega (arith, w)
 
-pub illegal-found : {bytes : List ℕ} (entry : List ℕ) (i : ℕ) → Leaves bytes i → TranslatedInOne bytes entry (inOne 13 i) entry
+pub illegal-found : {bytes : List ℕ} (entry : List ℕ) (i : ℕ) → LeavesGrammar bytes i → TranslatedInOne bytes entry (inOne 13 i) entry
 illegal-found entry i l = record { answer = Refused 13 i; translated = outside-grammar l; result-is = refl }
 
-pub told-at : {bytes : List ℕ} {r : Illegal} {i : ℕ} → Told bytes (illegal r) → r ≡ Offset i → Leaves bytes i
-told-at {bytes} h e = subst (λ x. Told bytes (illegal x)) e h
+pub told-at : {bytes : List ℕ} {r : Illegal} {i : ℕ} → PlaceTold bytes (illegal r) → r ≡ Offset i → LeavesGrammar bytes i
+told-at {bytes} h e = subst (λ x. PlaceTold bytes (illegal x)) e h
 
-pub told-nowhere : {bytes : List ℕ} {r : Illegal} → Told bytes (illegal r) → r ≡ Nowhere → Keeps bytes
-told-nowhere {bytes} h e = subst (λ x. Told bytes (illegal x)) e h
+pub told-nowhere : {bytes : List ℕ} {r : Illegal} → PlaceTold bytes (illegal r) → r ≡ Nowhere → Keeps bytes
+told-nowhere {bytes} h e = subst (λ x. PlaceTold bytes (illegal x)) e h

@@ -7,7 +7,7 @@ use mathlib.Core.Bool.{Bool, true, false}
 use mathlib.Core.List.{List, [], _∷_, _++_}
 use mathlib.Core.Option.{Option, none, some}
 use lib.ListN.{length}
-use Rattle.grammar.specs.Tokens.{Token, keyword, symbol, nameToken, Tokens, no-token, a-blank, a-symbol, a-word, Run, run-last, run-more}
+use Rattle.grammar.specs.Tokens.{Token, keyword, symbol, nameToken, Tokens, no-token, a-blank, a-symbol, a-word, LetterRun, run-last, run-more}
 use Rattle.grammar.specs.Tokens.{Spells, spells-keyword, spells-name}
 use Rattle.grammar.specs.Source.{identifier, Declaration, SourceConstant, SourcePattern, Expression, Text, text}
 use Rattle.grammar.specs.Grammar.{ReadsOthers, no-other, one-other, ReadsDeclaration, reads-constructors, reads-pair-of}
@@ -35,7 +35,7 @@ data Within (n : ℕ) : List PlacedCheck → Type 0 where
   within-none : Within n []
   within-one : {p : ℕ} {x : Bool} {cs : List PlacedCheck} → p < n → Within n cs → Within n (checkAt p x ∷ cs)
 
-run-left : {bs word rest : List ℕ} → Run bs word rest → (length bs ≡ length word + length rest) × (1 ≤ length word)
+run-left : {bs word rest : List ℕ} → LetterRun bs word rest → (length bs ≡ length word + length rest) × (1 ≤ length word)
 run-left (run-last h n) = (omega arith, omega arith)
 run-left (run-more h r) = let i = run-left r in (let e = i .0 in omega (arith, e), omega arith)
 

@@ -1,18 +1,19 @@
 -- What the functions ask that lay out the sheet: the bytes are a text whose names are good, and the tables hold its instructions; and then
 -- what was assembled from them.
-use Prim.Native.Nat.{ℕ, suc, _+_, _≤_, _<_}
+use Prim.Native.Nat.{ℕ, suc, _+_, _*_, _≤_, _<_}
 use mathlib.Core.Path.{_≡_}
 use mathlib.Core.Bool.{Bool, false}
 use mathlib.Core.List.{List, _∷_}
 use mathlib.Core.Option.{none}
 use lib.ListN.{length, getD}
+use Rattle.grammar.specs.Sizes.{textTable}
 use Rattle.grammar.specs.Tokens.{Token}
 use Rattle.grammar.specs.Source.{Identifier, identifier, Declaration, Expression, Text, text}
-use Rattle.grammar.specs.Legal.{Reading, Keeps}
+use Rattle.grammar.specs.Legal.{Reading, Keeps, textBytes}
 use Rattle.naming.specs.Checks.{firstBadPlace}
 use Rattle.naming.specs.Constants.{constantsOfText}
 use Rattle.naming.specs.Names.{nameChecks}
-use Rattle.naming.specs.Records.{recordsNeeded}
+use Rattle.naming.specs.RecordsNeeded.{recordsNeeded}
 use Rattle.translation.specs.Resolved.{typeNumber, typeEntries}
 use Rattle.instructions.specs.Instruction.{heldFrom, heldCode}
 use Rattle.instructions.specs.TextOrder.{textInstructions}
@@ -27,7 +28,7 @@ pub record TranslatingResolved (bytes ops firsts seconds : List ℕ) (n : ℕ) :
   pub reading : Reading bytes tokens source
   pub good : firstBadPlace (nameChecks source) ≡ none
   pub held : heldFrom ops firsts seconds 0 n ≡ textInstructions source
-  pub few : n ≤ 65535
+  pub few : n ≤ textBytes
 
 pub record TranslatingAssembled (bytes pairs parts others leaves ops firsts seconds : List ℕ) (types input code expression : ℕ) (ok : Bool) (place : ℕ) : Type 0 where
   pub tokens : List Token
@@ -46,6 +47,6 @@ pub record TranslatingAssembled (bytes pairs parts others leaves ops firsts seco
   pub counted : suc types + expression ≡ recordsNeeded (text first more (identifier name named-at) root)
   pub types-many : types ≡ length (first ∷ more)
   pub untyped-is : untypedAt ok place ≡ firstBadPlace (constantsOfText (text first more (identifier name named-at) root))
-  pub code-few : code ≤ 65535
-  pub small : types + expression ≤ 4325376
-  pub place-small : ok ≡ false → place < 65536
+  pub code-few : code ≤ textBytes
+  pub small : types + expression ≤ 66 * textTable
+  pub place-small : ok ≡ false → place < textTable

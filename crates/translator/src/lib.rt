@@ -4,7 +4,7 @@ ghost use mathlib.Core.Path.{_≡_};
 ghost use mathlib.Core.List.{List};
 ghost use lib.ListN.{length};
 ghost use Rattle.grammar.specs.Legal.{Keeps};
-ghost use Rattle.translator.specs.Translation.{TranslatedInOne};
+ghost use Rattle.translator.specs.Translated.{TranslatedInOne};
 ghost use Rattle.translator.specs.LayingOut.{TranslatingResolved, TranslatingAssembled};
 use answers::NO_ROOM;
 use answers::WRONG_NAME;

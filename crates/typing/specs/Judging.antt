@@ -6,6 +6,7 @@ use mathlib.Core.Bool.{Bool, true, false, _&&_}
 use mathlib.Core.List.{List, [], _∷_, map}
 use mathlib.Core.Option.{Option, none, some}
 use lib.ListN.{length, getD, set}
+use Rattle.records.specs.Limits.{mostRecords}
 use Rattle.picoella.specs.Language.{leaves}
 use Rattle.records.specs.Words.{word, count, nextWord, wordA}
 use Rattle.records.specs.SheetOf.{sheetOf}
@@ -110,7 +111,7 @@ pub record Ground (s : List ℕ) (n : ℕ) (table : List ℕ) : Type 0 where
 pub record Judging (s : List ℕ) (n : ℕ) (table stack : List ℕ) (names rec : ℕ) (widths : List ℕ) : Type 0 where
   pub ground : Ground s n table
   pub wide : length stack ≡ 64
-  pub long : length widths ≡ 4096
+  pub long : length widths ≡ mostRecords
   pub there : rec < n
   pub sort : sortAt s rec ≡ expressions
   pub deep : names ≤ depth s rec
@@ -119,7 +120,7 @@ pub record Judging (s : List ℕ) (n : ℕ) (table stack : List ℕ) (names rec 
 -- and this is what comes of it
 pub record Judged (s Γ : List ℕ) (e : Tree) (answer : Outcome) (before after : List ℕ) : Type 0 where
   pub answered : answer ≡ judged s Γ e
-  pub long : length after ≡ 4096
+  pub long : length after ≡ mostRecords
   pub notes : (t : ℕ) → answer ≡ Sound t → after ≡ noted s Γ e before
 
 -- a pattern is held against a type
@@ -142,14 +143,14 @@ lastly false rec t = Fault rec
 
 pub record Closed (s : List ℕ) (rule : Rule) (rec t : ℕ) (answer : Outcome) (before after : List ℕ) : Type 0 where
   pub answered : answer ≡ lastly (holds s rule) rec t
-  pub long : length after ≡ 4096
+  pub long : length after ≡ mostRecords
   pub notes : (u : ℕ) → answer ≡ Sound u → after ≡ set before rec (leaves (typeAt s t))
 
 -- what a last judgement is called with
 pub record Closing (s : List ℕ) (n : ℕ) (table : List ℕ) (rec : ℕ) (widths : List ℕ) : Type 0 where
   pub ground : Ground s n table
   pub there : rec < n
-  pub long : length widths ≡ 4096
+  pub long : length widths ≡ mostRecords
 
 -- record rec takes the part of a pair whose type is in word k of the pair's record
 pub data PartAt (s : List ℕ) (rec : ℕ) : ℕ → Type 0 where

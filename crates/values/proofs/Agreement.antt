@@ -12,7 +12,7 @@ use lib.ListN.{length, getD, set, length-set}
 use lib.Seq.{getD-set-same, getD-set-other, ext-getD}
 use Rattle.meaning.specs.Undecided.{leafIf, agreedLeaf, agreedLeaves, undecidedRule}
 use Rattle.meaning.specs.Evaluation.{choose}
-use Rattle.values.specs.Answers.{decisionOf, told}
+use Rattle.values.specs.MatchAnswers.{decisionOf, told}
 use Rattle.values.specs.declared.Match.{Match}
 use Rattle.values.specs.declared.Match.the-variants as Matches
 

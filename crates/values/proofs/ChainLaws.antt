@@ -9,10 +9,11 @@ use Rattle.records.specs.Trees.{typeAt, Alternatives, end, noPattern, wholeType
 use Rattle.records.specs.Decoding.{orElse, patternOf}
 use Rattle.records.proofs.Grown.{GrownPattern}
 use Rattle.verdict.specs.Widths.{patternLeaves}
-use Rattle.meaning.specs.Matching.{Decision, Yes, No, Undecided, chainDecision, patternWidth, matches}
+use Rattle.meaning.specs.Matching.{patternWidth, matches}
+use Rattle.meaning.specs.Decisions.{Decision, Yes, No, Undecided, chainDecision}
 use Rattle.values.specs.Matchings.{withRest}
 use Rattle.behaviour.specs.Firing.{orAfter}
-use Rattle.values.specs.Answers.{decisionOf, told, Own}
+use Rattle.values.specs.MatchAnswers.{decisionOf, told, Own}
 use Rattle.values.specs.declared.Match.{Match}
 use Rattle.values.specs.declared.Match.the-variants as Matched′
 

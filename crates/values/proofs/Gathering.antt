@@ -7,12 +7,13 @@ use native.Mathlib.Omega.{arith}
 use Rattle.records.specs.Words.{nextWord, word}
 use Rattle.records.specs.Trees.{end, alternatives, follow}
 use Rattle.records.specs.Decoding.{patternOf}
-use Rattle.meaning.specs.Matching.{No, chainDecision, matches}
+use Rattle.meaning.specs.Matching.{matches}
+use Rattle.meaning.specs.Decisions.{No, chainDecision}
 use Rattle.values.specs.Matchings.{Matching, withRest, MatchedAll, MatchedOne, Chosen}
 use Rattle.meaning.specs.Evaluation.{choose}
 use Rattle.meaning.specs.Undecided.{undecidedRule}
 use Rattle.behaviour.specs.Firing.{orAfter, firstYes}
-use Rattle.values.specs.Answers.{decisionOf, told}
+use Rattle.values.specs.MatchAnswers.{decisionOf, told}
 use Rattle.values.specs.declared.Match.{Match}
 use Rattle.values.specs.declared.Match.the-variants as Matched′
 use Rattle.values.proofs.ChainLaws.{first-told, few-told, told-alone, yes-stays}

@@ -31,10 +31,11 @@ use Rattle.accepted.proofs.Laws.{pattern-kind, no-pattern}
 use Rattle.accepted.proofs.Laws.{in-sheet, next-matching, first-matching, second-matching}
 use Rattle.typing.specs.Judging.{Fitting}
 use Rattle.accepted.proofs.FittingWidths.{fitting-leaves}
-use Rattle.meaning.specs.Matching.{Decision, pairDecision, chainDecision, constructorDecision, patternWidth, matches}
+use Rattle.meaning.specs.Matching.{patternWidth, matches}
+use Rattle.meaning.specs.Decisions.{Decision, pairDecision, chainDecision, constructorDecision}
 use Rattle.values.specs.Matchings.{Matching, withRest, MatchedAll, MatchedOne}
 use Rattle.behaviour.specs.Firing.{firstYes}
-use Rattle.values.specs.Answers.{decisionOf, Own}
+use Rattle.values.specs.MatchAnswers.{decisionOf, Own}
 use Rattle.values.specs.declared.Match.{Match}
 use Rattle.values.specs.declared.Match.the-variants as Matched′
 use Rattle.values.proofs.ChainLaws.{own-told, few-told, one-with-rest, chain-with-rest, alternatives-width}

@@ -12,10 +12,10 @@ use lib.Dec.{eqb}
 use lib.ListN.{length, getD, set, take, drop, length-drop}
 use lib.Seq.{take-length, take-all, take-take, take-suc, drop-length, length-take-le, getD-take, paste, paste-zero, paste-suc, length-paste}
 use Rattle.records.proofs.Tests.{never-both}
-use Rattle.meaning.specs.Matching.{Yes, No, constructorDecision, pairDecision}
+use Rattle.meaning.specs.Decisions.{Yes, No, constructorDecision, pairDecision}
 use Rattle.meaning.specs.Evaluation.{choose}
 use Rattle.meaning.specs.Undecided.{undecidedRule}
-use Rattle.values.specs.Answers.{decisionOf, told, Own, ValuesCompared}
+use Rattle.values.specs.MatchAnswers.{decisionOf, told, Own, ValuesCompared}
 use Rattle.values.specs.declared.Match.{Match}
 use Rattle.values.specs.declared.Match.the-variants as Matches
 

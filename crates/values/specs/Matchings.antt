@@ -4,6 +4,7 @@ use mathlib.Core.Path.{_≡_}
 use mathlib.Core.Bool.{true}
 use mathlib.Core.List.{List}
 use lib.ListN.{length, getD}
+use Rattle.records.specs.Limits.{mostRecords}
 use Rattle.picoella.specs.Language.{leaves}
 use Rattle.records.specs.Words.{count, nextWord}
 use Rattle.records.specs.Kinds.{patterns}
@@ -13,11 +14,12 @@ use Rattle.records.specs.Decoding.{patternOf}
 use Rattle.typing.specs.Judgements.{patternFits}
 use Rattle.typing.specs.Judging.{Fitting}
 use Rattle.verdict.specs.Widths.{patternEntry}
-use Rattle.meaning.specs.Matching.{Decision, chainDecision, matches}
+use Rattle.meaning.specs.Matching.{matches}
+use Rattle.meaning.specs.Decisions.{Decision, chainDecision}
 use Rattle.meaning.specs.Undecided.{undecidedRule}
 use Rattle.meaning.specs.Evaluation.{choose}
 use Rattle.behaviour.specs.Firing.{orAfter, firstYes}
-use Rattle.values.specs.Answers.{decisionOf, told}
+use Rattle.values.specs.MatchAnswers.{decisionOf, told}
 use Rattle.values.specs.declared.Match.{Match}
 
 pub record Matching (s : List ℕ) (n : ℕ) (widths : List ℕ) (p : ℕ) (value : List ℕ) : Type 0 where
@@ -39,7 +41,7 @@ withRest a s (pairOfPatterns r p q m) v = chainDecision a (matches (patternOf s 
 pub record MatchedAll (s : List ℕ) (p : ℕ) (v : List ℕ) (answer : Match) : Type 0 where
   pub decides : decisionOf answer ≡ matches (patternOf s (alternatives s p)) v
   pub tells : told answer ≡ firstYes s (alternatives s p) v
-  pub few : told answer < 4096
+  pub few : told answer < mostRecords
 
 -- a match of the alternative at p, beside those after it
 pub record MatchedOne (s : List ℕ) (p : ℕ) (v : List ℕ) (answer : Match) : Type 0 where
@@ -47,11 +49,11 @@ pub record MatchedOne (s : List ℕ) (p : ℕ) (v : List ℕ) (answer : Match) :
       ≡ withRest (decisionOf answer) s (follow end (alternatives s) (nextWord s p)) v
   pub tells : firstYes s (alternatives s p) v
       ≡ orAfter (decisionOf answer) (told answer) (firstYes s (follow end (alternatives s) (nextWord s p)) v)
-  pub few : told answer < 4096
+  pub few : told answer < mostRecords
 
 -- the value of an IF whose pattern is at p, from the value tested and those of its branches, and the record of the first alternative
 -- that says yes
 pub record Chosen (s : List ℕ) (p : ℕ) (tested otherwise then value : List ℕ) (number : ℕ) : Type 0 where
   pub chosen : value ≡ choose undecidedRule (matches (patternOf s (alternatives s p)) tested) then otherwise
   pub tells : number ≡ firstYes s (alternatives s p) tested
-  pub few : number < 4096
+  pub few : number < mostRecords

@@ -56,7 +56,7 @@ use Rattle.verdict.specs.Scopes.{
   in-if-else,
   in-delay,
 }
-use Rattle.verdict.specs.declared.Verdict.the-variants.{IllTyped}
+use Rattle.answers.specs.declared.Verdict.the-variants.{IllTyped}
 use Rattle.verdict.proofs.Places.{places-right, passes-by-types}
 use Rattle.verdict.proofs.SaysExactly.{failing-first}
 use Rattle.verdict.proofs.Reached.{

@@ -19,8 +19,8 @@ use Rattle.verdict.specs.Verdict.{verdict, unless, byRecords}
 use Rattle.verdict.specs.Scopes.{inputs}
 use Rattle.verdict.specs.Widths.{Widths}
 use Rattle.verdict.specs.CheckedTable.{PatternsFrom, Checked, accepts}
-use Rattle.verdict.specs.declared.Verdict.{Verdict}
-use Rattle.verdict.specs.declared.Verdict.the-variants.{
+use Rattle.answers.specs.declared.Verdict.{Verdict}
+use Rattle.answers.specs.declared.Verdict.the-variants.{
   Accepted,
   WrongLength,
   WrongHeader,

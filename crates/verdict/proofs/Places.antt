@@ -15,8 +15,8 @@ use Rattle.typing.specs.Judgements.{judgements, firstFailing}
 use Rattle.verdict.specs.Verdict.{unless, refusing, byTypes, byRecords, verdict}
 use Rattle.verdict.specs.Scopes.{inputs}
 use Rattle.verdict.specs.Promises.{Says, Places}
-use Rattle.verdict.specs.declared.Verdict.{Verdict}
-use Rattle.verdict.specs.declared.Verdict.the-variants.{
+use Rattle.answers.specs.declared.Verdict.{Verdict}
+use Rattle.answers.specs.declared.Verdict.the-variants.{
   Accepted,
   WrongLength,
   WrongHeader,

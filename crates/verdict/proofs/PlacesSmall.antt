@@ -1,16 +1,15 @@
--- The code of a verdict is at most 7; its place is a record of the sheet, so it is below 4,096.
+-- The place of a verdict is a record of the sheet, so it is below 4,096.
 -- Assumes nothing.
 use mathlib.Core.Path.{_≡_, refl}
 use mathlib.Core.List.{List}
 use Prim.Native.Nat.{ℕ, _<_}
 use native.Mathlib.Omega.{arith}
-use Rattle.answers.specs.Answers.{code, place}
+use Rattle.answers.specs.Answers.{place, verdictAnswer}
 use Rattle.structure.proofs.Passes.{length-fits}
 use Rattle.verdict.specs.Promises.{Says, PlacesBelow}
 use Rattle.verdict.specs.Verdict.{verdict}
-use Rattle.verdict.specs.Scopes.{verdictAnswer}
-use Rattle.verdict.specs.declared.Verdict.{Verdict}
-use Rattle.verdict.specs.declared.Verdict.the-variants.{
+use Rattle.answers.specs.declared.Verdict.{Verdict}
+use Rattle.answers.specs.declared.Verdict.the-variants.{
   Accepted,
   WrongLength,
   WrongHeader,
@@ -23,16 +22,6 @@ use Rattle.verdict.specs.declared.Verdict.the-variants.{
 use Rattle.verdict.proofs.Exact.{exact}
 use Rattle.verdict.proofs.IllTypedExactly.{ill-typed-exactly}
 use Rattle.verdict.proofs.Places.{places-right}
-
-pub code-small : (v : Verdict) {c : ℕ} → c ≡ code (verdictAnswer v) → c < 256
-code-small (Accepted t) e = omega arith
-code-small WrongLength e = omega arith
-code-small WrongHeader e = omega arith
-code-small (WrongRecord r) e = omega arith
-code-small (WrongNaming r) e = omega arith
-code-small (WrongType r) e = omega arith
-code-small (TooDeep r) e = omega arith
-code-small (IllTyped r) e = omega arith
 
 -- the place of each verdict is below the count, or 0
 place-below : (s : List ℕ) (v : Verdict) → verdict s ≡ v → Says s v → place (verdictAnswer v) < 4096

@@ -13,8 +13,8 @@ use Rattle.typing.specs.Judgements.{Judgement, holds, judgements, firstFailing}
 use Rattle.verdict.specs.Verdict.{verdict, byRecords, byTypes}
 use Rattle.verdict.specs.Scopes.{inputs}
 use Rattle.verdict.specs.Promises.{AllHold, FailsFirst, Says, SaysExactly}
-use Rattle.verdict.specs.declared.Verdict.{Verdict}
-use Rattle.verdict.specs.declared.Verdict.the-variants.{
+use Rattle.answers.specs.declared.Verdict.{Verdict}
+use Rattle.answers.specs.declared.Verdict.the-variants.{
   Accepted,
   WrongLength,
   WrongHeader,

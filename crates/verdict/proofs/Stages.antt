@@ -13,7 +13,7 @@ use Rattle.records.specs.Written.{Written}
 use Rattle.records.specs.Says.{namings}
 use Rattle.records.proofs.Asked.{root-is}
 use Rattle.records.proofs.TypeRecords.{input-type}
-use Rattle.answers.specs.Answers.{lowest, code}
+use Rattle.answers.specs.Answers.{lowest, code, verdictAnswer}
 use Rattle.answers.specs.Searches.{found}
 use Rattle.structure.specs.Rules.{Passes, wrongHeader, wrongRecord, wrongNaming, wrongType, tooDeep, depth, nesting}
 use Rattle.structure.specs.NamerTable.{NamingsHeld}
@@ -28,11 +28,11 @@ use Rattle.typing.specs.Judgements.{judgements, firstFailing}
 use Rattle.typing.specs.Judging.{Ground, Judging, Judged, Context, scopeOf, noted}
 use Rattle.verdict.specs.Stages.{CheckingRecords, CheckingNamings, CheckingTypes, CheckingDepths, RulesChecked, StagesChecked}
 use Rattle.verdict.specs.Verdict.{refusing, unless, byTypes, byDepths, byTypeRecords, byNamings, byRecords}
-use Rattle.verdict.specs.Scopes.{inputs, verdictAnswer}
+use Rattle.verdict.specs.Scopes.{inputs}
 use Rattle.typing.specs.declared.Outcome.{Outcome}
 use Rattle.typing.specs.declared.Outcome.the-variants.{Sound, Fault}
-use Rattle.verdict.specs.declared.Verdict.{Verdict}
-use Rattle.verdict.specs.declared.Verdict.the-variants.{
+use Rattle.answers.specs.declared.Verdict.{Verdict}
+use Rattle.answers.specs.declared.Verdict.the-variants.{
   Accepted,
   WrongHeader,
   WrongRecord,

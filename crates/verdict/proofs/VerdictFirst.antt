@@ -8,17 +8,17 @@ use mathlib.Core.List.{List}
 use mathlib.Core.Option.{Option, none, some}
 use Rattle.answers.specs.declared.Answer.{Answer}
 use Rattle.answers.specs.declared.Answer.the-variants.{Done, Refused}
-use Rattle.answers.specs.Answers.{when, orRefused, NoneApplies, lowest}
+use Rattle.answers.specs.Answers.{when, orRefused, NoneApplies, lowest, verdictAnswer}
 use Rattle.answers.proofs.First.{none-done}
 use Rattle.records.specs.Words.{count}
 use Rattle.records.specs.Trees.{circuit}
 use Rattle.structure.specs.Rules.{wrongLength, wrongHeader, wrongRecord, wrongNaming, wrongType, tooDeep}
 use Rattle.typing.specs.Judgements.{judgements, firstFailing}
 use Rattle.verdict.specs.Verdict.{outputType, sheetChecks, unless, refusing, byTypes, byDepths, byTypeRecords, byNamings, byRecords, verdict}
-use Rattle.verdict.specs.Scopes.{inputs, verdictAnswer}
+use Rattle.verdict.specs.Scopes.{inputs}
 use Rattle.verdict.specs.Promises.{VerdictFirst}
-use Rattle.verdict.specs.declared.Verdict.{Verdict}
-use Rattle.verdict.specs.declared.Verdict.the-variants.{
+use Rattle.answers.specs.declared.Verdict.{Verdict}
+use Rattle.answers.specs.declared.Verdict.the-variants.{
   Accepted,
   WrongLength,
   WrongHeader,

@@ -12,17 +12,17 @@ use Rattle.records.specs.Kinds.{expressions}
 use Rattle.records.specs.Says.{sortAt}
 use Rattle.records.specs.Trees.{typeAt, TypeRecord, Declared, circuit}
 use Rattle.records.specs.Decoding.{decode}
-use Rattle.answers.specs.Answers.{lowest, place, firstApplying}
+use Rattle.answers.specs.Answers.{lowest, place, firstApplying, verdictAnswer}
 use Rattle.answers.specs.Promises.{LowestBreaking}
 use Rattle.answers.specs.declared.Answer.the-variants.{Done}
 use Rattle.structure.specs.Rules.{wrongLength, wrongHeader, wrongRecord, wrongNaming, wrongType, tooDeep, Passes}
 use Rattle.typing.specs.Judgements.{Judgement, holds, judgements}
 use Rattle.verdict.specs.Verdict.{outputType, sheetChecks, verdict}
-use Rattle.verdict.specs.Scopes.{inputs, verdictAnswer}
+use Rattle.verdict.specs.Scopes.{inputs}
 use Rattle.verdict.specs.Scopes.{Scope, FirstIllTyped}
 use Rattle.verdict.specs.Widths.{Widths}
-use Rattle.verdict.specs.declared.Verdict.{Verdict}
-use Rattle.verdict.specs.declared.Verdict.the-variants.{
+use Rattle.answers.specs.declared.Verdict.{Verdict}
+use Rattle.answers.specs.declared.Verdict.the-variants.{
   Accepted,
   WrongLength,
   WrongHeader,

@@ -1,4 +1,4 @@
--- The code and the place of each verdict; the names in scope at an expression, and the first expression that has no type.
+-- The names in scope at an expression, and the first expression that has no type.
 use Prim.Native.Nat.{ℕ, _<_}
 use mathlib.Core.Path.{_≡_}
 use mathlib.Core.List.{List, [], _∷_, map}
@@ -24,32 +24,8 @@ use Rattle.records.specs.Kinds.{
 }
 use Rattle.records.specs.Says.{kindAt, sortAt}
 use Rattle.records.specs.Trees.{treeAt, typeRecordOf, typeAt, Declared, alternatives}
-use Rattle.answers.specs.declared.Answer.{Answer}
-use Rattle.answers.specs.declared.Answer.the-variants.{Done, Refused}
-use Rattle.verdict.specs.declared.Verdict.{Verdict}
-use Rattle.verdict.specs.declared.Verdict.the-variants.{
-  Accepted,
-  WrongLength,
-  WrongHeader,
-  WrongRecord,
-  WrongNaming,
-  WrongType,
-  TooDeep,
-  IllTyped,
-}
 use Rattle.picoella.specs.Language.{Ty, HasType, Typed}
 use Rattle.records.specs.Decoding.{patternOf, expressionOf}
-
--- the number and the place of each case
-abbrev pub verdictAnswer : Verdict → Answer
-verdictAnswer (Accepted t) = Done t
-verdictAnswer WrongLength = Refused 1 0
-verdictAnswer WrongHeader = Refused 2 0
-verdictAnswer (WrongRecord r) = Refused 3 r
-verdictAnswer (WrongNaming r) = Refused 4 r
-verdictAnswer (WrongType r) = Refused 5 r
-verdictAnswer (TooDeep r) = Refused 6 r
-verdictAnswer (IllTyped r) = Refused 7 r
 
 -- Which names are in scope at an expression of the circuit (docs/SHEETS.md, "Type rules": "The input is the outermost, with the
 -- header's input type. In the body of a LET there is one name more, of the defining part's type. In both parts of a feedback there is

@@ -5,6 +5,7 @@ use mathlib.Core.Bool.{false}
 use mathlib.Core.List.{List}
 use mathlib.Core.Option.{none}
 use lib.ListN.{length}
+use Rattle.records.specs.Limits.{mostRecords}
 use Rattle.records.specs.Words.{count}
 use Rattle.records.specs.Sized.{Sized}
 use Rattle.answers.specs.Answers.{lowest}
@@ -12,8 +13,8 @@ use Rattle.records.specs.Trees.{circuit}
 use Rattle.structure.specs.LeafTable.{LeavesCounted}
 use Rattle.structure.specs.Rules.{wrongLength, wrongHeader, wrongRecord, wrongNaming, wrongType}
 use Rattle.typing.specs.Judging.{noted}
-use Rattle.verdict.specs.declared.Verdict.{Verdict}
-use Rattle.verdict.specs.declared.Verdict.the-variants.{Accepted}
+use Rattle.answers.specs.declared.Verdict.{Verdict}
+use Rattle.answers.specs.declared.Verdict.the-variants.{Accepted}
 use Rattle.verdict.specs.Scopes.{inputs}
 
 -- not code 1
@@ -41,7 +42,7 @@ pub record CheckingDepths (s : List ℕ) (n : ℕ) : Type 0 where
 -- expression noted
 pub record RulesChecked (s : List ℕ) (v answer : Verdict) (before after : List ℕ) : Type 0 where
   pub answered : answer ≡ v
-  pub long : length after ≡ 4096
+  pub long : length after ≡ mostRecords
   pub notes : (t : ℕ) → answer ≡ Accepted t → after ≡ noted s (inputs s) (circuit s) before
 
 -- the same where the table is first filled with the leaf counts of types

@@ -8,9 +8,9 @@ use Rattle.records.specs.Trees.{circuit, typeRecordOf}
 use Rattle.answers.specs.Answers.{Check, check, when, lowest}
 use Rattle.structure.specs.Rules.{wrongLength, wrongHeader, wrongRecord, wrongNaming, wrongType, tooDeep}
 use Rattle.typing.specs.Judgements.{judgements, firstFailing}
-use Rattle.verdict.specs.declared.Verdict.{Verdict}
+use Rattle.answers.specs.declared.Verdict.{Verdict}
 use Rattle.verdict.specs.Scopes.{inputs}
-use Rattle.verdict.specs.declared.Verdict.the-variants.{Accepted, WrongLength, WrongHeader, WrongRecord, WrongNaming, WrongType, TooDeep, IllTyped}
+use Rattle.answers.specs.declared.Verdict.the-variants.{Accepted, WrongLength, WrongHeader, WrongRecord, WrongNaming, WrongType, TooDeep, IllTyped}
 
 -- a test or a search that refuses, or else what comes after it
 abbrev pub unless : Bool → Verdict → Verdict → Verdict

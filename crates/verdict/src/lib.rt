@@ -9,34 +9,26 @@ ghost use Rattle.structure.specs.NamerTable.{NamingsHeld};
 ghost use Rattle.structure.specs.LeafTable.{LeavesCounted};
 ghost use Rattle.typing.specs.Judging.{Ground};
 ghost use Rattle.verdict.specs.Verdict.{verdict, byTypes, byDepths, byTypeRecords, byNamings, byRecords, unless};
-ghost use Rattle.verdict.specs.Scopes.{verdictAnswer};
 ghost use Rattle.verdict.specs.Stages.{RulesChecked, StagesChecked, CheckingRecords, CheckingNamings, CheckingTypes, CheckingDepths};
-ghost use Rattle.answers.specs.Answers.{code, place, packed};
+ghost use Rattle.answers.specs.Answers.{packed, verdictAnswer};
 ghost use Rattle.verdict.specs.Widths.{Widths};
 ghost use Rattle.verdict.specs.CheckedTable.{PatternsFrom, Checked, accepts};
-ghost use Rattle.verdict.specs.declared.Verdict.the-variants.{WrongHeader};
-ghost use Rattle.answers.specs.Searches.{placeBound};
+ghost use Rattle.answers.specs.declared.Verdict.the-variants.{WrongHeader};
 ghost use Rattle.records.specs.Limits.{mostRecords};
 use answers::Found;
-use answers::ILL_TYPED;
-use answers::TOO_DEEP;
-use answers::WRONG_HEADER;
-use answers::WRONG_LENGTH;
-use answers::WRONG_NAMING;
-use answers::WRONG_RECORD;
-use answers::WRONG_TYPE;
-use answers::in_one;
+use answers::Verdict;
+use answers::packed_verdict;
 use records::KIND_CONSTRUCTOR_PATTERN;
 use records::KIND_PAIR_PATTERN;
 use records::KIND_WHOLE_PATTERN;
 use records::Namers;
 use records::RECORD_BYTES;
-use records::RECORDS;
 use records::SHEET_BYTES;
 use records::WORD_A;
 use records::WORD_B;
 use records::WORD_KIND;
 use records::WidthTable;
+use records::no_widths;
 use records::records_in;
 use records::word;
 use structure::capped_sum;
@@ -54,20 +46,6 @@ use structure::wrong_header;
 use typing::Outcome;
 use typing::input_scope;
 use typing::judge_root;
-
-// The answer of the check. `specs/Scopes.antt` gives the number and the place of each case (docs/SHEETS.md, "Codes").
-pub enum Verdict {
-    // The output type's record.
-    Accepted(usize),
-    WrongLength,
-    WrongHeader,
-    // Each of these holds the record at fault.
-    WrongRecord(usize),
-    WrongNaming(usize),
-    WrongType(usize),
-    TooDeep(usize),
-    IllTyped(usize),
-}
 
 // By the type rules: code 7.
 fn check_rules(sheet: &[u8], n: usize, table: &WidthTable, widths: &mut WidthTable) -> Verdict
@@ -204,13 +182,6 @@ fn is_accepted(v: Verdict) -> bool
     }
 }
 
-// Room for a table of widths.
-pub fn no_widths() -> WidthTable
-    ensures { λ r. ⌜ length r ≡ mostRecords ⌝ }
-{
-    [0; RECORDS]
-}
-
 // The check of a sheet of n records, with the leaf counts of the types of expressions, patterns and types for an accepted sheet.
 pub fn check_into(sheet: &[u8], n: usize, table: &mut WidthTable) -> Verdict
     requires { ⌜ n ≡ length (now sheet) / 12 ⌝ }
@@ -234,46 +205,6 @@ pub fn check_into(sheet: &[u8], n: usize, table: &mut WidthTable) -> Verdict
     note_patterns(sheet, n, &mut widths);
     *table = widths;
     answer
-}
-
-// The code of a verdict, 0 where it accepts.
-pub fn verdict_code(v: Verdict) -> u64
-    ensures { λ r. ⌜ r ≡ code (verdictAnswer v) ⌝ }
-{
-    match v {
-        Verdict::Accepted(_) => 0,
-        Verdict::WrongLength => WRONG_LENGTH,
-        Verdict::WrongHeader => WRONG_HEADER,
-        Verdict::WrongRecord(_) => WRONG_RECORD,
-        Verdict::WrongNaming(_) => WRONG_NAMING,
-        Verdict::WrongType(_) => WRONG_TYPE,
-        Verdict::TooDeep(_) => TOO_DEEP,
-        Verdict::IllTyped(_) => ILL_TYPED,
-    }
-}
-
-// The record that a verdict speaks of, 0 where it speaks of none.
-fn verdict_place(v: Verdict) -> u64
-    ensures { λ r. ⌜ r ≡ place (verdictAnswer v) ⌝ }
-{
-    match v {
-        Verdict::Accepted(t) => t as u64,
-        Verdict::WrongLength => 0,
-        Verdict::WrongHeader => 0,
-        Verdict::WrongRecord(r) => r as u64,
-        Verdict::WrongNaming(r) => r as u64,
-        Verdict::WrongType(r) => r as u64,
-        Verdict::TooDeep(r) => r as u64,
-        Verdict::IllTyped(r) => r as u64,
-    }
-}
-
-// The code and the place of a verdict in one number.
-pub fn packed_verdict(v: Verdict) -> u64
-    requires { ⌜ place (verdictAnswer v) < placeBound ⌝ }
-    ensures { λ r. ⌜ r ≡ packed (verdictAnswer v) ⌝ }
-{
-    in_one(verdict_code(v), verdict_place(v))
 }
 
 // The check: the verdict's code and place in one number.

@@ -1,7 +1,7 @@
 -- Accepted sheets that no other file has: the smallest, the sheet T of docs/SHEETS.md, and one whose input type is a high record.
 use mathlib.Core.List.{List, [], _∷_}
 use Rattle.records.specs.SheetOf.{words}
-use Rattle.verdict.specs.declared.Verdict.the-variants.{Accepted}
+use Rattle.answers.specs.declared.Verdict.the-variants.{Accepted}
 use Rattle.verdict_table.specs.Rows.{VerdictRow, gives}
 
 abbrev pub acceptedRows : List VerdictRow

@@ -3,7 +3,7 @@
 use Prim.Native.Nat.{ℕ, zero, suc, _+_}
 use mathlib.Core.List.{List, [], _∷_}
 use Rattle.records.specs.SheetOf.{Record, words}
-use Rattle.verdict.specs.declared.Verdict.the-variants.{Accepted, TooDeep}
+use Rattle.answers.specs.declared.Verdict.the-variants.{Accepted, TooDeep}
 use Rattle.verdict_table.specs.Rows.{VerdictRow, gives}
 
 -- LETs, each in the body of the one before, the first at record r; the defining part of each is name 0

@@ -2,7 +2,7 @@
 -- each row breaks one word of the header of an accepted sheet, `smallest`.
 use mathlib.Core.List.{List, [], _∷_}
 use Rattle.records.specs.SheetOf.{words}
-use Rattle.verdict.specs.declared.Verdict.the-variants.{WrongHeader}
+use Rattle.answers.specs.declared.Verdict.the-variants.{WrongHeader}
 use Rattle.verdict_table.specs.Rows.{VerdictRow, gives}
 
 abbrev pub headerRows : List VerdictRow

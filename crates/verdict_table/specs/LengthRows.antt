@@ -3,7 +3,7 @@
 use mathlib.Core.List.{List, [], _∷_, _++_}
 use lib.ListN.{replicate}
 use Rattle.records.specs.SheetOf.{words, sheetOf}
-use Rattle.verdict.specs.declared.Verdict.the-variants.{WrongLength, WrongHeader}
+use Rattle.answers.specs.declared.Verdict.the-variants.{WrongLength, WrongHeader}
 use Rattle.verdict_table.specs.Rows.{VerdictRow, bytesGive}
 
 abbrev pub lengthRows : List VerdictRow

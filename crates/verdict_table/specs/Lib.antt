@@ -1,4 +1,7 @@
 -- The table of verdicts on bytes.
+-- To believe:
+pub mod VerdictTable
+-- Examples, by computation, of which its promise speaks:
 pub mod Rows
 pub mod LengthRows
 pub mod HeaderRows
@@ -9,4 +12,3 @@ pub mod SharingRows
 pub mod TypeRecordRows
 pub mod DepthRows
 pub mod AcceptedRows
-pub mod VerdictTable

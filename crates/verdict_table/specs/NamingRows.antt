@@ -2,7 +2,7 @@
 -- `next` words are"). `SharingRows` has what IFs may share.
 use mathlib.Core.List.{List, [], _∷_}
 use Rattle.records.specs.SheetOf.{words}
-use Rattle.verdict.specs.declared.Verdict.the-variants.{Accepted, WrongNaming}
+use Rattle.answers.specs.declared.Verdict.the-variants.{Accepted, WrongNaming}
 use Rattle.verdict_table.specs.Rows.{VerdictRow, gives}
 
 abbrev pub namingRows : List VerdictRow

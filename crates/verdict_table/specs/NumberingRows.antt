@@ -4,7 +4,7 @@
 -- word names is of the sort that the word asks for.").
 use mathlib.Core.List.{List, [], _∷_}
 use Rattle.records.specs.SheetOf.{words}
-use Rattle.verdict.specs.declared.Verdict.the-variants.{WrongRecord}
+use Rattle.answers.specs.declared.Verdict.the-variants.{WrongRecord}
 use Rattle.verdict_table.specs.Rows.{VerdictRow, gives}
 
 abbrev pub numberingRows : List VerdictRow

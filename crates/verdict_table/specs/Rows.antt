@@ -9,8 +9,8 @@ use Rattle.records.specs.SheetOf.{Record, sheetOf}
 use Rattle.typing.specs.Rows.{TypingRow, judgedTo}
 use Rattle.typing.specs.declared.Outcome.the-variants.{Sound, Fault}
 use Rattle.verdict.specs.Verdict.{verdict}
-use Rattle.verdict.specs.declared.Verdict.{Verdict}
-use Rattle.verdict.specs.declared.Verdict.the-variants.{Accepted, IllTyped}
+use Rattle.answers.specs.declared.Verdict.{Verdict}
+use Rattle.answers.specs.declared.Verdict.the-variants.{Accepted, IllTyped}
 
 pub data VerdictRow : Type 0 where
   gives : (name : String) → List Record → Verdict → VerdictRow

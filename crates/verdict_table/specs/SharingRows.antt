@@ -3,7 +3,7 @@
 -- tested type.
 use mathlib.Core.List.{List, [], _∷_}
 use Rattle.records.specs.SheetOf.{words}
-use Rattle.verdict.specs.declared.Verdict.the-variants.{Accepted, WrongNaming, IllTyped}
+use Rattle.answers.specs.declared.Verdict.the-variants.{Accepted, WrongNaming, IllTyped}
 use Rattle.verdict_table.specs.Rows.{VerdictRow, gives}
 
 abbrev pub sharingRows : List VerdictRow

@@ -1,7 +1,7 @@
 -- Code 5 (docs/SHEETS.md, "Codes": "a pair type whose two parts a lower pair type has, or that has more than 64 leaves").
 use mathlib.Core.List.{List, [], _∷_}
 use Rattle.records.specs.SheetOf.{words}
-use Rattle.verdict.specs.declared.Verdict.the-variants.{Accepted, WrongType}
+use Rattle.answers.specs.declared.Verdict.the-variants.{Accepted, WrongType}
 use Rattle.verdict_table.specs.Rows.{VerdictRow, gives}
 
 abbrev pub typeRecordRows : List VerdictRow

@@ -2,7 +2,7 @@
 -- does not allow"): the kind, words that a kind does not mention, and numbers out of the table's bounds.
 use mathlib.Core.List.{List, [], _∷_}
 use Rattle.records.specs.SheetOf.{words}
-use Rattle.verdict.specs.declared.Verdict.the-variants.{Accepted, WrongRecord}
+use Rattle.answers.specs.declared.Verdict.the-variants.{Accepted, WrongRecord}
 use Rattle.verdict_table.specs.Rows.{VerdictRow, gives}
 
 abbrev pub wordRows : List VerdictRow

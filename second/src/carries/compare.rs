@@ -4,6 +4,7 @@ use std::fmt::Write;
 use std::hint::black_box;
 use std::sync::atomic::{AtomicBool, Ordering};
 
+use second::answers::{Answer, NEW_SHEET_REFUSED};
 use second::carry::{carry, Call, Outcome};
 use second::carry_mistakes::CarryMistake;
 use second::random::Random;
@@ -125,7 +126,7 @@ impl Comparer<'_> {
         let (archive, altered) = self.memory.lend(case, &next, placement);
         let second =
             Left { packed: outcome.answer.packed(), next: outcome.next.clone().unwrap_or(next) };
-        let accepted = archive.packed >> 32 == 0;
+        let accepted = Answer::accepts(archive.packed);
         let plain = [
             (altered, "the archive's call altered bytes that it may not"),
             (
@@ -144,7 +145,7 @@ impl Comparer<'_> {
         self.tally.compared += 1;
         self.tally.codes[usize::from(outcome.answer.code)] += 1;
         self.tally.placements[placement.index()] += 1;
-        if outcome.answer.code == 18 {
+        if outcome.answer.code == NEW_SHEET_REFUSED {
             let place = outcome.answer.place as usize;
             self.tally.new_codes.get_mut(place).into_iter().for_each(|count| *count += 1);
         }

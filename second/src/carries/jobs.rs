@@ -3,7 +3,8 @@
 use std::collections::HashMap;
 
 use second::accepted::Circuit;
-use second::carry::{alike, same_pairs};
+use second::answers::{ILL_TYPED, LABEL_TWICE, WRONG_LENGTH, WRONG_NEXT_LENGTH};
+use second::carry::{same_pairs, same_shape};
 use second::faults::category::Category;
 use second::fuzz;
 use second::labels::{labels, repeated};
@@ -108,7 +109,7 @@ fn count_shapes(to: &mut Comparer, old: &Circuit, new: &Circuit) {
         let (from, of) = (old.records[partner][A], new.records[delay][A]);
         let flats = [old.records[usize::from(from)], new.records[usize::from(of)]]
             .map(|record| record[KIND] == FLAT);
-        let like = alike(old, from, new, of);
+        let like = same_shape(old, from, new, of);
         let pairs = same_pairs(old, from, new, of);
         let taken = &old.leaves[partner];
         let counts = [
@@ -142,7 +143,7 @@ fn all_twice(to: &mut Comparer, random: &mut Random) -> Ended {
     while ways.iter().any(|way| to.tally.got(way) < share(way)) {
         let Some((case, way)) = twice(random) else { continue };
         let outcome = to.compare(&case)?;
-        to.tally.add(way, u64::from(outcome.answer.code == 19));
+        to.tally.add(way, u64::from(outcome.answer.code == LABEL_TWICE));
         let several =
             [&case.old, &case.new].into_iter().any(|sheet| repeated(&labels(sheet)).len() > 1);
         to.tally.add(tally::SEVERAL_TWICE, u64::from(several));
@@ -152,7 +153,7 @@ fn all_twice(to: &mut Comparer, random: &mut Random) -> Ended {
 
 /// Each code of either sheet, and wrong lengths.
 fn refused(to: &mut Comparer, categories: &[Category], random: &mut Random) -> Ended {
-    for code in 1..=7 {
+    for code in WRONG_LENGTH..=ILL_TYPED {
         for of_old in [true, false] {
             let need = tally::PER_NEW_CODE.max(tally::PER_CODE).div_ceil(SHARDS);
             let mut hits = 0;
@@ -178,9 +179,14 @@ fn refused(to: &mut Comparer, categories: &[Category], random: &mut Random) -> E
         let Some((length, way)) = other_length(&call, random) else { continue };
         call.next_length = length;
         let outcome = to.compare(&call)?;
-        to.tally.add(way, u64::from(outcome.answer.code == 11));
+        to.tally.add(way, u64::from(outcome.answer.code == WRONG_NEXT_LENGTH));
     }
     Ok(())
+}
+
+/// One of the check's codes.
+fn any_code(random: &mut Random) -> u8 {
+    random.range(usize::from(WRONG_LENGTH), usize::from(ILL_TYPED)) as u8
 }
 
 /// Calls with two faults, of which one is told.
@@ -194,12 +200,12 @@ fn two_faults(to: &mut Comparer, categories: &[Category], random: &mut Random) -
     ];
     for way in ways {
         while to.tally.got(way) < share(way) {
-            let code = random.range(1, 7) as u8;
+            let code = any_code(random);
             let Some((_, wrong)) = broken(code, categories, random) else { continue };
             let Some((doubled, _)) = twice(random) else { continue };
             let mut call = match way {
                 tally::BOTH_REFUSED => {
-                    let code = random.range(1, 7) as u8;
+                    let code = any_code(random);
                     let Some((_, old)) = broken(code, categories, random) else { continue };
                     case(way, old, wrong)
                 }

@@ -50,5 +50,5 @@ pub fn run(options: &Options) -> ExitCode {
         println!("after {} equal carries", tally.compared);
         return ExitCode::from(1);
     }
-    workers::answer(options, &tally.print(), tally.compared, "carries")
+    workers::conclude(options, &tally.print(), tally.compared, "carries")
 }

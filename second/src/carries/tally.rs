@@ -2,11 +2,15 @@
 
 use std::collections::BTreeMap;
 
+use second::answers::{
+    ACCEPTED, ILL_TYPED, LABEL_TWICE, NEW_SHEET_REFUSED, WRONG_LENGTH, WRONG_NEXT_LENGTH,
+};
+
 use crate::memory::PLACEMENTS;
 use crate::workers::Count;
 
 /// One more than the greatest code.
-pub const CODES: usize = 20;
+pub const CODES: usize = LABEL_TWICE as usize + 1;
 
 #[derive(Clone, Default)]
 pub struct Tally {
@@ -14,7 +18,7 @@ pub struct Tally {
     /// Calls by code.
     pub codes: [u64; CODES],
     /// Calls refused with 18, by the new sheet's code.
-    pub new_codes: [u64; 8],
+    pub new_codes: [u64; ILL_TYPED as usize + 1],
     /// Calls by the placement of the lent slices.
     pub placements: [u64; PLACEMENTS],
     /// Everything else, by name.
@@ -111,15 +115,24 @@ impl Tally {
             }
         };
         line("carries in all".into(), self.compared, CARRIES);
-        line("carries with code 0".into(), self.codes[0], CARRIES / 2);
+        line(
+            format!("carries with code {ACCEPTED}"),
+            self.codes[usize::from(ACCEPTED)],
+            CARRIES / 2,
+        );
         for (name, need) in QUOTAS {
             line(name.into(), self.got(name), need);
         }
-        for code in (1..=7).chain([11, 18, 19]) {
-            line(format!("carries with code {code}"), self.codes[code], PER_CODE);
+        let after_check = [WRONG_NEXT_LENGTH, NEW_SHEET_REFUSED, LABEL_TWICE];
+        for code in (WRONG_LENGTH..=ILL_TYPED).chain(after_check) {
+            line(format!("carries with code {code}"), self.codes[usize::from(code)], PER_CODE);
         }
         for (code, count) in self.new_codes.iter().enumerate().skip(1) {
-            line(format!("18: new sheet refused with {code}"), *count, PER_NEW_CODE);
+            line(
+                format!("{NEW_SHEET_REFUSED}: new sheet refused with {code}"),
+                *count,
+                PER_NEW_CODE,
+            );
         }
         let names = ["before a closed page", "after a closed page", "between kept bytes"];
         for (name, count) in names.iter().zip(self.placements) {

@@ -1,7 +1,7 @@
 //! The parts of the comparison. The fixed sheets come first, then shards of
 //! the random ones.
 
-use second::answers::Answer;
+use second::answers::{self, Answer, ILL_TYPED, WRONG_LENGTH};
 use second::draft::Draft;
 use second::faults::category::{faulty, faulty_in, Category};
 use second::fuzz;
@@ -85,20 +85,21 @@ fn share(name: &str) -> u64 {
 /// Counts the kinds in an accepted sheet with over 30 records, patterns that
 /// several IFs name, and labels.
 fn count_kinds(to: &mut Comparer, records: &[Record], verdict: Answer) {
+    let accepted = verdict.code == answers::ACCEPTED;
     let most = choices_on(records).into_iter().max().unwrap_or(0);
-    to.tally.add(tally::SHARED, verdict.code == 0 && most == 2);
-    to.tally.add(tally::SHARED_BY_MORE, verdict.code == 0 && most > 2);
+    to.tally.add(tally::SHARED, accepted && most == 2);
+    to.tally.add(tally::SHARED_BY_MORE, accepted && most > 2);
     let labels = labels(&bytes(records));
-    to.tally.add(tally::LABELLED, verdict.code == 0 && labels.iter().any(|&label| label != 0));
-    to.tally.add(tally::LABELLED_TWICE, verdict.code == 0 && !repeated(&labels).is_empty());
+    to.tally.add(tally::LABELLED, accepted && labels.iter().any(|&label| label != 0));
+    to.tally.add(tally::LABELLED_TWICE, accepted && !repeated(&labels).is_empty());
     let large = records.len() > 30;
     if !large {
         return;
     }
-    to.tally.add(tally::ACCEPTED, verdict.code == 0);
+    to.tally.add(tally::ACCEPTED, accepted);
     for (k, kind) in KINDS.iter().enumerate() {
         let has = records.iter().any(|record| record[KIND] == *kind);
-        to.tally.kinds[k] += u64::from(has && verdict.code == 0);
+        to.tally.kinds[k] += u64::from(has && accepted);
     }
 }
 
@@ -135,7 +136,7 @@ fn boundaries(to: &mut Comparer, random: &mut Random) -> Ended {
                 continue;
             }
             let verdict = to.compare(name, &sheet)?;
-            to.tally.add(name, verdict.code == 0);
+            to.tally.add(name, verdict.code == answers::ACCEPTED);
             if to.tally.named[name].hit >= share(name) {
                 break;
             }
@@ -182,14 +183,14 @@ fn single_faults(to: &mut Comparer, categories: &[Category], random: &mut Random
 fn two_faults(to: &mut Comparer, categories: &[Category], random: &mut Random) -> Ended {
     let need = tally::PER_TWO_CODES.div_ceil(SHARDS);
     let of_code = |code: u8| categories.iter().filter(move |c| c.code == code).collect::<Vec<_>>();
-    let by_code: Vec<Vec<&Category>> = (0..=7).map(of_code).collect();
+    let by_code: Vec<Vec<&Category>> = (answers::ACCEPTED..=ILL_TYPED).map(of_code).collect();
     for (low, high) in CODES {
         let (lower, higher) = (&by_code[usize::from(low)], &by_code[usize::from(high)]);
         for _ in 0..need * TRIES {
             let mut faults: Vec<&Category> = vec![higher[random.below(higher.len())]];
             faults.extend(random.pick(lower));
             let Some(mut sheet) = faulty(&base(random), &faults, random) else { continue };
-            if low == 1 {
+            if low == WRONG_LENGTH {
                 sheet.truncate(sheet.len() - random.range(1, 11));
             }
             let names: Vec<&str> = faults.iter().map(|c| c.name.as_str()).collect();
@@ -216,7 +217,11 @@ fn headers(to: &mut Comparer, random: &mut Random) -> Ended {
 
 /// Sheets of 4,095, 4,096 and 4,097 records, and faults in some of them.
 fn long(to: &mut Comparer, categories: &[Category], random: &mut Random) -> Ended {
-    let sizes = [(tally::SHORTER, 4095, 0), (tally::LONGEST, 4096, 0), (tally::TOO_LONG, 4097, 1)];
+    let sizes = [
+        (tally::SHORTER, 4095, answers::ACCEPTED),
+        (tally::LONGEST, 4096, answers::ACCEPTED),
+        (tally::TOO_LONG, 4097, WRONG_LENGTH),
+    ];
     for (name, records, code) in sizes {
         for _ in 0..share(name) {
             let draft = circuit_of_records(records, random);

@@ -45,5 +45,5 @@ pub fn run(options: &Options) -> ExitCode {
         return ExitCode::from(1);
     }
     let unmet = tally.print(&categories);
-    workers::answer(options, &unmet, tally.compared, "sheets")
+    workers::conclude(options, &unmet, tally.compared, "sheets")
 }

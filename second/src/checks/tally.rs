@@ -2,6 +2,7 @@
 
 use std::collections::BTreeMap;
 
+use second::answers::{ILL_TYPED, WRONG_LENGTH};
 use second::faults::category::Category;
 use second::records::KINDS;
 
@@ -25,13 +26,13 @@ impl Hits {
 pub struct Tally {
     pub compared: u64,
     /// Sheets by code.
-    pub codes: [u64; 8],
+    pub codes: [u64; ILL_TYPED as usize + 1],
     /// Sheets with each kind, among those accepted with over 30 records.
     pub kinds: [u64; KINDS.len()],
     /// Single faults, in the order of the categories.
     pub faults: Vec<Hits>,
     /// Sheets with faults of two codes, by the lower and the higher one.
-    pub two_codes: [[u64; 8]; 8],
+    pub two_codes: [[u64; ILL_TYPED as usize + 1]; ILL_TYPED as usize + 1],
     /// Everything else, by name.
     pub named: BTreeMap<&'static str, Hits>,
 }
@@ -101,10 +102,10 @@ pub const QUOTAS: [(&str, u64); 23] = [
 /// Every two different codes of faults, the lower first.
 pub const CODES: [(u8, u8); 21] = {
     let mut codes = [(0, 0); 21];
-    let (mut k, mut low) = (0, 1);
-    while low < 7 {
+    let (mut k, mut low) = (0, WRONG_LENGTH);
+    while low < ILL_TYPED {
         let mut high = low + 1;
-        while high <= 7 {
+        while high <= ILL_TYPED {
             codes[k] = (low, high);
             k += 1;
             high += 1;

@@ -1,5 +1,6 @@
 //! A category of faults, and sheets with faults of some categories.
 
+use crate::answers::WRONG_TYPE;
 use crate::draft::Draft;
 use crate::layout::layout;
 use crate::random::Random;
@@ -46,7 +47,7 @@ impl Category {
 pub fn faulty(draft: &Draft, faults: &[&Category], random: &mut Random) -> Option<Vec<u8>> {
     let mut draft = draft.clone();
     let mut faults = faults.to_vec();
-    faults.sort_by_key(|category| category.code == 5);
+    faults.sort_by_key(|category| category.code == WRONG_TYPE);
     for category in &faults {
         if let Fault::Draft(fault) = &category.fault {
             if !fault(&mut draft, random) {

@@ -2,18 +2,19 @@
 
 use super::category::Category;
 use super::picks::{nonzero, past_count, some_record, unknown_kind};
+use crate::answers::WRONG_HEADER;
 use crate::records::{sort, Record, Sort, A, B, C, D, HEADER, KIND, NEXT, WORD_NAMES};
 
 const NAMING: [(usize, Sort); 3] = [(NEXT, Sort::Type), (A, Sort::Type), (B, Sort::Expression)];
 
 pub fn categories() -> Vec<Category> {
     let mut all = vec![
-        Category::words(2, "header: kind", |records, random| {
+        Category::words(WRONG_HEADER, "header: kind", |records, random| {
             records[0][KIND] =
                 if random.one_in(2) { random.below(70) as u16 } else { random.word() };
             records[0][KIND] != HEADER
         }),
-        Category::words(2, "header: count", |records, random| {
+        Category::words(WRONG_HEADER, "header: count", |records, random| {
             let count = records.len() as u16;
             records[0][C] = match random.below(4) {
                 0 => count + 1,
@@ -23,7 +24,7 @@ pub fn categories() -> Vec<Category> {
             };
             records[0][C] != count
         }),
-        Category::words(2, "header: d", |records, random| {
+        Category::words(WRONG_HEADER, "header: d", |records, random| {
             records[0][D] = nonzero(random);
             true
         }),
@@ -38,21 +39,21 @@ pub fn categories() -> Vec<Category> {
 fn naming(word: usize, wanted: Sort) -> Vec<Category> {
     let name = |what: &str| format!("header: {} {what}", WORD_NAMES[word]);
     vec![
-        Category::words(2, name("is 0"), move |records, _| {
+        Category::words(WRONG_HEADER, name("is 0"), move |records, _| {
             records[0][word] = 0;
             true
         }),
-        Category::words(2, name("past the count"), move |records, random| {
+        Category::words(WRONG_HEADER, name("past the count"), move |records, random| {
             records[0][word] = past_count(records, random);
             true
         }),
-        Category::words(2, name("of another sort"), move |records, random| {
+        Category::words(WRONG_HEADER, name("of another sort"), move |records, random| {
             let other = |_: usize, r: &Record| sort(r[KIND]) != Some(wanted);
             let Some(number) = some_record(records, random, other) else { return false };
             records[0][word] = number as u16;
             true
         }),
-        Category::words(2, name("of unknown kind"), move |records, random| {
+        Category::words(WRONG_HEADER, name("of unknown kind"), move |records, random| {
             let number = usize::from(records[0][word]);
             records[number][KIND] = unknown_kind(random);
             true

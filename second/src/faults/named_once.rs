@@ -2,6 +2,7 @@
 
 use super::category::Category;
 use super::picks::some_record;
+use crate::answers::WRONG_NAMING;
 use crate::draft::{Draft, Term};
 use crate::generate::patterns;
 use crate::random::Random;
@@ -22,12 +23,16 @@ pub fn categories() -> Vec<Category> {
         ("alternative", (WHOLE..=PAIR_PATTERN).collect()),
         ("leaf", vec![LEAF]),
     ] {
-        all.push(Category::words(4, format!("chain cut at a {name}"), move |records, random| {
-            let cut = |_: usize, r: &Record| kinds.contains(&r[KIND]) && r[NEXT] != 0;
-            let Some(number) = some_record(records, random, cut) else { return false };
-            records[number][NEXT] = 0;
-            true
-        }));
+        all.push(Category::words(
+            WRONG_NAMING,
+            format!("chain cut at a {name}"),
+            move |records, random| {
+                let cut = |_: usize, r: &Record| kinds.contains(&r[KIND]) && r[NEXT] != 0;
+                let Some(number) = some_record(records, random, cut) else { return false };
+                records[number][NEXT] = 0;
+                true
+            },
+        ));
     }
     all
 }
@@ -42,26 +47,26 @@ fn put(draft: &mut Draft, node: usize) -> bool {
 fn orphans() -> Vec<Category> {
     let any = |draft: &Draft, random: &mut Random| random.pick(&draft.chain).unwrap_or(0);
     vec![
-        Category::draft(4, "unnamed type", move |draft, random| {
+        Category::draft(WRONG_NAMING, "unnamed type", move |draft, random| {
             let (first, second) = (any(draft, random), any(draft, random));
             let flat = random.one_in(2) || draft.find_pair(first, second).is_some();
             let node =
                 if flat { draft.loose_flat(2) } else { draft.loose_pair_type(first, second) };
             put(draft, node)
         }),
-        Category::draft(4, "unnamed expression", move |draft, random| {
+        Category::draft(WRONG_NAMING, "unnamed expression", move |draft, random| {
             let of = any(draft, random);
             let part = draft.random_constant(of, random);
             let name = draft.name(0, of);
             let node = if random.one_in(2) { part } else { draft.bind(part, name) };
             put(draft, node)
         }),
-        Category::draft(4, "unnamed pattern", move |draft, random| {
+        Category::draft(WRONG_NAMING, "unnamed pattern", move |draft, random| {
             let of = any(draft, random);
             let node = patterns::chain(draft, of, random);
             put(draft, node)
         }),
-        Category::draft(4, "unnamed leaf", move |draft, random| {
+        Category::draft(WRONG_NAMING, "unnamed leaf", move |draft, random| {
             let values = vec![1; random.range(1, 3)];
             let node = draft.leaves(&values);
             put(draft, node)
@@ -72,17 +77,21 @@ fn orphans() -> Vec<Category> {
 /// Records that nothing names, though they name records named already.
 fn naming_orphans() -> Vec<Category> {
     vec![
-        Category::draft(4, "unnamed type before the first", |draft, random| {
+        Category::draft(WRONG_NAMING, "unnamed type before the first", |draft, random| {
             let node = draft.loose_flat(random.range(1, 9) as u16);
             draft.nodes[node].words[NEXT] = Term::Part(draft.chain[0]);
             put(draft, node)
         }),
-        Category::draft(4, "unnamed expression that names a named one", |draft, random| {
-            let spots = expressions(draft);
-            let Some(spot) = random.pick(&spots) else { return false };
-            let node = draft.first(spot.node, 0);
-            put(draft, node)
-        }),
+        Category::draft(
+            WRONG_NAMING,
+            "unnamed expression that names a named one",
+            |draft, random| {
+                let spots = expressions(draft);
+                let Some(spot) = random.pick(&spots) else { return false };
+                let node = draft.first(spot.node, 0);
+                put(draft, node)
+            },
+        ),
     ]
 }
 
@@ -91,7 +100,7 @@ fn shared() -> Vec<Category> {
     let of_kind = |kind: u16, from: usize, to: usize| {
         let (one, two) = (WORD_NAMES[from], WORD_NAMES[to]);
         let name = format!("kind {kind}: {one} and {two} name one record");
-        Category::draft(4, name, move |draft, random| {
+        Category::draft(WRONG_NAMING, name, move |draft, random| {
             let node = if kind == PAIR_PATTERN {
                 let found = alternatives(draft).into_iter().map(|s| s.node);
                 let found: Vec<usize> = found.filter(|&n| draft.kind(n) == kind).collect();
@@ -119,22 +128,22 @@ fn shared() -> Vec<Category> {
 /// Words that name another record of the right sort.
 fn renamed() -> Vec<Category> {
     let mut all = vec![
-        Category::words(4, "header: next is a later type", |records, random| {
+        Category::words(WRONG_NAMING, "header: next is a later type", |records, random| {
             header_names(records, random, NEXT, Sort::Type)
         }),
-        Category::words(4, "header: b is another expression", |records, random| {
+        Category::words(WRONG_NAMING, "header: b is another expression", |records, random| {
             header_names(records, random, B, Sort::Expression)
         }),
     ];
     for wanted in [Sort::Expression, Sort::Pattern, Sort::Leaf] {
         let name = format!("part is another's {wanted:?}").to_lowercase();
-        all.push(Category::words(4, name, move |records, random| {
+        all.push(Category::words(WRONG_NAMING, name, move |records, random| {
             rename(records, random, Word::Part(wanted), wanted)
         }));
     }
     for wanted in [Sort::Type, Sort::Pattern, Sort::Leaf] {
         let name = format!("next is another {wanted:?}").to_lowercase();
-        all.push(Category::words(4, name, move |records, random| {
+        all.push(Category::words(WRONG_NAMING, name, move |records, random| {
             rename(records, random, Word::Next(wanted), wanted)
         }));
     }

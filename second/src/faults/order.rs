@@ -4,6 +4,7 @@
 use super::category::Category;
 use super::patterns::break_pattern;
 use super::typing::{break_closing, lengthen, mismatch, unpair};
+use crate::answers::ILL_TYPED;
 use crate::draft::Draft;
 use crate::random::Random;
 use crate::records::{A, B, C, CONSTANT, DELAY, FEEDBACK, IF, LET, NAME, PAIR};
@@ -11,7 +12,7 @@ use crate::survey::{below, expressions, some, some_closing, some_kind, Spot};
 
 pub fn categories() -> Vec<Category> {
     let mut all = vec![
-        Category::draft(7, "order: several names and constants", |draft, random| {
+        Category::draft(ILL_TYPED, "order: several names and constants", |draft, random| {
             let closes = |draft: &Draft, s: &Spot| [NAME, CONSTANT].contains(&draft.kind(s.node));
             for _ in 0..random.range(2, 5) {
                 let found = some(draft, random, &|spot| closes(draft, spot));
@@ -20,7 +21,7 @@ pub fn categories() -> Vec<Category> {
             }
             true
         }),
-        Category::draft(7, "order: several wholes", |draft, random| {
+        Category::draft(ILL_TYPED, "order: several wholes", |draft, random| {
             let mut done = 0;
             for _ in 0..12 {
                 let spots = expressions(draft);
@@ -32,7 +33,7 @@ pub fn categories() -> Vec<Category> {
     ];
     for (kind, name) in [(PAIR, "pair"), (FEEDBACK, "feedback"), (IF, "IF"), (DELAY, "delay")] {
         let name = format!("order: {name} and inside its parts");
-        all.push(Category::draft(7, name, move |draft, random| {
+        all.push(Category::draft(ILL_TYPED, name, move |draft, random| {
             let Some(spot) = some_kind(draft, random, kind) else { return false };
             break_whole(draft, spot, random) && break_part(draft, spot, random, None)
         }));
@@ -78,7 +79,7 @@ fn break_part(draft: &mut Draft, spot: Spot, random: &mut Random, word: Option<u
 fn patterns() -> Vec<Category> {
     let of = |word: usize, name: &str| {
         let name = format!("order: pattern and {name} of one IF");
-        Category::draft(7, name, move |draft, random| {
+        Category::draft(ILL_TYPED, name, move |draft, random| {
             let Some(spot) = some_kind(draft, random, IF) else { return false };
             break_pattern(draft, spot.node, random) && break_part(draft, spot, random, Some(word))
         })
@@ -89,7 +90,7 @@ fn patterns() -> Vec<Category> {
 /// Two parts of one expression.
 fn two_parts() -> Vec<Category> {
     let of = |kind: u16, one: usize, two: usize, name: &str| {
-        Category::draft(7, format!("order: {name}"), move |draft, random| {
+        Category::draft(ILL_TYPED, format!("order: {name}"), move |draft, random| {
             let Some(spot) = some_kind(draft, random, kind) else { return false };
             break_part(draft, spot, random, Some(one)) && break_part(draft, spot, random, Some(two))
         })

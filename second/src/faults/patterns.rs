@@ -1,6 +1,7 @@
 //! Alternatives of a type other than the tested one: code 7 at the IF.
 
 use super::category::Category;
+use crate::answers::ILL_TYPED;
 use crate::draft::{Draft, Term};
 use crate::generate::patterns::full;
 use crate::generate::types::{other, twin};
@@ -47,7 +48,7 @@ pub fn categories() -> Vec<Category> {
     for (place, place_name) in PLACES {
         for (wrong, wrong_name) in WRONGS {
             let name = format!("pattern: {place_name}: {wrong_name}");
-            all.push(Category::draft(7, name, move |draft, random| {
+            all.push(Category::draft(ILL_TYPED, name, move |draft, random| {
                 let stands = |spot: &Alternative| match place {
                     Where::First => spot.level == 0 && spot.word == D,
                     Where::Later => spot.level == 0 && spot.word == NEXT,

@@ -2,6 +2,7 @@
 //! several IFs may name; code 7 where an IF tests another type than theirs.
 
 use super::category::Category;
+use crate::answers::{ILL_TYPED, WRONG_NAMING};
 use crate::draft::{Draft, Term};
 use crate::generate::types::{other, twin};
 use crate::random::Random;
@@ -15,37 +16,45 @@ type Named = (usize, usize);
 
 pub fn categories() -> Vec<Category> {
     let mut all = vec![
-        Category::draft(4, "pattern named by d and next", |draft, random| {
+        Category::draft(WRONG_NAMING, "pattern named by d and next", |draft, random| {
             let named = patterns(draft, &[NEXT]);
             name_again(draft, ds(draft), named, random)
         }),
-        Category::draft(4, "pattern named by d and a pair pattern", |draft, random| {
+        Category::draft(WRONG_NAMING, "pattern named by d and a pair pattern", |draft, random| {
             let named = patterns(draft, &[A, B]);
             name_again(draft, ds(draft), named, random)
         }),
-        Category::draft(4, "pattern named by two nexts", |draft, random| {
+        Category::draft(WRONG_NAMING, "pattern named by two nexts", |draft, random| {
             let named = patterns(draft, &[NEXT]);
             name_again(draft, nexts(draft), named, random)
         }),
-        Category::draft(4, "pattern named by two words of pair patterns", |draft, random| {
-            let named = patterns(draft, &[A, B]);
-            name_again(draft, parts(draft), named, random)
-        }),
-        Category::draft(4, "pattern named by next and a pair pattern", |draft, random| {
-            let (places, words): (_, &[usize]) = match random.one_in(2) {
-                true => (nexts(draft), &[A, B]),
-                false => (parts(draft), &[NEXT]),
-            };
-            let named = patterns(draft, words);
-            name_again(draft, places, named, random)
-        }),
-        Category::draft(4, "expression named by two records", |draft, random| {
+        Category::draft(
+            WRONG_NAMING,
+            "pattern named by two words of pair patterns",
+            |draft, random| {
+                let named = patterns(draft, &[A, B]);
+                name_again(draft, parts(draft), named, random)
+            },
+        ),
+        Category::draft(
+            WRONG_NAMING,
+            "pattern named by next and a pair pattern",
+            |draft, random| {
+                let (places, words): (_, &[usize]) = match random.one_in(2) {
+                    true => (nexts(draft), &[A, B]),
+                    false => (parts(draft), &[NEXT]),
+                };
+                let named = patterns(draft, words);
+                name_again(draft, places, named, random)
+            },
+        ),
+        Category::draft(WRONG_NAMING, "expression named by two records", |draft, random| {
             let spots = expressions(draft);
             let places = spots.iter().map(|spot| (spot.holder, spot.word)).collect();
             let named = spots.iter().map(|spot| (spot.node, spot.holder)).collect();
             name_again(draft, places, named, random)
         }),
-        Category::draft(4, "leaf named by two records", |draft, random| {
+        Category::draft(WRONG_NAMING, "leaf named by two records", |draft, random| {
             let (places, named) = leaves(draft);
             name_again(draft, places, named, random)
         }),
@@ -123,7 +132,7 @@ fn tested() -> Vec<Category> {
     type Other = fn(&mut Draft, usize, &mut Random) -> Option<usize>;
     let of = |name: &str, find: Other| {
         let name = format!("pattern shared by IFs that test {name}");
-        Category::draft(7, name, move |draft, random| {
+        Category::draft(ILL_TYPED, name, move |draft, random| {
             let patterns: Vec<usize> =
                 choices(draft).into_iter().filter_map(|n| draft.nodes[n].target(D)).collect();
             let Some(pattern) = random.pick(&patterns) else { return false };

@@ -1,6 +1,7 @@
 //! Type rules broken by one expression: code 7.
 
 use super::category::Category;
+use crate::answers::ILL_TYPED;
 use crate::draft::{Draft, Term};
 use crate::generate::types::{other, twin};
 use crate::random::Random;
@@ -21,12 +22,12 @@ pub fn categories() -> Vec<Category> {
 
 fn names() -> Vec<Category> {
     vec![
-        Category::draft(7, "name: the count of names in scope", |draft, random| {
+        Category::draft(ILL_TYPED, "name: the count of names in scope", |draft, random| {
             let Some(spot) = some_kind(draft, random, NAME) else { return false };
             draft.nodes[spot.node].words[A] = Term::Number(spot.scope as u16);
             true
         }),
-        Category::draft(7, "name: far over the count of names", |draft, random| {
+        Category::draft(ILL_TYPED, "name: far over the count of names", |draft, random| {
             let Some(spot) = some_kind(draft, random, NAME) else { return false };
             let number = random.range(spot.scope, 65_535) as u16;
             draft.nodes[spot.node].words[A] = Term::Number(number);
@@ -86,7 +87,7 @@ fn leaves(kind: u16, name: &str) -> Vec<Category> {
         }
     };
     vec![
-        Category::draft(7, format!("{name}: too few leaves"), move |draft, random| {
+        Category::draft(ILL_TYPED, format!("{name}: too few leaves"), move |draft, random| {
             let wide = |spot: &Spot| {
                 draft.kind(spot.node) == kind && draft.width(draft.nodes[spot.node].of) > 1
             };
@@ -96,14 +97,14 @@ fn leaves(kind: u16, name: &str) -> Vec<Category> {
             draft.nodes[last].words[NEXT] = Term::Number(0);
             true
         }),
-        Category::draft(7, format!("{name}: too many leaves"), move |draft, random| {
+        Category::draft(ILL_TYPED, format!("{name}: too many leaves"), move |draft, random| {
             let Some(spot) = some_kind(draft, random, kind) else { return false };
             let by = if random.one_in(2) { 1 } else { random.range(2, 70) };
             lengthen(draft, spot.node, by);
             true
         }),
-        Category::draft(7, format!("{name}: leaf is count + 1"), overflowing(true)),
-        Category::draft(7, format!("{name}: leaf over its count"), overflowing(false)),
+        Category::draft(ILL_TYPED, format!("{name}: leaf is count + 1"), overflowing(true)),
+        Category::draft(ILL_TYPED, format!("{name}: leaf over its count"), overflowing(false)),
     ]
 }
 
@@ -165,7 +166,7 @@ fn parts() -> Vec<Category> {
     let mut all = Vec::new();
     for (kind, name) in [(FIRST, "first"), (SECOND, "second")] {
         all.push(Category::draft(
-            7,
+            ILL_TYPED,
             format!("{name} part of a flat type"),
             move |draft, random| {
                 let Some(spot) = some_kind(draft, random, kind) else { return false };
@@ -175,16 +176,20 @@ fn parts() -> Vec<Category> {
     }
     for word in [A, B] {
         let name = format!("pair: no pair type, {} of another type", WORD_NAMES[word]);
-        all.push(Category::draft(7, name, move |draft, random| {
+        all.push(Category::draft(ILL_TYPED, name, move |draft, random| {
             let Some(spot) = some_kind(draft, random, PAIR) else { return false };
             unpair(draft, spot, word, random)
         }));
     }
     for (kind, word, name) in SAME {
-        all.push(Category::draft(7, format!("{name} of another type"), move |draft, random| {
-            let Some(spot) = some_kind(draft, random, kind) else { return false };
-            mismatch(draft, spot, word, random)
-        }));
+        all.push(Category::draft(
+            ILL_TYPED,
+            format!("{name} of another type"),
+            move |draft, random| {
+                let Some(spot) = some_kind(draft, random, kind) else { return false };
+                mismatch(draft, spot, word, random)
+            },
+        ));
     }
     all
 }
@@ -193,14 +198,18 @@ fn parts() -> Vec<Category> {
 fn twins() -> Vec<Category> {
     let pair = [(PAIR, A, "pair: first part"), (PAIR, B, "pair: second part")];
     let twinned = SAME.into_iter().chain(pair).map(|(kind, word, name)| {
-        Category::draft(7, format!("{name} of a type of the same shape"), move |draft, random| {
-            let Some(spot) = some_kind(draft, random, kind) else { return false };
-            let Some(part) = draft.nodes[spot.node].target(word) else { return false };
-            let of = twin(draft, draft.nodes[part].of, random);
-            let node = draft.random_constant(of, random);
-            draft.nodes[spot.node].words[word] = Term::Part(node);
-            true
-        })
+        Category::draft(
+            ILL_TYPED,
+            format!("{name} of a type of the same shape"),
+            move |draft, random| {
+                let Some(spot) = some_kind(draft, random, kind) else { return false };
+                let Some(part) = draft.nodes[spot.node].target(word) else { return false };
+                let of = twin(draft, draft.nodes[part].of, random);
+                let node = draft.random_constant(of, random);
+                draft.nodes[spot.node].words[word] = Term::Part(node);
+                true
+            },
+        )
     });
     twinned.collect()
 }

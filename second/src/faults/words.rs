@@ -3,6 +3,7 @@
 
 use super::category::Category;
 use super::picks::{nonzero, past_count, some_record, unknown_kind};
+use crate::answers::WRONG_RECORD;
 use crate::random::Random;
 use crate::records::{
     sort, words, Record, Sort, Word, A, B, CONSTRUCTOR, FLAT, HEADER, KIND, KINDS, LEAF, NEXT,
@@ -55,14 +56,16 @@ fn kinds() -> Vec<Category> {
             true
         };
         let name = format!("kind: unknown, for a {wanted:?}").to_lowercase();
-        all.push(Category::words(3, name, move |records, random| {
+        all.push(Category::words(WRONG_RECORD, name, move |records, random| {
             let kind = unknown_kind(random);
             change(records, random, kind)
         }));
         let name = format!("kind: 1 for a {wanted:?}").to_lowercase();
-        all.push(Category::words(3, name, move |records, random| change(records, random, HEADER)));
+        all.push(Category::words(WRONG_RECORD, name, move |records, random| {
+            change(records, random, HEADER)
+        }));
         let name = format!("kind: another sort for a {wanted:?}").to_lowercase();
-        all.push(Category::words(3, name, move |records, random| {
+        all.push(Category::words(WRONG_RECORD, name, move |records, random| {
             let others = KINDS.into_iter().filter(|&k| sort(k) != Some(wanted));
             let others: Vec<u16> = others.collect();
             let kind = random.pick(&others).unwrap_or(0);
@@ -82,17 +85,17 @@ fn values() -> Vec<Category> {
         Some(if random.one_in(2) { 256 } else { random.range(256, 65_535) as u16 })
     };
     vec![
-        Category::words(3, "flat type: count 0", change(FLAT, A, |_, _, _| Some(0))),
-        Category::words(3, "flat type: count over 255", change(FLAT, A, large)),
-        Category::words(3, "leaf: over 255", change(LEAF, A, large)),
-        Category::words(3, "constructor: 0", change(CONSTRUCTOR, B, |_, _, _| Some(0))),
+        Category::words(WRONG_RECORD, "flat type: count 0", change(FLAT, A, |_, _, _| Some(0))),
+        Category::words(WRONG_RECORD, "flat type: count over 255", change(FLAT, A, large)),
+        Category::words(WRONG_RECORD, "leaf: over 255", change(LEAF, A, large)),
+        Category::words(WRONG_RECORD, "constructor: 0", change(CONSTRUCTOR, B, |_, _, _| Some(0))),
         Category::words(
-            3,
+            WRONG_RECORD,
             "constructor: count + 1",
             change(CONSTRUCTOR, B, move |records, number, _| Some(flat_count(records, number) + 1)),
         ),
         Category::words(
-            3,
+            WRONG_RECORD,
             "constructor: far over the count",
             change(CONSTRUCTOR, B, move |records, number, random| {
                 let low = usize::from(flat_count(records, number)) + 1;
@@ -100,7 +103,7 @@ fn values() -> Vec<Category> {
             }),
         ),
         Category::words(
-            3,
+            WRONG_RECORD,
             "constructor: of a pair type",
             change(CONSTRUCTOR, A, |records, number, random| {
                 let found = some_record(records, random, |i, r| i < number && r[KIND] == PAIR_TYPE);
@@ -115,7 +118,7 @@ fn of_word(kind: u16, word: usize, asked: Word) -> Vec<Category> {
     let name = |what: &str| format!("kind {kind}: {} {what}", WORD_NAMES[word]);
     match asked {
         Word::Zero => vec![Category::words(
-            3,
+            WRONG_RECORD,
             name("not mentioned, not 0"),
             change(kind, word, |_, _, random| Some(nonzero(random))),
         )],
@@ -138,8 +141,9 @@ fn named_wrongly(
     higher: bool,
     name: &dyn Fn(&str) -> String,
 ) -> Vec<Category> {
-    let category =
-        |what: &str, value: Box<Value>| Category::words(3, name(what), change(kind, word, value));
+    let category = |what: &str, value: Box<Value>| {
+        Category::words(WRONG_RECORD, name(what), change(kind, word, value))
+    };
     let on_side = move |number: usize, i: usize| if higher { i > number } else { i < number };
     vec![
         category("is 0", Box::new(|_, _, _| Some(0))),

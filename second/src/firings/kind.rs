@@ -1,10 +1,11 @@
 //! What is compared of fired alternatives, and what is counted of them.
 
 use second::accepted::Circuit;
+use second::answers::WRONG_WORDS;
 use second::evaluator::Tested;
 use second::firing::{firing, first_yes, tested, Call};
 use second::firing_mistakes::FiringMistake;
-use second::matching::{answers, Match};
+use second::matching::{said_by_each, Match};
 use second::records::{
     expression_parts, Record, A, B, C, D, FEEDBACK, IF, KIND, NEXT, PAIR_PATTERN,
 };
@@ -33,7 +34,7 @@ const IN_PATTERNS: &str = "firings with a chain inside a pair pattern";
 pub const FIRINGS: Kind<FiringMistake> = Kind {
     what: "firings",
     least: 100_000,
-    length_code: 16,
+    length_code: WRONG_WORDS,
     item: 2,
     items: |circuit| circuit.records.len(),
     second,
@@ -75,12 +76,12 @@ struct Choice {
 }
 
 impl Choice {
-    fn says(&self, answer: Match) -> usize {
-        self.said.iter().filter(|(_, said)| *said == answer).count()
+    fn says(&self, asked: Match) -> usize {
+        self.said.iter().filter(|(_, said)| *said == asked).count()
     }
 
-    fn first(&self, answer: Match) -> Option<usize> {
-        self.said.iter().position(|(_, said)| *said == answer)
+    fn first(&self, asked: Match) -> Option<usize> {
+        self.said.iter().position(|(_, said)| *said == asked)
     }
 
     fn fires(&self) -> bool {
@@ -107,7 +108,7 @@ fn choices(circuit: &Circuit, input: &[u8]) -> Vec<Choice> {
     let choice = |(number, tested): (usize, Tested)| {
         let record = circuit.records[number];
         (record[KIND] == IF).then(|| {
-            let said = answers(circuit, record[D], &tested.last);
+            let said = said_by_each(circuit, record[D], &tested.last);
             Choice { number, said, tested }
         })
     };

@@ -1,11 +1,12 @@
 //! Calls with faults: in the sheet, the stimulus or the slice's length.
 
+use second::answers::{ILL_TYPED, WRONG_INPUT, WRONG_STIMULUS};
 use second::draft::Draft;
 use second::faults::category::Category;
 use second::generate::circuits::circuit;
 use second::layout::sheet;
 use second::random::Random;
-use second::stimulus::MAX_STIMULUS;
+use second::stimulus::LONGEST_STIMULUS;
 
 use super::cases::{Case, Ground, Kind};
 use super::tally;
@@ -33,15 +34,15 @@ pub fn broken<M>(
     let whole = sheet(&draft, random);
     let ground = Ground::of(kind, &whole)?;
     let mut case = ground.good("one call", whole, random);
-    for &code in codes.iter().filter(|&&code| code <= 7) {
+    for &code in codes.iter().filter(|&&code| code <= ILL_TYPED) {
         (case.source, case.sheet) = break_sheet(&draft, code, categories, random)?;
     }
     let mut ways = Vec::new();
     // The stimulus gets its length first, and then bytes that are too great.
-    for &code in codes.iter().filter(|&&code| code >= 8) {
+    for &code in codes.iter().filter(|&&code| code > ILL_TYPED) {
         let way = match code {
-            8 => break_stimulus(&mut case, &ground, random)?,
-            9 => break_bytes(&mut case, &ground, random)?,
+            WRONG_STIMULUS => break_stimulus(&mut case, &ground, random)?,
+            WRONG_INPUT => break_bytes(&mut case, &ground, random)?,
             _ => break_length(&mut case, &ground, random)?,
         };
         case.source = format!("{}; {way}", case.source);
@@ -54,17 +55,17 @@ pub fn broken<M>(
 /// or as so many cycles.
 fn break_stimulus(case: &mut Case, ground: &Ground, random: &mut Random) -> Option<&'static str> {
     let leaves = ground.counts.len();
-    let way = random.pick(tally::ways(8))?;
+    let way = random.pick(tally::ways(WRONG_STIMULUS))?;
     let length = match way {
         tally::EMPTY => 0,
         tally::PART => random.range(1, leaves.checked_sub(1).filter(|&most| most > 0)?),
         tally::TWO => 2 * leaves,
-        tally::MORE if random.one_in(20) => MAX_STIMULUS / leaves * leaves,
+        tally::MORE if random.one_in(20) => LONGEST_STIMULUS / leaves * leaves,
         tally::MORE => leaves * random.range(3, 9),
         tally::NOT_WHOLE => {
             leaves + random.range(1, leaves.checked_sub(1).filter(|&most| most > 0)?)
         }
-        _ => MAX_STIMULUS + random.range(1, 2 * leaves),
+        _ => LONGEST_STIMULUS + random.range(1, 2 * leaves),
     };
     case.stimulus = ground.stimulus(length / leaves + 1, random);
     case.stimulus.truncate(length);

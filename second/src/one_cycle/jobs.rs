@@ -1,6 +1,7 @@
 //! The parts of the comparison. The fixed sheets come first, then shards of
 //! the random ones.
 
+use second::answers::ILL_TYPED;
 use second::faults::category::Category;
 use second::fuzz;
 use second::generate::boundary::{deepen, nest};
@@ -109,7 +110,7 @@ fn named_shapes<M: Copy>(to: &mut Comparer<M>, random: &mut Random) -> Ended {
 fn refused<M: Copy>(to: &mut Comparer<M>, categories: &[Category], random: &mut Random) -> Ended {
     for code in codes(to.kind) {
         let need = tally::PER_CODE.div_ceil(SHARDS);
-        let ways = if code < 8 { &[] } else { tally::ways(code) };
+        let ways = if code <= ILL_TYPED { &[] } else { tally::ways(code) };
         let mut hits = 0;
         for _ in 0..need * TRIES {
             let Some((case, made)) = broken(to.kind, &[code], categories, random) else { continue };

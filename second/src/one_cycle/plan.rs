@@ -52,5 +52,5 @@ pub fn run<M: Copy + Sync>(kind: &Kind<M>, options: &Options<M>) -> ExitCode {
         println!("after {} equal {what}", tally.compared);
         return ExitCode::from(1);
     }
-    workers::answer(options, &tally.print(kind), tally.compared, what)
+    workers::conclude(options, &tally.print(kind), tally.compared, what)
 }

@@ -2,6 +2,7 @@
 
 use std::collections::BTreeMap;
 
+use second::answers::{ACCEPTED, WRONG_INPUT, WRONG_LENGTH, WRONG_STIMULUS, WRONG_WORDS};
 use second::layout::ORDERS;
 
 use super::cases::Kind;
@@ -9,7 +10,7 @@ use crate::memory::PLACEMENTS;
 use crate::workers::Count;
 
 /// One more than the greatest code.
-const CODES: usize = 17;
+const CODES: usize = WRONG_WORDS as usize + 1;
 
 #[derive(Clone, Default)]
 pub struct Tally {
@@ -73,8 +74,8 @@ const QUOTAS: [(&str, u64); 17] = [
 /// The named ways to break the rule of a code from 8 on.
 pub fn ways(code: u8) -> &'static [&'static str] {
     match code {
-        8 => &[EMPTY, PART, TWO, MORE, NOT_WHOLE, OVER],
-        9 => &[ABOVE, SOME_ABOVE],
+        WRONG_STIMULUS => &[EMPTY, PART, TWO, MORE, NOT_WHOLE, OVER],
+        WRONG_INPUT => &[ABOVE, SOME_ABOVE],
         _ => &[NONE, SHORTER, LONGER, OF_INPUT, OF_TWO],
     }
 }
@@ -86,12 +87,12 @@ pub fn quota(name: &str) -> u64 {
 
 /// The codes of a kind, the lowest first.
 pub fn codes<M>(kind: &Kind<M>) -> impl Iterator<Item = u8> {
-    (1..=9).chain([kind.length_code])
+    (WRONG_LENGTH..=WRONG_INPUT).chain([kind.length_code])
 }
 
 /// Two codes of which one is about the call: the lower one, the higher one.
 pub fn two_codes<M>(kind: &Kind<M>) -> Vec<(u8, u8)> {
-    let about_call = [8, 9, kind.length_code];
+    let about_call = [WRONG_STIMULUS, WRONG_INPUT, kind.length_code];
     about_call
         .into_iter()
         .flat_map(|high| codes(kind).take_while(move |low| *low < high).map(move |low| (low, high)))
@@ -117,7 +118,7 @@ impl Tally {
                 unmet.push(format!("{name}: {got} of {need}"));
             }
         };
-        line(format!("accepted {what}"), self.codes[0], kind.least);
+        line(format!("accepted {what}"), self.codes[usize::from(ACCEPTED)], kind.least);
         for (name, need) in kind.quotas.iter().chain(&QUOTAS) {
             line(name.to_string(), self.got(name), *need);
         }

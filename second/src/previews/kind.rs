@@ -1,6 +1,7 @@
 //! What is compared of previews, and what is counted of them.
 
 use second::accepted::Circuit;
+use second::answers::{Answer, WRONG_OUTPUT_LENGTH, WRONG_STIMULUS};
 use second::preview::{preview, Call};
 use second::preview_mistakes::PreviewMistake;
 use second::records::{read, DELAY, FEEDBACK, KIND};
@@ -25,7 +26,7 @@ const WIDE: &str = "previews with 64 output leaves";
 pub const PREVIEWS: Kind<PreviewMistake> = Kind {
     what: "previews",
     least: 50_000,
-    length_code: 10,
+    length_code: WRONG_OUTPUT_LENGTH,
     item: 1,
     items: |circuit| circuit.width(circuit.root()),
     second,
@@ -54,7 +55,7 @@ fn second(case: &Case, mistake: Option<PreviewMistake>) -> Outcome {
 /// The archive's run of the same cycle on a copy puts out the same, and refuses
 /// the same but for code 8.
 fn unlike_run(case: &Case, packed: u64, slice: &[u8]) -> Option<&'static str> {
-    if packed == 8 << 32 {
+    if packed == (Answer { code: WRONG_STIMULUS, place: 0 }.packed()) {
         return None;
     }
     let copy = case.sheet.clone();
@@ -63,10 +64,11 @@ fn unlike_run(case: &Case, packed: u64, slice: &[u8]) -> Option<&'static str> {
     outputs.iter_mut().for_each(|leaf| *leaf = !*leaf);
     let kept = outputs.clone();
     let ran = external::run(&copy, &case.stimulus, &mut outputs, &mut next);
-    let (as_answered, shown) = match packed {
-        // A run's place is then the number of cycles.
-        0 => (ran == 1, outputs == slice),
-        refused => (ran == refused, outputs == kept),
+    let (as_answered, shown) = if packed == Answer::accepted(0).packed() {
+        // A run's place is the number of cycles.
+        (ran == Answer::accepted(1).packed(), outputs == slice)
+    } else {
+        (ran == packed, outputs == kept)
     };
     (!as_answered || !shown).then_some("the archive's run of this cycle gives something else")
 }
@@ -79,7 +81,7 @@ fn counts(case: &Case) -> Vec<(&'static str, bool)> {
     let mut stepper = Stepper::new(&circuit, IN_FORCE, None, &mut watch);
     let outputs = stepper.cycle(&case.stimulus);
     let moves = stepper.next_sheet(&case.sheet) != case.sheet;
-    let after = stepper.cycle(&case.stimulus);
+    let after = stepper.look(&case.stimulus);
     vec![
         (DELAYS, has(DELAY)),
         (DELAYS_MOVE, moves),

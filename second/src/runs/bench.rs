@@ -10,7 +10,7 @@ use second::random::Random;
 use second::records::RECORD_BYTES;
 use second::shapes;
 use second::simulator::{self, Call};
-use second::stimulus::MAX_STIMULUS;
+use second::stimulus::LONGEST_STIMULUS;
 
 use super::cases::{good, Frame};
 use super::compare::Case;
@@ -22,8 +22,8 @@ const TIME: Duration = Duration::from_millis(1500);
 /// The sheets, the cycles they are timed on, and whether the program is timed
 /// on them too.
 const SHEETS: [(&str, usize, bool); 7] = [
-    ("T", MAX_STIMULUS, true),
-    ("T-64-times", MAX_STIMULUS / 64, true),
+    ("T", LONGEST_STIMULUS, true),
+    ("T-64-times", LONGEST_STIMULUS / 64, true),
     ("random-4000", 200, true),
     ("slow-feedback-64", 1000, false),
     ("three-slow-feedbacks-64", 1, false),

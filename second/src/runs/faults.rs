@@ -1,12 +1,13 @@
 //! Calls with faults: in the sheet, the stimulus or a slice's length.
 
+use second::answers::{WRONG_INPUT, WRONG_LENGTH, WRONG_OUTPUT_LENGTH, WRONG_STIMULUS};
 use second::draft::Draft;
 use second::faults::category::{faulty, Category};
 use second::fuzz;
 use second::layout::sheet;
 use second::random::Random;
 use second::records::{MAX_RECORDS, RECORD_BYTES};
-use second::stimulus::MAX_STIMULUS;
+use second::stimulus::LONGEST_STIMULUS;
 
 use super::cases::Frame;
 use super::compare::Case;
@@ -20,7 +21,7 @@ pub fn break_sheet(
     categories: &[Category],
     random: &mut Random,
 ) -> Option<(String, Vec<u8>)> {
-    if code == 1 {
+    if code == WRONG_LENGTH {
         return Some(("length".to_string(), of_wrong_length(sheet(draft, random), random)));
     }
     let of_code: Vec<&Category> = categories.iter().filter(|c| c.code == code).collect();
@@ -51,13 +52,13 @@ pub fn break_call(
     random: &mut Random,
 ) -> Option<&'static str> {
     match code {
-        8 => break_stimulus(case, frame, random),
-        9 => break_bytes(case, frame, random),
-        10 if without_cycles(case, frame, random) => {
+        WRONG_STIMULUS => break_stimulus(case, frame, random),
+        WRONG_INPUT => break_bytes(case, frame, random),
+        WRONG_OUTPUT_LENGTH if without_cycles(case, frame, random) => {
             case.output_length = random.pick(&[1, frame.output, frame.output + 1])?;
             Some(tally::OUT_OF_NO_CYCLES)
         }
-        10 => {
+        WRONG_OUTPUT_LENGTH => {
             let (given, way) = other_length(case.output_length, frame.output, random);
             case.output_length = given;
             Some([tally::OUT_NONE, tally::OUT_SHORTER, tally::OUT_LONGER][way])
@@ -76,7 +77,7 @@ pub fn break_call(
 fn without_cycles(case: &mut Case, frame: &Frame, random: &mut Random) -> bool {
     let leaves = frame.counts.len();
     let cycles = case.stimulus.len() / leaves;
-    let keeps = case.stimulus.len() <= MAX_STIMULUS
+    let keeps = case.stimulus.len() <= LONGEST_STIMULUS
         && case.stimulus.len() == cycles * leaves
         && case.stimulus.iter().zip(frame.counts.iter().cycle()).all(|(byte, count)| byte <= count)
         && case.output_length == cycles * frame.output;
@@ -114,7 +115,7 @@ fn break_stimulus(case: &mut Case, frame: &Frame, random: &mut Random) -> Option
     };
     match random.below(2) {
         0 => {
-            let cycles = MAX_STIMULUS / leaves + random.range(1, 2);
+            let cycles = LONGEST_STIMULUS / leaves + random.range(1, 2);
             longer(&mut case.stimulus, cycles * leaves);
             case.output_length = (cycles * frame.output).min(1 << 17);
             Some(tally::OVER)

@@ -1,6 +1,9 @@
 //! The parts of the comparison. The fixed sheets come first, then shards of
 //! the random ones.
 
+use second::answers::{
+    ILL_TYPED, WRONG_INPUT, WRONG_LENGTH, WRONG_NEXT_LENGTH, WRONG_OUTPUT_LENGTH, WRONG_STIMULUS,
+};
 use second::draft::Draft;
 use second::faults::category::Category;
 use second::fuzz;
@@ -13,7 +16,7 @@ use second::random::Random;
 use second::records::{bytes, MAX_RECORDS};
 use second::samples;
 use second::shapes;
-use second::stimulus::MAX_STIMULUS;
+use second::stimulus::LONGEST_STIMULUS;
 
 use super::cases::{few_cycles, good, Frame};
 use super::compare::{Case, Comparer, Ended};
@@ -87,7 +90,7 @@ fn bench_cases(to: &mut Comparer, random: &mut Random) -> Ended {
         let Some(frame) = Frame::of(&sheet) else { continue };
         for k in 0..40 {
             let cycles =
-                if k == 39 { MAX_STIMULUS / frame.counts.len() } else { few_cycles(random) };
+                if k == 39 { LONGEST_STIMULUS / frame.counts.len() } else { few_cycles(random) };
             let case = good(tally::BENCH, sheet.clone(), &frame, cycles, random);
             compare_good(to, &case, &frame, VALUES)?;
             to.tally.add(tally::BENCH, 1);
@@ -167,14 +170,15 @@ pub fn broken(
 ) -> Option<(Case, Vec<&'static str>)> {
     let draft = base(random);
     let (mut case, frame) = whole_call(&draft, random)?;
-    for &code in codes.iter().filter(|&&code| code <= 7) {
+    for &code in codes.iter().filter(|&&code| code <= ILL_TYPED) {
         let (name, sheet) = break_sheet(&draft, code, categories, random)?;
         case.next_length = sheet.len();
         case.sheet = sheet;
         case.source = name;
     }
     let mut ways = Vec::new();
-    for code in [9, 8, 10, 11].into_iter().filter(|code| codes.contains(code)) {
+    let about_call = [WRONG_INPUT, WRONG_STIMULUS, WRONG_OUTPUT_LENGTH, WRONG_NEXT_LENGTH];
+    for code in about_call.into_iter().filter(|code| codes.contains(code)) {
         let way = break_call(&mut case, code, &frame, random)?;
         case.source = format!("{}; {way}", case.source);
         ways.push(way);
@@ -184,7 +188,7 @@ pub fn broken(
 
 /// Each code in turn, until every way to break a rule has enough.
 fn refused(to: &mut Comparer, categories: &[Category], random: &mut Random) -> Ended {
-    for code in 1..=11 {
+    for code in WRONG_LENGTH..=WRONG_NEXT_LENGTH {
         let need = tally::PER_CODE.div_ceil(SHARDS);
         let ways: Vec<&str> = tally::ways(code).collect();
         let mut hits = 0;
@@ -247,7 +251,7 @@ fn large(to: &mut Comparer, random: &mut Random) -> Ended {
         let draft = if random.one_in(2) { circuit(random) } else { small(random) };
         let sheet = sheet(&draft, random);
         let Some(frame) = Frame::of(&sheet) else { continue };
-        let cycles = MAX_STIMULUS / frame.counts.len();
+        let cycles = LONGEST_STIMULUS / frame.counts.len();
         if cycles * record_count(&draft) < 1_000_000 {
             let case = good(tally::MANY_CYCLES, sheet, &frame, cycles, random);
             compare_good(to, &case, &frame, 0)?;

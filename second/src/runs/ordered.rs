@@ -7,6 +7,7 @@ use std::fmt::Write;
 use std::process::ExitCode;
 use std::sync::atomic::Ordering;
 
+use second::answers::Answer;
 use second::order::{delay_values, only_delays_differ};
 use second::random::Random;
 use second::rule::Rule;
@@ -86,7 +87,7 @@ impl Pair {
         let plain = [
             (self.altered, "the archive's run altered bytes that it may not"),
             (first.packed != second.packed, "the answers differ"),
-            (first.packed >> 32 != 0, "the runs are refused"),
+            (!Answer::accepts(first.packed), "the runs are refused"),
             (first.outputs.len() != second.outputs.len(), "the output slices differ in length"),
         ];
         let mut faults: Vec<String> =
@@ -190,5 +191,5 @@ pub fn run(comparison: &Comparison, options: &Options) -> ExitCode {
         println!("after {} {} without one", counts.compared, comparison.what);
         return ExitCode::from(1);
     }
-    workers::answer(options, &counts.print(comparison), counts.compared, comparison.what)
+    workers::conclude(options, &counts.print(comparison), counts.compared, comparison.what)
 }

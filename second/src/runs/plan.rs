@@ -50,5 +50,5 @@ pub fn run(options: &Options) -> ExitCode {
         println!("after {} equal runs", tally.compared);
         return ExitCode::from(1);
     }
-    workers::answer(options, &tally.print(), tally.compared, "runs")
+    workers::conclude(options, &tally.print(), tally.compared, "runs")
 }

@@ -5,6 +5,7 @@ use std::io;
 use std::path::{Path, PathBuf};
 use std::process::{Command, ExitCode, Stdio};
 
+use second::answers::{self, WRONG_INPUT, WRONG_LENGTH};
 use second::faults::categories;
 use second::faults::category::Category;
 use second::fuzz::random_bytes;
@@ -12,10 +13,11 @@ use second::generate::circuits::circuit;
 use second::generate::network::network;
 use second::generate::small::small;
 use second::layout::sheet;
-use second::printout::{listing, refusal};
+use second::listing::refusal_line;
+use second::printout::printout;
 use second::random::Random;
 use second::run_mistakes::RunMistake;
-use second::stimulus::MAX_STIMULUS;
+use second::stimulus::LONGEST_STIMULUS;
 
 use super::cases::{few_cycles, good, Frame};
 use super::compare::Case;
@@ -28,6 +30,8 @@ use crate::workers;
 const ACCEPTED: u64 = 750;
 const PER_CODE: u64 = 30;
 const OF_NO_CYCLES: u64 = 10;
+/// One more than the greatest code.
+const CODES: usize = WRONG_INPUT as usize + 1;
 /// The most bytes of an old next sheet, over those of any sheet.
 const LONGEST_OLD: usize = 60_000;
 
@@ -63,9 +67,9 @@ impl Program {
         old: Option<Vec<u8>>,
         mistake: Option<RunMistake>,
     ) -> Result<u8, String> {
-        let (code, text, next) = match listing(&case.sheet, &case.stimulus, mistake) {
-            Ok((text, next)) => (0, text, Some(next)),
-            Err(answer) => (answer.code, refusal(answer), old.clone()),
+        let (code, text, next) = match printout(&case.sheet, &case.stimulus, mistake) {
+            Ok((text, next)) => (answers::ACCEPTED, text, Some(next)),
+            Err(answer) => (answer.code, refusal_line(answer), old.clone()),
         };
         let (printed, left) = self.run(case, old.as_deref()).map_err(|error| error.to_string())?;
         if printed != text.as_bytes() {
@@ -88,7 +92,7 @@ fn accepted(random: &mut Random) -> Option<Case> {
     };
     let sheet = sheet(&draft, random);
     let frame = Frame::of(&sheet)?;
-    let most = MAX_STIMULUS / frame.counts.len();
+    let most = LONGEST_STIMULUS / frame.counts.len();
     let many = random.one_in(40) && most * draft.nodes.len() < 2_000_000;
     let cycles = if many { most } else { few_cycles(random) };
     Some(good("accepted", sheet, &frame, cycles, random))
@@ -100,7 +104,7 @@ fn cases(categories: &[Category], random: &mut Random) -> Vec<Case> {
     while (cases.len() as u64) < ACCEPTED {
         cases.extend(accepted(random));
     }
-    for code in 1..=9 {
+    for code in WRONG_LENGTH..=WRONG_INPUT {
         let least = cases.len() + PER_CODE as usize;
         while cases.len() < least {
             cases.extend(broken(&[code], categories, random).map(|(case, _)| case));
@@ -111,9 +115,9 @@ fn cases(categories: &[Category], random: &mut Random) -> Vec<Case> {
 
 /// Compares all; the number of runs by code, and of accepted ones of no cycles,
 /// or the first difference.
-fn compare_all(program: &Program, options: &Options) -> Result<([u64; 10], u64), String> {
+fn compare_all(program: &Program, options: &Options) -> Result<([u64; CODES], u64), String> {
     let mut random = Random::new(options.seed);
-    let (mut codes, mut of_no_cycles) = ([0; 10], 0);
+    let (mut codes, mut of_no_cycles) = ([0; CODES], 0);
     for case in cases(&categories(), &mut random) {
         let length = random.below(LONGEST_OLD);
         let old = random.one_in(2).then(|| random_bytes(length, &mut random));
@@ -122,7 +126,7 @@ fn compare_all(program: &Program, options: &Options) -> Result<([u64; 10], u64),
             format!("in: {source}\nsheet: {}\nstimulus: {}\n{what}", hex(sheet), hex(stimulus))
         })?;
         codes[usize::from(code)] += 1;
-        of_no_cycles += u64::from(code == 0 && case.stimulus.is_empty());
+        of_no_cycles += u64::from(code == answers::ACCEPTED && case.stimulus.is_empty());
     }
     Ok((codes, of_no_cycles))
 }
@@ -152,11 +156,15 @@ pub fn run(program: &str, folder: &str, options: &Options) -> ExitCode {
             };
             for (code, got) in codes.iter().enumerate() {
                 // Some circuits have no place for a fault that shows.
-                let need = if code == 0 { ACCEPTED } else { PER_CODE * 2 / 3 };
+                let need = if code == usize::from(answers::ACCEPTED) {
+                    ACCEPTED
+                } else {
+                    PER_CODE * 2 / 3
+                };
                 line(format!("sheets with code {code}"), *got, need);
             }
             line("accepted sheets with no cycles".to_string(), of_no_cycles, OF_NO_CYCLES);
-            workers::answer(options, &unmet, codes.iter().sum(), "sheets")
+            workers::conclude(options, &unmet, codes.iter().sum(), "sheets")
         }
     }
 }

@@ -2,6 +2,7 @@
 //! answer and the outputs are to be the same, and so the next sheets but for
 //! the labels, which stay.
 
+use second::answers::{Answer, WRONG_NEXT_LENGTH, WRONG_RECORD};
 use second::faults::categories;
 use second::generate::labels::relabel;
 use second::labels::{labels, repeated, without_labels};
@@ -34,7 +35,7 @@ pub const RELABELLED: Comparison = Comparison {
 fn cases(random: &mut Random) -> Option<[Case; 2]> {
     let case = match random.below(4) {
         0 => {
-            let code = random.range(3, 11) as u8;
+            let code = random.range(WRONG_RECORD.into(), WRONG_NEXT_LENGTH.into()) as u8;
             broken(&[code], &categories(), random)?.0
         }
         _ => any("one call", random)?,
@@ -66,7 +67,7 @@ fn make(lender: &mut Lender, mistake: Option<RunMistake>, random: &mut Random) -
 fn faults(pair: &Pair) -> Vec<String> {
     let [first, second] = &pair.left;
     let [one, other] = [0, 1].map(|k| &pair.cases[k].sheet);
-    let accepted = first.packed >> 32 == 0;
+    let accepted = Answer::accepts(first.packed);
     let kept = |k: usize| labels(&pair.left[k].next) == labels(&pair.cases[k].sheet);
     let same_next = without_labels(&first.next) == without_labels(&second.next);
     let plain = [
@@ -82,13 +83,13 @@ fn faults(pair: &Pair) -> Vec<String> {
 
 fn counts(pair: &Pair) -> Vec<(&'static str, bool)> {
     let [one, other] = [0, 1].map(|k| &pair.cases[k].sheet);
-    let code = external::check(one) >> 32;
-    let (differ, ran) = (one != other, pair.left[0].packed >> 32 == 0);
+    let accepted = Answer::accepts(external::check(one));
+    let (differ, ran) = (one != other, Answer::accepts(pair.left[0].packed));
     let twice = |sheet: &[u8]| !repeated(&labels(sheet)).is_empty();
     vec![
-        (OTHERS, differ && code == 0),
+        (OTHERS, differ && accepted),
         (CHANGED, differ && ran && pair.left[0].next != *one),
-        (TWICE, code == 0 && twice(one) != twice(other)),
-        (REFUSED, differ && code != 0),
+        (TWICE, accepted && twice(one) != twice(other)),
+        (REFUSED, differ && !accepted),
     ]
 }

@@ -2,17 +2,21 @@
 
 use std::collections::BTreeMap;
 
+use second::answers::{ACCEPTED, WRONG_LENGTH, WRONG_NEXT_LENGTH, WRONG_STIMULUS};
 use second::layout::ORDERS;
 use second::records::KINDS;
 
 use crate::memory::PLACEMENTS;
 use crate::workers::Count;
 
+/// One more than the greatest code.
+const CODES: usize = WRONG_NEXT_LENGTH as usize + 1;
+
 #[derive(Clone, Default)]
 pub struct Tally {
     pub compared: u64,
     /// Runs by code.
-    pub codes: [u64; 12],
+    pub codes: [u64; CODES],
     /// Runs by the placement of the lent slices.
     pub placements: [u64; PLACEMENTS],
     /// Accepted sheets with each kind.
@@ -20,7 +24,7 @@ pub struct Tally {
     /// Accepted sheets laid out in each order.
     pub layouts: [u64; ORDERS.len()],
     /// Refused runs with faults of two codes, by the lower and the higher one.
-    pub two_codes: [[u64; 12]; 12],
+    pub two_codes: [[u64; CODES]; CODES],
     /// Everything else, by name.
     pub named: BTreeMap<&'static str, u64>,
 }
@@ -106,7 +110,8 @@ pub const QUOTAS: [(&str, u64); 34] = [
 
 /// Two codes of which one is about the call: the lower one, the higher one.
 pub fn two_codes() -> impl Iterator<Item = (u8, u8)> {
-    (8..=11).flat_map(|high| (1..high).map(move |low| (low, high)))
+    (WRONG_STIMULUS..=WRONG_NEXT_LENGTH)
+        .flat_map(|high| (WRONG_LENGTH..high).map(move |low| (low, high)))
 }
 
 /// The named ways to break the rule of a code.
@@ -138,7 +143,7 @@ impl Tally {
                 unmet.push(format!("{name}: {got} of {need}"));
             }
         };
-        println!("runs with code 0: {}", self.codes[0]);
+        println!("runs with code {ACCEPTED}: {}", self.codes[usize::from(ACCEPTED)]);
         for (name, need) in QUOTAS {
             line(name.into(), self.got(name), need);
         }

@@ -7,7 +7,7 @@ use super::parser::parse;
 use super::reading;
 use super::syntax::Syntax;
 use super::translation;
-use crate::answers::Answer;
+use crate::answers::{Answer, ACCEPTED, NO_ROOM, WRONG_NAME, WRONG_TEXT};
 use crate::records::{bytes, Record, MAX_RECORDS, RECORD_BYTES};
 
 /// What a translation gives. The bytes are written at the slice's start; what
@@ -23,13 +23,14 @@ fn answer(code: u8, place: usize) -> Answer {
 
 /// The abstract syntax of a text, or 13.
 pub fn syntax(text: &[u8], mistake: Option<TextMistake>) -> Result<Syntax, Answer> {
-    let tokens = reading::tokens(text, mistake).map_err(|illegal| answer(13, illegal.place))?;
+    let tokens =
+        reading::tokens(text, mistake).map_err(|illegal| answer(WRONG_TEXT, illegal.place))?;
     Ok(parse(text, &tokens, mistake))
 }
 
 /// The records of a text, however many, or 14.
 pub fn records(syntax: &Syntax, mistake: Option<TextMistake>) -> Result<Vec<Record>, Answer> {
-    let bad = |place: usize| answer(14, place);
+    let bad = |place: usize| answer(WRONG_NAME, place);
     let names = naming::resolve(syntax, mistake).map_err(bad)?;
     let types = constants::all_types(syntax, &names, mistake).map_err(bad)?;
     Ok(translation::records(syntax, &names, &types, mistake))
@@ -48,11 +49,11 @@ pub fn translate(text: &[u8], slice_length: usize, mistake: Option<TextMistake>)
             Some(TextMistake::PlaceInRecords) => records.len(),
             _ => needed,
         };
-        return Outcome { answer: answer(15, place), written: Vec::new() };
+        return Outcome { answer: answer(NO_ROOM, place), written: Vec::new() };
     }
     let mut written = bytes(&records);
     if mistake != Some(TextMistake::NoZerosAfter) {
         written.resize(slice_length, 0);
     }
-    Outcome { answer: answer(0, needed), written }
+    Outcome { answer: answer(ACCEPTED, needed), written }
 }

@@ -1,5 +1,6 @@
 //! Texts with bad names, and with constant pairs that have no type.
 
+use second::answers::WRONG_NAME;
 use second::random::Random;
 use second::text::constants;
 use second::text::generate::faults::Category;
@@ -65,7 +66,7 @@ fn compare(
     let (text, places) = sentence.spell(random);
     let slice_length = random.below(3_000);
     let outcome = to.compare(&Case { source: source.to_string(), text, slice_length })?;
-    Ok((outcome.answer.code, outcome.answer.place as usize) == (14, places[at]))
+    Ok((outcome.answer.code, outcome.answer.place as usize) == (WRONG_NAME, places[at]))
 }
 
 /// Whether both parts of the constant pair at a place have a type.
@@ -93,7 +94,7 @@ pub fn constant_pairs(to: &mut Comparer, random: &mut Random) -> Ended {
         let mut sentence = free::sentence(room, true, random);
         let (text, places) = sentence.spell(random);
         let answer = translate(&text, 0, None).answer;
-        if answer.code != 14 {
+        if answer.code != WRONG_NAME {
             continue;
         }
         let place = answer.place as usize;

@@ -4,6 +4,7 @@ use std::hint::black_box;
 use std::process::ExitCode;
 use std::time::{Duration, Instant};
 
+use second::answers::ACCEPTED;
 use second::records::{MAX_RECORDS, RECORD_BYTES};
 use second::text::long;
 use second::text::translator::{translate, Outcome};
@@ -42,7 +43,7 @@ fn timed<T>(call: impl FnOnce() -> T) -> (Duration, T) {
 /// Whether the archive gave what the second translation gives.
 fn equal(packed: u64, slice: &[u8], outcome: &Outcome) -> bool {
     let untouched = vec![0xa5; SLICE];
-    let expected = if outcome.answer.code == 0 { &outcome.written } else { &untouched };
+    let expected = if outcome.answer.code == ACCEPTED { &outcome.written } else { &untouched };
     packed == outcome.answer.packed() && slice == expected
 }
 

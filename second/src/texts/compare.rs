@@ -6,7 +6,7 @@ use std::hint::black_box;
 use std::sync::atomic::{AtomicBool, Ordering};
 
 use second::accepted::Circuit;
-use second::answers::Answer;
+use second::answers::{Answer, ACCEPTED, WRONG_NAME, WRONG_TEXT};
 use second::random::Random;
 use second::rule::IN_FORCE;
 use second::stimulus;
@@ -54,7 +54,7 @@ impl Difference {
         let _ = writeln!(text, "slice of {slice_length} bytes, placed: {:?}", self.placement);
         for (name, left) in [("second:  ", &self.second), ("archive: ", &self.archive)] {
             let _ = writeln!(text, "{name}{}", report::answer(left.packed));
-            if Answer::unpacked(left.packed).code == 0 {
+            if Answer::unpacked(left.packed).code == ACCEPTED {
                 text.push_str(&report::records(&left.slice));
             }
         }
@@ -126,7 +126,7 @@ impl Comparer<'_> {
         }
         self.tally.compared += 1;
         *self.tally.codes.entry(outcome.answer.code).or_default() += 1;
-        let short = [(13, tally::SHORT_ILLEGAL), (14, tally::SHORT_BAD_NAME)];
+        let short = [(WRONG_TEXT, tally::SHORT_ILLEGAL), (WRONG_NAME, tally::SHORT_BAD_NAME)];
         for (_, name) in short.iter().filter(|(code, _)| *code == outcome.answer.code) {
             self.tally.add(name, u64::from(case.slice_length < LEAST_SHEET));
         }
@@ -137,7 +137,7 @@ impl Comparer<'_> {
     /// of the text.
     pub fn compare_run(&mut self, case: &Case, random: &mut Random) -> Ended {
         let outcome = self.compare(case)?;
-        if outcome.answer.code != 0 {
+        if outcome.answer.code != ACCEPTED {
             return Ok(());
         }
         let sheet = &outcome.written[..outcome.answer.place as usize];
@@ -153,11 +153,12 @@ impl Comparer<'_> {
         let mut given = vec![0; meant.len()];
         let mut next = vec![0; sheet.len()];
         let packed = external::run(sheet, &stimulus, &mut given, &mut next);
-        if packed != cycles as u64 || given != meant {
+        let run_through = Answer::accepted(cycles as u32).packed();
+        if packed != run_through || given != meant {
             return Err(Halt::Difference(Box::new(Difference {
                 case: case.clone(),
                 placement: Placement::of_turn(self.tally.compared),
-                second: Left { packed: cycles as u64, slice: Vec::new() },
+                second: Left { packed: run_through, slice: Vec::new() },
                 archive: Left { packed, slice: Vec::new() },
                 remark: format!(
                     "the run and the meaning differ, on the stimulus {}: {} and {}",

@@ -1,5 +1,6 @@
 //! Texts that keep the rules of texts, and lengths of the slice.
 
+use second::answers::NO_ROOM;
 use second::generate::circuits::circuit;
 use second::generate::network::network;
 use second::generate::small::small;
@@ -47,7 +48,7 @@ pub fn good(random: &mut Random) -> Sentence {
 /// The length of the slice that a text needs; 0 if it is refused before.
 fn needed(text: &[u8]) -> usize {
     let answer = translate(text, 0, None).answer;
-    if answer.code == 15 {
+    if answer.code == NO_ROOM {
         answer.place as usize
     } else {
         0

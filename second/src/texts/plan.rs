@@ -50,5 +50,5 @@ pub fn run(options: &Options) -> ExitCode {
         println!("after {} equal texts", tally.compared);
         return ExitCode::from(1);
     }
-    workers::answer(options, &tally.print(&categories), tally.compared, "texts")
+    workers::conclude(options, &tally.print(&categories), tally.compared, "texts")
 }

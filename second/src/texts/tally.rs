@@ -2,6 +2,7 @@
 
 use std::collections::BTreeMap;
 
+use second::answers::{ACCEPTED, NO_ROOM, WRONG_NAME, WRONG_TEXT};
 use second::text::generate::faults::Category;
 use second::text::positions::{positions, Position};
 use second::text::reading::{Illegal, Way, WAYS};
@@ -25,7 +26,8 @@ pub struct Tally {
 /// The least number of texts in all.
 const TEXTS: u64 = 200_000;
 /// Of each code.
-const CODES: [(u8, u64); 4] = [(0, 20_000), (13, 50_000), (14, 20_000), (15, 5_000)];
+const CODES: [(u8, u64); 4] =
+    [(ACCEPTED, 20_000), (WRONG_TEXT, 50_000), (WRONG_NAME, 20_000), (NO_ROOM, 5_000)];
 /// For each position in the grammar: texts that leave it there.
 pub const PER_POSITION: u64 = 400;
 pub const PER_ENDED_POSITION: u64 = 100;

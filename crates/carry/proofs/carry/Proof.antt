@@ -1,7 +1,7 @@
 -- Each way out: the old sheet refused, the new one refused, or both accepted. Assumes nothing.
 use borrow.Author.Needs.{needs}
 use native.Mathlib.Omega.{arith}
-use Rattle.accepted.proofs.Laws.{code-small}
+use Rattle.answers.proofs.VerdictCodes.{code-small}
 use Rattle.carry.proofs.Calls.{
   old-place,
   old-refused,

@@ -32,11 +32,14 @@ part-run-end-2 c = search needs
 run-requires : tie.Need-run-requires
 run-requires c κs = search needs
 
-check-sheet-requires : tie.Need-check-sheet-requires
-check-sheet-requires c κs = search needs
-
 width-requires : tie.Need-width-requires
 width-requires c κs = search needs
+
+code-of-requires : tie.Need-code-of-requires
+code-of-requires c κs = search needs
+
+place-of-requires : tie.Need-place-of-requires
+place-of-requires c κs = search needs
 
 same-length : tie.Need-same-length
 same-length c = search needs
@@ -45,7 +48,7 @@ same-length-2 : tie.Need-same-length-2
 same-length-2 c = search needs
 
 returns : tie.Need-returns
-returns c = told-lent (now (c .before .before .before .before .before .before .before .before .before .before .before .before .before .before .before .args .sheet)) (now (c .before .before .before .before .before .before .before .before .before .before .before .before .before .before .before .args .stim)) _ _ _ (c .before .before .before .before .before .before .before .before .before .before .leaves-of .ensures) (c .before .before .before .before .before .before .before .before .before .outputs-length .ensures) (now (c .before .before .before .before .before .before .before .before .before .before .before .before .before .before .before .args .out)) (now (c .before .before .before .before .before .before .before .before .before .before .before .before .before .before .before .args .next)) (c .before .before .before .before .before .before .before .before .before .before .before .before .before .before .before .pre) (c .before .before .before .before .before .before .run .ensures) (search needs) (search needs) (c .before .check-sheet .ensures) (c .width .ensures)
+returns c = told-lent (now (c .before .before .before .before .before .before .before .before .before .before .before .before .before .before .before .before .args .sheet)) (now (c .before .before .before .before .before .before .before .before .before .before .before .before .before .before .before .before .args .stim)) _ _ _ _ (c .before .before .before .before .before .before .before .before .before .before .before .leaves-of .ensures) (c .before .before .before .before .before .before .before .before .before .before .outputs-length .ensures) (now (c .before .before .before .before .before .before .before .before .before .before .before .before .before .before .before .before .args .out)) (now (c .before .before .before .before .before .before .before .before .before .before .before .before .before .before .before .before .args .next)) (c .before .before .before .before .before .before .before .before .before .before .before .before .before .before .before .before .pre) (c .before .before .before .before .before .before .before .run .ensures) (search needs) (search needs) (c .before .code-of .ensures) (c .place-of .ensures) (c .before .before .width .ensures)
 
 pub tell-spec : {M : Type 1} → statement M
 tell-spec =
@@ -60,8 +63,9 @@ tell-spec =
     part-run-start-2
     part-run-end-2
     run-requires
-    check-sheet-requires
     width-requires
+    code-of-requires
+    place-of-requires
     same-length
     same-length-2
     returns)

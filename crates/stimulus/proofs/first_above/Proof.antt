@@ -15,10 +15,10 @@ part-counts-start : tie.Need-part-counts-start
 part-counts-start c = search needs
 
 part-counts-end : tie.Need-part-counts-end
-part-counts-end c = counts-fit (c .before .before .before .pre .0) (c .before .before .before .pre .1) (c .before .before .before .pre .2) (c .no-counts .result) (c .no-counts .ensures)
+part-counts-end c = counts-fit (c .before .before .before .pre .0) (c .before .before .before .pre .1) (c .before .before .before .pre .2) (c .no-counts .ensures)
 
 fill-bounds-requires : tie.Need-fill-bounds-requires
-fill-bounds-requires c κs = ((c .before .before .before .before .pre .0), (c .before .before .before .before .pre .1), counts-long (c .before .before .before .before .pre .0) (c .before .before .before .before .pre .1) (c .before .before .before .before .pre .2) (c .before .no-counts .result) (c .before .no-counts .ensures))
+fill-bounds-requires c κs = ((c .before .before .before .before .pre .0), (c .before .before .before .before .pre .1), counts-long (c .before .before .before .before .pre .0) (c .before .before .before .before .pre .1) (c .before .before .before .before .pre .2) (c .before .no-counts .ensures))
 
 sub-find-above : tie.Need-sub-find-above
 sub-find-above c = search needs
@@ -27,13 +27,13 @@ part-find-above-start : tie.Need-part-find-above-start
 part-find-above-start c = search needs
 
 part-find-above-end : tie.Need-part-find-above-end
-part-find-above-end c = counts-inside (c .before .before .before .before .before .before .before .pre .0) (c .before .before .before .before .before .before .before .pre .1) (c .before .before .before .before .before .before .before .pre .2) (c .before .before .before .before .no-counts .result) (c .before .before .before .before .no-counts .ensures) (c .before .before .fill-bounds .ensures)
+part-find-above-end c = counts-inside (c .before .before .before .before .before .before .before .pre .0) (c .before .before .before .before .before .before .before .pre .1) (c .before .before .before .before .before .before .before .pre .2) (c .before .before .before .before .no-counts .ensures) (c .before .before .fill-bounds .ensures)
 
 find-above-requires : tie.Need-find-above-requires
-find-above-requires c κs = some-counts (c .before .before .before .before .before .before .before .before .pre .0) (c .before .before .before .before .before .before .before .before .pre .1) (c .before .before .before .before .before .before .before .before .pre .2) (c .before .before .before .before .before .no-counts .result) (c .before .before .before .before .before .no-counts .ensures) (c .before .before .before .fill-bounds .ensures)
+find-above-requires c κs = some-counts (c .before .before .before .before .before .before .before .before .pre .0) (c .before .before .before .before .before .before .before .before .pre .1) (c .before .before .before .before .before .before .before .before .pre .2) (c .before .before .before .before .before .no-counts .ensures) (c .before .before .before .fill-bounds .ensures)
 
 returns : tie.Need-returns
-returns c = counts-searched (c .before .before .before .before .before .before .before .before .before .pre .0) (c .before .before .before .before .before .before .before .before .before .pre .1) (c .before .before .before .before .before .before .before .before .before .pre .2) (c .before .before .before .before .before .before .no-counts .result) (c .before .before .before .before .before .before .no-counts .ensures) (c .before .before .before .before .fill-bounds .ensures) (now (c .before .before .before .before .before .before .before .before .before .args .stim)) (c .find-above .result) (c .find-above .ensures)
+returns c = counts-searched (c .before .before .before .before .before .before .before .before .before .pre .0) (c .before .before .before .before .before .before .before .before .before .pre .1) (c .before .before .before .before .before .before .before .before .before .pre .2) (c .before .before .before .before .before .before .no-counts .ensures) (c .before .before .before .before .fill-bounds .ensures) (now (c .before .before .before .before .before .before .before .before .before .args .stim)) (c .find-above .result) (c .find-above .ensures)
 
 pub first-above-spec : {M : Type 1} → statement M
 first-above-spec =

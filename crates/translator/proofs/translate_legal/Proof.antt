@@ -3,7 +3,7 @@
 use native.Mathlib.Omega.{arith}
 use mathlib.Core.Path.{sym, subst}
 use denote.Ref.{now}
-use Rattle.translator.specs.Translation.{TranslatedInOne}
+use Rattle.translator.specs.Translated.{TranslatedInOne}
 use Rattle.translator.proofs.LaysOut.{bad-place, name-found, laying}
 use borrow.Author.Needs.{needs}
 use Rattle.translator.proofs.translate_legal.Statement.{statement}

@@ -4,7 +4,7 @@ use native.Mathlib.Omega.{arith}
 use mathlib.Core.Path.{sym, subst}
 use denote.Ref.{now}
 use borrow.Author.Tests.{not-true, not-false}
-use Rattle.translator.specs.Translation.{TranslatedInOne}
+use Rattle.translator.specs.Translated.{TranslatedInOne}
 use Rattle.translator.proofs.LaysOut.{untyped-found, too-short, too-many, emitting, out-written}
 use borrow.Author.Needs.{needs}
 use Rattle.translator.proofs.write_out.Statement.{statement}

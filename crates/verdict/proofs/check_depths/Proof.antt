@@ -6,7 +6,7 @@ use native.Mathlib.Omega.{arith}
 use mathlib.Core.Path.{refl, sym, _∙_, ap}
 use denote.Ref.{now}
 use Rattle.verdict.proofs.Stages.{placing, found-checked, found-none, ground-of, checked-on}
-use Rattle.verdict.specs.declared.Verdict.the-variants.{TooDeep}
+use Rattle.answers.specs.declared.Verdict.the-variants.{TooDeep}
 use Rattle.structure.specs.Rules.{tooDeep}
 use Rattle.verdict.specs.Verdict.{byTypes}
 

@@ -6,7 +6,7 @@ use native.Mathlib.Omega.{arith}
 use mathlib.Core.Path.{refl, sym, _∙_, ap}
 use denote.Ref.{now}
 use Rattle.verdict.proofs.Stages.{found-tabled, found-none, tabled-on}
-use Rattle.verdict.specs.declared.Verdict.the-variants.{WrongNaming}
+use Rattle.answers.specs.declared.Verdict.the-variants.{WrongNaming}
 use Rattle.structure.specs.Rules.{wrongNaming}
 use Rattle.verdict.specs.Verdict.{byTypeRecords}
 

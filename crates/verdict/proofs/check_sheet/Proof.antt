@@ -5,9 +5,8 @@ use Rattle.verdict.proofs.check_sheet.Tie as tie
 use native.Mathlib.Omega.{arith}
 use mathlib.Core.Path.{refl, sym, _∙_, ap}
 use denote.Ref.{now}
-use Rattle.answers.specs.Answers.{packed}
-use Rattle.verdict.specs.Scopes.{verdictAnswer}
-use Rattle.verdict.specs.declared.Verdict.{Verdict}
+use Rattle.answers.specs.Answers.{packed, verdictAnswer}
+use Rattle.answers.specs.declared.Verdict.{Verdict}
 use Rattle.verdict.proofs.PlacesSmall.{verdict-place}
 
 no-widths-requires : tie.Need-no-widths-requires

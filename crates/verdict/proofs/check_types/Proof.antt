@@ -6,7 +6,7 @@ use native.Mathlib.Omega.{arith}
 use mathlib.Core.Path.{refl, sym, _∙_, ap}
 use denote.Ref.{now}
 use Rattle.verdict.proofs.Stages.{found-tabled, found-none, tabled-on, tabled-by}
-use Rattle.verdict.specs.declared.Verdict.the-variants.{WrongType}
+use Rattle.answers.specs.declared.Verdict.the-variants.{WrongType}
 use Rattle.structure.specs.Rules.{wrongType}
 use Rattle.verdict.specs.Verdict.{byDepths}
 use Rattle.structure.proofs.Passes.{written-by}

@@ -21,7 +21,7 @@ element-write-seconds : tie.Need-element-write-seconds
 element-write-seconds c = search needs
 
 returns : tie.Need-returns
-returns c = code-pushed (c .args .ops .now) (c .args .firsts .now) (c .args .seconds .now) (c .args .n) (c .args .op) (c .args .a) (c .args .b) (c .pre .0) (c .pre .1)
+returns c = code-pushed (c .args .n) (c .args .op) (c .args .a) (c .args .b) (c .pre .0) (c .pre .1)
 
 pub push-instruction-spec : {M : Type 1} → statement M
 push-instruction-spec =

@@ -2,14 +2,13 @@
 use borrow.Author.Needs.{needs}
 use Prim.Native.Nat.{ℕ}
 use mathlib.Core.Path.{ap, sym}
-use Rattle.answers.specs.Answers.{code}
-use Rattle.verdict.specs.Scopes.{verdictAnswer}
-use Rattle.verdict.specs.declared.Verdict.{Verdict}
-use Rattle.verdict.proofs.verdict_code.Statement.{statement}
-use Rattle.verdict.proofs.verdict_code.Tie as tie
+use Rattle.answers.specs.Answers.{code, verdictAnswer}
+use Rattle.answers.specs.declared.Verdict.{Verdict}
+use Rattle.answers.proofs.verdict_code.Statement.{statement}
+use Rattle.answers.proofs.verdict_code.Tie as tie
 
-abbrev codeOf : Verdict → ℕ
-codeOf v = code (verdictAnswer v)
+abbrev codeOfVerdict : Verdict → ℕ
+codeOfVerdict v = code (verdictAnswer v)
 
 enum-told : tie.Need-enum-told
 enum-told c = search needs
@@ -36,28 +35,28 @@ enum-told-8 : tie.Need-enum-told-8
 enum-told-8 c = search needs
 
 returns : tie.Need-returns
-returns c = sym (ap codeOf (c .enum-told .given .1))
+returns c = sym (ap codeOfVerdict (c .enum-told .given .1))
 
 returns-2 : tie.Need-returns-2
-returns-2 c = sym (ap codeOf (c .enum-told2 .given .1))
+returns-2 c = sym (ap codeOfVerdict (c .enum-told2 .given .1))
 
 returns-3 : tie.Need-returns-3
-returns-3 c = sym (ap codeOf (c .enum-told3 .given .1))
+returns-3 c = sym (ap codeOfVerdict (c .enum-told3 .given .1))
 
 returns-4 : tie.Need-returns-4
-returns-4 c = sym (ap codeOf (c .enum-told4 .given .1))
+returns-4 c = sym (ap codeOfVerdict (c .enum-told4 .given .1))
 
 returns-5 : tie.Need-returns-5
-returns-5 c = sym (ap codeOf (c .enum-told5 .given .1))
+returns-5 c = sym (ap codeOfVerdict (c .enum-told5 .given .1))
 
 returns-6 : tie.Need-returns-6
-returns-6 c = sym (ap codeOf (c .enum-told6 .given .1))
+returns-6 c = sym (ap codeOfVerdict (c .enum-told6 .given .1))
 
 returns-7 : tie.Need-returns-7
-returns-7 c = sym (ap codeOf (c .enum-told7 .given .1))
+returns-7 c = sym (ap codeOfVerdict (c .enum-told7 .given .1))
 
 returns-8 : tie.Need-returns-8
-returns-8 c = sym (ap codeOf (c .enum-told8 .given .1))
+returns-8 c = sym (ap codeOfVerdict (c .enum-told8 .given .1))
 
 pub verdict-code-spec : {M : Type 1} → statement M
 verdict-code-spec =

@@ -13,11 +13,11 @@ use Rattle.answers.specs.declared.Answer.{Answer}
 use Rattle.answers.specs.declared.Answer.the-variants.{Done, Refused}
 use Rattle.grammar.specs.Tokens.{Token}
 use Rattle.grammar.specs.Source.{Text}
-use Rattle.grammar.specs.Legal.{Reading, Leaves, Keeps}
+use Rattle.grammar.specs.Legal.{Reading, LeavesGrammar, Keeps}
 use Rattle.naming.specs.Checks.{firstBadPlace}
 use Rattle.naming.specs.Constants.{constantsOfText}
 use Rattle.naming.specs.Names.{nameChecks}
-use Rattle.naming.specs.Records.{recordsNeeded}
+use Rattle.naming.specs.RecordsNeeded.{recordsNeeded}
 use Rattle.translation.specs.Layout.{sheetOfText}
 
 -- the bytes that a text's sheet needs, whatever their number
@@ -45,7 +45,7 @@ finalSheet t entry = whenDone (textAnswer t (length entry)) (sheetOfText t ++ re
 
 -- what a call gives, for every content and length of the two slices: the answer and the final bytes
 pub data Translated (bytes entry : List ℕ) : Answer → List ℕ → Type 0 where
-  outside-grammar : {i : ℕ} → Leaves bytes i → Translated bytes entry (Refused 13 i) entry
+  outside-grammar : {i : ℕ} → LeavesGrammar bytes i → Translated bytes entry (Refused 13 i) entry
   in-grammar : {ts : List Token} {t : Text} → Keeps bytes → Reading bytes ts t
       → Translated bytes entry (textAnswer t (length entry)) (finalSheet t entry)
 

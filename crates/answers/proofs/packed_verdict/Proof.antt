@@ -1,9 +1,9 @@
 -- The code is below 256, and the place below 2^32 as is asked. Assumes nothing.
 use borrow.Author.Needs.{needs}
 use native.Mathlib.Omega.{arith}
-use Rattle.verdict.proofs.PlacesSmall.{code-small}
-use Rattle.verdict.proofs.packed_verdict.Statement.{statement}
-use Rattle.verdict.proofs.packed_verdict.Tie as tie
+use Rattle.answers.proofs.VerdictCodes.{code-small}
+use Rattle.answers.proofs.packed_verdict.Statement.{statement}
+use Rattle.answers.proofs.packed_verdict.Tie as tie
 
 verdict-code-requires : tie.Need-verdict-code-requires
 verdict-code-requires c κs = search needs

@@ -3,16 +3,16 @@ use Prim.Native.Nat.{ℕ}
 use mathlib.Core.Path.{_≡_}
 use mathlib.Core.Bool.{Bool, true, false}
 use mathlib.Core.List.{List}
-use Rattle.meaning.specs.Matching.{Decision}
-use Rattle.meaning.specs.Matching as Matching
+use Rattle.meaning.specs.Decisions.{Decision}
+use Rattle.meaning.specs.Decisions as Decisions
 use Rattle.behaviour.specs.Firing.{orAfter}
 use Rattle.values.specs.declared.Match.{Match}
 use Rattle.values.specs.declared.Match.the-variants.{Yes, No, Undecided}
 
 abbrev pub decisionOf : Match → Decision
-decisionOf (Yes r) = Matching.Yes
-decisionOf No = Matching.No
-decisionOf Undecided = Matching.Undecided
+decisionOf (Yes r) = Decisions.Yes
+decisionOf No = Decisions.No
+decisionOf Undecided = Decisions.Undecided
 
 -- the record that a match tells: of an alternative that says yes, else 0
 abbrev pub told : Match → ℕ

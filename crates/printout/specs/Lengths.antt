@@ -1,6 +1,7 @@
 -- How long outputs and files are.
 use Prim.Native.Nat.{ℕ, _/_, _*_, _≤_, _<_}
 use mathlib.Core.Path.{_≡_}
+use Rattle.stimulus.specs.Tests.{stimulusBytes}
 
 -- the outputs of 65,535 cycles of 64 leaves
 abbrev pub mostOutput : ℕ
@@ -11,6 +12,6 @@ abbrev pub sheetRoom : ℕ
 sheetRoom = 49153
 
 -- the length of outputs, from the leaves of input and output and the length of a stimulus
-pub record OutputsLong (input output all many : ℕ) : Type 0 where
-  pub needed : 0 < input → all ≤ 65535 → many ≡ all / input * output
+pub record OutputsMeasured (input output all many : ℕ) : Type 0 where
+  pub needed : 0 < input → all ≤ stimulusBytes → many ≡ all / input * output
   pub small : many ≤ mostOutput
