@@ -15,6 +15,7 @@ use Rattle.structure.specs.Rules.{wrongLength, wrongHeader, wrongRecord, wrongN
 use Rattle.typing.specs.Judging.{noted}
 use Rattle.answers.specs.declared.Verdict.{Verdict}
 use Rattle.answers.specs.declared.Verdict.the-variants.{Accepted}
+use Rattle.verdict.specs.Verdict.{verdict}
 use Rattle.verdict.specs.Scopes.{inputs}
 
 -- not code 1
@@ -38,15 +39,15 @@ pub record CheckingDepths (s : List ℕ) (n : ℕ) : Type 0 where
   pub named : CheckingTypes s n
   pub types : lowest (wrongType s) (count s) ≡ none
 
--- what a stage of the check gives: the verdict v, and for an accepted sheet the table `before` with the leaf count of each
--- expression noted
+-- what the last stage gives: the verdict v, and for an accepted sheet the table `before` with the leaf count of each expression
+-- noted
 pub record RulesChecked (s : List ℕ) (v answer : Verdict) (before after : List ℕ) : Type 0 where
   pub answered : answer ≡ v
   pub long : length after ≡ mostRecords
   pub notes : (t : ℕ) → answer ≡ Accepted t → after ≡ noted s (inputs s) (circuit s) before
 
--- the same where the table is first filled with the leaf counts of types
-pub record StagesChecked (s : List ℕ) (n : ℕ) (v answer : Verdict) (after : List ℕ) : Type 0 where
-  pub answered : answer ≡ v
+-- what all stages give: the verdict, and for an accepted sheet an empty table with the leaf counts of types and then of expressions
+pub record StagesChecked (s : List ℕ) (n : ℕ) (answer : Verdict) (after : List ℕ) : Type 0 where
+  pub answered : answer ≡ verdict s
   pub notes : (t : ℕ) → answer ≡ Accepted t
       → (table : List ℕ) × LeavesCounted s n table × (after ≡ noted s (inputs s) (circuit s) table)
