@@ -5,7 +5,7 @@
 use mathlib.Core.Path.{_≡_, refl}
 use mathlib.Core.Bool.{true, false≢true}
 use mathlib.Core.List.{List, [], _∷_}
-use Prim.Native.Nat.{ℕ, _+_, _*_, _≤_, _<_}
+use Prim.Native.Nat.{ℕ, _+_, _*_, _/_, _≤_, _<_}
 use native.Mathlib.Omega.{arith}
 use lib.ListN.{length, replicate, length-replicate}
 use Rattle.picoella.specs.Language.{leaves}
@@ -27,12 +27,12 @@ use Rattle.structure.proofs.Depths.{depth-of}
 use Rattle.typing.specs.Judging.{Ground, Judging, Closing, Fitting, PartAt, at-first, at-second}
 use Rattle.typing.specs.LeafChains.{LeafOrEnd}
 use Rattle.typing.specs.PatternTable.{PatternsTyped, TypingPattern, TypeTables}
-use Rattle.verdict.specs.Stages.{CheckingRecords, CheckingNamings, CheckingTypes, CheckingDepths}
+use Rattle.verdict.specs.Stages.{CheckingTypes}
 use Rattle.verdict.specs.CheckedTable.{PatternsFrom}
 use Rattle.verdict.specs.Verdict.{verdict}
 use Rattle.answers.specs.declared.Verdict.the-variants.{Accepted}
 use Rattle.accepted.specs.Accepting.{Accepting}
-use Rattle.accepted.proofs.Requirements.{sized, fitted, counts, counts-below, none-held, namers-held, depths-placed, placing-begun, placing-at, ready, patterns-from, widths}
+use Rattle.accepted.proofs.Requirements.{sized, fitted, counts, counts-below, none-held, namers-held, depths-placed, placing-begun, placing-at, ground, ready, patterns-from, widths}
 use Rattle.accepted.proofs.TypeTables.{pairs-below, pairs-indexed, types-from, typing-pattern, type-tables}
 
 module _ {s : List ℕ} (p : Passes s) (full : length s ≡ 12 * count s) where
@@ -73,8 +73,9 @@ module _ {s : List ℕ} (p : Passes s) (full : length s ≡ 12 * count s) where
   wrong-type-callable r h =
       let c = counts p full in let x = pairs-below s p full r (omega arith) in (c .0, x .0, size, h, c .1, x .1)
 
-  pub first-wrong-type-callable : (table : List ℕ) × Sized s (count s) × LeavesCounted s (count s) table
-  first-wrong-type-callable = let c = counts p full in (c .0, size, c .1)
+  pub first-wrong-type-callable : (table : List ℕ) × (none : List ℕ) × Sized s (count s) × LeavesCounted s (count s) table × Indexed s 0 none
+  first-wrong-type-callable =
+      let c = counts p full in let x = pairs-below s p full 0 (omega arith) in (c .0, x .0, size, c .1, x .1)
 
   -- structure: the index of pair types
   abbrev pub index : List ℕ
@@ -91,9 +92,6 @@ module _ {s : List ℕ} (p : Passes s) (full : length s ≡ 12 * count s) where
 
   pub note-pair-callable : (r : ℕ) → r < count s → (below : List ℕ) × Sized s (count s) × (r < count s) × Indexed s r below
   note-pair-callable r h = let x = pairs-below s p full r (omega arith) in (x .0, size, h, x .1)
-
-  pub note-pairs-callable : (none : List ℕ) × Sized s (count s) × Indexed s 0 none
-  note-pairs-callable = let x = pairs-below s p full 0 (omega arith) in (x .0, size, x .1)
 
   -- structure: depths
   pub place-callable : (r : ℕ) → 0 < r → r < count s
@@ -147,6 +145,10 @@ module _ {s : List ℕ} (p : Passes s) (full : length s ≡ 12 * count s) where
     deep = some-depth r (past-header w r (rw e)) h;
     context = at-root .context;
   }
+
+  pub judge-root-callable : (r : ℕ) → r < count s → sortAt s r ≡ expressions
+      → Judging s (count s) table scopeStack 1 r widthsNoted × Indexed s (count s) index
+  judge-root-callable r h e = (judge-callable r h e, tables-right .indexed)
 
   pub judge-expression-callable : (r : ℕ) → r < count s → sortAt s r ≡ expressions
       → Judging s (count s) table scopeStack 1 r widthsNoted × TypeTables s (count s) index typesNoted
@@ -219,22 +221,25 @@ module _ {s : List ℕ} (p : Passes s) (full : length s ≡ 12 * count s) where
   pattern-type-callable r t h e u = (record { sized = size; passes = p; there = h; sort = e; typed = u }, tables-right .typed)
 
   -- verdict
-  pub check-rules-callable : Ground s (count s) table × (length widthsNoted ≡ 4096)
-  check-rules-callable = (at-root .ground, at-root .long)
+  pub check-stages-callable : (none : List ℕ) × (count s ≡ length s / 12) × LeavesCounted s 0 none
+  unfolding count
+  check-stages-callable = let c = counts-below p full 0 (omega arith) in (c .0, refl, c .1)
 
-  pub check-depths-callable : (namers : List ℕ) × (counted : List ℕ) × CheckingDepths s (count s) × NamingsHeld (namings s) namers
-      × LeavesCounted s (count s) counted × (length widthsNoted ≡ 4096)
-  check-depths-callable =
-      let n = namers-held p full in let c = counts p full in (n .0, c .0, fitted p full, n .1, c .1, at-root .long)
+  pub check-names-callable : (none : List ℕ) × Sized s (count s) × NamingsHeld (λ _. []) none
+  check-names-callable = note-all-callable
 
-  pub check-types-callable : (namers : List ℕ) × CheckingTypes s (count s) × NamingsHeld (namings s) namers
-  check-types-callable = let n = namers-held p full in (n .0, fitted p full .named, n .1)
+  pub check-types-callable
+      : (none : List ℕ) × (unlinked : List ℕ) × Sized s (count s) × Written s × LeavesCounted s 0 none × Indexed s 0 unlinked
+  check-types-callable =
+      let c = counts-below p full 0 (omega arith) in
+      let x = pairs-below s p full 0 (omega arith) in
+      (c .0, x .0, size, w, c .1, x .1)
 
-  pub check-names-callable : CheckingNamings s (count s)
-  check-names-callable = fitted p full .named .recorded
+  pub check-depths-callable : (namers : List ℕ) × CheckingTypes s (count s) × NamingsHeld (namings s) namers
+  check-depths-callable = let n = namers-held p full in (n .0, fitted p full .named, n .1)
 
-  pub check-records-callable : CheckingRecords s (count s)
-  check-records-callable = fitted p full .named .recorded .measured
+  pub check-rules-callable : (counted : List ℕ) × Ground s (count s) counted × (length counted ≡ 4096) × Indexed s (count s) index
+  check-rules-callable = let g = ground p full in (g .0, g .1, g .2, pairs-indexed s p full .1)
 
   pub note-pattern-callable : (r : ℕ) → r < count s
       → (above : List ℕ) × Sized s (count s) × Passes s × (r < count s) × PatternsFrom s (r + 1) above

@@ -108,8 +108,10 @@ abbrev types : List ℕ
 types = Callable.typesNoted passes full
 
 -- the index of pair types, before record 3 and whole
-note-pairs-there : (none : List ℕ) × Sized sheet (count sheet) × Indexed sheet 0 none
-note-pairs-there = Callable.note-pairs-callable passes full
+first-wrong-type-there
+    : (counted : List ℕ) × (none : List ℕ) × Sized sheet (count sheet) × LeavesCounted sheet (count sheet) counted
+    × Indexed sheet 0 none
+first-wrong-type-there = Callable.first-wrong-type-callable passes full
 
 note-pair-there : (lower : List ℕ) × Sized sheet (count sheet) × (3 < count sheet) × Indexed sheet 3 lower
 note-pair-there = Callable.note-pair-callable passes full 3 (below 3 (omega arith))

@@ -117,8 +117,10 @@ module _ {s : List ℕ} (p : Passes s) (whole : length s ≡ 12 * count s) where
   pub placing-begun : (namers : List ℕ) × (depths : List ℕ) × (nestings : List ℕ) × Placing s (count s) 1 namers depths nestings
   placing-begun = placing-at 1 (omega arith) (omega arith)
 
-  pub ground : (table : List ℕ) × Ground s (count s) table
-  ground = let c = counts in (c .0, record { sized = sized; passes = p; leaves = counts-leaves s (count s) (c .0) refl p (c .1) })
+  pub ground : (table : List ℕ) × Ground s (count s) table × (length table ≡ 4096)
+  ground =
+      let c = counts in
+      (c .0, record { sized = sized; passes = p; leaves = counts-leaves s (count s) (c .0) refl p (c .1) }, c .1 .long)
 
   pub ready : (table : List ℕ) × (stack : List ℕ) × (widths : List ℕ) × Judging s (count s) table stack 1 (wordB s 0) widths
   ready =

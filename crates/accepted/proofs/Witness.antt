@@ -51,7 +51,7 @@ use Rattle.structure.specs.DepthTable.{Placed, Placing}
 use Rattle.typing.specs.Judging.{Ground, Judging, Closing, Fitting}
 use Rattle.typing.specs.LeafChains.{LeafOrEnd}
 use Rattle.typing.specs.PatternTable.{PatternsTyped, TypingPattern, TypeTables}
-use Rattle.verdict.specs.Stages.{CheckingRecords, CheckingNamings, CheckingTypes, CheckingDepths}
+use Rattle.verdict.specs.Stages.{CheckingTypes, CheckingDepths}
 use Rattle.verdict.specs.CheckedTable.{PatternsFrom}
 use Rattle.accepted.specs.Accepting.{Accepting}
 use Rattle.accepted.proofs.Requirements.{sized, fitted, placing-begun, depths-placed, ready, closing, patterns-judged, widths}
@@ -191,13 +191,18 @@ count-type-there = Callable.count-type-callable (passes .0) full 1 (below 1 (ome
 count-types-there : (counted : List ℕ) × Sized sheet (count sheet) × Written sheet × LeavesCounted sheet 0 counted
 count-types-there = Callable.count-types-callable (passes .0) full
 
-first-wrong-type-there : (counted : List ℕ) × Sized sheet (count sheet) × LeavesCounted sheet (count sheet) counted
+first-wrong-type-there
+    : (counted : List ℕ) × (none : List ℕ) × Sized sheet (count sheet) × LeavesCounted sheet (count sheet) counted
+    × Indexed sheet 0 none
 first-wrong-type-there = Callable.first-wrong-type-callable (passes .0) full
 
 place-there
     : (namers : List ℕ) × (depths : List ℕ) × (nestings : List ℕ) × Placing sheet (count sheet) 3 namers depths nestings
     × (3 < count sheet)
 place-there = Callable.place-callable (passes .0) full 3 (omega arith) (below 3 (omega arith))
+
+judge-root-there : Judging sheet (count sheet) table scope 1 2 noted × Indexed sheet (count sheet) index
+judge-root-there = Callable.judge-root-callable (passes .0) full 2 (below 2 (omega arith)) (sorts .1)
 
 judge-expression-there : Judging sheet (count sheet) table scope 1 2 noted × TypeTables sheet (count sheet) index types
 judge-expression-there = Callable.judge-expression-callable (passes .0) full 2 (below 2 (omega arith)) (sorts .1)
@@ -252,23 +257,23 @@ note-types-there = Callable.note-types-callable (passes .0) full
 pattern-type-there : Fitting sheet (count sheet) 7 1 × PatternsTyped sheet 0 types
 pattern-type-there = Callable.pattern-type-callable (passes .0) full 7 1 (below 7 (omega arith)) (sorts .3) type-there
 
-check-rules-there : Ground sheet (count sheet) table × (length noted ≡ 4096)
-check-rules-there = Callable.check-rules-callable (passes .0) full
+check-stages-there : (none : List ℕ) × (count sheet ≡ length sheet / 12) × LeavesCounted sheet 0 none
+check-stages-there = Callable.check-stages-callable (passes .0) full
 
-check-depths-there
-    : (namers : List ℕ) × (counted : List ℕ) × CheckingDepths sheet (count sheet) × NamingsHeld (namings sheet) namers
-    × LeavesCounted sheet (count sheet) counted
-    × (length noted ≡ 4096)
-check-depths-there = Callable.check-depths-callable (passes .0) full
-
-check-types-there : (namers : List ℕ) × CheckingTypes sheet (count sheet) × NamingsHeld (namings sheet) namers
-check-types-there = Callable.check-types-callable (passes .0) full
-
-check-names-there : CheckingNamings sheet (count sheet)
+check-names-there : (none : List ℕ) × Sized sheet (count sheet) × NamingsHeld (λ _. []) none
 check-names-there = Callable.check-names-callable (passes .0) full
 
-check-records-there : CheckingRecords sheet (count sheet)
-check-records-there = Callable.check-records-callable (passes .0) full
+check-types-there
+    : (none : List ℕ) × (unlinked : List ℕ) × Sized sheet (count sheet) × Written sheet × LeavesCounted sheet 0 none
+    × Indexed sheet 0 unlinked
+check-types-there = Callable.check-types-callable (passes .0) full
+
+check-depths-there : (namers : List ℕ) × CheckingTypes sheet (count sheet) × NamingsHeld (namings sheet) namers
+check-depths-there = Callable.check-depths-callable (passes .0) full
+
+check-rules-there
+    : (counted : List ℕ) × Ground sheet (count sheet) counted × (length counted ≡ 4096) × Indexed sheet (count sheet) index
+check-rules-there = Callable.check-rules-callable (passes .0) full
 
 note-pattern-there
     : (above : List ℕ) × Sized sheet (count sheet) × Passes sheet × (7 < count sheet) × PatternsFrom sheet (7 + 1) above

@@ -3,6 +3,7 @@ ghost use mathlib.Core.Path.{_≡_};
 ghost use Rattle.records.specs.Kinds.{expression, tuple, letIn, feedback, ifMatches, delay};
 ghost use Rattle.records.specs.Says.{kindAt};
 ghost use Rattle.records.specs.Trees.{treeAt};
+ghost use Rattle.structure.specs.PairIndex.{Indexed};
 ghost use Rattle.typing.specs.Judging.{Judging, Judged, scopeOf, PartAt};
 ghost use Rattle.typing.specs.PatternTable.{TypeTables};
 use crate::Outcome;
@@ -35,8 +36,6 @@ use records::WORD_KIND;
 use records::WidthTable;
 use records::word;
 use structure::PairIndex;
-use structure::no_pairs;
-use structure::note_pairs;
 
 // Judges an expression: its parts in the order of its words, then the whole.
 fn judge_expression(
@@ -274,22 +273,21 @@ fn of_delay(
     same_type(sheet, n, table, rec, u, t, t, widths)
 }
 
-// Judges an expression, with an index of the sheet's pair types and the types of its patterns.
+// Judges an expression with the index of the sheet's pair types, after it has found the types of patterns.
 pub fn judge_root(
     sheet: &[u8],
     n: usize,
     table: &WidthTable,
+    index: &PairIndex,
     scope: &ScopeTable,
     names: usize,
     rec: usize,
     widths: &mut WidthTable,
 ) -> Outcome
-    requires { ⌜ Judging (now sheet) n (now table) (now scope) names rec (now widths) ⌝ }
+    requires { ⌜ Judging (now sheet) n (now table) (now scope) names rec (now widths) × Indexed (now sheet) n (now index) ⌝ }
     ensures { λ r. ⌜ Judged (now (sheet .entry)) (scopeOf names (now (scope .entry))) (treeAt (now (sheet .entry)) rec) r (now (widths .entry)) (now (widths .exit)) ⌝ }
 {
-    let mut index = no_pairs();
-    note_pairs(sheet, n, &mut index);
     let mut types = no_types();
-    note_types(sheet, n, &index, &mut types);
-    judge_expression(sheet, n, table, &index, &types, scope, names, rec, widths)
+    note_types(sheet, n, index, &mut types);
+    judge_expression(sheet, n, table, index, &types, scope, names, rec, widths)
 }

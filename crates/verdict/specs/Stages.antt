@@ -9,8 +9,12 @@ use Rattle.records.specs.Limits.{mostRecords}
 use Rattle.records.specs.Words.{count}
 use Rattle.records.specs.Sized.{Sized}
 use Rattle.answers.specs.Answers.{lowest}
+use Rattle.answers.specs.Searches.{found}
+use Rattle.answers.specs.declared.Found.{Found}
+use Rattle.answers.specs.declared.Found.the-variants.{Nothing}
 use Rattle.records.specs.Trees.{circuit}
 use Rattle.structure.specs.LeafTable.{LeavesCounted}
+use Rattle.structure.specs.PairIndex.{Indexed}
 use Rattle.structure.specs.Rules.{wrongLength, wrongHeader, wrongRecord, wrongNaming, wrongType}
 use Rattle.typing.specs.Judging.{noted}
 use Rattle.answers.specs.declared.Verdict.{Verdict}
@@ -38,6 +42,13 @@ pub record CheckingTypes (s : List ℕ) (n : ℕ) : Type 0 where
 pub record CheckingDepths (s : List ℕ) (n : ℕ) : Type 0 where
   pub named : CheckingTypes s n
   pub types : lowest (wrongType s) (count s) ≡ none
+
+-- what the search of the type records gives: the lowest that is wrong, the leaf counts of types, and where none is wrong the pair
+-- types by their parts
+pub record TypesChecked (s : List ℕ) (n : ℕ) (answer : Found) (widths index : List ℕ) : Type 0 where
+  pub answered : found answer ≡ lowest (wrongType s) n
+  pub counted : LeavesCounted s n widths
+  pub indexed : answer ≡ Nothing → Indexed s n index
 
 -- what the last stage gives: the verdict v, and for an accepted sheet the table `before` with the leaf count of each expression
 -- noted

@@ -6,12 +6,13 @@ ghost use lib.ListN.{length};
 ghost use Rattle.records.specs.Sized.{Sized};
 ghost use Rattle.records.specs.Says.{namings};
 ghost use Rattle.records.specs.Written.{Written};
-ghost use Rattle.structure.specs.Rules.{wrongLength, wrongNaming, wrongType, tooDeep, Passes};
+ghost use Rattle.structure.specs.Rules.{wrongLength, wrongNaming, tooDeep, Passes};
 ghost use Rattle.structure.specs.NamerTable.{NamingsHeld};
 ghost use Rattle.structure.specs.LeafTable.{LeavesCounted};
+ghost use Rattle.structure.specs.PairIndex.{Indexed};
 ghost use Rattle.typing.specs.Judging.{Ground};
 ghost use Rattle.verdict.specs.Verdict.{verdict, byTypes};
-ghost use Rattle.verdict.specs.Stages.{RulesChecked, StagesChecked, CheckingTypes};
+ghost use Rattle.verdict.specs.Stages.{TypesChecked, RulesChecked, StagesChecked, CheckingTypes};
 ghost use Rattle.answers.specs.Answers.{packed, verdictAnswer, lowest};
 ghost use Rattle.answers.specs.Searches.{found};
 ghost use Rattle.verdict.specs.Widths.{Widths};
@@ -32,6 +33,7 @@ use records::WORD_KIND;
 use records::WidthTable;
 use records::records_in;
 use records::word;
+use structure::PairIndex;
 use structure::capped_sum;
 use structure::count_types;
 use structure::first_too_deep;
@@ -41,6 +43,7 @@ use structure::first_wrong_type;
 use structure::no_depths;
 use structure::no_leaves;
 use structure::no_namings;
+use structure::no_pairs;
 use structure::note_all;
 use structure::place_all;
 use structure::wrong_header;
@@ -72,13 +75,14 @@ fn check_names(sheet: &[u8], n: usize, namers: &mut Namers) -> Found
     first_wrong_naming(n, namers)
 }
 
-// The lowest type record that is wrong: code 5. An empty table gets the leaf counts of types.
-fn check_types(sheet: &[u8], n: usize, widths: &mut WidthTable) -> Found
-    requires { ⌜ Sized (now sheet) n × Written (now sheet) × LeavesCounted (now sheet) 0 (now widths) ⌝ }
-    ensures { λ r. ⌜ (found r ≡ lowest (wrongType (now (sheet .entry))) n) × LeavesCounted (now (sheet .entry)) n (now (widths .exit)) ⌝ }
+// The lowest type record that is wrong: code 5. An empty table gets the leaf counts of types, and where none of them is wrong an
+// empty index gets the pair types.
+fn check_types(sheet: &[u8], n: usize, widths: &mut WidthTable, index: &mut PairIndex) -> Found
+    requires { ⌜ Sized (now sheet) n × Written (now sheet) × LeavesCounted (now sheet) 0 (now widths) × Indexed (now sheet) 0 (now index) ⌝ }
+    ensures { λ r. ⌜ TypesChecked (now (sheet .entry)) n r (now (widths .exit)) (now (index .exit)) ⌝ }
 {
     count_types(sheet, n, widths);
-    first_wrong_type(sheet, n, widths)
+    first_wrong_type(sheet, n, widths, index)
 }
 
 // The lowest expression that lies too deep: code 6.
@@ -93,8 +97,8 @@ fn check_depths(sheet: &[u8], n: usize, namers: &Namers) -> Found
 }
 
 // The verdict by the type rules, the last stage: code 7 or 0. The leaf counts of expressions go to the table of those of types.
-fn check_rules(sheet: &[u8], n: usize, widths: &mut WidthTable) -> Verdict
-    requires { ⌜ Ground (now sheet) n (now widths) × (length (now widths) ≡ mostRecords) ⌝ }
+fn check_rules(sheet: &[u8], n: usize, index: &PairIndex, widths: &mut WidthTable) -> Verdict
+    requires { ⌜ Ground (now sheet) n (now widths) × (length (now widths) ≡ mostRecords) × Indexed (now sheet) n (now index) ⌝ }
     ensures { λ r. ⌜ RulesChecked (now (sheet .entry)) (byTypes (now (sheet .entry))) r (now (widths .entry)) (now (widths .exit)) ⌝ }
 {
     let table = *widths;
@@ -103,6 +107,7 @@ fn check_rules(sheet: &[u8], n: usize, widths: &mut WidthTable) -> Verdict
         sheet,
         n,
         &table,
+        index,
         &scope,
         1,
         word(sheet, n, 0, WORD_B),
@@ -135,7 +140,8 @@ fn check_stages(sheet: &[u8], n: usize, widths: &mut WidthTable) -> Verdict
     if let Found::At(r) = misnamed {
         return Verdict::WrongNaming(r);
     }
-    let mistyped = check_types(sheet, n, widths);
+    let mut index = no_pairs();
+    let mistyped = check_types(sheet, n, widths, &mut index);
     if let Found::At(r) = mistyped {
         return Verdict::WrongType(r);
     }
@@ -143,7 +149,7 @@ fn check_stages(sheet: &[u8], n: usize, widths: &mut WidthTable) -> Verdict
     if let Found::At(r) = deep {
         return Verdict::TooDeep(r);
     }
-    check_rules(sheet, n, widths)
+    check_rules(sheet, n, &index, widths)
 }
 
 // Notes the width of rec where it is a pattern, from the widths of its parts.

@@ -17,7 +17,7 @@ word-requires-2 c κs =
 
 judge-root-requires : tie.Need-judge-root-requires
 judge-root-requires c κs =
-    root-ready (c .before .before .before .before .before .before .before .before .pre .0) (c .before .before .before .before .input-scope .result) (now (c .before .before .before .before .before .before .before .before .args .widths)) (c .before .before .before .before .before .word .ensures .0) (c .before .word2 .ensures .0) (c .before .before .before .before .input-scope .ensures .1) (c .before .before .before .before .input-scope .ensures .0) (c .before .before .before .before .before .before .before .before .pre .1)
+    (root-ready (c .before .before .before .before .before .before .before .before .pre .0) (c .before .before .before .before .input-scope .result) (now (c .before .before .before .before .before .before .before .before .args .widths)) (c .before .before .before .before .before .word .ensures .0) (c .before .word2 .ensures .0) (c .before .before .before .before .input-scope .ensures .1) (c .before .before .before .before .input-scope .ensures .0) (c .before .before .before .before .before .before .before .before .pre .1), c .before .before .before .before .before .before .before .before .pre .2)
 
 enum-known-judged : tie.Need-enum-known-judged
 enum-known-judged c = search needs

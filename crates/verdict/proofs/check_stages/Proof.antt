@@ -50,41 +50,44 @@ returns-4 c =
 enum-told-2 : tie.Need-enum-told-2
 enum-told-2 c = search needs
 
+no-pairs-requires : tie.Need-no-pairs-requires
+no-pairs-requires c κs = search needs
+
 check-types-requires : tie.Need-check-types-requires
 check-types-requires c κs =
-    let r = (records-passed (length-passed (c .before .before .before .before .before .before .before .before .before .before .before .before .before .before .pre .0) (sym (c .before .before .before .before .before .before .before .before .before .before .before .before .wrong-length .ensures) ∙ c .before .before .before .before .before .before .before .before .before .before .before .if1 .left)) (sym (c .before .before .before .before .before .before .before .before .before .before .wrong-header .ensures) ∙ c .before .before .before .before .before .before .before .before .before .if2 .left) _ (c .before .before .before .before .before .before .before .before .first-wrong-record .ensures) (c .before .before .before .before .before .before .enum-told .given .1)) in (r .measured .sized, recorded-written r, c .before .before .before .before .before .before .before .before .before .before .before .before .before .before .pre .1)
+    let r = (records-passed (length-passed (c .before .before .before .before .before .before .before .before .before .before .before .before .before .before .before .before .pre .0) (sym (c .before .before .before .before .before .before .before .before .before .before .before .before .before .before .wrong-length .ensures) ∙ c .before .before .before .before .before .before .before .before .before .before .before .before .before .if1 .left)) (sym (c .before .before .before .before .before .before .before .before .before .before .before .before .wrong-header .ensures) ∙ c .before .before .before .before .before .before .before .before .before .before .before .if2 .left) _ (c .before .before .before .before .before .before .before .before .before .before .first-wrong-record .ensures) (c .before .before .before .before .before .before .before .before .enum-told .given .1)) in (r .measured .sized, recorded-written r, c .before .before .before .before .before .before .before .before .before .before .before .before .before .before .before .before .pre .1, c .before .before .no-pairs .ensures _)
 
 enum-known-mistyped : tie.Need-enum-known-mistyped
 enum-known-mistyped c = search needs
 
 returns-5 : tie.Need-returns-5
 returns-5 c =
-    type-refused _ _ (c .before .mistyped .given .1) _ (names-passed (records-passed (length-passed (c .before .before .before .before .before .before .before .before .before .before .before .before .before .before .before .before .before .before .pre .0) (sym (c .before .before .before .before .before .before .before .before .before .before .before .before .before .before .before .before .wrong-length .ensures) ∙ c .before .before .before .before .before .before .before .before .before .before .before .before .before .before .before .if1 .left)) (sym (c .before .before .before .before .before .before .before .before .before .before .before .before .before .before .wrong-header .ensures) ∙ c .before .before .before .before .before .before .before .before .before .before .before .before .before .if2 .left) _ (c .before .before .before .before .before .before .before .before .before .before .before .before .first-wrong-record .ensures) (c .before .before .before .before .before .before .before .before .before .before .enum-told .given .1)) _ (c .before .before .before .before .before .before .before .check-names .ensures .0) (c .before .before .before .before .before .enum-told2 .given .1)) (c .before .before .before .check-types .ensures .0)
+    type-refused _ _ (c .before .mistyped .given .1) _ (names-passed (records-passed (length-passed (c .before .before .before .before .before .before .before .before .before .before .before .before .before .before .before .before .before .before .before .before .pre .0) (sym (c .before .before .before .before .before .before .before .before .before .before .before .before .before .before .before .before .before .before .wrong-length .ensures) ∙ c .before .before .before .before .before .before .before .before .before .before .before .before .before .before .before .before .before .if1 .left)) (sym (c .before .before .before .before .before .before .before .before .before .before .before .before .before .before .before .before .wrong-header .ensures) ∙ c .before .before .before .before .before .before .before .before .before .before .before .before .before .before .before .if2 .left) _ (c .before .before .before .before .before .before .before .before .before .before .before .before .before .before .first-wrong-record .ensures) (c .before .before .before .before .before .before .before .before .before .before .before .before .enum-told .given .1)) _ (c .before .before .before .before .before .before .before .before .before .check-names .ensures .0) (c .before .before .before .before .before .before .before .enum-told2 .given .1)) (c .before .before .before .check-types .ensures .answered)
 
 enum-told-3 : tie.Need-enum-told-3
 enum-told-3 c = search needs
 
 check-depths-requires : tie.Need-check-depths-requires
 check-depths-requires c κs =
-    ((names-passed (records-passed (length-passed (c .before .before .before .before .before .before .before .before .before .before .before .before .before .before .before .before .before .before .pre .0) (sym (c .before .before .before .before .before .before .before .before .before .before .before .before .before .before .before .before .wrong-length .ensures) ∙ c .before .before .before .before .before .before .before .before .before .before .before .before .before .before .before .if1 .left)) (sym (c .before .before .before .before .before .before .before .before .before .before .before .before .before .before .wrong-header .ensures) ∙ c .before .before .before .before .before .before .before .before .before .before .before .before .before .if2 .left) _ (c .before .before .before .before .before .before .before .before .before .before .before .before .first-wrong-record .ensures) (c .before .before .before .before .before .before .before .before .before .before .enum-told .given .1)) _ (c .before .before .before .before .before .before .before .check-names .ensures .0) (c .before .before .before .before .before .enum-told2 .given .1)), c .before .before .before .before .before .before .before .check-names .ensures .1)
+    ((names-passed (records-passed (length-passed (c .before .before .before .before .before .before .before .before .before .before .before .before .before .before .before .before .before .before .before .before .pre .0) (sym (c .before .before .before .before .before .before .before .before .before .before .before .before .before .before .before .before .before .before .wrong-length .ensures) ∙ c .before .before .before .before .before .before .before .before .before .before .before .before .before .before .before .before .before .if1 .left)) (sym (c .before .before .before .before .before .before .before .before .before .before .before .before .before .before .before .before .wrong-header .ensures) ∙ c .before .before .before .before .before .before .before .before .before .before .before .before .before .before .before .if2 .left) _ (c .before .before .before .before .before .before .before .before .before .before .before .before .before .before .first-wrong-record .ensures) (c .before .before .before .before .before .before .before .before .before .before .before .before .enum-told .given .1)) _ (c .before .before .before .before .before .before .before .before .before .check-names .ensures .0) (c .before .before .before .before .before .before .before .enum-told2 .given .1)), c .before .before .before .before .before .before .before .before .before .check-names .ensures .1)
 
 enum-known-deep : tie.Need-enum-known-deep
 enum-known-deep c = search needs
 
 returns-6 : tie.Need-returns-6
 returns-6 c =
-    depth-refused _ _ (c .before .deep .given .1) _ (types-passed (names-passed (records-passed (length-passed (c .before .before .before .before .before .before .before .before .before .before .before .before .before .before .before .before .before .before .before .before .before .before .pre .0) (sym (c .before .before .before .before .before .before .before .before .before .before .before .before .before .before .before .before .before .before .before .before .wrong-length .ensures) ∙ c .before .before .before .before .before .before .before .before .before .before .before .before .before .before .before .before .before .before .before .if1 .left)) (sym (c .before .before .before .before .before .before .before .before .before .before .before .before .before .before .before .before .before .before .wrong-header .ensures) ∙ c .before .before .before .before .before .before .before .before .before .before .before .before .before .before .before .before .before .if2 .left) _ (c .before .before .before .before .before .before .before .before .before .before .before .before .before .before .before .before .first-wrong-record .ensures) (c .before .before .before .before .before .before .before .before .before .before .before .before .before .before .enum-told .given .1)) _ (c .before .before .before .before .before .before .before .before .before .before .before .check-names .ensures .0) (c .before .before .before .before .before .before .before .before .before .enum-told2 .given .1)) _ (c .before .before .before .before .before .before .before .check-types .ensures .0) (c .before .before .before .before .before .enum-told3 .given .1)) (c .before .before .before .check-depths .ensures)
+    depth-refused _ _ (c .before .deep .given .1) _ (types-passed (names-passed (records-passed (length-passed (c .before .before .before .before .before .before .before .before .before .before .before .before .before .before .before .before .before .before .before .before .before .before .before .before .pre .0) (sym (c .before .before .before .before .before .before .before .before .before .before .before .before .before .before .before .before .before .before .before .before .before .before .wrong-length .ensures) ∙ c .before .before .before .before .before .before .before .before .before .before .before .before .before .before .before .before .before .before .before .before .before .if1 .left)) (sym (c .before .before .before .before .before .before .before .before .before .before .before .before .before .before .before .before .before .before .before .before .wrong-header .ensures) ∙ c .before .before .before .before .before .before .before .before .before .before .before .before .before .before .before .before .before .before .before .if2 .left) _ (c .before .before .before .before .before .before .before .before .before .before .before .before .before .before .before .before .before .before .first-wrong-record .ensures) (c .before .before .before .before .before .before .before .before .before .before .before .before .before .before .before .before .enum-told .given .1)) _ (c .before .before .before .before .before .before .before .before .before .before .before .before .before .check-names .ensures .0) (c .before .before .before .before .before .before .before .before .before .before .before .enum-told2 .given .1)) _ (c .before .before .before .before .before .before .before .check-types .ensures .answered) (c .before .before .before .before .before .enum-told3 .given .1)) (c .before .before .before .check-depths .ensures)
 
 enum-told-4 : tie.Need-enum-told-4
 enum-told-4 c = search needs
 
 check-rules-requires : tie.Need-check-rules-requires
 check-rules-requires c κs =
-    ((depths-passed (types-passed (names-passed (records-passed (length-passed (c .before .before .before .before .before .before .before .before .before .before .before .before .before .before .before .before .before .before .before .before .before .before .pre .0) (sym (c .before .before .before .before .before .before .before .before .before .before .before .before .before .before .before .before .before .before .before .before .wrong-length .ensures) ∙ c .before .before .before .before .before .before .before .before .before .before .before .before .before .before .before .before .before .before .before .if1 .left)) (sym (c .before .before .before .before .before .before .before .before .before .before .before .before .before .before .before .before .before .before .wrong-header .ensures) ∙ c .before .before .before .before .before .before .before .before .before .before .before .before .before .before .before .before .before .if2 .left) _ (c .before .before .before .before .before .before .before .before .before .before .before .before .before .before .before .before .first-wrong-record .ensures) (c .before .before .before .before .before .before .before .before .before .before .before .before .before .before .enum-told .given .1)) _ (c .before .before .before .before .before .before .before .before .before .before .before .check-names .ensures .0) (c .before .before .before .before .before .before .before .before .before .enum-told2 .given .1)) _ (c .before .before .before .before .before .before .before .check-types .ensures .0) (c .before .before .before .before .before .enum-told3 .given .1)) _ (c .before .before .before .check-depths .ensures) (c .before .enum-told4 .given .1) _ (c .before .before .before .before .before .before .before .check-types .ensures .1)), c .before .before .before .before .before .before .before .check-types .ensures .1 .long)
+    ((depths-passed (types-passed (names-passed (records-passed (length-passed (c .before .before .before .before .before .before .before .before .before .before .before .before .before .before .before .before .before .before .before .before .before .before .before .before .before .pre .0) (sym (c .before .before .before .before .before .before .before .before .before .before .before .before .before .before .before .before .before .before .before .before .before .before .before .wrong-length .ensures) ∙ c .before .before .before .before .before .before .before .before .before .before .before .before .before .before .before .before .before .before .before .before .before .before .if1 .left)) (sym (c .before .before .before .before .before .before .before .before .before .before .before .before .before .before .before .before .before .before .before .before .before .wrong-header .ensures) ∙ c .before .before .before .before .before .before .before .before .before .before .before .before .before .before .before .before .before .before .before .before .if2 .left) _ (c .before .before .before .before .before .before .before .before .before .before .before .before .before .before .before .before .before .before .before .first-wrong-record .ensures) (c .before .before .before .before .before .before .before .before .before .before .before .before .before .before .before .before .before .enum-told .given .1)) _ (c .before .before .before .before .before .before .before .before .before .before .before .before .before .before .check-names .ensures .0) (c .before .before .before .before .before .before .before .before .before .before .before .before .enum-told2 .given .1)) _ (c .before .before .before .before .before .before .before .before .check-types .ensures .answered) (c .before .before .before .before .before .before .enum-told3 .given .1)) _ (c .before .before .before .before .check-depths .ensures) (c .before .before .enum-told4 .given .1) _ (c .before .before .before .before .before .before .before .before .check-types .ensures .counted)), c .before .before .before .before .before .before .before .before .check-types .ensures .counted .long, c .before .before .before .before .before .before .before .before .check-types .ensures .indexed (c .before .before .before .before .before .before .enum-told3 .given .1))
 
 returns-7 : tie.Need-returns-7
 returns-7 c =
-    rules-decide (depths-passed (types-passed (names-passed (records-passed (length-passed (c .before .before .before .before .before .before .before .before .before .before .before .before .before .before .before .before .before .before .before .before .before .before .before .pre .0) (sym (c .before .before .before .before .before .before .before .before .before .before .before .before .before .before .before .before .before .before .before .before .before .wrong-length .ensures) ∙ c .before .before .before .before .before .before .before .before .before .before .before .before .before .before .before .before .before .before .before .before .if1 .left)) (sym (c .before .before .before .before .before .before .before .before .before .before .before .before .before .before .before .before .before .before .before .wrong-header .ensures) ∙ c .before .before .before .before .before .before .before .before .before .before .before .before .before .before .before .before .before .before .if2 .left) _ (c .before .before .before .before .before .before .before .before .before .before .before .before .before .before .before .before .before .first-wrong-record .ensures) (c .before .before .before .before .before .before .before .before .before .before .before .before .before .before .before .enum-told .given .1)) _ (c .before .before .before .before .before .before .before .before .before .before .before .before .check-names .ensures .0) (c .before .before .before .before .before .before .before .before .before .before .enum-told2 .given .1)) _ (c .before .before .before .before .before .before .before .before .check-types .ensures .0) (c .before .before .before .before .before .before .enum-told3 .given .1)) _ (c .before .before .before .before .check-depths .ensures) (c .before .before .enum-told4 .given .1) _ (c .before .before .before .before .before .before .before .before .check-types .ensures .1)) (c .before .before .before .before .before .before .before .before .check-types .ensures .1) (c .check-rules .ensures)
+    rules-decide (depths-passed (types-passed (names-passed (records-passed (length-passed (c .before .before .before .before .before .before .before .before .before .before .before .before .before .before .before .before .before .before .before .before .before .before .before .before .before .before .pre .0) (sym (c .before .before .before .before .before .before .before .before .before .before .before .before .before .before .before .before .before .before .before .before .before .before .before .before .wrong-length .ensures) ∙ c .before .before .before .before .before .before .before .before .before .before .before .before .before .before .before .before .before .before .before .before .before .before .before .if1 .left)) (sym (c .before .before .before .before .before .before .before .before .before .before .before .before .before .before .before .before .before .before .before .before .before .before .wrong-header .ensures) ∙ c .before .before .before .before .before .before .before .before .before .before .before .before .before .before .before .before .before .before .before .before .before .if2 .left) _ (c .before .before .before .before .before .before .before .before .before .before .before .before .before .before .before .before .before .before .before .before .first-wrong-record .ensures) (c .before .before .before .before .before .before .before .before .before .before .before .before .before .before .before .before .before .before .enum-told .given .1)) _ (c .before .before .before .before .before .before .before .before .before .before .before .before .before .before .before .check-names .ensures .0) (c .before .before .before .before .before .before .before .before .before .before .before .before .before .enum-told2 .given .1)) _ (c .before .before .before .before .before .before .before .before .before .check-types .ensures .answered) (c .before .before .before .before .before .before .before .enum-told3 .given .1)) _ (c .before .before .before .before .before .check-depths .ensures) (c .before .before .before .enum-told4 .given .1) _ (c .before .before .before .before .before .before .before .before .before .check-types .ensures .counted)) (c .before .before .before .before .before .before .before .before .before .check-types .ensures .counted) (c .check-rules .ensures)
 
 pub check-stages-spec : {M : Type 1} → statement M
 check-stages-spec =
@@ -103,6 +106,7 @@ check-stages-spec =
     enum-known-misnamed
     returns-4
     enum-told-2
+    no-pairs-requires
     check-types-requires
     enum-known-mistyped
     returns-5
