@@ -50,9 +50,9 @@ use Rattle.typing.proofs.Bounds.{counts-leaves}
 use Rattle.typing.proofs.Outcomes.{Passed, passed, faulted}
 
 -- the type rules
-module _ {s : List ℕ} {n : ℕ} {table : List ℕ} (g : Ground s n table) (stack widths : List ℕ) {x y : ℕ} (ex : x ≡ word s 0 2)
+module _ {s : List ℕ} {n : ℕ} {widths : List ℕ} (g : Ground s n widths) (stack : List ℕ) {x y : ℕ} (ex : x ≡ word s 0 2)
     (ey : y ≡ word s 0 3) (scope : scopeOf 1 stack ≡ x ∷ []) where
-  pub root-ready : length stack ≡ 64 → length widths ≡ 4096 → Judging s n table stack 1 y widths
+  pub root-ready : length stack ≡ 64 → length widths ≡ 4096 → Judging s n stack 1 y widths
   root-ready wide long =
       let w = written (g .passes) in
       let r = root-is w in
@@ -79,7 +79,7 @@ module _ {s : List ℕ} {n : ℕ} {table : List ℕ} (g : Ground s n table) (sta
   unfolding byTypes
   rules-accept answer t before after d e =
       let p = passed t (the-circuit answer before after d) e in
-      record { answered = rw (p .none-fails, p .typed); long = p .long; notes = λ u q. p .notes }
+      record { answered = rw (p .none-fails, p .typed); long = p .counted .long; notes = λ u q. p .notes }
 
   pub rules-refuse : (answer : Outcome) (r : ℕ) (before after : List ℕ) → Judged s (scopeOf 1 stack) (treeAt s y) answer before after
       → answer ≡ Fault r → RulesChecked s (byTypes s) (IllTyped r) before after
@@ -89,7 +89,7 @@ module _ {s : List ℕ} {n : ℕ} {table : List ℕ} (g : Ground s n table) (sta
       let f = faulted r c e in
       record {
         answered = rw f;
-        long = c .long;
+        long = c .counted .long;
         notes = λ u q. let z : _≡_ {A = ℕ} 0 1 = cc in absurd (omega arith);
       }
 

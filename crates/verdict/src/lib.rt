@@ -101,12 +101,10 @@ fn check_rules(sheet: &[u8], n: usize, index: &PairIndex, widths: &mut WidthTabl
     requires { ⌜ Ground (now sheet) n (now widths) × (length (now widths) ≡ mostRecords) × Indexed (now sheet) n (now index) ⌝ }
     ensures { λ r. ⌜ RulesChecked (now (sheet .entry)) (byTypes (now (sheet .entry))) r (now (widths .entry)) (now (widths .exit)) ⌝ }
 {
-    let table = *widths;
     let scope = input_scope(word(sheet, n, 0, WORD_A));
     let judged = judge_root(
         sheet,
         n,
-        &table,
         index,
         &scope,
         1,
