@@ -109,7 +109,8 @@ module _ {s : List ℕ} (p : Passes s) (full : length s ≡ 12 * count s) where
   pub first-too-deep-callable : (depths : List ℕ) × (nestings : List ℕ) × Sized s (count s) × Placed s (count s) depths nestings
   first-too-deep-callable = let x = depths-placed p full in (x .0, x .1, size, x .2)
 
-  -- typing: an expression, with the input in scope, a table of widths that has those of types, and the type tables
+  -- typing: an expression, with the input in scope, a table of widths that has those of types, and
+  -- the type tables
   abbrev pub scopeStack : List ℕ
   scopeStack = ready p full .0
 

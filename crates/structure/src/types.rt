@@ -86,7 +86,8 @@ fn wrong_type(sheet: &[u8], n: usize, rec: usize, table: &WidthTable, index: &mu
     lower != 0
 }
 
-// The lowest type record that is wrong: code 5. Where there is none, an empty index has all pair types.
+// The lowest type record that is wrong: code 5. Where there is none, an empty index then has all
+// pair types.
 pub fn first_wrong_type(sheet: &[u8], n: usize, table: &WidthTable, index: &mut PairIndex) -> Found
     requires { ⌜ Sized (now sheet) n × LeavesCounted (now sheet) n (now table) × Indexed (now sheet) 0 (now index) ⌝ }
     ensures { λ r. ⌜ (found r ≡ lowest (wrongType (now (sheet .entry))) n) × (r ≡ Nothing → Indexed (now (sheet .entry)) n (now (index .exit))) ⌝ }

@@ -107,8 +107,8 @@ pub record Ground (s : List ℕ) (n : ℕ) (table : List ℕ) : Type 0 where
   pub passes : Passes s
   pub leaves : (t : ℕ) → TypeRecord s t → getD table t 0 ≡ leaves (typeAt s t)
 
--- A table of widths while expressions are judged: it has the leaves of each type. Those of an expression are noted at its record,
--- which is none of a type, so the types keep theirs.
+-- A table of widths while expressions are judged: it has the leaves of each type. Those of an
+-- expression are noted at its record, which is none of a type, so the types keep theirs.
 pub record TypesCounted (s widths : List ℕ) : Type 0 where
   pub long : length widths ≡ mostRecords
   pub leaves : (t : ℕ) → TypeRecord s t → getD widths t 0 ≡ leaves (typeAt s t)

@@ -244,7 +244,7 @@ fn of_delay(
     same_type(sheet, n, rec, u, t, t, widths)
 }
 
-// Judges an expression with the index of the sheet's pair types, after it has found the types of patterns.
+// Finds the types of patterns by the index of the sheet's pair types, and judges an expression.
 pub fn judge_root(
     sheet: &[u8],
     n: usize,

@@ -1,5 +1,5 @@
--- The stages of the check, one after the other: where none finds a fault the next begins, and the first that finds one gives the
--- verdict. Assumes nothing.
+-- The stages of the check, one after the other: where a stage finds no fault the next begins, and
+-- the first that finds one gives the verdict. Assumes nothing.
 use mathlib.Core.Path.{_≡_, refl, sym, _∙_, ap, subst}
 use mathlib.Core.Bool.{Bool, true, false, not, _||_, or-true}
 use mathlib.Core.List.{List, [], _∷_}

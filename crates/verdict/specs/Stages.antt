@@ -43,21 +43,22 @@ pub record CheckingDepths (s : List ℕ) (n : ℕ) : Type 0 where
   pub named : CheckingTypes s n
   pub types : lowest (wrongType s) (count s) ≡ none
 
--- what the search of the type records gives: the lowest that is wrong, the leaf counts of types, and where none is wrong the pair
--- types by their parts
+-- what the search of the type records gives: the lowest that is wrong, the leaf counts of types,
+-- and where none is wrong the pair types by their parts
 pub record TypesChecked (s : List ℕ) (n : ℕ) (answer : Found) (widths index : List ℕ) : Type 0 where
   pub answered : found answer ≡ lowest (wrongType s) n
   pub counted : LeavesCounted s n widths
   pub indexed : answer ≡ Nothing → Indexed s n index
 
--- what the last stage gives: the verdict v, and for an accepted sheet the table `before` with the leaf count of each expression
--- noted
+-- what the last stage gives: the verdict v, and for an accepted sheet the table `before` with the
+-- leaf count of each expression noted
 pub record RulesChecked (s : List ℕ) (v answer : Verdict) (before after : List ℕ) : Type 0 where
   pub answered : answer ≡ v
   pub long : length after ≡ mostRecords
   pub notes : (t : ℕ) → answer ≡ Accepted t → after ≡ noted s (inputs s) (circuit s) before
 
--- what all stages give: the verdict, and for an accepted sheet an empty table with the leaf counts of types and then of expressions
+-- what all stages give: the verdict, and for an accepted sheet a table with the leaf counts of
+-- types and then those of expressions
 pub record StagesChecked (s : List ℕ) (n : ℕ) (answer : Verdict) (after : List ℕ) : Type 0 where
   pub answered : answer ≡ verdict s
   pub notes : (t : ℕ) → answer ≡ Accepted t

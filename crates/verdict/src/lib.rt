@@ -75,8 +75,8 @@ fn check_names(sheet: &[u8], n: usize, namers: &mut Namers) -> Found
     first_wrong_naming(n, namers)
 }
 
-// The lowest type record that is wrong: code 5. An empty table gets the leaf counts of types, and where none of them is wrong an
-// empty index gets the pair types.
+// The lowest type record that is wrong: code 5. An empty table gets the leaf counts of types, and
+// where none of them is wrong an empty index gets the pair types.
 fn check_types(sheet: &[u8], n: usize, widths: &mut WidthTable, index: &mut PairIndex) -> Found
     requires { ⌜ Sized (now sheet) n × Written (now sheet) × LeavesCounted (now sheet) 0 (now widths) × Indexed (now sheet) 0 (now index) ⌝ }
     ensures { λ r. ⌜ TypesChecked (now (sheet .entry)) n r (now (widths .exit)) (now (index .exit)) ⌝ }
@@ -96,7 +96,8 @@ fn check_depths(sheet: &[u8], n: usize, namers: &Namers) -> Found
     first_too_deep(sheet, n, &depths, &nestings)
 }
 
-// The verdict by the type rules, the last stage: code 7 or 0. The leaf counts of expressions go to the table of those of types.
+// The verdict by the type rules, the last stage: code 7 or 0. The table, which has the leaf counts
+// of types, gets those of expressions.
 fn check_rules(sheet: &[u8], n: usize, index: &PairIndex, widths: &mut WidthTable) -> Verdict
     requires { ⌜ Ground (now sheet) n (now widths) × (length (now widths) ≡ mostRecords) × Indexed (now sheet) n (now index) ⌝ }
     ensures { λ r. ⌜ RulesChecked (now (sheet .entry)) (byTypes (now (sheet .entry))) r (now (widths .entry)) (now (widths .exit)) ⌝ }
@@ -117,8 +118,9 @@ fn check_rules(sheet: &[u8], n: usize, index: &PairIndex, widths: &mut WidthTabl
     }
 }
 
-// The stages of the check in order: length, header, records, namings, types, depths, type rules. The first that finds a fault
-// gives the verdict. The empty table gets the leaf counts of types, and those of expressions where the sheet is accepted.
+// The stages of the check in order: length, header, records, namings, types, depths, type rules.
+// The first that finds a fault gives the verdict. An empty table gets the leaf counts of types, and
+// where the sheet is accepted those of expressions.
 fn check_stages(sheet: &[u8], n: usize, widths: &mut WidthTable) -> Verdict
     requires { ⌜ (n ≡ length (now sheet) / 12) × LeavesCounted (now sheet) 0 (now widths) ⌝ }
     ensures { λ r. ⌜ StagesChecked (now (sheet .entry)) n r (now (widths .exit)) ⌝ }

@@ -1,4 +1,5 @@
--- Each stage begins where those before it found nothing, and the first that finds a fault gives the verdict. Assumes nothing.
+-- Each stage begins where those before it found nothing, and the first that finds a fault gives the
+-- verdict. Assumes nothing.
 use borrow.Author.Needs.{needs}
 use Rattle.verdict.proofs.check_stages.Statement.{statement}
 use Rattle.verdict.proofs.check_stages.Tie as tie
