@@ -87,6 +87,11 @@ pub none-split : (ks js : List Check) → NoneApplies (ks ++ js) → NoneApplies
 none-split [] js h = (tt, h)
 none-split (k ∷ ks) js h = let r = none-split ks js (h .1) in ((h .0, r .0), r .1)
 
+-- and where none of each applies, none of both does
+pub none-both : (ks js : List Check) → NoneApplies ks → NoneApplies js → NoneApplies (ks ++ js)
+none-both [] js h i = i
+none-both (k ∷ ks) js h i = (h .0, none-both ks js (h .1) i)
+
 -- what a test that applies at one place says
 pub when-some : (b : Bool) (p q : ℕ) → when b p ≡ some q → p ≡ q
 when-some true p q e = cc

@@ -24,8 +24,8 @@ use Rattle.accepted.proofs.Laws.{verdict-first, first-accepted}
 use Rattle.accepted.proofs.Small.{accepted-few}
 use Rattle.stimulus.specs.Stimulus.{inputType, wrongStimulus, stimulusChecks, cycleCount}
 use Rattle.behaviour.specs.Run.{outputNeeded, callChecks, bySlices, answer, finalOut, finalNext, RunGiven}
-use Rattle.behaviour.specs.Promises.{SaysOfCall}
-use Rattle.behaviour.proofs.Answers.{lowest-first, places-small, refused-by-verdict, stimulus-refused}
+use Rattle.behaviour.specs.Afterwards.{WellFormed}
+use Rattle.behaviour.proofs.Answers.{run-laws, refused-by-verdict, stimulus-refused}
 use Rattle.simulator.specs.Running.{Measured}
 use Rattle.simulator.specs.Calls.{Ran}
 use Rattle.listing.specs.Lines.{refusedLine}
@@ -61,7 +61,7 @@ call-numbered s stim out next =
 
 refused-code : (s stim out next : List ℕ) (c p : ℕ) → answer s stim out next ≡ Refused c p → 0 < c
 refused-code s stim out next c p e =
-    let r : Refuses (callChecks s stim out next) c p = lowest-first s stim out next (Refused c p) .0 e in
+    let r : Refuses (callChecks s stim out next) c p = run-laws s stim out next .lowest-first (Refused c p) .0 e in
     let n = numbered-in (r .before) (r .applying) (r .after) (subst Numbered (r .split) (call-numbered s stim out next)) in
     let m = r .numbered in
     omega arith
@@ -117,12 +117,12 @@ module _ (s stim : List ℕ) (i o t many : ℕ) (m : Measured s i o t) (q : Outp
     apart : (c ≡ code (answer s stim lo ln)) × (p ≡ place (answer s stim lo ln))
     apart =
         let given = answer s stim lo ln in
-        rw (ec, ep, ran .gives .result-is) (Answers.kept .taken-apart (code given) (place given) (places-small s stim lo ln))
+        rw (ec, ep, ran .gives .result-is) (Answers.kept .taken-apart (code given) (place given) (run-laws s stim lo ln .place-small))
 
     -- done: the outputs and the sheet after them
     module _ (n : ℕ) (e : answer s stim lo ln ≡ Done n) where
-      formed : SaysOfCall s stim lo ln (Done n)
-      formed = lowest-first s stim lo ln (Done n) .0 e
+      formed : (t : ℕ) × WellFormed s stim lo ln t
+      formed = run-laws s stim lo ln .lowest-first (Done n) .0 e .0
 
       done-outputs : ro ≡ runOutputs s stim
       unfolding finalOut runOutputs
