@@ -14,7 +14,7 @@ use Rattle.behaviour.specs.Afterwards.{WellFormed}
 use Rattle.translator.specs.Translated.{Translated}
 use Rattle.text_meaning.specs.NamedValues.{valueOf}
 use Rattle.text_calls.specs.RunRows.{TextsRun}
-use Rattle.text_meaning.specs.TextPromises.{declarations, Means}
+use Rattle.text_meaning.specs.Promises.{declarations, Means}
 
 -- the text that the bytes are, and that over the stimulus, read as values, it means the outputs, read as values
 pub record RanAsMeant (bytes sheet stim : List ℕ) (type : ℕ) (outputs : List ℕ) : Type 0 where
