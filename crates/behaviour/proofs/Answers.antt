@@ -88,8 +88,7 @@ slices-small s t stim out next v = (
   λ p e. let z = when-some (wrongStimulus s stim) 0 p e in omega arith,
   λ e. let whole = stimulus-whole s stim (when-none (wrongStimulus s stim) 0 e) in
       let few = cycles-few s t stim v (when-none (wrongStimulus s stim) 0 e) in
-      let needed = outputNeeded s t stim in
-      (
+      let needed = outputNeeded s t stim in (
         λ i f. let l = lowest-some-passes (wrongByte s stim) (length stim) i f .0 in let w = whole .0 in omega arith,
         λ f. (
           λ p h. let z = when-some (not (eqb (length out) needed)) needed p h in omega arith,

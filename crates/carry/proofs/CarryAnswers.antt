@@ -78,17 +78,16 @@ module _ (old new next : List ℕ) {t : ℕ} (v : verdict old ≡ Accepted t) wh
   rest-small : SmallPlaces (newChecks old new next) 0
   rest-small = (
     refused-small,
-    λ e. let a = accepts-by-code (verdict new) (none-refused (verdictAnswer (verdict new)) e) in
-        (
-          twice-small old t v,
-          λ f. (
-            twice-small new (a .0) (a .1),
-            λ g. (
-              λ p k. let z = when-some (not (eqb (length next) (length new))) (length new) p k in let l = accepted-length new (a .1) in omega arith,
-              λ k. omega arith,
-            ),
-          ),
+    λ e. let a = accepts-by-code (verdict new) (none-refused (verdictAnswer (verdict new)) e) in (
+      twice-small old t v,
+      λ f. (
+        twice-small new (a .0) (a .1),
+        λ g. (
+          λ p k. let z = when-some (not (eqb (length next) (length new))) (length new) p k in let l = accepted-length new (a .1) in omega arith,
+          λ k. omega arith,
         ),
+      ),
+    ),
   )
 
 pub carry-laws : CarryLaws

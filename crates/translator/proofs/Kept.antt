@@ -115,10 +115,13 @@ laws bytes entry a exit (in-grammar {ts} {t} k r) =
       are-checks = checks-inside k r;
       laws =
           standard-laws (inside-formed k r) refl
-          (first-place (textCallChecks t (length entry)) (lengthNeeded t)
-          (λ p e. let w = names-within (r .lexed) (r .parsed) p e in omega (arith, s, w),
-          λ _. (λ p e. let w = constants-within (r .lexed) (r .parsed) p e in omega (arith, s, w),
-          λ _. (λ p e. let w = when-some (noRoom t (length entry)) (lengthNeeded t) p e in omega (arith, n, w), λ _. n))))
+          (first-place (textCallChecks t (length entry)) (lengthNeeded t) (
+            λ p e. let w = names-within (r .lexed) (r .parsed) p e in omega (arith, s, w),
+            λ _. (
+              λ p e. let w = constants-within (r .lexed) (r .parsed) p e in omega (arith, s, w),
+              λ _. (λ p e. let w = when-some (noRoom t (length entry)) (lengthNeeded t) p e in omega (arith, n, w), λ _. n),
+            ),
+          ))
           (one-slice (sheetOfText t ++ replicate (length entry - lengthNeeded t) 0) no-slice);
     }
 
