@@ -3,13 +3,14 @@
 -- Assumes nothing.
 use Prim.Native.Nat.{ℕ, _/_, _<_, _^_}
 use mathlib.Core.List.{List, _++_}
+use mathlib.Core.Bool.{true}
 use mathlib.Core.Logic.{_↔_}
 use mathlib.Core.Path.{_≡_, refl, sym, ap, _∙_}
 use native.Mathlib.Omega.{arith}
 use lib.ListN.{length}
 use Rattle.answers.specs.Answers.{place, onDone, Check, firstApplying, NoneApplies, verdictAnswer}
 use Rattle.answers.specs.StandardLaws.{LentSlice, StandardLaws}
-use Rattle.answers.specs.GivenSlices.{SmallPlaces, GivenSlices}
+use Rattle.answers.specs.GivenSlices.{codesAbove, SmallPlaces, GivenSlices}
 use Rattle.answers.specs.declared.Answer.{Answer}
 use Rattle.answers.specs.declared.Answer.the-variants.{Done, Refused}
 use Rattle.answers.proofs.First.{first-both, first-then, none-both}
@@ -66,11 +67,11 @@ none-of-call s own t v h = none-both (sheetChecks s) own (accepted-first s t v .
 
 -- What every call promises, where the places of its own checks are small on an accepted sheet.
 pub call-laws : (s : List ℕ) (own : List Check) {Formed : Type 0} {done : ℕ} {a : Answer} {slices : List LentSlice}
-    → NoneApplies (sheetChecks s ++ own) ↔ Formed → a ≡ firstApplying (sheetChecks s ++ own) (Done done)
+    → NoneApplies (sheetChecks s ++ own) ↔ Formed → codesAbove own ≡ true → a ≡ firstApplying (sheetChecks s ++ own) (Done done)
     → ((t : ℕ) → verdict s ≡ Accepted t → SmallPlaces own done) → GivenSlices a slices
     → StandardLaws (sheetChecks s ++ own) Formed done a slices
-call-laws s own {done} formed is small given =
-    standard-laws formed is
+call-laws s own {done} formed above is small given =
+    standard-laws formed above is
     (rw is (call-place s own (Done done) (λ t v. first-place own done (small t v))))
     given
 

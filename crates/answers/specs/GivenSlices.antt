@@ -1,11 +1,19 @@
--- What the laws of every call ask of a call: that its places are small, and that its slices hold what is computed where it is done.
+-- What the laws of every call ask of a call: that its codes are above 0 and its places small, and that its slices hold what is computed
+-- where it is done.
 use Prim.Native.Nat.{ℕ, _^_, _<_}
 use mathlib.Core.Path.{_≡_}
+use mathlib.Core.Bool.{Bool, true, _&&_}
 use mathlib.Core.List.{List, [], _∷_}
 use mathlib.Core.Option.{none, some}
+use lib.Dec.{ltb}
 use Rattle.answers.specs.Answers.{whenDone, Check}
 use Rattle.answers.specs.StandardLaws.{LentSlice, lentSlice}
 use Rattle.answers.specs.declared.Answer.{Answer}
+
+-- the code of each check is above 0
+abbrev pub codesAbove : List Check → Bool
+codesAbove [] = true
+codesAbove (k ∷ ks) = ltb 0 (k .number) && codesAbove ks
 
 -- the place of each check is small, as far as none before it applies, and so is the place of a call to which none applies
 abbrev pub SmallPlaces : List Check → (done : ℕ) → Type 0

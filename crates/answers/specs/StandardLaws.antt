@@ -33,6 +33,8 @@ pub record StandardLaws (checks : List Check) (Formed : Type 0) (done : ℕ) (an
   pub formed-where : NoneApplies checks ↔ Formed
   -- each answer is given exactly where what it says holds
   pub lowest-first : (a : Answer) → answer ≡ a ↔ SaysOfCall checks Formed done a
+  -- the code of a refusal is not 0
+  pub refusal-coded : (c p : ℕ) → answer ≡ Refused c p → 0 < c
   -- the place is below 2^32, so that code and place are read back from the number returned (`TakenApart`)
   pub place-small : place answer < 2 ^ 32
   -- a refusal leaves every lent slice as it was

@@ -116,7 +116,7 @@ pub run-laws : RunLaws
 unfolding finalOut finalNext
 run-laws s stim out next =
     call-laws s (runChecks s (outputType s) stim out next)
-    (λ h. (outputType s, well-formed-where s stim out next h), λ h. formed-none s stim out next (h .0) (h .1))
+    (λ h. (outputType s, well-formed-where s stim out next h), λ h. formed-none s stim out next (h .0) (h .1)) refl
     (answer-first s stim out next)
     (λ t v. rw (accepted-output s t v) at (slices-small s t stim out next v))
     (one-slice (endToEnd (outputsBy undecidedRule s (cycles s stim)))

@@ -93,5 +93,5 @@ module _ (old new next : List ℕ) {t : ℕ} (v : verdict old ≡ Accepted t) wh
 pub carry-laws : CarryLaws
 unfolding carryAnswer finalCarried
 carry-laws old new next =
-    call-laws old (newChecks old new next) (formed-where old new next, formed-none old new next) refl
+    call-laws old (newChecks old new next) (formed-where old new next, formed-none old new next) refl refl
     (λ t v. rest-small old new next v) (one-slice (carried old new) no-slice)

@@ -59,7 +59,7 @@ records-few s t v = let l = accepted-length s v in let w = accepted-records s v 
 pub fired-laws : FiredLaws
 unfolding firedAnswer finalFired
 fired-laws s stim words =
-    one-cycle-laws 16 (count s) s stim words refl (λ t v. let f = records-few s t v in omega arith) (one-slice (fired s stim) no-slice)
+    one-cycle-laws 16 (count s) s stim words refl (omega arith) (λ t v. let f = records-few s t v in omega arith) (one-slice (fired s stim) no-slice)
 
 pub reached-once : ReachedOnce
 reached-once s t v input r h e = evaluated-once input (accepted-passes v) r h e

@@ -42,7 +42,7 @@ leaves-few s t v = rw (accepted-output s t v) at (accepted-few s v)
 pub preview-laws : PreviewLaws
 unfolding previewAnswer finalPreview
 preview-laws s stim out =
-    one-cycle-laws 10 (outputLeaves s) s stim out refl (λ t v. let few = leaves-few s t v in omega arith) (one-slice (output s stim) no-slice)
+    one-cycle-laws 10 (outputLeaves s) s stim out refl (omega arith) (λ t v. let few = leaves-few s t v in omega arith) (one-slice (output s stim) no-slice)
 
 -- 10 alone
 abbrev roomChecks : (s out : List ℕ) → List Check

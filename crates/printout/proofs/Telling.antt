@@ -46,25 +46,8 @@ over-long s stim h = rw (lt-ltb 65535 (length stim) h) refl
 over-refused : (s stim : List ℕ) → 65535 < length stim → firstApplying (stimulusChecks s stim) (Done (cycleCount s stim)) ≡ Refused 8 0
 over-refused s stim h = rw (over-long s stim h) refl
 
--- every code of a call is above 0
-abbrev Numbered : List Check → Type 0
-Numbered [] = Unit {0}
-Numbered (k ∷ ks) = (0 < k .number) × Numbered ks
-
-numbered-in : (before : List Check) (k : Check) (after : List Check) → Numbered (before ++ (k ∷ after)) → 0 < k .number
-numbered-in [] k after h = h .0
-numbered-in (j ∷ js) k after h = numbered-in js k after (h .1)
-
-call-numbered : (s stim out next : List ℕ) → Numbered (callChecks s stim out next)
-call-numbered s stim out next =
-    (omega arith, (omega arith, (omega arith, (omega arith, (omega arith, (omega arith, (omega arith, (omega arith, (omega arith, (omega arith, (omega arith, tt)))))))))))
-
 refused-code : (s stim out next : List ℕ) (c p : ℕ) → answer s stim out next ≡ Refused c p → 0 < c
-refused-code s stim out next c p e =
-    let r : Refuses (callChecks s stim out next) c p = run-laws s stim out next .lowest-first (Refused c p) .0 e in
-    let n = numbered-in (r .before) (r .applying) (r .after) (subst Numbered (r .split) (call-numbered s stim out next)) in
-    let m = r .numbered in
-    omega arith
+refused-code s stim out next c p e = run-laws s stim out next .refusal-coded c p e
 
 refusal-text : (c p t w : ℕ) (outputs : List ℕ) → 0 < c → toldText c p t w outputs ≡ refusedLine c p
 refusal-text zero p t w outputs h = absurd (omega arith)

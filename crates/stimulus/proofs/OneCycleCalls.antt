@@ -10,7 +10,7 @@ use mathlib.Core.Path.{_≡_, refl, sym, ap, _∙_}
 use native.Mathlib.Omega.{arith}
 use lib.ListN.{length}
 use lib.Dec.{eqb}
-use borrow.Author.Tests.{eq-eqb, ne-eqb}
+use borrow.Author.Tests.{eq-eqb, ne-eqb, lt-ltb}
 use Rattle.answers.specs.Answers.{onDone, lowest, Check, check, when, firstApplying, NoneApplies, verdictAnswer}
 use Rattle.answers.specs.StandardLaws.{LentSlice, StandardLaws}
 use Rattle.answers.specs.GivenSlices.{SmallPlaces, GivenSlices}
@@ -95,10 +95,11 @@ module _ (c : ℕ) {needed : ℕ} {s stim lent : List ℕ} where
 
 -- what every call promises, of a call on one cycle
 pub one-cycle-laws : (c needed : ℕ) (s stim lent : List ℕ) {a : Answer} {slices : List LentSlice}
-    → a ≡ firstApplying (allChecks c needed s stim lent) (Done 0) → ((t : ℕ) → verdict s ≡ Accepted t → needed < 2 ^ 32) → GivenSlices a slices
+    → a ≡ firstApplying (allChecks c needed s stim lent) (Done 0) → 0 < c
+    → ((t : ℕ) → verdict s ≡ Accepted t → needed < 2 ^ 32) → GivenSlices a slices
     → StandardLaws (allChecks c needed s stim lent) (FormedOneCycle s stim lent needed) 0 a slices
-one-cycle-laws c needed s stim lent is small given =
-    call-laws s (ownChecks c needed s stim lent) (one-cycle-formed c, formed-none c) is (λ t v. own-small c needed s stim lent (small t v)) given
+one-cycle-laws c needed s stim lent is above small given =
+    call-laws s (ownChecks c needed s stim lent) (one-cycle-formed c, formed-none c) (rw (lt-ltb 0 c above) refl) is (λ t v. own-small c needed s stim lent (small t v)) given
 
 module _ (c needed : ℕ) {s stim : List ℕ} (lent : List ℕ) {t : ℕ} (v : verdict s ≡ Accepted t) {a : Answer} (h : HeldToOne s stim a) where
   by-length : firstApplying (allChecks c needed s stim lent) (Done 0)

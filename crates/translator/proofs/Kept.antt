@@ -103,7 +103,7 @@ laws bytes entry a exit (outside-grammar {i} l) =
       checks = check 13 (some i) ∷ [];
       done = 0;
       are-checks = checks-outside l;
-      laws = standard-laws (outside-formed l) refl (omega (arith, w)) (one-slice [] no-slice);
+      laws = standard-laws (outside-formed l) refl refl (omega (arith, w)) (one-slice [] no-slice);
     }
 laws bytes entry a exit (in-grammar {ts} {t} k r) =
     let s = k .short in
@@ -114,7 +114,7 @@ laws bytes entry a exit (in-grammar {ts} {t} k r) =
       done = lengthNeeded t;
       are-checks = checks-inside k r;
       laws =
-          standard-laws (inside-formed k r) refl
+          standard-laws (inside-formed k r) refl refl
           (first-place (textCallChecks t (length entry)) (lengthNeeded t) (
             λ p e. let w = names-within (r .lexed) (r .parsed) p e in omega (arith, s, w),
             λ _. (

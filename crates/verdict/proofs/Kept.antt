@@ -23,7 +23,7 @@ check-laws s =
       λ h. let r = says-exactly s (Accepted (outputType s)) .0 (first-accepted s h) in (r .0, r .1),
       λ h. accepted-first s (outputType s) (says-exactly s (Accepted (outputType s)) .1 (h .0, h .1, refl)) .0,
     )
-    (verdict-first s)
+    refl (verdict-first s)
     (let h = verdict-place s in omega arith)
     no-slice
 
