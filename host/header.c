@@ -23,7 +23,10 @@ static void header(void)
     int number = SHEET_VERSION_NUMBER;
     snprintf(version, sizeof version, "%d.%d.%d", number / 10000, number / 100 % 100, number % 100);
     tally(strcmp(version, SHEET_VERSION) == 0, "sheet.h", "the version as text is not the version as a number");
-    /* What is no code has the sentence that no call returns it. tools/check-calls compares the codes printed with the header's. */
+    /*
+     * What is no code has the sentence that no call returns it. The codes that have another are printed,
+     * and tools/check-calls compares them with the header's.
+     */
     const char *none = sheet_sentence(UINT32_MAX);
     printf("sentences:");
     for (uint32_t one = 0; one < 256; one++) {

@@ -7,7 +7,7 @@
 
 #include "draft.h"
 
-/* What a measured call is lent: a sheet at a limit, the same with other values in its delays, and slices. */
+/* What a measured call is lent: a sheet at a limit, the same with other values in delays, and slices. */
 struct at_limit {
     uint8_t sheet[MOST_BYTES], other[MOST_BYTES];
     size_t length;
@@ -16,10 +16,13 @@ struct at_limit {
 };
 extern struct at_limit at_limit;
 
-/* Makes a call on each sheet at a limit, and tells the most stack that it used. `call` is its name in sheet.h. */
+/* Makes a call, of this name in sheet.h, on each sheet at a limit, and tells the most stack used. */
 void measure_on_limits(const char *call, void (*once)(void), size_t figure);
 
-/* Tells the most stack that a call used, and on what; counts one failed where it is over the figure or below half of it. */
+/*
+ * Tells the most stack that a call used, and on what. Counts one failed where it is over the figure, or
+ * below half of it.
+ */
 void tell_stack(const char *call, size_t most, const char *worst, size_t figure);
 
 #endif

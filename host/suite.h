@@ -16,10 +16,13 @@ struct tests {
 /* Called by the two macros below, before main. */
 void suite_enter(struct tests *tests);
 
-/* Makes all tests, and says of each group how many there were. A group that makes none counts as failed. */
+/* Makes all tests, and says of each group how many there were. A group that makes none has failed. */
 void suite_run(void);
 
-/* At the end of a file: the tests of a function, made on the program's own stack and again on one of so many bytes. */
+/*
+ * At the end of a file: the tests of a function, made on the program's own stack and again on one of so
+ * many bytes.
+ */
 #define TESTS(function, bytes)                                                    \
     __attribute__((constructor)) static void enter_##function(void)               \
     {                                                                             \

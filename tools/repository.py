@@ -1,4 +1,4 @@
-"""What the scripts read from the sources: crates.txt, and the functions that the archives export."""
+"""What the scripts read from the sources: crates.txt, and what the archives export."""
 import re
 import sys
 from pathlib import Path
@@ -53,5 +53,5 @@ def parameters(call, root=ROOT):
 def archive_file(crate, root=ROOT):
     file = root / "target/staticlib" / f"lib{crate}.a"
     if not file.exists():
-        sys.exit(f"{sys.argv[0]}: there is no {file.relative_to(root)}: .ci/run archives, or rt staticlib {crate}")
+        sys.exit(f"{sys.argv[0]}: there is no {file.relative_to(root)}: .ci/run archives")
     return file
