@@ -1,16 +1,17 @@
 //! Calls with faults: in the sheet, the stimulus or the slice's length.
 
-use second::answers::{ILL_TYPED, WRONG_INPUT, WRONG_STIMULUS};
-use second::draft::Draft;
-use second::faults::category::Category;
-use second::generate::circuits::circuit;
-use second::layout::sheet;
-use second::random::Random;
-use second::stimulus::LONGEST_STIMULUS;
+use crate::answers::{ILL_TYPED, WRONG_INPUT, WRONG_STIMULUS};
+use crate::draft::Draft;
+use crate::faults::category::Category;
+use crate::generate::circuits::circuit;
+use crate::layout::sheet;
+use crate::random::Random;
+use crate::stimulus::LONGEST_STIMULUS;
 
-use super::cases::{Case, Ground, Kind};
+use super::cases::Ground;
+use super::kind::{Case, Kind};
 use super::tally;
-use crate::runs::faults::break_sheet;
+use crate::calls::runs::faults::break_sheet;
 
 /// A circuit that faults are put into, mostly not a large one.
 pub fn base(random: &mut Random) -> Draft {
@@ -24,15 +25,14 @@ pub fn base(random: &mut Random) -> Draft {
 
 /// A call with faults of some codes; the ways in which those from 8 on were
 /// made. None if the circuit has no place for a fault.
-pub fn broken<M>(
-    kind: &Kind<M>,
+pub fn broken<K: Kind>(
     codes: &[u8],
     categories: &[Category],
     random: &mut Random,
 ) -> Option<(Case, Vec<&'static str>)> {
     let draft = base(random);
     let whole = sheet(&draft, random);
-    let ground = Ground::of(kind, &whole)?;
+    let ground = Ground::of::<K>(&whole)?;
     let mut case = ground.good("one call", whole, random);
     for &code in codes.iter().filter(|&&code| code <= ILL_TYPED) {
         (case.source, case.sheet) = break_sheet(&draft, code, categories, random)?;
