@@ -1,7 +1,6 @@
 //! The calls. Each line declares the folder of one and lists its comparisons
 //! and commands: a new call adds its folder, and a line here.
 
-#[cfg(not(test))]
 use crate::frame::entry::Call;
 
 /// Declares the modules, and lists what each of them has in its `CALL`.
@@ -9,7 +8,6 @@ macro_rules! calls {
     ($($(#[$about:meta])* pub mod $call:ident;)*) => {
         $($(#[$about])* pub mod $call;)*
 
-        #[cfg(not(test))]
         pub const CALLS: &[&Call] = &[$(&$call::CALL),*];
     };
 }

@@ -11,4 +11,6 @@ pub mod options;
 pub mod plan;
 pub mod report;
 pub mod tally;
+#[cfg(test)]
+mod tests;
 pub mod workers;

@@ -41,9 +41,7 @@ pub mod survey;
 
 // The calls, and what their comparisons have in common.
 pub mod calls;
-#[cfg(not(test))]
 pub mod frame;
-#[cfg(not(test))]
 pub mod one_cycle;
 
 #[cfg(test)]

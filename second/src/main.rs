@@ -34,9 +34,9 @@ fn run(words: &[&str]) -> Option<ExitCode> {
             comparisons().for_each(|comparison| println!("{}", comparison.line()));
             Some(ExitCode::SUCCESS)
         }
-        ["mistakes", name, rest @ ..] => (named(name)?.mistakes)(rest),
+        ["mistakes", name, rest @ ..] => (named(name)?.mistakes)(rest).map(ExitCode::from),
         [name, rest @ ..] => match named(name) {
-            Some(comparison) => (comparison.run)(rest),
+            Some(comparison) => (comparison.run)(rest).map(ExitCode::from),
             None => (commands().find(|command| command.name == *name)?.run)(rest),
         },
         [] => None,

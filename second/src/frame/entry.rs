@@ -1,7 +1,5 @@
 //! A comparison as the list of all of them has it.
 
-use std::process::ExitCode;
-
 use super::command::Command;
 use super::comparison::Comparison;
 use super::plan;
@@ -12,10 +10,10 @@ pub struct Entry {
     pub calls: &'static [&'static str],
     parameters: &'static [&'static str],
     cases: &'static str,
-    /// Compares, if the words are right.
-    pub run: fn(&[&str]) -> Option<ExitCode>,
-    /// Compares with each mistake, if the words are right.
-    pub mistakes: fn(&[&str]) -> Option<ExitCode>,
+    /// Compares, if the words are right; the status.
+    pub run: fn(&[&str]) -> Option<u8>,
+    /// Compares with each mistake, if the words are right; the status.
+    pub mistakes: fn(&[&str]) -> Option<u8>,
 }
 
 impl Entry {

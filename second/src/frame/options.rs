@@ -21,7 +21,9 @@ impl<M: Copy> Options<M> {
                 "--mistake" => {
                     options.mistake = Some(*mistakes.iter().find(|(name, _)| name == value)?);
                 }
-                name if name == cases => options.cases = Some(value.parse().ok()?),
+                name if name == cases => {
+                    options.cases = Some(value.parse().ok().filter(|&cases| cases > 0)?);
+                }
                 _ => return None,
             }
         }

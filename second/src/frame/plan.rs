@@ -1,15 +1,15 @@
 //! A whole comparison: its jobs, its quotas, and the status it ends with.
 
-use std::process::ExitCode;
-
 use super::comparison::{Comparison, SHARDS};
 use super::options::Options;
 use super::report::FOUND;
 use super::tally::{Quota, Tally};
 use super::workers::{run_jobs, Round};
 
-/// The statuses: a difference was found; the words are no command, or a mistake
-/// was not seen; a quota is not met.
+/// The statuses: nothing differs and every quota is met; a difference was found,
+/// or of several mistakes one was not seen; the words are no command, or the one
+/// mistake was not seen; a quota is not met.
+pub const ALIKE: u8 = 0;
 pub const DIFFERENCE: u8 = 1;
 pub const NOT_SEEN: u8 = 2;
 pub const UNMET: u8 = 3;
@@ -53,13 +53,13 @@ fn read<C: Comparison>(words: &[&str]) -> Option<(Result<C, String>, Options<C::
     Some((C::new(parameters), options))
 }
 
-fn fail(reason: &str) -> ExitCode {
+fn fail(reason: &str) -> u8 {
     eprintln!("{reason}");
-    ExitCode::from(NOT_SEEN)
+    NOT_SEEN
 }
 
 /// Compares as some words ask for.
-pub fn run<C: Comparison>(words: &[&str]) -> Option<ExitCode> {
+pub fn run<C: Comparison>(words: &[&str]) -> Option<u8> {
     let (comparison, options) = read::<C>(words)?;
     Some(match comparison {
         Ok(comparison) => conclude(&comparison, &options),
@@ -68,18 +68,18 @@ pub fn run<C: Comparison>(words: &[&str]) -> Option<ExitCode> {
 }
 
 /// Compares; the status is 0 where nothing differs and every quota is met.
-fn conclude<C: Comparison>(comparison: &C, options: &Options<C::Mistake>) -> ExitCode {
+fn conclude<C: Comparison>(comparison: &C, options: &Options<C::Mistake>) -> u8 {
     println!("seed {}", options.seed);
     let (tally, difference) = compare(comparison, options);
     let (what, compared) = (C::WHAT, tally.compared);
     if let Some(report) = difference {
         print!("{report}");
         println!("after {compared} equal {what}");
-        return ExitCode::from(DIFFERENCE);
+        return DIFFERENCE;
     }
     if let Some((name, _)) = &options.mistake {
         println!("compared {compared} {what}, and the mistake {name} was not seen");
-        return ExitCode::from(NOT_SEEN);
+        return NOT_SEEN;
     }
     if few::<C>(options) {
         println!("quotas not looked at");
@@ -88,11 +88,11 @@ fn conclude<C: Comparison>(comparison: &C, options: &Options<C::Mistake>) -> Exi
         if !unmet.is_empty() {
             unmet.iter().for_each(|line| println!("quota not met: {line}"));
             println!("{} quotas not met", unmet.len());
-            return ExitCode::from(UNMET);
+            return UNMET;
         }
     }
     println!("compared {compared} {what}, 0 differences");
-    ExitCode::SUCCESS
+    ALIKE
 }
 
 /// Prints every count; the quotas that are not met.
@@ -113,7 +113,7 @@ fn unmet<C: Comparison>(comparison: &C, mut tally: Tally) -> Vec<String> {
 
 /// Compares once with each mistake; the status is 0 where there is one and a
 /// difference was found with each.
-pub fn mistakes<C: Comparison>(words: &[&str]) -> Option<ExitCode> {
+pub fn mistakes<C: Comparison>(words: &[&str]) -> Option<u8> {
     let (comparison, mut options) = read::<C>(words)?;
     if options.mistake.is_some() || C::MISTAKES.is_empty() {
         return None;
@@ -138,5 +138,5 @@ pub fn mistakes<C: Comparison>(words: &[&str]) -> Option<ExitCode> {
         }
     }
     println!("{} mistakes, {missed} not seen", C::MISTAKES.len());
-    Some(if missed == 0 { ExitCode::SUCCESS } else { ExitCode::from(DIFFERENCE) })
+    Some(if missed == 0 { ALIKE } else { DIFFERENCE })
 }

@@ -1,6 +1,6 @@
 //! The archive's carrying.
 
-#[link(name = "sheets", kind = "static")]
+#[cfg_attr(not(test), link(name = "sheets", kind = "static"))]
 extern "C" {
     /// Reads both sheets, fills the next slice; gives code * 2^32 + place.
     fn sheet_carry(

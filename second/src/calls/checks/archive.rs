@@ -1,6 +1,6 @@
 //! The archive's check.
 
-#[link(name = "sheets", kind = "static")]
+#[cfg_attr(not(test), link(name = "sheets", kind = "static"))]
 extern "C" {
     /// Reads the sheet; gives code * 2^32 + place.
     fn sheet_check(sheet: *const u8, sheet_length: usize) -> u64;

@@ -81,6 +81,21 @@ pub const CODES: [(u8, u8); 21] = {
     codes
 };
 
+/// Faults of naming that are like shared patterns: a category of each is to be
+/// there.
+const LIKE_SHARING: [&str; 10] = [
+    "code 4: pattern named by d and next",
+    "code 4: pattern named by d and a pair pattern",
+    "code 4: pattern named by two nexts",
+    "code 4: pattern named by two words of pair patterns",
+    "code 4: pattern named by next and a pair pattern",
+    "code 4: expression named by two records",
+    "code 4: leaf named by two records",
+    "code 4: unnamed pattern",
+    "code 7: pattern shared by IFs that test two types",
+    "code 7: pattern shared by IFs that test two types of one shape",
+];
+
 /// Those of which every sheet made is to be accepted.
 const ALL_ACCEPTED: [&str; 7] =
     [ACCEPTED, DEPTH_64, NESTING_3, LEAVES_64, BODIES, LONGEST, SHORTER];
@@ -122,5 +137,10 @@ pub fn quotas(categories: &[Category]) -> Vec<Quota> {
     let of_categories =
         |category: &Category| Quota::of_hundred(of_category(category), PER_CATEGORY, PERCENT_HIT);
     quotas.extend(categories.iter().map(of_categories));
+    for name in LIKE_SHARING {
+        if quotas.iter().all(|quota| quota.name != name) {
+            quotas.push(Quota::new(name, PER_CATEGORY));
+        }
+    }
     quotas
 }

@@ -1,6 +1,6 @@
 //! The archive's preview.
 
-#[link(name = "sheets", kind = "static")]
+#[cfg_attr(not(test), link(name = "sheets", kind = "static"))]
 extern "C" {
     /// Reads the sheet and one cycle of input, fills the output slice; gives
     /// code * 2^32 + place.

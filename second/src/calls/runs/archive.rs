@@ -1,6 +1,6 @@
 //! The archive's run.
 
-#[link(name = "sheets", kind = "static")]
+#[cfg_attr(not(test), link(name = "sheets", kind = "static"))]
 extern "C" {
     /// Reads the sheet and the stimulus, fills the output and the next slice;
     /// gives code * 2^32 + place.

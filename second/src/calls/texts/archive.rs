@@ -1,6 +1,6 @@
 //! The archive's translation.
 
-#[link(name = "sheets", kind = "static")]
+#[cfg_attr(not(test), link(name = "sheets", kind = "static"))]
 extern "C" {
     /// Reads the text, fills the slice for the sheet; gives code * 2^32 + place.
     fn sheet_translate(
