@@ -13,4 +13,5 @@ pub mod report;
 pub mod tally;
 #[cfg(test)]
 mod tests;
+pub mod timing;
 pub mod workers;

@@ -102,6 +102,16 @@ impl Quota {
     }
 }
 
+/// The name of the count of cases with faults of two codes.
+pub fn of_codes(low: u8, high: u8) -> String {
+    format!("faults of codes {low} and {high}")
+}
+
+/// The name of the count of accepted sheets laid out in an order.
+pub fn laid_out(order: &str) -> String {
+    format!("accepted sheets laid out {order}")
+}
+
 /// The least number of a name in a table.
 pub fn least(table: &[(&str, u64)], name: &str) -> u64 {
     table.iter().find(|(n, _)| *n == name).map_or(0, |(_, least)| *least)

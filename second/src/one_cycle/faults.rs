@@ -1,27 +1,15 @@
 //! Calls with faults: in the sheet, the stimulus or the slice's length.
 
-use crate::answers::{ILL_TYPED, WRONG_INPUT, WRONG_STIMULUS};
-use crate::draft::Draft;
-use crate::faults::category::Category;
-use crate::generate::circuits::circuit;
-use crate::layout::sheet;
-use crate::random::Random;
-use crate::stimulus::LONGEST_STIMULUS;
-
 use super::cases::Ground;
 use super::kind::{Case, Kind};
 use super::tally;
+use crate::answers::{ILL_TYPED, WRONG_INPUT, WRONG_STIMULUS};
 use crate::calls::runs::faults::break_sheet;
-
-/// A circuit that faults are put into, mostly not a large one.
-pub fn base(random: &mut Random) -> Draft {
-    loop {
-        let draft = circuit(random);
-        if draft.nodes.len() <= 160 || random.one_in(20) {
-            return draft;
-        }
-    }
-}
+use crate::faults::category::Category;
+use crate::generate::mixed::for_faults;
+use crate::layout::sheet;
+use crate::random::Random;
+use crate::stimulus::LONGEST_STIMULUS;
 
 /// A call with faults of some codes; the ways in which those from 8 on were
 /// made. None if the circuit has no place for a fault.
@@ -30,7 +18,7 @@ pub fn broken<K: Kind>(
     categories: &[Category],
     random: &mut Random,
 ) -> Option<(Case, Vec<&'static str>)> {
-    let draft = base(random);
+    let draft = for_faults(random);
     let whole = sheet(&draft, random);
     let ground = Ground::of::<K>(&whole)?;
     let mut case = ground.good("one call", whole, random);

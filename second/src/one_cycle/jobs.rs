@@ -1,26 +1,24 @@
 //! The parts of the comparison. The fixed sheets come first, then shards of
 //! the random ones.
 
+use super::cases::Ground;
+use super::compare::OneCycle;
+use super::faults::broken;
+use super::kind::Kind;
+use super::tally::{self, codes, two_codes, QUOTAS};
 use crate::answers::ILL_TYPED;
 use crate::faults::category::Category;
+use crate::frame::comparison::{self, Ended, SHARDS, TRIES};
+use crate::frame::tally::{laid_out, least, of_codes};
 use crate::fuzz;
-use crate::generate::boundary::{deepen, nest};
-use crate::generate::circuits::{circuit, circuit_of_records};
-use crate::generate::network::{chain_of_64, network};
+use crate::generate::circuits::circuit_of_records;
+use crate::generate::mixed::{for_faults, with_limits};
 use crate::generate::small::small;
-use crate::layout::{layout, layout_in, record_count, sheet, Order, ORDERS};
+use crate::layout::{layout, layout_in, sheet, Order, ORDERS};
 use crate::random::Random;
 use crate::records::{bytes, MAX_RECORDS};
 use crate::samples;
 use crate::shapes;
-
-use super::cases::Ground;
-use super::compare::OneCycle;
-use super::faults::{base, broken};
-use super::kind::Kind;
-use super::tally::{self, codes, two_codes, QUOTAS};
-use crate::frame::comparison::{self, Ended, SHARDS, TRIES};
-use crate::frame::tally::least;
 
 type Comparer<'a, K> = comparison::Comparer<'a, OneCycle<K>>;
 
@@ -138,7 +136,7 @@ fn two_faults<K: Kind>(
             let made = broken::<K>(&[low, high], categories, random);
             let Some((case, _)) = made else { continue };
             let code = to.call(&case)?.code;
-            let both = tally::of_codes(low, high);
+            let both = of_codes(low, high);
             to.tally.add_if(&both, code == low);
             if to.tally.got(&both) >= need {
                 break;
@@ -152,25 +150,12 @@ fn two_faults<K: Kind>(
 fn accepted<K: Kind>(to: &mut Comparer<K>, calls: u64, random: &mut Random) -> Ended {
     let mut made = 0;
     while made < calls {
-        let mut draft = match random.below(200) {
-            0 => chain_of_64(random),
-            1..=20 => network(random),
-            21..=120 => small(random),
-            _ => circuit(random),
-        };
-        let changed = match random.below(40) {
-            0 => nest(&mut draft, 3, random),
-            1 => deepen(&mut draft, 64, random),
-            _ => true,
-        };
-        if !changed || record_count(&draft) > MAX_RECORDS {
-            continue;
-        }
+        let Some(draft) = with_limits(100, random) else { continue };
         let order = Order::any(random);
         let sheet = bytes(&layout_in(&draft, order, random));
         let Some(ground) = Ground::of::<K>(&sheet) else { continue };
         to.good_call(&ground.good("accepted", sheet, random))?;
-        to.tally.add(&tally::laid_out(ORDERS[order as usize]), 1);
+        to.tally.add(&laid_out(ORDERS[order as usize]), 1);
         made += 1;
     }
     Ok(())
@@ -179,7 +164,7 @@ fn accepted<K: Kind>(to: &mut Comparer<K>, calls: u64, random: &mut Random) -> E
 /// Sheets changed at random, with the calls of the sheets before the change.
 fn fuzzed<K: Kind>(to: &mut Comparer<K>, random: &mut Random) -> Ended {
     for k in 0..share(tally::FUZZED) {
-        let draft = if k % 2 == 0 { base(random) } else { small(random) };
+        let draft = if k % 2 == 0 { for_faults(random) } else { small(random) };
         let mut records = layout(&draft, random);
         let Some(ground) = Ground::of::<K>(&bytes(&records)) else { continue };
         match k % 5 {

@@ -3,7 +3,7 @@
 use super::kind::Kind;
 use crate::answers::{WRONG_INPUT, WRONG_LENGTH, WRONG_STIMULUS};
 use crate::frame::memory::PLACEMENTS;
-use crate::frame::tally::Quota;
+use crate::frame::tally::{laid_out, of_codes, Quota};
 use crate::layout::ORDERS;
 
 pub const PER_CODE: u64 = 1_000;
@@ -78,16 +78,6 @@ pub fn two_codes<K: Kind>() -> Vec<(u8, u8)> {
 /// The name of the count of calls that are accepted.
 pub fn accepted(what: &str) -> String {
     format!("accepted {what}")
-}
-
-/// The name of the count of calls with faults of two codes.
-pub fn of_codes(low: u8, high: u8) -> String {
-    format!("faults of codes {low} and {high}")
-}
-
-/// The name of the count of accepted sheets laid out in an order.
-pub fn laid_out(order: &str) -> String {
-    format!("accepted sheets laid out {order}")
 }
 
 /// Every quota.

@@ -4,12 +4,12 @@ use std::hint::black_box;
 use std::process::ExitCode;
 use std::time::{Duration, Instant};
 
-use crate::labels::labels;
-use crate::shapes;
-
 use super::archive::carry as carry_of_archive;
 use super::carry::{carry, Call};
 use crate::calls::checks::archive::check as check_of_archive;
+use crate::frame::timing::{conclude, median, timed};
+use crate::labels::labels;
+use crate::shapes;
 
 /// How long two calls are timed on two sheets.
 const TIME: Duration = Duration::from_millis(500);
@@ -17,18 +17,6 @@ const TIME: Duration = Duration::from_millis(500);
 /// The old sheet and the new one.
 pub const SHEETS: [(&str, &str); 2] =
     [("labelled-delays", "labelled-delays-again"), ("wide-delays", "wide-delays-again")];
-
-fn timed<T>(call: impl FnOnce() -> T) -> (Duration, T) {
-    let start = Instant::now();
-    let given = call();
-    (start.elapsed(), given)
-}
-
-/// Other work on the machine lengthens some calls, so the median counts.
-fn median(mut calls: Vec<Duration>) -> f64 {
-    calls.sort();
-    calls[(calls.len() - 1) / 2].as_nanos() as f64 / 1000.0
-}
 
 /// Calls both, and the archive's two checks, in turn: microseconds for each,
 /// and whether the calls gave the same.
@@ -70,10 +58,5 @@ fn run() -> ExitCode {
         );
         differences += usize::from(!equal);
     }
-    println!("{differences} differences");
-    if differences == 0 {
-        ExitCode::SUCCESS
-    } else {
-        ExitCode::FAILURE
-    }
+    conclude(differences)
 }

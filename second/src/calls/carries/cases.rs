@@ -1,6 +1,9 @@
 //! Calls of all kinds.
 
+use super::case::Case;
+use super::tally;
 use crate::accepted::Circuit;
+use crate::calls::runs::faults::break_sheet;
 use crate::draft::Draft;
 use crate::faults::category::Category;
 use crate::generate::circuits::circuit;
@@ -12,10 +15,6 @@ use crate::layout::{record_count, sheet};
 use crate::random::Random;
 use crate::records::{MAX_RECORDS, RECORD_BYTES};
 use crate::simulator;
-
-use super::case::Case;
-use super::tally;
-use crate::calls::runs::faults::break_sheet;
 
 /// A call with a next slice of the right length.
 pub fn case(source: &str, old: Vec<u8>, new: Vec<u8>) -> Case {

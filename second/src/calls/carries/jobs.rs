@@ -2,22 +2,21 @@
 
 use std::collections::HashMap;
 
-use crate::accepted::Circuit;
-use crate::answers::{ILL_TYPED, LABEL_TWICE, WRONG_LENGTH, WRONG_NEXT_LENGTH};
-use crate::faults::category::Category;
-use crate::fuzz;
-use crate::labels::{labels, repeated};
-use crate::random::Random;
-use crate::records::{bytes, read, A, D, FLAT, KIND};
-use crate::shapes;
-
 use super::bench::SHEETS;
 use super::carry::{same_pairs, same_shape};
 use super::case::{Carries, Case};
 use super::cases::{broken, case, other_length, running, sheets_of_delays, twice, two_circuits};
 use super::tally::{self, QUOTAS};
+use crate::accepted::Circuit;
+use crate::answers::{ILL_TYPED, LABEL_TWICE, WRONG_LENGTH, WRONG_NEXT_LENGTH};
+use crate::faults::category::Category;
 use crate::frame::comparison::{self, Ended, SHARDS, TRIES};
 use crate::frame::tally::least;
+use crate::fuzz;
+use crate::labels::{labels, repeated};
+use crate::random::Random;
+use crate::records::{bytes, read, A, D, FLAT, KIND};
+use crate::shapes;
 
 type Comparer<'a> = comparison::Comparer<'a, Carries>;
 

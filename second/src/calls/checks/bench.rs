@@ -4,6 +4,8 @@ use std::hint::black_box;
 use std::process::ExitCode;
 use std::time::{Duration, Instant};
 
+use super::archive;
+use crate::frame::timing::{conclude, timed, Timed};
 use crate::generate::circuits::circuit_of_records;
 use crate::layout::sheet;
 use crate::random::Random;
@@ -11,44 +13,16 @@ use crate::samples;
 use crate::shapes;
 use crate::verdict::check;
 
-use super::archive;
-
 /// How long the two checks are timed on one sheet.
 const TIME: Duration = Duration::from_millis(120);
 
-/// Microseconds for one call. Other work on the machine lengthens some calls,
-/// so the median counts.
-struct Timed {
-    shortest: f64,
-    median: f64,
-    longest: f64,
-}
-
-impl Timed {
-    fn of(mut calls: Vec<Duration>) -> Timed {
-        calls.sort();
-        let micros = |k: usize| calls[k].as_nanos() as f64 / 1000.0;
-        let last = calls.len() - 1;
-        Timed { shortest: micros(0), median: micros(last / 2), longest: micros(last) }
-    }
-
-    fn text(&self) -> String {
-        format!("{:.1} {:.1} {:.1}", self.shortest, self.median, self.longest)
-    }
-}
-
 /// Calls both checks in turn on one sheet.
 fn time(sheet: &[u8]) -> [Timed; 2] {
-    let timed = |call: &dyn Fn() -> u64| {
-        let start = Instant::now();
-        black_box(call());
-        start.elapsed()
-    };
     let (mut archive, mut second) = (Vec::new(), Vec::new());
     let start = Instant::now();
     while archive.len() < 7 || start.elapsed() < TIME {
-        archive.push(timed(&|| archive::check(black_box(sheet))));
-        second.push(timed(&|| check(black_box(sheet)).packed()));
+        archive.push(timed(|| black_box(archive::check(black_box(sheet)))).0);
+        second.push(timed(|| black_box(check(black_box(sheet)).packed())).0);
     }
     [Timed::of(archive), Timed::of(second)]
 }
@@ -83,7 +57,9 @@ fn run() -> ExitCode {
         differences += usize::from(archive::check(&sheet) != verdict.packed());
         let verdict = format!("{}@{}", verdict.code, verdict.place);
         let ratio = both[0].median / both[1].median;
-        let [archive, second] = both.each_ref().map(Timed::text);
+        let [archive, second] = both
+            .each_ref()
+            .map(|timed| format!("{:.1} {:.1} {:.1}", timed.shortest, timed.median, timed.longest));
         println!("{name:<22}{verdict:>8}{archive:>26}{second:>26}{ratio:>8.2}");
         for (worst, timed) in worst.iter_mut().zip(&both) {
             if timed.median > worst.0 {
@@ -94,10 +70,5 @@ fn run() -> ExitCode {
     for (name, (median, sheet)) in ["archive", "second"].iter().zip(&worst) {
         println!("worst median, {name}: {median:.1} on {sheet}");
     }
-    println!("{differences} differences");
-    if differences == 0 {
-        ExitCode::SUCCESS
-    } else {
-        ExitCode::FAILURE
-    }
+    conclude(differences)
 }

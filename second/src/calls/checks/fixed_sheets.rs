@@ -1,14 +1,13 @@
 //! Named sheets, sheets of given lengths, and changes of T.
 
+use super::case::Checks;
+use super::tally;
+use crate::frame::comparison::{self, Ended};
 use crate::fuzz;
 use crate::random::Random;
 use crate::records::{C, RECORD_BYTES};
 use crate::samples;
 use crate::shapes;
-
-use super::case::Checks;
-use super::tally;
-use crate::frame::comparison::{self, Ended};
 
 type Comparer<'a> = comparison::Comparer<'a, Checks>;
 

@@ -1,23 +1,23 @@
 //! The parts of the comparison. The fixed sheets come first, then shards of
 //! the random ones.
 
+use super::case::Checks;
+use super::fixed_sheets;
+use super::tally::{self, CODES, QUOTAS};
 use crate::answers::{self, Answer, ILL_TYPED, WRONG_LENGTH};
 use crate::draft::Draft;
 use crate::faults::category::{faulty, faulty_in, Category};
+use crate::frame::comparison::{self, Ended, SHARDS, TRIES};
+use crate::frame::tally::{least, of_codes};
 use crate::fuzz;
 use crate::generate::boundary::{deepen, nest, nest_bodies, widen};
 use crate::generate::circuits::{circuit, circuit_of_records};
+use crate::generate::mixed::for_faults;
 use crate::labels::{labels, repeated};
 use crate::layout::{layout, sheet};
 use crate::random::Random;
 use crate::records::{bytes, read, Record, KIND, KINDS};
 use crate::structure::choices_on;
-
-use super::case::Checks;
-use super::fixed_sheets;
-use super::tally::{self, CODES, QUOTAS};
-use crate::frame::comparison::{self, Ended, SHARDS, TRIES};
-use crate::frame::tally::least;
 
 type Comparer<'a> = comparison::Comparer<'a, Checks>;
 
@@ -139,21 +139,11 @@ fn boundaries(to: &mut Comparer, random: &mut Random) -> Ended {
     Ok(())
 }
 
-/// A circuit that faults are put into, mostly not a large one.
-fn base(random: &mut Random) -> Draft {
-    loop {
-        let draft = circuit(random);
-        if draft.nodes.len() <= 160 || random.one_in(20) {
-            return draft;
-        }
-    }
-}
-
 /// Each category in turn on each circuit, until all have enough.
 fn single_faults(to: &mut Comparer, categories: &[Category], random: &mut Random) -> Ended {
     let need = tally::PER_CATEGORY.div_ceil(SHARDS);
     for _ in 0..need * TRIES {
-        let draft = base(random);
+        let draft = for_faults(random);
         let records = layout(&draft, random);
         let mut all = true;
         for category in categories {
@@ -184,13 +174,13 @@ fn two_faults(to: &mut Comparer, categories: &[Category], random: &mut Random) -
         for _ in 0..need * TRIES {
             let mut faults: Vec<&Category> = vec![higher[random.below(higher.len())]];
             faults.extend(random.pick(lower));
-            let Some(mut sheet) = faulty(&base(random), &faults, random) else { continue };
+            let Some(mut sheet) = faulty(&for_faults(random), &faults, random) else { continue };
             if low == WRONG_LENGTH {
                 sheet.truncate(sheet.len() - random.range(1, 11));
             }
             let names: Vec<&str> = faults.iter().map(|c| c.name.as_str()).collect();
             let verdict = to.verdict(&names.join("; "), &sheet)?;
-            let both = tally::of_codes(low, high);
+            let both = of_codes(low, high);
             to.tally.add_if(&both, verdict.code == low);
             if to.tally.got(&both) >= need {
                 break;
@@ -202,7 +192,7 @@ fn two_faults(to: &mut Comparer, categories: &[Category], random: &mut Random) -
 
 fn headers(to: &mut Comparer, random: &mut Random) -> Ended {
     for _ in 0..share(tally::HEADERS) {
-        let mut records = layout(&base(random), random);
+        let mut records = layout(&for_faults(random), random);
         fuzz::change_header(&mut records, random);
         to.verdict(tally::HEADERS, &bytes(&records))?;
         to.tally.add(tally::HEADERS, 1);
@@ -262,7 +252,7 @@ fn changed(to: &mut Comparer, random: &mut Random) -> Ended {
 
 /// A random accepted sheet, changed.
 fn on_records(random: &mut Random, change: fn(&mut Vec<Record>, &mut Random)) -> Vec<u8> {
-    let mut records = layout(&base(random), random);
+    let mut records = layout(&for_faults(random), random);
     change(&mut records, random);
     bytes(&records)
 }

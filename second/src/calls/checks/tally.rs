@@ -2,7 +2,7 @@
 
 use crate::answers::{ILL_TYPED, WRONG_LENGTH};
 use crate::faults::category::Category;
-use crate::frame::tally::{Quota, Tally};
+use crate::frame::tally::{of_codes, Quota, Tally};
 use crate::records::KINDS;
 
 const PER_KIND: u64 = 5_000;
@@ -101,11 +101,6 @@ const ALL_ACCEPTED: [&str; 7] =
     [ACCEPTED, DEPTH_64, NESTING_3, LEAVES_64, BODIES, LONGEST, SHORTER];
 
 const TWO_CODES: &str = "two faults of different codes";
-
-/// The name of the count of sheets with faults of two codes.
-pub fn of_codes(low: u8, high: u8) -> String {
-    format!("faults of codes {low} and {high}")
-}
 
 /// The name of the count of sheets with a kind, among those accepted with over
 /// 30 records.

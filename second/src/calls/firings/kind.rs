@@ -1,18 +1,17 @@
 //! What is compared of fired alternatives, and what is counted of them.
 
+use super::archive;
+use super::firing::{first_yes, tested, Call};
+use super::mistakes::{firing, FiringMistake, MISTAKES};
 use crate::accepted::Circuit;
 use crate::answers::WRONG_WORDS;
 use crate::evaluator::Tested;
 use crate::matching::{said_by_each, Match};
+use crate::one_cycle::kind::{Case, Kind, Outcome};
 use crate::records::{
     expression_parts, Record, A, B, C, D, FEEDBACK, IF, KIND, NEXT, PAIR_PATTERN,
 };
 use crate::structure::{choices_on, nestings};
-
-use super::archive;
-use super::firing::{first_yes, tested, Call};
-use super::mistakes::{firing, FiringMistake, MISTAKES};
-use crate::one_cycle::kind::{Case, Kind, Outcome};
 
 const CHOICES: &str = "firings with an IF";
 const YES: &str = "firings with an IF of which an alternative fires";
@@ -69,7 +68,10 @@ impl Kind for Firings {
     }
 
     fn second(case: &Case, mistake: Option<FiringMistake>) -> Outcome {
-        second(case, mistake)
+        let Case { sheet, stimulus, slice_length, .. } = case;
+        let outcome = firing(&Call { sheet, stimulus, fired_length: *slice_length }, mistake);
+        let bytes = |words: Vec<u16>| words.into_iter().flat_map(u16::to_ne_bytes).collect();
+        Outcome { answer: outcome.answer, slice: outcome.fired.map(bytes) }
     }
 
     fn archive(sheet: &[u8], stimulus: &[u8], slice: &mut [u8]) -> u64 {
@@ -77,15 +79,30 @@ impl Kind for Firings {
     }
 
     fn counts(case: &Case) -> Vec<(&'static str, bool)> {
-        counts(case)
+        let Ok(circuit) = Circuit::read(&case.sheet) else { return Vec::new() };
+        let choices = choices(&circuit, &case.stimulus);
+        let records = &circuit.records;
+        let nestings = nestings(records);
+        let any = |holds: &dyn Fn(&Choice) -> bool| choices.iter().any(holds);
+        vec![
+            (CHOICES, !choices.is_empty()),
+            (YES, any(&|choice| choice.fires())),
+            (NONE, any(&|choice| !choice.fires())),
+            (NO, any(&|choice| choice.says(Match::No) == choice.said.len())),
+            (UNDECIDED, any(&|choice| !choice.fires() && choice.says(Match::Undecided) > 0)),
+            (UNDECIDED_FIRST, any(&Choice::undecided_first)),
+            (LATER, any(&|choice| choice.first(Match::Yes).is_some_and(|at| at > 0))),
+            (TWO_YES, any(&|choice| choice.says(Match::Yes) > 1)),
+            (NESTED, any(&|choice| nestings[choice.number] >= 2)),
+            (NESTED_THREE, any(&|choice| nestings[choice.number] == 3)),
+            (BOTH_PARTS, in_both_parts(records)),
+            (OTHER_ROUND, any(&|choice| choice.differs(&circuit, &choice.tested.first))),
+            (OTHER_BEFORE, any(&|choice| choice.differs(&circuit, &choice.tested.before))),
+            (SHARED, choices_on(records).into_iter().any(|count| count > 1)),
+            (SHARED_APART, shared_apart(&circuit, &choices)),
+            (IN_PATTERNS, any(&|choice| chain_inside(records, choice))),
+        ]
     }
-}
-
-fn second(case: &Case, mistake: Option<FiringMistake>) -> Outcome {
-    let Case { sheet, stimulus, slice_length, .. } = case;
-    let outcome = firing(&Call { sheet, stimulus, fired_length: *slice_length }, mistake);
-    let bytes = |words: Vec<u16>| words.into_iter().flat_map(u16::to_ne_bytes).collect();
-    Outcome { answer: outcome.answer, slice: outcome.fired.map(bytes) }
 }
 
 /// An IF, and what its alternatives say.
@@ -159,32 +176,6 @@ fn shared_apart(circuit: &Circuit, choices: &[Choice]) -> bool {
     all.sort_unstable();
     all.dedup();
     all.windows(2).any(|two| two[0].0 == two[1].0)
-}
-
-fn counts(case: &Case) -> Vec<(&'static str, bool)> {
-    let Ok(circuit) = Circuit::read(&case.sheet) else { return Vec::new() };
-    let choices = choices(&circuit, &case.stimulus);
-    let records = &circuit.records;
-    let nestings = nestings(records);
-    let any = |holds: &dyn Fn(&Choice) -> bool| choices.iter().any(holds);
-    vec![
-        (CHOICES, !choices.is_empty()),
-        (YES, any(&|choice| choice.fires())),
-        (NONE, any(&|choice| !choice.fires())),
-        (NO, any(&|choice| choice.says(Match::No) == choice.said.len())),
-        (UNDECIDED, any(&|choice| !choice.fires() && choice.says(Match::Undecided) > 0)),
-        (UNDECIDED_FIRST, any(&Choice::undecided_first)),
-        (LATER, any(&|choice| choice.first(Match::Yes).is_some_and(|at| at > 0))),
-        (TWO_YES, any(&|choice| choice.says(Match::Yes) > 1)),
-        (NESTED, any(&|choice| nestings[choice.number] >= 2)),
-        (NESTED_THREE, any(&|choice| nestings[choice.number] == 3)),
-        (BOTH_PARTS, in_both_parts(records)),
-        (OTHER_ROUND, any(&|choice| choice.differs(&circuit, &choice.tested.first))),
-        (OTHER_BEFORE, any(&|choice| choice.differs(&circuit, &choice.tested.before))),
-        (SHARED, choices_on(records).into_iter().any(|count| count > 1)),
-        (SHARED_APART, shared_apart(&circuit, &choices)),
-        (IN_PATTERNS, any(&|choice| chain_inside(records, choice))),
-    ]
 }
 
 /// Whether a part of a pair pattern of an IF's chain is a chain of several.

@@ -4,17 +4,17 @@ use std::hint::black_box;
 use std::process::ExitCode;
 use std::time::{Duration, Instant};
 
-use crate::answers::Answer;
-use crate::random::Random;
-use crate::records::RECORD_BYTES;
-use crate::shapes;
-
 use super::archive::preview as preview_of_archive;
 use super::kind::Previews;
 use super::preview::{preview, Call};
+use crate::answers::Answer;
 use crate::calls::runs::archive::run as run_of_archive;
+use crate::frame::timing::{conclude, median};
 use crate::one_cycle::cases::Ground;
 use crate::one_cycle::kind::Case;
+use crate::random::Random;
+use crate::records::RECORD_BYTES;
+use crate::shapes;
 
 /// How long the calls are timed on one sheet.
 const TIME: Duration = Duration::from_millis(500);
@@ -27,13 +27,6 @@ const SHEETS: [&str; 6] = [
     "three-slow-feedbacks-64",
     "shared-pattern",
 ];
-
-/// Microseconds for one call; other work on the machine lengthens some, so the
-/// median counts.
-fn median(mut calls: Vec<Duration>) -> f64 {
-    calls.sort();
-    calls[(calls.len() - 1) / 2].as_nanos() as f64 / 1000.0
-}
 
 /// The archive's preview, its run of the same cycle and the second preview, in
 /// turn; and whether they gave the same.
@@ -77,10 +70,5 @@ fn run() -> ExitCode {
         println!("{name:<24}{records:>6}{archive:>12.1}{run:>12.1}{second:>12.1}");
         differences += usize::from(!equal);
     }
-    println!("{differences} differences");
-    if differences == 0 {
-        ExitCode::SUCCESS
-    } else {
-        ExitCode::FAILURE
-    }
+    conclude(differences)
 }

@@ -1,20 +1,19 @@
 //! What is compared of previews, and what is counted of them.
 
+use super::archive;
+use super::mistakes::{preview, PreviewMistake, MISTAKES};
+use super::preview::Call;
 use crate::accepted::Circuit;
 use crate::answers::{Answer, WRONG_OUTPUT_LENGTH, WRONG_STIMULUS};
+use crate::calls::runs::archive::run as run_of_archive;
 use crate::evaluator::Right;
+use crate::frame::lender::Left;
+use crate::one_cycle::kind::{Case, Kind, Outcome};
 use crate::records::{read, DELAY, FEEDBACK, KIND};
 use crate::rule::IN_FORCE;
 use crate::stepper::Stepper;
 use crate::structure::{choices_on, nestings};
 use crate::watch::Watch;
-
-use super::archive;
-use super::mistakes::{preview, PreviewMistake, MISTAKES};
-use super::preview::Call;
-use crate::calls::runs::archive::run as run_of_archive;
-use crate::frame::lender::Left;
-use crate::one_cycle::kind::{Case, Kind, Outcome};
 
 const DELAYS: &str = "previews with a delay";
 const DELAYS_MOVE: &str = "previews with a delay whose held value differs from the next one";
@@ -57,7 +56,9 @@ impl Kind for Previews {
     }
 
     fn second(case: &Case, mistake: Option<PreviewMistake>) -> Outcome {
-        second(case, mistake)
+        let Case { sheet, stimulus, slice_length, .. } = case;
+        let outcome = preview(&Call { sheet, stimulus, output_length: *slice_length }, mistake);
+        Outcome { answer: outcome.answer, slice: outcome.outputs }
     }
 
     fn archive(sheet: &[u8], stimulus: &[u8], slice: &mut [u8]) -> u64 {
@@ -69,14 +70,26 @@ impl Kind for Previews {
     }
 
     fn counts(case: &Case) -> Vec<(&'static str, bool)> {
-        counts(case)
+        let Ok(circuit) = Circuit::read(&case.sheet) else { return Vec::new() };
+        let records = read(&case.sheet);
+        let has = |kind: u16| records.iter().any(|record| record[KIND] == kind);
+        let mut watch = Watch::nothing();
+        let mut stepper = Stepper::<Right>::new(&circuit, IN_FORCE, &mut watch);
+        let outputs = stepper.cycle(&case.stimulus);
+        let moves = stepper.next_sheet(&case.sheet) != case.sheet;
+        let after = stepper.look(&case.stimulus);
+        vec![
+            (DELAYS, has(DELAY)),
+            (DELAYS_MOVE, moves),
+            (DELAYS_SHOW, outputs != after),
+            (IN_FEEDBACKS, moves && has(FEEDBACK)),
+            (NESTED, nestings(&records).contains(&3)),
+            (SHARED, choices_on(&records).into_iter().any(|count| count > 1)),
+            (DEFINED, outputs.iter().any(|&leaf| leaf != 0)),
+            (OTHER_LEAVES, outputs.len() != case.stimulus.len()),
+            (WIDE, outputs.len() == 64),
+        ]
     }
-}
-
-fn second(case: &Case, mistake: Option<PreviewMistake>) -> Outcome {
-    let Case { sheet, stimulus, slice_length, .. } = case;
-    let outcome = preview(&Call { sheet, stimulus, output_length: *slice_length }, mistake);
-    Outcome { answer: outcome.answer, slice: outcome.outputs }
 }
 
 /// The archive's run of the same cycle on a copy puts out the same, and refuses
@@ -98,26 +111,4 @@ fn unlike_run(case: &Case, packed: u64, slice: &[u8]) -> Option<&'static str> {
         (ran == packed, outputs == kept)
     };
     (!as_answered || !shown).then_some("the archive's run of this cycle gives something else")
-}
-
-fn counts(case: &Case) -> Vec<(&'static str, bool)> {
-    let Ok(circuit) = Circuit::read(&case.sheet) else { return Vec::new() };
-    let records = read(&case.sheet);
-    let has = |kind: u16| records.iter().any(|record| record[KIND] == kind);
-    let mut watch = Watch::nothing();
-    let mut stepper = Stepper::<Right>::new(&circuit, IN_FORCE, &mut watch);
-    let outputs = stepper.cycle(&case.stimulus);
-    let moves = stepper.next_sheet(&case.sheet) != case.sheet;
-    let after = stepper.look(&case.stimulus);
-    vec![
-        (DELAYS, has(DELAY)),
-        (DELAYS_MOVE, moves),
-        (DELAYS_SHOW, outputs != after),
-        (IN_FEEDBACKS, moves && has(FEEDBACK)),
-        (NESTED, nestings(&records).contains(&3)),
-        (SHARED, choices_on(&records).into_iter().any(|count| count > 1)),
-        (DEFINED, outputs.iter().any(|&leaf| leaf != 0)),
-        (OTHER_LEAVES, outputs.len() != case.stimulus.len()),
-        (WIDE, outputs.len() == 64),
-    ]
 }

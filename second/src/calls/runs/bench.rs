@@ -6,16 +6,16 @@ use std::path::{Path, PathBuf};
 use std::process::{Command, ExitCode, Stdio};
 use std::time::{Duration, Instant};
 
+use super::archive::run as run_of_archive;
+use super::case::Case;
+use super::cases::{good, Frame};
+use crate::calls::checks::archive::check as check_of_archive;
+use crate::frame::timing::{median, timed};
 use crate::random::Random;
 use crate::records::RECORD_BYTES;
 use crate::shapes;
 use crate::simulator::{self, Call};
 use crate::stimulus::LONGEST_STIMULUS;
-
-use super::archive::run as run_of_archive;
-use super::case::Case;
-use super::cases::{good, Frame};
-use crate::calls::checks::archive::check as check_of_archive;
 
 /// How long two calls or two programs are timed on one sheet.
 const TIME: Duration = Duration::from_millis(1500);
@@ -32,18 +32,6 @@ const SHEETS: [(&str, usize, bool); 7] = [
     ("shared-nested-pattern", 10, false),
 ];
 
-/// Other work on the machine lengthens some calls, so the median counts.
-fn median(mut calls: Vec<Duration>) -> f64 {
-    calls.sort();
-    calls[(calls.len() - 1) / 2].as_nanos() as f64
-}
-
-fn timed<T>(call: impl FnOnce() -> T) -> (Duration, T) {
-    let start = Instant::now();
-    let given = call();
-    (start.elapsed(), given)
-}
-
 /// A sheet with a stimulus of so many cycles.
 fn case_of(name: &str, cycles: usize) -> Option<Case> {
     let sheet = shapes::named(name)?;
@@ -51,7 +39,7 @@ fn case_of(name: &str, cycles: usize) -> Option<Case> {
     Some(good(name, sheet, &frame, cycles, &mut Random::new(4)))
 }
 
-/// Calls both runs and the archive's check in turn: nanoseconds for a call of
+/// Calls both runs and the archive's check in turn: microseconds for a call of
 /// each, and whether the runs gave the same.
 fn time(case: &Case) -> ([f64; 3], bool) {
     let Case { sheet, stimulus, output_length, next_length, .. } = case;
@@ -95,7 +83,7 @@ fn calls() -> usize {
         let Some(case) = case_of(name, cycles) else { continue };
         let ([archive, check, second], equal) = time(&case);
         let records = case.sheet.len() / RECORD_BYTES;
-        let micros = |nanos: f64| format!("{:.0}", nanos / 1000.0);
+        let micros = |micros: f64| format!("{micros:.0}");
         let percent = format!("{:.0} %", 100.0 * check / archive);
         let ratio = format!("{:.2}", archive / second);
         let numbers = [records.to_string(), cycles.to_string()];
@@ -136,7 +124,7 @@ fn programs(program: &Path, folder: &Path) -> io::Result<()> {
         }
         let (sheetrun, second) = (median(sheetrun), median(second));
         let numbers = [case.sheet.len() / RECORD_BYTES, *cycles].map(|n| n.to_string());
-        let micros = [sheetrun, second].map(|nanos| format!("{:.0}", nanos / 1000.0));
+        let micros = [sheetrun, second].map(|micros| format!("{micros:.0}"));
         let ratio = format!("{:.2}", sheetrun / second);
         line(name, &[&numbers[..], &micros[..], &[ratio]].concat());
     }

@@ -1,5 +1,6 @@
 //! Calls that keep every rule.
 
+use super::case::Case;
 use crate::accepted::Circuit;
 use crate::generate::circuits::circuit;
 use crate::generate::network::network;
@@ -7,8 +8,6 @@ use crate::generate::small::small;
 use crate::layout::{record_count, sheet};
 use crate::random::Random;
 use crate::records::{sort, Sort, KIND, MAX_RECORDS};
-
-use super::case::Case;
 
 /// What a call needs to know of an accepted sheet.
 pub struct Frame {

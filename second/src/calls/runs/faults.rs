@@ -1,5 +1,8 @@
 //! Calls with faults: in the sheet, the stimulus or a slice's length.
 
+use super::case::Case;
+use super::cases::Frame;
+use super::tally;
 use crate::answers::{WRONG_INPUT, WRONG_LENGTH, WRONG_OUTPUT_LENGTH, WRONG_STIMULUS};
 use crate::draft::Draft;
 use crate::faults::category::{faulty, Category};
@@ -8,10 +11,6 @@ use crate::layout::sheet;
 use crate::random::Random;
 use crate::records::{MAX_RECORDS, RECORD_BYTES};
 use crate::stimulus::LONGEST_STIMULUS;
-
-use super::case::Case;
-use super::cases::Frame;
-use super::tally;
 
 /// A sheet of a circuit, broken in one way of a code from 1 to 7; none if the
 /// circuit has no place for it.

@@ -1,17 +1,16 @@
 //! Compares calls that keep every rule, and counts what comes up in them.
 
+use super::case::{Case, Runs};
+use super::cases::Frame;
+use super::mistakes::{run_by, RunMistake};
+use super::tally;
+use crate::frame::comparison::{self, Ended};
 use crate::labels::labels;
 use crate::records::{read, KIND, KINDS, MAX_RECORDS};
 use crate::rule::Rule;
 use crate::simulator::Outcome;
 use crate::structure::{choices_on, depths, nestings};
 use crate::watch::Watch;
-
-use super::case::{Case, Runs};
-use super::cases::Frame;
-use super::mistakes::{run_by, RunMistake};
-use super::tally;
-use crate::frame::comparison::{self, Ended};
 
 type Comparer<'a> = comparison::Comparer<'a, Runs>;
 

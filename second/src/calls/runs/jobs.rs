@@ -1,15 +1,21 @@
 //! The parts of the comparison. The fixed sheets come first, then shards of
 //! the random ones.
 
+use super::case::{Case, Runs};
+use super::cases::{few_cycles, good, Frame};
+use super::faults::{break_call, break_sheet};
+use super::good_calls::{compare_good, several};
+use super::tally::{self, two_codes, QUOTAS};
 use crate::answers::{
     ILL_TYPED, WRONG_INPUT, WRONG_LENGTH, WRONG_NEXT_LENGTH, WRONG_OUTPUT_LENGTH, WRONG_STIMULUS,
 };
 use crate::draft::Draft;
 use crate::faults::category::Category;
+use crate::frame::comparison::{self, Ended, SHARDS, TRIES};
+use crate::frame::tally::{laid_out, least, of_codes};
 use crate::fuzz;
-use crate::generate::boundary::{deepen, nest};
 use crate::generate::circuits::{circuit, circuit_of_records};
-use crate::generate::network::{chain_of_64, network};
+use crate::generate::mixed::{for_faults, with_limits};
 use crate::generate::small::small;
 use crate::layout::{layout, layout_in, record_count, sheet, Order, ORDERS};
 use crate::random::Random;
@@ -17,14 +23,6 @@ use crate::records::{bytes, MAX_RECORDS};
 use crate::samples;
 use crate::shapes;
 use crate::stimulus::LONGEST_STIMULUS;
-
-use super::case::{Case, Runs};
-use super::cases::{few_cycles, good, Frame};
-use super::faults::{break_call, break_sheet};
-use super::good_calls::{compare_good, several};
-use super::tally::{self, two_codes, QUOTAS};
-use crate::frame::comparison::{self, Ended, SHARDS, TRIES};
-use crate::frame::tally::least;
 
 type Comparer<'a> = comparison::Comparer<'a, Runs>;
 
@@ -117,40 +115,17 @@ fn named_shapes(to: &mut Comparer, random: &mut Random) -> Ended {
 fn accepted(to: &mut Comparer, sheets: u64, random: &mut Random) -> Ended {
     let mut made = 0;
     while made < sheets {
-        let mut draft = match random.below(200) {
-            0 => chain_of_64(random),
-            1..=20 => network(random),
-            21..=100 => small(random),
-            _ => circuit(random),
-        };
-        let changed = match random.below(40) {
-            0 => nest(&mut draft, 3, random),
-            1 => deepen(&mut draft, 64, random),
-            _ => true,
-        };
-        if !changed || record_count(&draft) > MAX_RECORDS {
-            continue;
-        }
+        let Some(draft) = with_limits(80, random) else { continue };
         let order = Order::any(random);
         let sheet = bytes(&layout_in(&draft, order, random));
         let Some(frame) = Frame::of(&sheet) else { continue };
         let case = good("accepted", sheet, &frame, few_cycles(random), random);
         let values = if random.one_in(3) { VALUES } else { 0 };
         compare_good(to, &case, &frame, values)?;
-        to.tally.add(&tally::laid_out(ORDERS[order as usize]), 1);
+        to.tally.add(&laid_out(ORDERS[order as usize]), 1);
         made += u64::from(several(&case, &frame));
     }
     Ok(())
-}
-
-/// A circuit that faults are put into, mostly not a large one.
-fn base(random: &mut Random) -> Draft {
-    loop {
-        let draft = circuit(random);
-        if draft.nodes.len() <= 160 || random.one_in(20) {
-            return draft;
-        }
-    }
 }
 
 /// A call of some cycles that keeps every rule, for faults to be put into.
@@ -168,7 +143,7 @@ pub fn broken(
     categories: &[Category],
     random: &mut Random,
 ) -> Option<(Case, Vec<&'static str>)> {
-    let draft = base(random);
+    let draft = for_faults(random);
     let (mut case, frame) = whole_call(&draft, random)?;
     for &code in codes.iter().filter(|&&code| code <= ILL_TYPED) {
         let (name, sheet) = break_sheet(&draft, code, categories, random)?;
@@ -212,7 +187,7 @@ fn two_faults(to: &mut Comparer, categories: &[Category], random: &mut Random) -
         for _ in 0..need * TRIES {
             let Some((case, _)) = broken(&[low, high], categories, random) else { continue };
             let outcome = to.runs(&case)?;
-            let both = tally::of_codes(low, high);
+            let both = of_codes(low, high);
             to.tally.add_if(&both, outcome.answer.code == low);
             if to.tally.got(&both) >= need {
                 break;
@@ -225,7 +200,7 @@ fn two_faults(to: &mut Comparer, categories: &[Category], random: &mut Random) -
 /// Sheets changed at random, with the calls of the sheets before the change.
 fn fuzzed(to: &mut Comparer, random: &mut Random) -> Ended {
     for k in 0..share(tally::FUZZED) {
-        let draft = if k % 2 == 0 { base(random) } else { small(random) };
+        let draft = if k % 2 == 0 { for_faults(random) } else { small(random) };
         let mut records = layout(&draft, random);
         let Some(frame) = Frame::of(&bytes(&records)) else { continue };
         match k % 5 {

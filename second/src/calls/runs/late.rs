@@ -2,16 +2,15 @@
 //! its sheet's delays are 0 where those of the other need not be. Its outputs
 //! and next sheet are to be at or below those of the other.
 
-use crate::order::{lower_sheet, lower_stimulus};
-use crate::random::Random;
-use crate::records::{read, FEEDBACK, KIND};
-use crate::rule::IN_FORCE;
-
 use super::case::Case;
 use super::cases::any;
 use super::mistakes::RunMistake;
 use super::ordered::{Pair, Pairs};
 use crate::frame::lender::Lender;
+use crate::order::{lower_sheet, lower_stimulus};
+use crate::random::Random;
+use crate::records::{read, FEEDBACK, KIND};
+use crate::rule::IN_FORCE;
 
 const OUTPUTS: &str = "pairs with strictly lower outputs";
 const DELAYS: &str = "pairs with strictly lower delay leaves";
@@ -41,12 +40,26 @@ impl Pairs for Late {
     const MISTAKES: &'static [(&'static str, RunMistake)] =
         &[("else-when-undecided", RunMistake::ElseWhenUndecided)];
 
+    /// Both runs by the archive, or by the second simulator with a mistake.
     fn make(lender: &mut Lender, mistake: Option<RunMistake>, random: &mut Random) -> Option<Pair> {
-        make(lender, mistake, random)
+        let second = any("one call", random)?;
+        let cases = [later(&second, random), second];
+        Some(Pair::of(cases, lender, mistake, IN_FORCE))
     }
 
     fn counts(pair: &Pair) -> Vec<(&'static str, bool)> {
-        counts(pair)
+        let [first, second] = &pair.cases;
+        let feedback = read(&second.sheet).iter().any(|record| record[KIND] == FEEDBACK);
+        let outputs = pair.outputs_lower();
+        vec![
+            (OUTPUTS, outputs),
+            (DELAYS, pair.delays_lower()),
+            (SAME_SHEET, outputs && first.sheet == second.sheet),
+            (SAME_STIMULUS, outputs && first.stimulus == second.stimulus),
+            (FEEDBACKS, outputs && feedback),
+            (THERE, there(pair)),
+            (NO_CYCLES, first.stimulus.is_empty() && pair.delays_lower()),
+        ]
     }
 }
 
@@ -62,28 +75,6 @@ fn later(case: &Case, random: &mut Random) -> Case {
         case.sheet = lower_sheet(&case.sheet, one_in, random);
     }
     case
-}
-
-/// Both runs by the archive, or by the second simulator with a mistake.
-fn make(lender: &mut Lender, mistake: Option<RunMistake>, random: &mut Random) -> Option<Pair> {
-    let second = any("one call", random)?;
-    let cases = [later(&second, random), second];
-    Some(Pair::of(cases, lender, mistake, IN_FORCE))
-}
-
-fn counts(pair: &Pair) -> Vec<(&'static str, bool)> {
-    let [first, second] = &pair.cases;
-    let feedback = read(&second.sheet).iter().any(|record| record[KIND] == FEEDBACK);
-    let outputs = pair.outputs_lower();
-    vec![
-        (OUTPUTS, outputs),
-        (DELAYS, pair.delays_lower()),
-        (SAME_SHEET, outputs && first.sheet == second.sheet),
-        (SAME_STIMULUS, outputs && first.stimulus == second.stimulus),
-        (FEEDBACKS, outputs && feedback),
-        (THERE, there(pair)),
-        (NO_CYCLES, first.stimulus.is_empty() && pair.delays_lower()),
-    ]
 }
 
 /// Whether the first run has a defined output leaf in a cycle whose inputs are

@@ -5,9 +5,16 @@ use std::io;
 use std::path::{Path, PathBuf};
 use std::process::{Command, Stdio};
 
+use super::case::Case;
+use super::cases::{few_cycles, good, Frame};
+use super::jobs::broken;
+use super::mistakes::{run, RunMistake};
 use crate::answers::{self, WRONG_INPUT, WRONG_LENGTH};
 use crate::faults::categories;
 use crate::faults::category::Category;
+use crate::frame::comparison::{Comparer, Comparison, Ended, Halt};
+use crate::frame::report::{self, hex};
+use crate::frame::tally::Quota;
 use crate::fuzz::random_bytes;
 use crate::generate::circuits::circuit;
 use crate::generate::network::network;
@@ -17,14 +24,6 @@ use crate::listing::refusal_line;
 use crate::printout::printout_of;
 use crate::random::Random;
 use crate::stimulus::LONGEST_STIMULUS;
-
-use super::case::Case;
-use super::cases::{few_cycles, good, Frame};
-use super::jobs::broken;
-use super::mistakes::{run, RunMistake};
-use crate::frame::comparison::{Comparer, Comparison, Ended, Halt};
-use crate::frame::report::{self, hex};
-use crate::frame::tally::Quota;
 
 /// How many sheets are run.
 const ACCEPTED: u64 = 750;

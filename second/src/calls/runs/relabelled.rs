@@ -2,21 +2,20 @@
 //! answer and the outputs are to be the same, and so the next sheets but for
 //! the labels, which stay.
 
-use crate::answers::{Answer, WRONG_NEXT_LENGTH, WRONG_RECORD};
-use crate::faults::categories;
-use crate::generate::labels::relabel;
-use crate::labels::{labels, repeated, without_labels};
-use crate::random::Random;
-use crate::records::{bytes, read, RECORD_BYTES};
-use crate::rule::IN_FORCE;
-
 use super::case::Case;
 use super::cases::any;
 use super::jobs::broken;
 use super::mistakes::RunMistake;
 use super::ordered::{Pair, Pairs};
+use crate::answers::{Answer, WRONG_NEXT_LENGTH, WRONG_RECORD};
 use crate::calls::checks::archive::check as check_of_archive;
+use crate::faults::categories;
 use crate::frame::lender::Lender;
+use crate::generate::labels::relabel;
+use crate::labels::{labels, repeated, without_labels};
+use crate::random::Random;
+use crate::records::{bytes, read, RECORD_BYTES};
+use crate::rule::IN_FORCE;
 
 const OTHERS: &str = "pairs of accepted sheets with other labels";
 const CHANGED: &str = "pairs with other labels whose delays change";
@@ -37,16 +36,40 @@ impl Pairs for Relabelled {
         &[("labels-cleared", RunMistake::LabelsCleared)];
     const CALLS: &'static [&'static str] = &["sheet_check", "sheet_run"];
 
+    /// Both runs by the archive, or by the second simulator with a mistake.
     fn make(lender: &mut Lender, mistake: Option<RunMistake>, random: &mut Random) -> Option<Pair> {
-        make(lender, mistake, random)
+        let cases = cases(random)?;
+        Some(Pair::of(cases, lender, mistake, IN_FORCE))
     }
 
     fn counts(pair: &Pair) -> Vec<(&'static str, bool)> {
-        counts(pair)
+        let [one, other] = [0, 1].map(|k| &pair.cases[k].sheet);
+        let accepted = Answer::accepts(check_of_archive(one));
+        let (differ, ran) = (one != other, Answer::accepts(pair.left[0].packed));
+        let twice = |sheet: &[u8]| !repeated(&labels(sheet)).is_empty();
+        vec![
+            (OTHERS, differ && accepted),
+            (CHANGED, differ && ran && pair.left[0].next != *one),
+            (TWICE, accepted && twice(one) != twice(other)),
+            (REFUSED, differ && !accepted),
+        ]
     }
 
     fn faults(pair: &Pair) -> Vec<String> {
-        faults(pair)
+        let [first, second] = &pair.left;
+        let [one, other] = [0, 1].map(|k| &pair.cases[k].sheet);
+        let accepted = Answer::accepts(first.packed);
+        let kept = |k: usize| labels(&pair.left[k].next) == labels(&pair.cases[k].sheet);
+        let same_next = without_labels(&first.next) == without_labels(&second.next);
+        let plain = [
+            (pair.altered, "the archive's run altered bytes that it may not"),
+            (check_of_archive(one) != check_of_archive(other), "the verdicts differ"),
+            (first.packed != second.packed, "the answers differ"),
+            (accepted && first.outputs != second.outputs, "the outputs differ"),
+            (accepted && !same_next, "the next sheets differ in more than labels"),
+            (accepted && !(kept(0) && kept(1)), "the labels do not stay"),
+        ];
+        plain.iter().filter(|(wrong, _)| *wrong).map(|(_, words)| words.to_string()).collect()
     }
 }
 
@@ -66,40 +89,4 @@ fn cases(random: &mut Random) -> Option<[Case; 2]> {
     relabel(&mut records, random);
     let other = Case { sheet: bytes(&records), ..case.clone() };
     Some([case, other])
-}
-
-/// Both runs by the archive, or by the second simulator with a mistake.
-fn make(lender: &mut Lender, mistake: Option<RunMistake>, random: &mut Random) -> Option<Pair> {
-    let cases = cases(random)?;
-    Some(Pair::of(cases, lender, mistake, IN_FORCE))
-}
-
-fn faults(pair: &Pair) -> Vec<String> {
-    let [first, second] = &pair.left;
-    let [one, other] = [0, 1].map(|k| &pair.cases[k].sheet);
-    let accepted = Answer::accepts(first.packed);
-    let kept = |k: usize| labels(&pair.left[k].next) == labels(&pair.cases[k].sheet);
-    let same_next = without_labels(&first.next) == without_labels(&second.next);
-    let plain = [
-        (pair.altered, "the archive's run altered bytes that it may not"),
-        (check_of_archive(one) != check_of_archive(other), "the verdicts differ"),
-        (first.packed != second.packed, "the answers differ"),
-        (accepted && first.outputs != second.outputs, "the outputs differ"),
-        (accepted && !same_next, "the next sheets differ in more than labels"),
-        (accepted && !(kept(0) && kept(1)), "the labels do not stay"),
-    ];
-    plain.iter().filter(|(wrong, _)| *wrong).map(|(_, words)| words.to_string()).collect()
-}
-
-fn counts(pair: &Pair) -> Vec<(&'static str, bool)> {
-    let [one, other] = [0, 1].map(|k| &pair.cases[k].sheet);
-    let accepted = Answer::accepts(check_of_archive(one));
-    let (differ, ran) = (one != other, Answer::accepts(pair.left[0].packed));
-    let twice = |sheet: &[u8]| !repeated(&labels(sheet)).is_empty();
-    vec![
-        (OTHERS, differ && accepted),
-        (CHANGED, differ && ran && pair.left[0].next != *one),
-        (TWICE, accepted && twice(one) != twice(other)),
-        (REFUSED, differ && !accepted),
-    ]
 }

@@ -2,7 +2,7 @@
 
 use crate::answers::{WRONG_LENGTH, WRONG_NEXT_LENGTH, WRONG_STIMULUS};
 use crate::frame::memory::PLACEMENTS;
-use crate::frame::tally::Quota;
+use crate::frame::tally::{laid_out, of_codes, Quota};
 use crate::layout::ORDERS;
 use crate::records::KINDS;
 
@@ -97,19 +97,9 @@ pub fn ways(code: u8) -> impl Iterator<Item = &'static str> {
     QUOTAS.iter().map(|(name, _)| *name).filter(of_code)
 }
 
-/// The name of the count of runs with faults of two codes.
-pub fn of_codes(low: u8, high: u8) -> String {
-    format!("faults of codes {low} and {high}")
-}
-
 /// The name of the count of accepted sheets with a kind.
 pub fn with_kind(kind: u16) -> String {
     format!("accepted sheets with kind {kind}")
-}
-
-/// The name of the count of accepted sheets laid out in an order.
-pub fn laid_out(order: &str) -> String {
-    format!("accepted sheets laid out {order}")
 }
 
 /// Every quota.

@@ -1,6 +1,10 @@
 //! Texts with bad names, and with constant pairs that have no type.
 
+use super::case::{Case, Texts};
+use super::legal::{good, share};
+use super::tally::{self, PER_CATEGORY};
 use crate::answers::WRONG_NAME;
+use crate::frame::comparison::{self, Ended, Halt, SHARDS, TRIES};
 use crate::random::Random;
 use crate::text::constants;
 use crate::text::generate::faults::Category;
@@ -9,11 +13,6 @@ use crate::text::generate::sentence::{Role, Sentence};
 use crate::text::naming;
 use crate::text::syntax::Constant;
 use crate::text::translator::{syntax, translate};
-
-use super::case::{Case, Texts};
-use super::legal::{good, share};
-use super::tally::{self, PER_CATEGORY};
-use crate::frame::comparison::{self, Ended, Halt, SHARDS, TRIES};
 
 type Comparer<'a> = comparison::Comparer<'a, Texts>;
 

@@ -4,41 +4,19 @@ use std::hint::black_box;
 use std::process::ExitCode;
 use std::time::{Duration, Instant};
 
+use super::archive;
 use crate::answers::ACCEPTED;
+use crate::frame::report;
+use crate::frame::timing::{conclude, timed, Timed};
 use crate::records::{MAX_RECORDS, RECORD_BYTES};
 use crate::text::long;
 use crate::text::translator::{translate, Outcome};
-
-use super::archive;
-use crate::frame::report;
 
 /// How long the two are timed on one text.
 const TIME: Duration = Duration::from_millis(300);
 
 /// The slice that both are lent.
 const SLICE: usize = MAX_RECORDS * RECORD_BYTES;
-
-/// Microseconds for one call. Other work on the machine lengthens some calls,
-/// so the median counts.
-struct Timed {
-    median: f64,
-    longest: f64,
-}
-
-impl Timed {
-    fn of(mut calls: Vec<Duration>) -> Timed {
-        calls.sort();
-        let micros = |k: usize| calls[k].as_nanos() as f64 / 1000.0;
-        let last = calls.len() - 1;
-        Timed { median: micros(last / 2), longest: micros(last) }
-    }
-}
-
-fn timed<T>(call: impl FnOnce() -> T) -> (Duration, T) {
-    let start = Instant::now();
-    let given = call();
-    (start.elapsed(), given)
-}
 
 /// Whether the archive gave what the second translation gives.
 fn equal(packed: u64, slice: &[u8], outcome: &Outcome) -> bool {
@@ -93,10 +71,5 @@ fn run() -> ExitCode {
     }
     println!("longest call of the archive: {:.1} on {}", longest.0, longest.1);
     println!("highest ratio: {:.2} on {}", worst.0, worst.1);
-    println!("{differences} differences");
-    if differences == 0 {
-        ExitCode::SUCCESS
-    } else {
-        ExitCode::FAILURE
-    }
+    conclude(differences)
 }

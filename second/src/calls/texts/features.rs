@@ -1,8 +1,7 @@
 //! What stands in a text whose run is compared with its meaning.
 
-use crate::text::syntax::{Alternative, Constant, Expression, Syntax};
-
 use super::tally;
+use crate::text::syntax::{Alternative, Constant, Expression, Syntax};
 
 /// The features that a text has, by the names of their counts. It does not
 /// nest deeply.

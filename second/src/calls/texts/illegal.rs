@@ -1,15 +1,14 @@
 //! Texts outside the grammar: damaged by a byte, cut, or random.
 
+use super::case::{Case, Texts};
+use super::legal::{good, share};
+use super::tally::{self, PER_ENDED_POSITION, PER_POSITION};
+use crate::frame::comparison::{self, Ended, SHARDS, TRIES};
 use crate::random::Random;
 use crate::text::generate::damage::{any_byte, damage_anywhere, random_bytes};
 use crate::text::generate::{free, sizes};
 use crate::text::positions::{positions, Position};
 use crate::text::reading::{positions_in, tokens, Way};
-
-use super::case::{Case, Texts};
-use super::legal::{good, share};
-use super::tally::{self, PER_ENDED_POSITION, PER_POSITION};
-use crate::frame::comparison::{self, Ended, SHARDS, TRIES};
 
 type Comparer<'a> = comparison::Comparer<'a, Texts>;
 

@@ -1,13 +1,12 @@
 //! The parts of the comparison. The changes of T come first, then shards of the
 //! random texts.
 
-use crate::random::Random;
-use crate::text::generate::faults::Category;
-
 use super::case::Texts;
 use super::legal::share;
 use super::{bad_names, illegal, legal, tally};
 use crate::frame::comparison::{self, Ended, SHARDS};
+use crate::random::Random;
+use crate::text::generate::faults::Category;
 
 type Comparer<'a> = comparison::Comparer<'a, Texts>;
 

@@ -1,6 +1,10 @@
 //! Texts that keep the rules of texts, and lengths of the slice.
 
+use super::case::{Case, Texts};
+use super::tally::{self, QUOTAS};
 use crate::answers::NO_ROOM;
+use crate::frame::comparison::{self, Ended, SHARDS};
+use crate::frame::tally::least;
 use crate::generate::circuits::circuit;
 use crate::generate::network::network;
 use crate::generate::small::small;
@@ -10,11 +14,6 @@ use crate::text::generate::sentence::Sentence;
 use crate::text::generate::{circuits, free, sizes};
 use crate::text::tokens::LONGEST_TEXT;
 use crate::text::translator::translate;
-
-use super::case::{Case, Texts};
-use super::tally::{self, QUOTAS};
-use crate::frame::comparison::{self, Ended, SHARDS};
-use crate::frame::tally::least;
 
 type Comparer<'a> = comparison::Comparer<'a, Texts>;
 
