@@ -4,7 +4,7 @@ use super::cases::Ground;
 use super::kind::{Case, Kind};
 use super::tally;
 use crate::answers::{ILL_TYPED, WRONG_INPUT, WRONG_STIMULUS};
-use crate::calls::runs::faults::break_sheet;
+use crate::calls::runs::faults::{break_sheet, raise_byte};
 use crate::faults::category::Category;
 use crate::generate::mixed::for_faults;
 use crate::layout::sheet;
@@ -71,17 +71,7 @@ fn break_bytes(case: &mut Case, ground: &Ground, random: &mut Random) -> Option<
     let several = breakable.len() > 1 && random.one_in(2);
     let times = if several { random.range(2, 5) } else { 1 };
     for _ in 0..times {
-        let place = match random.below(6) {
-            0 => breakable.first().copied()?,
-            1 => breakable.last().copied()?,
-            _ => random.pick(&breakable)?,
-        };
-        let above = usize::from(ground.counts[place % leaves]) + 1;
-        case.stimulus[place] = match random.below(3) {
-            0 => above as u8,
-            1 => 255,
-            _ => random.range(above, 255) as u8,
-        };
+        raise_byte(&mut case.stimulus, &ground.counts, &breakable, random)?;
     }
     Some(if several { tally::SOME_ABOVE } else { tally::ABOVE })
 }

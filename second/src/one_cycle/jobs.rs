@@ -73,15 +73,7 @@ fn share(name: &str) -> u64 {
 
 /// T and the circuits of the bench cases on random inputs.
 fn bench_cases<K: Kind>(to: &mut Comparer<K>, random: &mut Random) -> Ended {
-    let sheets = [
-        samples::t(),
-        samples::and(),
-        samples::not_feedback(),
-        samples::pair_feedback(),
-        samples::self_feedback(),
-        samples::two_pairs(),
-    ];
-    for sheet in sheets {
+    for sheet in samples::bench_cases() {
         let Some(ground) = Ground::of::<K>(&sheet) else { continue };
         for _ in 0..40 {
             to.good_call(&ground.good(tally::BENCH, sheet.clone(), random))?;

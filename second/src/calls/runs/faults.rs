@@ -136,17 +136,29 @@ fn break_bytes(case: &mut Case, frame: &Frame, random: &mut Random) -> Option<&'
     let several = random.one_in(2);
     let times = if several { random.range(2, 5) } else { 1 };
     for _ in 0..times {
-        let place = match random.below(6) {
-            0 => breakable.first().copied()?,
-            1 => breakable.last().copied()?,
-            _ => random.pick(&breakable)?,
-        };
-        let above = usize::from(frame.counts[place % leaves]) + 1;
-        case.stimulus[place] = match random.below(3) {
-            0 => above as u8,
-            1 => 255,
-            _ => random.range(above, 255) as u8,
-        };
+        raise_byte(&mut case.stimulus, &frame.counts, &breakable, random)?;
     }
     Some(if several { tally::SOME_ABOVE } else { tally::ABOVE })
+}
+
+/// Raises the first byte of some places, the last or any above its leaf's
+/// count; none if there is no place.
+pub fn raise_byte(
+    stimulus: &mut [u8],
+    counts: &[u8],
+    places: &[usize],
+    random: &mut Random,
+) -> Option<()> {
+    let place = match random.below(6) {
+        0 => places.first().copied()?,
+        1 => places.last().copied()?,
+        _ => random.pick(places)?,
+    };
+    let above = usize::from(counts[place % counts.len()]) + 1;
+    stimulus[place] = match random.below(3) {
+        0 => above as u8,
+        1 => 255,
+        _ => random.range(above, 255) as u8,
+    };
+    Some(())
 }

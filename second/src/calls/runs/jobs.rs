@@ -76,15 +76,7 @@ fn share(name: &str) -> u64 {
 
 /// T and the circuits of the bench cases on random stimuli, T on the longest.
 fn bench_cases(to: &mut Comparer, random: &mut Random) -> Ended {
-    let sheets = [
-        samples::t(),
-        samples::and(),
-        samples::not_feedback(),
-        samples::pair_feedback(),
-        samples::self_feedback(),
-        samples::two_pairs(),
-    ];
-    for sheet in sheets {
+    for sheet in samples::bench_cases() {
         let Some(frame) = Frame::of(&sheet) else { continue };
         for k in 0..40 {
             let cycles =
