@@ -51,8 +51,11 @@ pub trait Comparison: Sync + Sized {
     /// All jobs, in order.
     fn jobs(&self) -> Vec<Self::Job>;
 
-    /// A job of so many further cases.
-    fn more(&self, cases: u64) -> Self::Job;
+    /// A job of so many further cases, if there can be more than those of the
+    /// jobs.
+    fn more(&self, _cases: u64) -> Option<Self::Job> {
+        None
+    }
 
     fn work(&self, job: &Self::Job, to: &mut Comparer<Self>, random: &mut Random) -> Ended;
 

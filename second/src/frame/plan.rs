@@ -36,7 +36,7 @@ fn compare<C: Comparison>(
     let missing = asked.saturating_sub(tally.compared);
     if difference.is_none() && missing > 0 && !few::<C>(options) {
         let cases = missing.div_ceil(SHARDS);
-        let jobs: Vec<C::Job> = (0..SHARDS).map(|_| comparison.more(cases)).collect();
+        let jobs: Vec<C::Job> = (0..SHARDS).filter_map(|_| comparison.more(cases)).collect();
         let second = Round { comparison, jobs: &jobs, number: 2, most };
         let (more, found) = run_jobs(&second, options);
         tally.merge(&more);
@@ -84,7 +84,8 @@ fn conclude<C: Comparison>(comparison: &C, options: &Options<C::Mistake>) -> u8 
     if few::<C>(options) {
         println!("quotas not looked at");
     } else {
-        let unmet = unmet(comparison, tally);
+        let least = options.cases.unwrap_or(0).max(C::LEAST);
+        let unmet = unmet(comparison, tally, least);
         if !unmet.is_empty() {
             unmet.iter().for_each(|line| println!("quota not met: {line}"));
             println!("{} quotas not met", unmet.len());
@@ -96,10 +97,10 @@ fn conclude<C: Comparison>(comparison: &C, options: &Options<C::Mistake>) -> u8 
 }
 
 /// Prints every count; the quotas that are not met.
-fn unmet<C: Comparison>(comparison: &C, mut tally: Tally) -> Vec<String> {
+fn unmet<C: Comparison>(comparison: &C, mut tally: Tally, least: u64) -> Vec<String> {
     let in_all = format!("{} in all", C::WHAT);
     tally.add(&in_all, tally.compared);
-    let mut quotas = vec![Quota::new(in_all, C::LEAST)];
+    let mut quotas = vec![Quota::new(in_all, least)];
     quotas.extend(comparison.quotas());
     tally.others(&quotas).iter().for_each(|line| println!("{line}"));
     let judged = quotas.iter().map(|quota| quota.judge(&tally));

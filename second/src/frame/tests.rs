@@ -37,8 +37,8 @@ impl<const EVEN: u64> Comparison for Doubled<EVEN> {
         vec![50, 50]
     }
 
-    fn more(&self, cases: u64) -> u64 {
-        cases
+    fn more(&self, cases: u64) -> Option<u64> {
+        Some(cases)
     }
 
     fn work(&self, numbers: &u64, to: &mut Comparer<Self>, _: &mut Random) -> Ended {
@@ -87,8 +87,6 @@ impl Comparison for Unseen {
         vec![()]
     }
 
-    fn more(&self, _: u64) {}
-
     fn work(&self, _: &(), to: &mut Comparer<Self>, _: &mut Random) -> Ended {
         to.tally.compared += 1;
         Ok(())
@@ -107,6 +105,8 @@ fn statuses_of_comparisons() {
     assert_eq!(plan::run::<Unseen>(&["right"]), Some(ALIKE));
     assert_eq!(plan::run::<Unseen>(&["right", "--mistake", "nothing"]), Some(NOT_SEEN));
     assert_eq!(plan::run::<Unseen>(&["wrong"]), Some(NOT_SEEN));
+    // There is no second number.
+    assert_eq!(plan::run::<Unseen>(&["right", "--numbers", "2"]), Some(UNMET));
 }
 
 #[test]

@@ -31,8 +31,8 @@ impl<K: Kind> Comparison for OneCycle<K> {
         jobs::in_order(K::LEAST)
     }
 
-    fn more(&self, cases: u64) -> Job {
-        Job::Accepted(cases)
+    fn more(&self, cases: u64) -> Option<Job> {
+        Some(Job::Accepted(cases))
     }
 
     fn work(&self, job: &Job, to: &mut Comparer<Self>, random: &mut Random) -> Ended {

@@ -30,8 +30,8 @@ impl Comparison for Checks {
         jobs::in_order()
     }
 
-    fn more(&self, cases: u64) -> Job {
-        Job::Extra(cases)
+    fn more(&self, cases: u64) -> Option<Job> {
+        Some(Job::Extra(cases))
     }
 
     fn work(&self, job: &Job, to: &mut Comparer<Self>, random: &mut Random) -> Ended {

@@ -29,8 +29,8 @@ impl Comparison for Runs {
         jobs::in_order()
     }
 
-    fn more(&self, cases: u64) -> Job {
-        Job::Accepted(cases)
+    fn more(&self, cases: u64) -> Option<Job> {
+        Some(Job::Accepted(cases))
     }
 
     fn work(&self, job: &Job, to: &mut Comparer<Self>, random: &mut Random) -> Ended {

@@ -171,8 +171,8 @@ impl<P: Pairs> Comparison for Ordered<P> {
         vec![P::LEAST.div_ceil(SHARDS); SHARDS as usize]
     }
 
-    fn more(&self, cases: u64) -> u64 {
-        cases
+    fn more(&self, cases: u64) -> Option<u64> {
+        Some(cases)
     }
 
     fn work(&self, pairs: &u64, to: &mut Comparer<Self>, random: &mut Random) -> Ended {

@@ -143,8 +143,6 @@ impl Comparison for Program {
         vec![()]
     }
 
-    fn more(&self, _: u64) {}
-
     fn work(&self, _: &(), to: &mut Comparer<Self>, _: &mut Random) -> Ended {
         let mut random = Random::new(to.seed);
         for case in cases(&categories(), &mut random) {

@@ -29,8 +29,8 @@ impl Comparison for Texts {
         jobs::in_order()
     }
 
-    fn more(&self, cases: u64) -> Job {
-        Job::Circuits(cases)
+    fn more(&self, cases: u64) -> Option<Job> {
+        Some(Job::Circuits(cases))
     }
 
     fn work(&self, job: &Job, to: &mut Comparer<Self>, random: &mut Random) -> Ended {
