@@ -11,7 +11,7 @@ use mathlib.Core.Logic.{_≢_}
 use native.Mathlib.Omega.{arith}
 use lib.Dec.{eqb}
 use borrow.Author.Tests.{eqb-true, not-false}
-use Rattle.answers.specs.Answers.{code, whenDone, onDone, Check, check, when, orRefused, firstApplying, NoneApplies, Refuses, SaysOf}
+use Rattle.answers.specs.Answers.{code, whenDone, onDone, Check, when, orRefused, firstApplying, NoneApplies, Refuses, SaysOf}
 use Rattle.answers.specs.declared.Answer.{Answer}
 use Rattle.answers.specs.declared.Answer.the-variants.{Done, Refused}
 

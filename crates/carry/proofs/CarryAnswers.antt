@@ -10,7 +10,7 @@ use borrow.Author.Tests.{eq-eqb}
 use lib.ListN.{length}
 use lib.Dec.{eqb}
 use Rattle.records.specs.Words.{count}
-use Rattle.answers.specs.Answers.{lowest, code, when, NoneApplies, verdictAnswer}
+use Rattle.answers.specs.Answers.{lowest, code, NoneApplies, verdictAnswer}
 use Rattle.answers.specs.GivenSlices.{SmallPlaces, no-slice, one-slice}
 use Rattle.answers.specs.declared.Answer.{Answer}
 use Rattle.answers.specs.declared.Answer.the-variants.{Done, Refused}

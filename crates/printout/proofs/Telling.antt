@@ -4,7 +4,7 @@
 use Prim.Native.Nat.{ℕ, zero, suc, _-_, _≤_, _<_}
 use mathlib.Core.Path.{_≡_, refl, sym, ap, subst, _∙_}
 use mathlib.Core.Bool.{true}
-use mathlib.Core.List.{List, [], _∷_, _++_}
+use mathlib.Core.List.{List, _++_}
 use native.Mathlib.Omega.{arith}
 use native.Mathlib.Decide.{decLt}
 use lib.ListN.{length, take, drop, replicate, length-append, length-replicate}
@@ -13,7 +13,7 @@ use borrow.Author.Tests.{lt-ltb}
 use Rattle.picoella.specs.Language.{leaves}
 use Rattle.records.specs.Trees.{typeAt}
 use Rattle.records.proofs.Types.{some-leaves}
-use Rattle.answers.specs.Answers.{code, place, codeOfResult, placeOfResult, verdictAnswer, Check, firstApplying, Refuses, SaysOf}
+use Rattle.answers.specs.Answers.{code, place, codeOfResult, placeOfResult, verdictAnswer, firstApplying, SaysOf}
 use Rattle.answers.specs.declared.Answer.{Answer}
 use Rattle.answers.specs.declared.Answer.the-variants.{Done, Refused}
 use Rattle.answers.proofs.First.{first-says}
@@ -23,7 +23,7 @@ use Rattle.answers.specs.declared.Verdict.the-variants.{Accepted}
 use Rattle.accepted.proofs.Laws.{verdict-first, first-accepted}
 use Rattle.accepted.proofs.Small.{accepted-few}
 use Rattle.stimulus.specs.Stimulus.{inputType, wrongStimulus, stimulusChecks, cycleCount}
-use Rattle.behaviour.specs.Run.{outputNeeded, callChecks, bySlices, answer, finalOut, finalNext, RunGiven}
+use Rattle.behaviour.specs.Run.{outputNeeded, bySlices, answer, finalOut, finalNext}
 use Rattle.behaviour.specs.Afterwards.{WellFormed}
 use Rattle.behaviour.proofs.Answers.{run-laws, refused-by-verdict, stimulus-refused}
 use Rattle.simulator.specs.Running.{Measured}

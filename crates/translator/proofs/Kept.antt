@@ -3,14 +3,14 @@
 use Prim.Native.Nat.{ℕ, _+_, _*_, _-_, _^_, _≤_, _<_}
 use native.Mathlib.Omega.{arith}
 use mathlib.Core.Path.{_≡_, refl, sym, ap, subst, _∙_}
-use mathlib.Core.Logic.{_⊎_, inl, inr, _≢_, _↔_}
+use mathlib.Core.Logic.{_⊎_, inl, inr, _↔_}
 use mathlib.Core.Bool.{Bool, true, false, cond, not}
 use mathlib.Core.List.{List, [], _∷_, _++_}
-use mathlib.Core.Option.{Option, none, some}
+use mathlib.Core.Option.{none, some}
 use lib.ListN.{length, take, drop, replicate, length-append, length-replicate}
 use lib.Dec.{T, ltb, nltb→le}
 use Rattle.records.specs.SheetOf.{Record, words, sheetOf}
-use Rattle.answers.specs.Answers.{whenDone, Check, check, when, NoneApplies, SaysOf}
+use Rattle.answers.specs.Answers.{whenDone, check, when, NoneApplies, SaysOf}
 use Rattle.answers.specs.GivenSlices.{no-slice, one-slice}
 use Rattle.answers.specs.declared.Answer.{Answer}
 use Rattle.answers.specs.declared.Answer.the-variants.{Done, Refused}
@@ -20,7 +20,7 @@ use Rattle.grammar.specs.Tokens.{Token}
 use Rattle.grammar.specs.Source.{Text}
 use Rattle.grammar.specs.Legal.{Reading, LeavesGrammar, Keeps}
 use Rattle.grammar.proofs.Kept as Grammar
-use Rattle.naming.specs.Checks.{AllPass, firstBadPlace}
+use Rattle.naming.specs.Checks.{AllPass}
 use Rattle.naming.specs.Constants.{constantsOfText}
 use Rattle.naming.specs.Names.{nameChecks, textChecks}
 use Rattle.naming.specs.RecordsNeeded.{recordsNeeded}

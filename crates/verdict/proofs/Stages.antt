@@ -3,15 +3,15 @@
 use mathlib.Core.Path.{_≡_, refl, sym, _∙_, ap, subst}
 use mathlib.Core.Bool.{Bool, true, false, not, _||_, or-true}
 use mathlib.Core.List.{List, [], _∷_}
-use mathlib.Core.Option.{Option, none, some}
+use mathlib.Core.Option.{none, some}
 use Prim.Native.Nat.{ℕ, _*_, _/_, _%_, _≤_, _<_}
 use native.Mathlib.Omega.{arith}
 use native.Mathlib.Decide.{ℕ-discrete}
 use borrow.Author.Tests.{ltb-false, eqb-true, lt-ltb, le-ltb, eq-eqb, ne-eqb, not-false}
 use lib.Dec.{eqb, ltb}
 use lib.ListN.{length}
-use Rattle.records.specs.Words.{count, word, wordA, wordB}
-use Rattle.records.specs.Trees.{treeAt, circuit, typeRecordOf}
+use Rattle.records.specs.Words.{count, word}
+use Rattle.records.specs.Trees.{treeAt, circuit}
 use Rattle.records.specs.Written.{Written}
 use Rattle.records.specs.Says.{namings}
 use Rattle.records.proofs.Tests.{neither-left, neither-right}
@@ -22,14 +22,13 @@ use Rattle.answers.specs.Searches.{found}
 use Rattle.structure.specs.Rules.{Passes, wrongLength, wrongHeader, wrongRecord, wrongNaming, wrongType, tooDeep, depth, nesting}
 use Rattle.structure.specs.NamerTable.{NamingsHeld}
 use Rattle.structure.specs.LeafTable.{LeavesCounted}
-use Rattle.structure.specs.DepthTable.{Capped, Placed, Placing}
+use Rattle.structure.specs.DepthTable.{Capped, Placing}
 use Rattle.answers.specs.declared.Found.{Found}
 use Rattle.answers.specs.declared.Found.the-variants.{At, Nothing}
 use Rattle.structure.proofs.Passes.{written, written-by, well-named-by, well-named}
 use Rattle.structure.proofs.Depths.{depth-of-root}
 use Rattle.structure.proofs.DepthCounts.{depth-of-header, nesting-of-header}
-use Rattle.typing.specs.Judgements.{judgements, firstFailing}
-use Rattle.typing.specs.Judging.{Ground, Judging, Judged, Context, scopeOf, noted}
+use Rattle.typing.specs.Judging.{Ground, Judging, Judged, Context, scopeOf}
 use Rattle.verdict.specs.Stages.{CheckingRecords, CheckingNamings, CheckingTypes, CheckingDepths, RulesChecked, StagesChecked}
 use Rattle.verdict.specs.Verdict.{verdict, byTypes, byRecords}
 use Rattle.verdict.specs.Scopes.{inputs}
@@ -47,7 +46,7 @@ use Rattle.answers.specs.declared.Verdict.the-variants.{
   IllTyped,
 }
 use Rattle.typing.proofs.Bounds.{counts-leaves}
-use Rattle.typing.proofs.Outcomes.{Passed, passed, faulted}
+use Rattle.typing.proofs.Outcomes.{passed, faulted}
 
 -- the type rules
 module _ {s : List ℕ} {n : ℕ} {widths : List ℕ} (g : Ground s n widths) (stack : List ℕ) {x y : ℕ} (ex : x ≡ word s 0 2)
