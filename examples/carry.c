@@ -3,8 +3,9 @@
  *
  *     carry OLD NEW NEXT
  *
- * writes the carried sheet to NEXT (docs/SHEETS.md, Carrying); or prints `refused CODE at PLACE`, with a sentence for people on standard
- * error, and writes nothing. Status 0: carried; 1: refused; 2: not called with three files; 4: NEXT cannot be written.
+ * writes the carried sheet to NEXT (docs/SHEETS.md, Carrying); or prints `refused CODE at PLACE`, with a
+ * sentence for people on standard error, for code 18 also that of the new sheet's code, and writes
+ * nothing. Status 0: carried; 1: refused; 2: not called with three files; 4: NEXT cannot be written.
  */
 #include <stdio.h>
 

@@ -6,7 +6,9 @@
 
 #include "cases.h"
 #include "guard.h"
+#include "measure.h"
 #include "sheet.h"
+#include "suite.h"
 
 enum { MOST_WRITTEN = 13, MOST_HELD = 3 };
 
@@ -243,7 +245,7 @@ static void limits_carried(void)
     }
 }
 
-void carries(void)
+static void carries(void)
 {
     for (size_t k = 0; k < sizeof cases / sizeof *cases; k++)
         carried(&cases[k]);
@@ -256,3 +258,16 @@ void carries(void)
     faults_refused();
     limits_carried();
 }
+
+static void once(void)
+{
+    sheet_carry(at_limit.sheet, at_limit.length, at_limit.other, at_limit.length, at_limit.next, at_limit.length);
+}
+
+static void stack_need(void)
+{
+    measure_on_limits("sheet_carry", once, SHEET_CARRY_STACK);
+}
+
+TESTS(carries, SMALL_STACK)
+TESTS_ONCE(stack_need)

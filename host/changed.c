@@ -2,6 +2,7 @@
 #include "cases.h"
 #include "guard.h"
 #include "sheet.h"
+#include "suite.h"
 
 const uint16_t sheet_t[T_RECORDS][WORDS] = {
     {HEADER, 1, 1, 2, T_RECORDS}, /* 0: types from 1; input of type 1; root 2 */
@@ -129,7 +130,7 @@ static const struct changed_case cases[] = {
     {"naming and typing", 2, {{7, NEXT, 10}, {6, A, 2}}, SHEET_WRONG_NAMING, 10},
 };
 
-void changed_cases(void)
+static void changed_cases(void)
 {
     static struct draft draft;
     static uint8_t bytes[MOST_BYTES];
@@ -142,3 +143,5 @@ void changed_cases(void)
         expect(one->name, bytes, length, one->code, one->place);
     }
 }
+
+TESTS(changed_cases, SMALL_STACK)

@@ -6,8 +6,10 @@
 
 #include "cases.h"
 #include "guard.h"
+#include "measure.h"
 #include "one_cycle.h"
 #include "sheet.h"
+#include "suite.h"
 
 enum { MOST_LEAVES = 64, P_RECORDS = 17, F_RECORDS = 23 };
 
@@ -237,7 +239,7 @@ static void of_lengths(void)
     }
 }
 
-void firings(void)
+static void firings(void)
 {
     of_t();
     of_chains();
@@ -246,3 +248,18 @@ void firings(void)
     of_limits();
     of_lengths();
 }
+
+/* The call with one leaf of input, or 64. */
+static void once(void)
+{
+    for (size_t inputs = 1; inputs <= 64; inputs += 63)
+        sheet_fired(at_limit.sheet, at_limit.length, at_limit.stim, inputs, at_limit.words, at_limit.length / RECORD_BYTES);
+}
+
+static void stack_need(void)
+{
+    measure_on_limits("sheet_fired", once, SHEET_FIRED_STACK);
+}
+
+TESTS(firings, SMALL_STACK)
+TESTS_ONCE(stack_need)

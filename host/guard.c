@@ -68,6 +68,11 @@ void tally(int passed, const char *name, const char *what)
         printf("failed: %s: %s\n", name, what);
 }
 
+size_t tally_count(void)
+{
+    return passed_count + failed_count;
+}
+
 int tally_end(void)
 {
     printf("%zu passed, %zu failed\n", passed_count, failed_count);

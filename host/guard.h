@@ -17,6 +17,9 @@ void guard_name(const char *name);
 /* Counts one passed or failed, and says what failed. */
 void tally(int passed, const char *name, const char *what);
 
+/* How many were counted so far. */
+size_t tally_count(void);
+
 /* Ends with the line `N passed, M failed`; gives the program's status. */
 int tally_end(void);
 

@@ -3,7 +3,9 @@
 
 #include "cases.h"
 #include "guard.h"
+#include "measure.h"
 #include "sheet.h"
+#include "suite.h"
 
 /* More cycles than there are delays in any sheet. */
 enum { CYCLES = 70, MOST_LEAVES = 64, MOST_OUT = MOST_LEAVES * SHEET_LONGEST_STIMULUS };
@@ -89,7 +91,7 @@ static void run_on_nothing(const struct limit_case *one)
     expect_run(one->name, &call, 0, out, sheet);
 }
 
-void limits_run(void)
+static void limits_run(void)
 {
     for (size_t k = 0; k < limit_count; k++) {
         if (limit_cases[k].answer == NO_RUN)
@@ -101,3 +103,19 @@ void limits_run(void)
             run_on_cycles(&limit_cases[k], SHEET_LONGEST_STIMULUS);
     }
 }
+
+/* The run of one cycle: the stimulus and the output have one leaf, or 64. */
+static void once(void)
+{
+    for (size_t inputs = 1; inputs <= 64; inputs += 63)
+        for (size_t outputs = 1; outputs <= 64; outputs += 63)
+            sheet_run(at_limit.sheet, at_limit.length, at_limit.stim, inputs, at_limit.out, outputs, at_limit.next, at_limit.length);
+}
+
+static void stack_need(void)
+{
+    measure_on_limits("sheet_run", once, SHEET_RUN_STACK);
+}
+
+TESTS(limits_run, SMALL_STACK)
+TESTS_ONCE(stack_need)

@@ -4,8 +4,10 @@
  */
 #include "cases.h"
 #include "guard.h"
+#include "measure.h"
 #include "shapes.h"
 #include "sheet.h"
+#include "suite.h"
 
 static const struct place root = {0, B};
 
@@ -285,7 +287,7 @@ size_t limit_sheet(const struct limit_case *one, uint8_t *bytes)
     return draft_write(&draft, bytes);
 }
 
-void limits_checked(void)
+static void limits_checked(void)
 {
     static uint8_t bytes[MOST_BYTES];
     for (size_t k = 0; k < limit_count; k++) {
@@ -293,3 +295,16 @@ void limits_checked(void)
         expect(limit_cases[k].name, bytes, length, limit_cases[k].code, limit_cases[k].place);
     }
 }
+
+static void once(void)
+{
+    sheet_check(at_limit.sheet, at_limit.length);
+}
+
+static void stack_need(void)
+{
+    measure_on_limits("sheet_check", once, SHEET_CHECK_STACK);
+}
+
+TESTS(limits_checked, SMALL_STACK)
+TESTS_ONCE(stack_need)

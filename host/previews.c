@@ -6,8 +6,10 @@
 
 #include "cases.h"
 #include "guard.h"
+#include "measure.h"
 #include "one_cycle.h"
 #include "sheet.h"
+#include "suite.h"
 
 enum { MOST_LEAVES = 64, P_RECORDS = 5, Q_RECORDS = 8, F_RECORDS = 13 };
 
@@ -208,7 +210,7 @@ static void of_lengths(void)
     }
 }
 
-void previews(void)
+static void previews(void)
 {
     of_t();
     of_small_sheets();
@@ -217,3 +219,19 @@ void previews(void)
     of_damaged_t();
     of_lengths();
 }
+
+/* The preview of one cycle, with one leaf or 64 in and out. */
+static void once(void)
+{
+    for (size_t inputs = 1; inputs <= 64; inputs += 63)
+        for (size_t outputs = 1; outputs <= 64; outputs += 63)
+            sheet_preview(at_limit.sheet, at_limit.length, at_limit.stim, inputs, at_limit.out, outputs);
+}
+
+static void stack_need(void)
+{
+    measure_on_limits("sheet_preview", once, SHEET_PREVIEW_STACK);
+}
+
+TESTS(previews, SMALL_STACK)
+TESTS_ONCE(stack_need)

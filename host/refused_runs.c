@@ -4,6 +4,7 @@
 #include "cases.h"
 #include "guard.h"
 #include "sheet.h"
+#include "suite.h"
 
 /* T, with one leaf of two constructors for input and output; or P, the input as it comes, of a bit and a three. */
 enum sheet_of_run { OF_T, OF_P };
@@ -73,7 +74,7 @@ static const struct refused_run runs[] = {
     {"10 before 11, no cycles", OF_P, 0, 0, 1, 2, 0, SHEET_WRONG_OUTPUT_LENGTH, 0},
 };
 
-void refused_runs(void)
+static void refused_runs(void)
 {
     static struct draft draft;
     static uint8_t sheet[MOST_BYTES], stim[SHEET_LONGEST_STIMULUS + 1];
@@ -90,3 +91,5 @@ void refused_runs(void)
         expect_refused(one->name, &call, one->code, one->place);
     }
 }
+
+TESTS(refused_runs, SMALL_STACK)

@@ -4,6 +4,7 @@
 #include "cases.h"
 #include "guard.h"
 #include "sheet.h"
+#include "suite.h"
 
 /* Where the leaf that T's delay holds stands: record 4, word a. */
 enum { HELD = 4 * RECORD_BYTES + 2 * A };
@@ -73,7 +74,7 @@ static void on_longest(const char *name, uint8_t last)
     expect_run(name, &call, sizeof stim, out, next);
 }
 
-void runs_of_t(void)
+static void runs_of_t(void)
 {
     write_t();
     in_one_call();
@@ -86,3 +87,5 @@ void runs_of_t(void)
     on_longest("T on 65,535 cycles", 1);
     on_longest("T on 65,535 cycles, the last undefined", 0);
 }
+
+TESTS(runs_of_t, SMALL_STACK)

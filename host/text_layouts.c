@@ -5,6 +5,7 @@
 #include "guard.h"
 #include "made_text.h"
 #include "sheet.h"
+#include "suite.h"
 
 #define TWO "TYPE bit = hi | lo IN TYPE two = (bit, bit) IN INPUT two "
 
@@ -157,10 +158,12 @@ static void left_to_the_check(void)
     }
 }
 
-void text_layouts(void)
+static void text_layouts(void)
 {
     written_out();
     t_runs();
     undefined_leaves();
     left_to_the_check();
 }
+
+TESTS(text_layouts, TRANSLATION_STACK)

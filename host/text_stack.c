@@ -1,11 +1,11 @@
 /* The stack that translations of the longest texts need. */
-#include <stdio.h>
 #include <string.h>
 
-#include "guard.h"
 #include "made_text.h"
+#include "measure.h"
 #include "sheet.h"
 #include "stack.h"
+#include "suite.h"
 
 /* More than a translation should need, so that it shows how much that is. */
 enum { MEASURED_STACK = 16 * 1024 * 1024 };
@@ -73,7 +73,7 @@ static void measure(const char *name)
     }
 }
 
-void measure_texts(void)
+static void stack_need(void)
 {
     for (size_t k = 0; k < sizeof long_texts / sizeof *long_texts; k++) {
         text_begin(long_texts[k].begun);
@@ -88,7 +88,7 @@ void measure_texts(void)
     measure("constructors");
     make_types();
     measure("pair types");
-    printf("stack: the translation used at most %zu bytes (%s); sheet.h says %d\n", most, worst, SHEET_TRANSLATE_STACK);
-    tally(most <= SHEET_TRANSLATE_STACK, "translation", "the call uses more stack than sheet.h says");
-    tally(most >= SHEET_TRANSLATE_STACK / 2, "translation", "the call never uses half of the stack that sheet.h says");
+    tell_stack("sheet_translate", most, worst, SHEET_TRANSLATE_STACK);
 }
+
+TESTS_ONCE(stack_need)

@@ -5,6 +5,7 @@
 #include "guard.h"
 #include "made_text.h"
 #include "sheet.h"
+#include "suite.h"
 
 #define T BIT "(LET INIT ?bit REC q = (DELAY (lo, (IF input MATCHES hi THEN (IF q MATCHES lo THEN hi ELSE lo) ELSE q))) IN q)"
 
@@ -226,10 +227,8 @@ static void damaged(void)
     }
 }
 
-void texts(void)
+static void texts(void)
 {
-    wrong_texts();
-    text_layouts();
     lengths();
     open_brackets();
     records();
@@ -238,3 +237,5 @@ void texts(void)
     many_constructors();
     damaged();
 }
+
+TESTS(texts, TRANSLATION_STACK)

@@ -5,8 +5,14 @@
 #include <stddef.h>
 #include <stdint.h>
 
+#include "sheet.h"
+#include "stack.h"
+
 /* No text and no slice of a test is longer. */
 enum { MOST_TEXT = 80000, MOST_SLICE = 80000 };
+
+/* A translation needs more stack than the other calls; the tests of it have some for themselves. */
+enum { TRANSLATION_STACK = SHEET_TRANSLATE_STACK + SMALL_STACK / 4 };
 
 /* What a translation is lent: a slice to read, and the length of one to fill. */
 struct translation {
@@ -38,17 +44,5 @@ void expect_translated(const char *name, const struct translation *lent, const u
 
 /* The same, but for the sheet's bytes, which are not compared. */
 void expect_length(const char *name, const struct translation *lent, size_t length);
-
-/* Texts whose answer was worked out by hand: refusals by codes 13 and 14, and such as are none. */
-void wrong_texts(void);
-
-/* Texts whose records were worked out by hand, and lengths of the slice: codes 0 and 15. */
-void text_layouts(void);
-
-/* All of it, with the longest, the deepest and the widest texts. */
-void texts(void);
-
-/* The most stack that a translation uses, against the figure in sheet.h. */
-void measure_texts(void);
 
 #endif

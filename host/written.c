@@ -5,6 +5,7 @@
 #include "cases.h"
 #include "guard.h"
 #include "sheet.h"
+#include "suite.h"
 
 enum { MOST_WRITTEN = 15 };
 
@@ -276,7 +277,7 @@ static const struct written_case cases[] = {
      3},
 };
 
-void written_cases(void)
+static void written_cases(void)
 {
     static struct draft draft;
     static uint8_t bytes[MOST_BYTES];
@@ -286,3 +287,5 @@ void written_cases(void)
         expect(cases[k].name, bytes, length, cases[k].code, cases[k].place);
     }
 }
+
+TESTS(written_cases, SMALL_STACK)

@@ -6,6 +6,7 @@
 #include "cases.h"
 #include "guard.h"
 #include "sheet.h"
+#include "suite.h"
 
 enum { MOST_WRITTEN = 20, MOST_STIM = 14, MOST_HELD = 2 };
 
@@ -162,7 +163,7 @@ static const struct written_run runs[] = {
      3, 3, 6, {1, 2, 0}, {1, 2, 2, 1, 0, 2}, 1, {{8, 0}}},
 };
 
-void written_runs(void)
+static void written_runs(void)
 {
     static struct draft draft;
     static uint8_t sheet[MOST_BYTES], next[MOST_BYTES];
@@ -180,3 +181,5 @@ void written_runs(void)
         expect_run(one->name, &none, 0, one->out, sheet);
     }
 }
+
+TESTS(written_runs, SMALL_STACK)

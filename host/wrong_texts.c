@@ -7,6 +7,7 @@
 #include "guard.h"
 #include "made_text.h"
 #include "sheet.h"
+#include "suite.h"
 
 #define TWO "TYPE bit = hi | lo IN TYPE two = (bit, bit) IN INPUT two "
 
@@ -151,7 +152,7 @@ static void refused(const char *marked, uint32_t code)
     expect_text_refused(marked, &lent, code, (uint32_t)place);
 }
 
-void wrong_texts(void)
+static void wrong_texts(void)
 {
     for (size_t k = 0; k < sizeof illegal / sizeof *illegal; k++)
         refused(illegal[k], SHEET_WRONG_TEXT);
@@ -163,3 +164,5 @@ void wrong_texts(void)
         tally(sheet_code_of(result) == SHEET_DONE, right[k], "the text is refused");
     }
 }
+
+TESTS(wrong_texts, TRANSLATION_STACK)

@@ -184,7 +184,7 @@ static inline const char *sheet_sentence(uint32_t code)
 /*
  * The check's stack need in bytes, rounded up, from the caller's frame down. It does not grow with the sheet beyond this:
  * expressions lie at most 64 deep, types of at most 64 leaves bound the depth of patterns, and chains are loops. Measured by
- * host/tests.c on the deepest sheets and on sheets of 4,096 records: the stack is filled with a pattern before the call, and after
+ * host/measure.c on the deepest sheets and on sheets of 4,096 records: the stack is filled with a pattern before the call, and after
  * it the lowest byte that changed is looked for. The tests fail where a call uses more than this figure, or never half of it.
  */
 #define SHEET_CHECK_STACK 114688

@@ -19,7 +19,7 @@ pub struct Circuit {
 impl Circuit {
     /// The circuit of an accepted sheet, or the answer to a refused one.
     pub fn read(sheet: &[u8]) -> Result<Circuit, Answer> {
-        let typed = verdict::judge(sheet, None)?;
+        let typed = verdict::judge(sheet)?;
         let records = records::read(sheet);
         let value = |record: &Record| -> Value {
             let leaves = leaf_chain(&records, record);

@@ -8,7 +8,6 @@ use crate::records::{
     Record, A, B, C, CONSTANT, D, DELAY, FEEDBACK, FIRST, IF, KIND, LET, NAME, PAIR, SECOND,
 };
 use crate::rule::Rule;
-use crate::run_mistakes::RunMistake;
 use crate::values::{all_values, undefined, value_count, Value};
 use crate::watch::Watch;
 
@@ -33,53 +32,62 @@ impl Tested {
     }
 }
 
-pub struct Evaluator<'a> {
-    circuit: &'a Circuit,
-    rule: Rule,
-    mistake: Option<RunMistake>,
-    /// In how many defining parts of feedbacks the evaluation is.
-    nesting: usize,
+/// The steps of an evaluation that a comparison can replace to make a mistake,
+/// with what such a step remembers. By default they are the right ones.
+pub trait Steps: Default {
+    /// What a chain says.
+    fn said(circuit: &Circuit, first: u16, value: &[u8]) -> Match {
+        chain(circuit, first, value)
+    }
+
+    /// The value of an IF whose pattern has said something.
+    fn choice(on: &mut Evaluator<Self>, record: &Record, said: Match) -> Value {
+        on.choice(record, said)
+    }
+
+    /// The value of an undecided IF.
+    fn undecided(on: &Evaluator<Self>, then: Value, other: Value) -> Value {
+        on.rule.undecided(&then, &other)
+    }
+
+    /// The value of a feedback.
+    fn settle(on: &mut Evaluator<Self>, feedback: usize) -> Value {
+        on.settle(feedback)
+    }
+
+    /// A cycle was taken.
+    fn taken(&mut self) {}
+}
+
+/// The right steps.
+#[derive(Default)]
+pub struct Right;
+
+impl Steps for Right {}
+
+pub struct Evaluator<'a, S: Steps = Right> {
+    pub circuit: &'a Circuit,
+    pub rule: Rule,
+    pub steps: S,
     /// The values of the names in scope, the innermost last.
     pub names: Vec<Value>,
     /// What each delay holds in this cycle, by record.
     pub held: Vec<Value>,
     /// What each delay holds next, from the last evaluation of its part.
     pub coming: Vec<Value>,
-    /// The values of the feedbacks in this cycle and the one before; only a
-    /// mistake asks for them.
-    pub settled: Vec<Value>,
-    pub settled_before: Vec<Value>,
     /// What each IF tested, by record.
     pub tested: Vec<Tested>,
     watch: &'a mut Watch,
 }
 
-impl<'a> Evaluator<'a> {
+impl<'a, S: Steps> Evaluator<'a, S> {
     /// Begins from the values that the sheet's delays hold.
-    pub fn new(
-        circuit: &'a Circuit,
-        rule: Rule,
-        mistake: Option<RunMistake>,
-        watch: &'a mut Watch,
-    ) -> Self {
+    pub fn new(circuit: &'a Circuit, rule: Rule, watch: &'a mut Watch) -> Self {
         let held = circuit.leaves.clone();
         let coming = held.clone();
-        let settled = vec![Value::new(); held.len()];
-        let settled_before = settled.clone();
         let tested = vec![Tested::default(); held.len()];
-        Evaluator {
-            circuit,
-            rule,
-            mistake,
-            nesting: 0,
-            names: Vec::new(),
-            held,
-            coming,
-            settled,
-            settled_before,
-            tested,
-            watch,
-        }
+        let (steps, names) = (S::default(), Vec::new());
+        Evaluator { circuit, rule, steps, names, held, coming, tested, watch }
     }
 
     /// The value of an expression. Every delay in it gets its next value.
@@ -108,10 +116,15 @@ impl<'a> Evaluator<'a> {
                 self.part_with(name, &record, B)
             }
             FEEDBACK => {
-                let name = self.settle(number);
+                let name = S::settle(self, number);
                 self.part_with(name, &record, C)
             }
-            IF => self.choice(number, &record),
+            IF => {
+                let tested = self.part(&record, A);
+                let said = S::said(self.circuit, record[D], &tested);
+                self.tested[number].note(tested);
+                S::choice(self, &record, said)
+            }
             DELAY => {
                 self.coming[number] = self.part(&record, C);
                 self.held[number].clone()
@@ -120,7 +133,7 @@ impl<'a> Evaluator<'a> {
         }
     }
 
-    fn part(&mut self, record: &Record, word: usize) -> Value {
+    pub fn part(&mut self, record: &Record, word: usize) -> Value {
         self.value(usize::from(record[word]))
     }
 
@@ -132,146 +145,55 @@ impl<'a> Evaluator<'a> {
         value
     }
 
-    /// An IF evaluates all three parts.
-    fn choice(&mut self, number: usize, record: &Record) -> Value {
-        let tested = self.part(record, A);
-        let said = chain(self.circuit, record[D], &tested, self.mistake);
-        self.tested[number].note(tested);
-        if self.mistake == Some(RunMistake::ChosenBranchOnly) {
-            return self.chosen_only(record, said);
-        }
+    /// An IF evaluates both branches, taken or not.
+    fn choice(&mut self, record: &Record, said: Match) -> Value {
         let then = self.part(record, B);
         let other = self.part(record, C);
         match said {
             Match::Yes => then,
             Match::No => other,
-            Match::Undecided => self.undecided(then, other),
-        }
-    }
-
-    /// An undecided IF.
-    fn undecided(&self, then: Value, other: Value) -> Value {
-        let rule = match self.mistake {
-            Some(RunMistake::ElseWhenUndecided) => return other,
-            Some(RunMistake::EarlierRule) => Rule::Earlier,
-            Some(RunMistake::EarlierRuleInFeedbacks) if self.nesting > 0 => Rule::Earlier,
-            _ => self.rule,
-        };
-        rule.undecided(&then, &other)
-    }
-
-    /// The mistake: the delays of a branch that is not taken keep their values.
-    fn chosen_only(&mut self, record: &Record, said: Match) -> Value {
-        for (word, taken) in [(B, Match::Yes), (C, Match::No)] {
-            if said != taken {
-                for delay in self.circuit.delays_in(usize::from(record[word])) {
-                    self.coming[delay] = self.held[delay].clone();
-                }
-            }
-        }
-        match said {
-            Match::Yes => self.part(record, B),
-            Match::No => self.part(record, C),
-            Match::Undecided => {
-                let coming = self.coming.clone();
-                let (then, other) = (self.part(record, B), self.part(record, C));
-                self.coming = coming;
-                self.undecided(then, other)
-            }
+            Match::Undecided => S::undecided(self, then, other),
         }
     }
 }
 
 /// Feedbacks.
-impl Evaluator<'_> {
+impl<S: Steps> Evaluator<'_, S> {
     /// One application of a feedback's defining part.
     pub fn apply(&mut self, feedback: usize, value: Value) -> Value {
         let record = self.circuit.records[feedback];
-        self.nesting += 1;
-        let given = self.part_with(value, &record, B);
-        self.nesting -= 1;
-        given
+        self.part_with(value, &record, B)
+    }
+
+    /// The value of a feedback that is undefined in every leaf.
+    pub fn undefined(&self, feedback: usize) -> Value {
+        undefined(self.circuit.width(usize::from(self.circuit.records[feedback][A])))
     }
 
     /// The value of a feedback. The next values of the delays in its defining
     /// part are those of the application that found it unchanged.
-    fn settle(&mut self, feedback: usize) -> Value {
-        let of = self.circuit.records[feedback][A];
-        let undefined = undefined(self.circuit.width(usize::from(of)));
-        if let Some(settled) = self.settle_mistaken(feedback, of) {
-            return settled;
-        }
-        let first = self.first_round(feedback, &undefined);
-        let value = match self.settle_from(feedback, undefined) {
-            Ok(settled) => settled,
-            Err(last) => {
-                assert!(self.mistake.is_some(), "feedback {feedback} does not settle");
-                last
-            }
-        };
-        if self.mistake == Some(RunMistake::StartedFromLastCycle) {
-            self.settled[feedback] = value.clone();
-        }
+    pub fn settle(&mut self, feedback: usize) -> Value {
+        let undefined = self.undefined(feedback);
+        let settled = self.settle_from(feedback, undefined);
+        let value = settled.unwrap_or_else(|| panic!("feedback {feedback} does not settle"));
         self.try_all(feedback, &value);
-        first.into_iter().for_each(|(delay, next)| self.coming[delay] = next);
         value
     }
 
-    /// The mistake of next values from the first application: those of the
-    /// delays in the defining part.
-    fn first_round(&mut self, feedback: usize, undefined: &Value) -> Vec<(usize, Value)> {
-        if self.mistake != Some(RunMistake::DelaysOfFirstRound) {
-            return Vec::new();
-        }
-        self.apply(feedback, undefined.clone());
-        let defining = usize::from(self.circuit.records[feedback][B]);
-        let delays = self.circuit.delays_in(defining);
-        delays.into_iter().map(|delay| (delay, self.coming[delay].clone())).collect()
-    }
-
     /// Applies until unchanged. From undefined it takes one application for
-    /// each leaf at most, and one that finds the value unchanged; then it is
-    /// ended with the last value.
-    fn settle_from(&mut self, feedback: usize, start: Value) -> Result<Value, Value> {
+    /// each leaf at most, and one that finds the value unchanged; from another
+    /// value that need not do.
+    pub fn settle_from(&mut self, feedback: usize, start: Value) -> Option<Value> {
         let mut value = start;
         for round in 0..=value.len() {
             let given = self.apply(feedback, value.clone());
-            if self.mistake == Some(RunMistake::DelayEveryRound) {
-                self.advance(feedback);
-            }
             if given == value {
                 self.watch.most = self.watch.most.max(round);
-                return Ok(value);
-            }
-            if self.mistake == Some(RunMistake::EndsAfterTwo) && round == 1 {
-                return Ok(given);
+                return Some(value);
             }
             value = given;
         }
-        Err(value)
-    }
-
-    /// The mistakes that start a feedback elsewhere, where that settles.
-    fn settle_mistaken(&mut self, feedback: usize, of: u16) -> Option<Value> {
-        let start = match self.mistake? {
-            RunMistake::StopsAtSomeFixedPoint => vec![1; self.circuit.width(usize::from(of))],
-            RunMistake::StartedFromLastCycle => self.settled_before[feedback].clone(),
-            _ => return None,
-        };
-        if start.is_empty() {
-            return None;
-        }
-        let settled = self.settle_from(feedback, start).ok()?;
-        self.settled[feedback] = settled.clone();
-        Some(settled)
-    }
-
-    /// The mistake of delays that advance after each application.
-    fn advance(&mut self, feedback: usize) {
-        let defining = usize::from(self.circuit.records[feedback][B]);
-        for delay in self.circuit.delays_in(defining) {
-            self.held[delay] = self.coming[delay].clone();
-        }
+        None
     }
 
     /// All values of the feedback's type that an application gives back

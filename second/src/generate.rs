@@ -5,6 +5,7 @@ pub mod circuits;
 pub mod delays;
 pub mod expressions;
 pub mod labels;
+pub mod mixed;
 pub mod network;
 pub mod patterns;
 pub mod small;

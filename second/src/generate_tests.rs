@@ -1,6 +1,6 @@
 //! The generators keep the rules, or break the one they aim at.
 
-use crate::check_mistakes::{self, MISTAKES};
+use crate::calls::checks::mistakes::{self, MISTAKES};
 use crate::faults::categories;
 use crate::faults::category::faulty;
 use crate::fuzz;
@@ -17,7 +17,7 @@ fn circuits_are_accepted() {
     let mut random = Random::new(11);
     for _ in 0..3000 {
         let sheet = sheet(&circuit(&mut random), &mut random);
-        assert_eq!(check(&sheet, None).code, 0, "{:?}", read(&sheet));
+        assert_eq!(check(&sheet).code, 0, "{:?}", read(&sheet));
     }
 }
 
@@ -35,7 +35,7 @@ fn limits_are_reached() {
     for (records, code) in [(4095, 0), (4096, 0), (4097, 1)] {
         let draft = circuit_of_records(records, &mut random);
         let sheet = sheet(&draft, &mut random);
-        assert_eq!((sheet.len(), check(&sheet, None).code), (records * 12, code));
+        assert_eq!((sheet.len(), check(&sheet).code), (records * 12, code));
     }
     for over in [false, true] {
         let extra = usize::from(over);
@@ -43,13 +43,13 @@ fn limits_are_reached() {
             let draft = circuit_of_records(100, &mut random);
             let (mut deep, mut nested, mut wide) = (draft.clone(), draft.clone(), draft);
             if deepen(&mut deep, 64 + extra, &mut random) {
-                assert_eq!(check(&sheet(&deep, &mut random), None).code, 6 * u8::from(over));
+                assert_eq!(check(&sheet(&deep, &mut random)).code, 6 * u8::from(over));
             }
             if nest(&mut nested, 3 + extra, &mut random) {
-                assert_eq!(check(&sheet(&nested, &mut random), None).code, 6 * u8::from(over));
+                assert_eq!(check(&sheet(&nested, &mut random)).code, 6 * u8::from(over));
             }
             widen(&mut wide, 64 + extra, &mut random);
-            assert_eq!(check(&sheet(&wide, &mut random), None).code, 5 * u8::from(over));
+            assert_eq!(check(&sheet(&wide, &mut random)).code, 5 * u8::from(over));
         }
     }
 }
@@ -64,7 +64,7 @@ fn faults_hit_their_code() {
         for (category, hits) in categories.iter().zip(&mut hits) {
             if let Some(sheet) = faulty(&draft, &[category], &mut random) {
                 hits.0 += 1;
-                hits.1 += usize::from(check(&sheet, None).code == category.code);
+                hits.1 += usize::from(check(&sheet).code == category.code);
             }
         }
     }
@@ -84,7 +84,7 @@ fn any_bytes_have_a_verdict() {
         let strewn = bytes(&fuzz::random_records(&mut random));
         for sheet in [any, bytes(&records), strewn] {
             for (_, mistake) in MISTAKES {
-                assert!(check(&sheet, Some(mistake)).code <= 7);
+                assert!(mistakes::check(&sheet, Some(mistake)).code <= 7);
             }
         }
     }
@@ -99,8 +99,8 @@ fn named_sheets_have_their_verdicts() {
             "one-leaf-chain" | "deep-pattern" => 7,
             _ => 0,
         };
-        assert_eq!((sheet.len(), check(&sheet, None).code), (49_152, code), "{name}");
+        assert_eq!((sheet.len(), check(&sheet).code), (49_152, code), "{name}");
     }
     assert!(shapes::named("none").is_none());
-    assert!(check_mistakes::named("none").is_none());
+    assert!(mistakes::named("none").is_none());
 }

@@ -43,7 +43,7 @@ fn a_run_keeps_labels() {
     records[3][D] = 513;
     let sheet = bytes(&records);
     let call = Call { sheet: &sheet, stimulus: &[1], output_length: 1, next_length: sheet.len() };
-    let next = run(&call, None).next.unwrap_or_default();
+    let next = run(&call).next.unwrap_or_default();
     assert_eq!(labels(&next), [513]);
     assert_ne!(next, sheet);
     assert_eq!(labels(&without_labels(&next)), [0]);
@@ -58,7 +58,7 @@ fn labels_change_nothing_else() {
         let mut other = records.clone();
         relabel(&mut other, &mut random);
         let [one, other] = [bytes(&records), bytes(&other)];
-        assert_eq!(check(&one, None), check(&other, None));
+        assert_eq!(check(&one), check(&other));
         let counts = match ready(&one, &[]) {
             Ok(ready) => ready.circuit.counts(ready.circuit.input()),
             Err(answer) => panic!("{answer:?}"),
@@ -67,7 +67,7 @@ fn labels_change_nothing_else() {
         let ran = |sheet: &[u8]| {
             let Ok(ready) = ready(sheet, &stimulus) else { panic!("refused") };
             let output_length = ready.output_length;
-            run(&Call { sheet, stimulus: &stimulus, output_length, next_length: sheet.len() }, None)
+            run(&Call { sheet, stimulus: &stimulus, output_length, next_length: sheet.len() })
         };
         let (first, second) = (ran(&one), ran(&other));
         assert_eq!(first.outputs, second.outputs);

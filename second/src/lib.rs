@@ -1,9 +1,10 @@
 //! A second implementation of the type check, of the run and of the other calls,
-//! and generators of sheets to compare them with another one.
+//! generators of sheets and texts, and the comparison of the calls with those
+//! of an archive. The unit tests need no archive: what calls it is not part of
+//! them.
 
 // The check.
 pub mod answers;
-pub mod check_mistakes;
 pub mod records;
 pub mod structure;
 pub mod typing;
@@ -12,26 +13,17 @@ pub mod verdict;
 // The run.
 pub mod accepted;
 pub mod evaluator;
-pub mod firing;
-pub mod firing_mistakes;
 pub mod labels;
 pub mod listing;
 pub mod matching;
 pub mod order;
-pub mod preview;
-pub mod preview_mistakes;
 pub mod printout;
 pub mod rule;
-pub mod run_mistakes;
 pub mod simulator;
 pub mod stepper;
 pub mod stimulus;
 pub mod values;
 pub mod watch;
-
-// Carrying into a new sheet.
-pub mod carry;
-pub mod carry_mistakes;
 
 // Texts.
 pub mod text;
@@ -47,18 +39,17 @@ pub mod samples;
 pub mod shapes;
 pub mod survey;
 
-#[cfg(test)]
-mod carry_tests;
-#[cfg(test)]
-mod firing_tests;
+// The calls, and what their comparisons have in common.
+pub mod calls;
+pub mod frame;
+pub mod one_cycle;
+
 #[cfg(test)]
 mod generate_tests;
 #[cfg(test)]
 mod labels_tests;
 #[cfg(test)]
 mod order_tests;
-#[cfg(test)]
-mod preview_tests;
 #[cfg(test)]
 mod printout_tests;
 #[cfg(test)]

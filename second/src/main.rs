@@ -1,48 +1,57 @@
-//! Compares the second implementations of the type check, of the run and of the
-//! other calls with those in the archive, on generated sheets and texts; times
-//! them; writes named sheets.
+//! Compares the second implementations of the calls with those in the archive,
+//! on generated sheets and texts; times them; writes named sheets.
 
-mod carries;
-mod checks;
-mod commands;
-mod external;
+mod file_commands;
 mod files;
-mod firings;
-mod memory;
-mod one_cycle;
-mod previews;
-mod report;
-mod runs;
-#[cfg(feature = "translate")]
-mod texts;
-mod workers;
 
 use std::process::ExitCode;
 
-/// Does what some words ask for, if they are a command of its kind.
-type Command = fn(&[&str]) -> Option<ExitCode>;
+use second::calls::CALLS;
+use second::frame::command::Command;
+use second::frame::entry::Entry;
 
-/// The commands, and the lines that tell their use.
-const COMMANDS: &[(Command, &str)] = &[
-    (checks::command, checks::USAGE),
-    (previews::command, previews::USAGE),
-    (runs::command, runs::USAGE),
-    (carries::command, carries::USAGE),
-    #[cfg(feature = "translate")]
-    (texts::command, texts::USAGE),
-    (commands::command, commands::USAGE),
-    (firings::command, firings::USAGE),
-];
+/// Every comparison.
+fn comparisons() -> impl Iterator<Item = &'static Entry> {
+    CALLS.iter().flat_map(|call| call.comparisons)
+}
+
+/// Every command that is no comparison.
+fn commands() -> impl Iterator<Item = &'static Command> {
+    CALLS.iter().flat_map(|call| call.commands).chain(file_commands::COMMANDS)
+}
 
 fn main() -> ExitCode {
     let arguments: Vec<String> = std::env::args().skip(1).collect();
     let words: Vec<&str> = arguments.iter().map(String::as_str).collect();
-    COMMANDS.iter().find_map(|(command, _)| command(&words)).unwrap_or_else(usage)
+    run(&words).unwrap_or_else(usage)
+}
+
+/// Does what some words ask for, if they are a command.
+fn run(words: &[&str]) -> Option<ExitCode> {
+    let named = |name: &str| comparisons().find(|comparison| comparison.command == name);
+    match words {
+        ["comparisons"] => {
+            comparisons().for_each(|comparison| println!("{}", comparison.line()));
+            Some(ExitCode::SUCCESS)
+        }
+        ["mistakes", name, rest @ ..] => (named(name)?.mistakes)(rest).map(ExitCode::from),
+        [name, rest @ ..] => match named(name) {
+            Some(comparison) => (comparison.run)(rest).map(ExitCode::from),
+            None => (commands().find(|command| command.name == *name)?.run)(rest),
+        },
+        [] => None,
+    }
 }
 
 fn usage() -> ExitCode {
-    for (_, lines) in COMMANDS {
-        eprintln!("{lines}");
+    eprintln!("usage:");
+    for comparison in comparisons() {
+        eprintln!("second {}", comparison.usage());
+    }
+    eprintln!("second mistakes COMPARISON [ITS WORDS..]");
+    eprintln!("second comparisons");
+    for Command { name, parameters, .. } in commands() {
+        eprintln!("second {}", format!("{name} {parameters}").trim_end());
     }
     ExitCode::from(2)
 }

@@ -3,7 +3,8 @@
 
 pub mod cases;
 pub mod compare;
+mod comparison;
 mod faults;
 mod jobs;
-pub mod plan;
-pub mod tally;
+pub mod kind;
+mod tally;

@@ -1,13 +1,13 @@
 //! The order of sheets and runs, on sheets written out by hand.
 
+use crate::calls::runs::mistakes::{run, RunMistake};
 use crate::order::{
     delay_values, lower_sheet, lower_stimulus, only_delays_differ, sheet_at_or_below,
 };
 use crate::random::Random;
 use crate::records::{bytes, read, A};
-use crate::run_mistakes::RunMistake;
 use crate::samples::{self, from_words};
-use crate::simulator::{run, Call};
+use crate::simulator::Call;
 use crate::values::at_or_below;
 
 /// A sheet with another word a in one record.

@@ -1,18 +1,19 @@
 //! Both rules for undecided IFs, on sheets written out by hand.
 
+use crate::calls::runs::mistakes::{run, RunMistake};
+use crate::evaluator::Right;
 use crate::order::sheet_at_or_below;
 use crate::records::{bytes, read, A};
 use crate::rule::{Rule, IN_FORCE};
-use crate::run_mistakes::RunMistake;
 use crate::samples::from_words;
-use crate::simulator::{run, run_by, Call, Outcome};
+use crate::simulator::{run_by, Call, Outcome};
 use crate::watch::Watch;
 
 /// The run of a sheet whose input is flat, with an output of so many leaves.
 fn ran(rule: Rule, sheet: &[u8], stimulus: &[u8], leaves: usize) -> Outcome {
     let output_length = stimulus.len() * leaves;
     let call = Call { sheet, stimulus, output_length, next_length: sheet.len() };
-    run_by(rule, &call, None, &mut Watch::nothing())
+    run_by::<Right>(rule, &call, &mut Watch::nothing())
 }
 
 fn outputs(rule: Rule, sheet: &[u8], stimulus: &[u8], leaves: usize) -> Vec<u8> {

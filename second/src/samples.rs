@@ -35,6 +35,11 @@ pub fn t() -> Vec<u8> {
     ]))
 }
 
+/// T and the circuits of the bench cases.
+pub fn bench_cases() -> [Vec<u8>; 6] {
+    [t(), and(), not_feedback(), pair_feedback(), self_feedback(), two_pairs()]
+}
+
 /// The stimulus on which docs/SHEETS.md, "Sheet T", runs T.
 pub fn stimulus() -> Vec<u8> {
     vec![1, 2, 1]

@@ -1,6 +1,6 @@
 //! Patterns that several IFs share: verdicts and runs worked out by hand.
 
-use crate::check_mistakes::{self, CheckMistake};
+use crate::calls::checks::mistakes::{self, CheckMistake};
 use crate::generate::circuits::circuit;
 use crate::generate::network::network;
 use crate::generate::small::small;
@@ -127,7 +127,7 @@ fn each_choice_judges_by_its_own_type() {
 fn runs_share_a_pattern() {
     let sheet = bytes(&from_words(&SHARED));
     let call = Call { sheet: &sheet, stimulus: &[0, 1, 2, 3], output_length: 4, next_length: 144 };
-    let outcome = run(&call, None);
+    let outcome = run(&call);
     // On 0 the inner IF is undecided between 2 and 0, and so 0.
     assert_eq!(outcome.outputs, Some(vec![0, 2, 2, 2]));
 }
@@ -142,8 +142,9 @@ fn generators_share_patterns() {
             let several = choices_on(&records).into_iter().any(|count| count > 1);
             shared += usize::from(several);
             let sheet = bytes(&records);
-            assert_eq!(check(&sheet, None).code, 0);
-            refused += usize::from(check(&sheet, Some(CheckMistake::NoSharing)).code == 4);
+            assert_eq!(check(&sheet).code, 0);
+            refused +=
+                usize::from(mistakes::check(&sheet, Some(CheckMistake::NoSharing)).code == 4);
         }
         assert!(shared >= 60, "{shared} of 600");
         assert_eq!(shared, refused);
@@ -158,7 +159,7 @@ fn mistakes_of_sharing() {
         bytes(&records)
     };
     let given = |name: &str, changes: &[(usize, usize, u16)]| {
-        let answer = check(&sheet(changes), check_mistakes::named(name));
+        let answer = mistakes::check(&sheet(changes), mistakes::named(name));
         (answer.code, answer.place)
     };
     assert_eq!(given("no-sharing", &[]), (4, 9));

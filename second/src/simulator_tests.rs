@@ -1,11 +1,11 @@
 //! Runs worked out by hand from docs/SHEETS.md.
 
 use crate::accepted::Circuit;
-use crate::evaluator::Evaluator;
+use crate::calls::runs::mistakes::{self, MISTAKES};
+use crate::evaluator::{Evaluator, Right};
 use crate::matching::{chain, Match};
 use crate::records::{bytes, read, A, D, FEEDBACK, IF, KIND};
 use crate::rule::IN_FORCE;
-use crate::run_mistakes::MISTAKES;
 use crate::samples::{self, from_words};
 use crate::simulator::{ready, run, run_watched, Call};
 use crate::values::all_values;
@@ -17,7 +17,7 @@ fn ran(sheet: &[u8], stimulus: &[u8]) -> (u8, u32, Vec<u8>, Vec<u8>) {
         Ok(ready) => ready.output_length,
         Err(_) => 0,
     };
-    let outcome = run(&Call { sheet, stimulus, output_length, next_length: sheet.len() }, None);
+    let outcome = run(&Call { sheet, stimulus, output_length, next_length: sheet.len() });
     let (outputs, next) = (outcome.outputs.unwrap_or_default(), outcome.next.unwrap_or_default());
     (outcome.answer.code, outcome.answer.place, outputs, next)
 }
@@ -28,7 +28,7 @@ fn outputs(sheet: &[u8], stimulus: &[u8]) -> Vec<u8> {
 
 /// The code and place of a call.
 fn refused(sheet: &[u8], stimulus: &[u8], output_length: usize, next_length: usize) -> (u8, u32) {
-    let outcome = run(&Call { sheet, stimulus, output_length, next_length }, None);
+    let outcome = run(&Call { sheet, stimulus, output_length, next_length });
     assert!(outcome.outputs.is_none() && outcome.next.is_none());
     (outcome.answer.code, outcome.answer.place)
 }
@@ -57,7 +57,7 @@ fn applications(sheet: &[u8], start: &[u8], count: usize) -> Vec<Vec<u8>> {
     let Ok(circuit) = Circuit::read(sheet) else { return Vec::new() };
     let feedback = circuit.records.iter().position(|r| r[KIND] == FEEDBACK).unwrap_or(0);
     let mut watch = Watch::nothing();
-    let mut evaluator = Evaluator::new(&circuit, IN_FORCE, None, &mut watch);
+    let mut evaluator = Evaluator::<Right>::new(&circuit, IN_FORCE, &mut watch);
     evaluator.names = vec![vec![1]];
     let mut values = vec![start.to_vec()];
     for k in 0..count {
@@ -77,7 +77,7 @@ fn fixed_points(sheet: &[u8]) -> Vec<Vec<u8>> {
     let Ok(circuit) = Circuit::read(sheet) else { return Vec::new() };
     let feedback = circuit.records.iter().position(|r| r[KIND] == FEEDBACK).unwrap_or(0);
     let mut watch = Watch::nothing();
-    let mut evaluator = Evaluator::new(&circuit, IN_FORCE, None, &mut watch);
+    let mut evaluator = Evaluator::<Right>::new(&circuit, IN_FORCE, &mut watch);
     evaluator.names = vec![vec![1]];
     evaluator.fixed_points(feedback)
 }
@@ -93,7 +93,7 @@ fn other_fixed_points() {
         let mut watch = Watch::of_types_up_to(3);
         let call =
             Call { sheet: &sheet, stimulus: &[1, 2], output_length: 2, next_length: sheet.len() };
-        run_watched(&call, None, &mut watch);
+        run_watched(&call, &mut watch);
         assert_eq!((watch.tried, watch.others, watch.not_least), (2, others, false));
     }
 }
@@ -117,7 +117,7 @@ fn said(sheet: &[u8], values: &[&[u8]]) -> Vec<Match> {
     let Ok(circuit) = Circuit::read(sheet) else { return Vec::new() };
     let choice = circuit.records.iter().find(|r| r[KIND] == IF);
     let pattern = choice.map_or(0, |record| record[D]);
-    values.iter().map(|value| chain(&circuit, pattern, value, None)).collect()
+    values.iter().map(|value| chain(&circuit, pattern, value)).collect()
 }
 
 #[test]
@@ -222,7 +222,7 @@ fn no_cycles() {
     let call = Call { sheet: &t, stimulus: &[], output_length: 0, next_length: t.len() };
     for (name, mistake) in MISTAKES {
         let code = if name == "empty-refused" { 8 } else { 0 };
-        assert_eq!(run(&call, Some(mistake)).answer.code, code, "{name}");
+        assert_eq!(mistakes::run(&call, Some(mistake)).answer.code, code, "{name}");
     }
 }
 

@@ -1,27 +1,20 @@
 //! One cycle: the root's value, and what each delay holds after it.
 
 use crate::accepted::Circuit;
-use crate::evaluator::{Evaluator, Tested};
+use crate::evaluator::{Evaluator, Right, Steps, Tested};
 use crate::rule::Rule;
-use crate::run_mistakes::RunMistake;
 use crate::values::Value;
 use crate::watch::Watch;
 
-pub struct Stepper<'a> {
+pub struct Stepper<'a, S: Steps = Right> {
     circuit: &'a Circuit,
-    mistake: Option<RunMistake>,
-    evaluator: Evaluator<'a>,
+    evaluator: Evaluator<'a, S>,
 }
 
-impl<'a> Stepper<'a> {
+impl<'a, S: Steps> Stepper<'a, S> {
     /// Begins from the values that the sheet's delays hold.
-    pub fn new(
-        circuit: &'a Circuit,
-        rule: Rule,
-        mistake: Option<RunMistake>,
-        watch: &'a mut Watch,
-    ) -> Self {
-        Stepper { circuit, mistake, evaluator: Evaluator::new(circuit, rule, mistake, watch) }
+    pub fn new(circuit: &'a Circuit, rule: Rule, watch: &'a mut Watch) -> Self {
+        Stepper { circuit, evaluator: Evaluator::new(circuit, rule, watch) }
     }
 
     /// The root's value for one input, while each delay goes on holding what it
@@ -36,9 +29,7 @@ impl<'a> Stepper<'a> {
         let output = self.look(input);
         let evaluator = &mut self.evaluator;
         std::mem::swap(&mut evaluator.held, &mut evaluator.coming);
-        if self.mistake == Some(RunMistake::StartedFromLastCycle) {
-            evaluator.settled_before.clone_from(&evaluator.settled);
-        }
+        evaluator.steps.taken();
         output
     }
 

@@ -1,6 +1,7 @@
 //! Looks and cycles worked out by hand from docs/SHEETS.md, "Sheet T".
 
 use crate::accepted::Circuit;
+use crate::evaluator::Right;
 use crate::rule::IN_FORCE;
 use crate::samples;
 use crate::stepper::Stepper;
@@ -13,7 +14,7 @@ fn only_cycles_move_delays() {
     let t = samples::t();
     let Ok(circuit) = Circuit::read(&t) else { panic!("T is refused") };
     let mut watch = Watch::nothing();
-    let mut stepper = Stepper::new(&circuit, IN_FORCE, None, &mut watch);
+    let mut stepper = Stepper::<Right>::new(&circuit, IN_FORCE, &mut watch);
     for _ in 0..3 {
         assert_eq!(stepper.look(&[1]), [2]);
         assert_eq!(stepper.next_sheet(&t), t);

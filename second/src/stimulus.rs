@@ -2,20 +2,14 @@
 
 use crate::accepted::Circuit;
 use crate::answers::{Answer, WRONG_INPUT, WRONG_STIMULUS};
-use crate::run_mistakes::RunMistake;
 
 /// The greatest length of a stimulus.
 pub const LONGEST_STIMULUS: usize = 65_535;
 
 /// Code 8: too long or not whole cycles. An empty one is of no cycles.
-pub fn wrong_stimulus(
-    circuit: &Circuit,
-    stimulus: &[u8],
-    mistake: Option<RunMistake>,
-) -> Option<Answer> {
-    let refused = mistake == Some(RunMistake::EmptyRefused) && stimulus.is_empty();
+pub fn wrong_stimulus(circuit: &Circuit, stimulus: &[u8]) -> Option<Answer> {
     let whole = stimulus.len().is_multiple_of(leaves(circuit));
-    let holds = stimulus.len() <= LONGEST_STIMULUS && whole && !refused;
+    let holds = stimulus.len() <= LONGEST_STIMULUS && whole;
     (!holds).then_some(Answer { code: WRONG_STIMULUS, place: 0 })
 }
 
@@ -25,18 +19,10 @@ pub fn not_one_cycle(circuit: &Circuit, stimulus: &[u8]) -> Option<Answer> {
 }
 
 /// Code 9: the first byte above its leaf's constructor count.
-pub fn wrong_input(
-    circuit: &Circuit,
-    stimulus: &[u8],
-    mistake: Option<RunMistake>,
-) -> Option<Answer> {
+pub fn wrong_input(circuit: &Circuit, stimulus: &[u8]) -> Option<Answer> {
     let counts = circuit.counts(circuit.input());
     let place =
         stimulus.iter().zip(counts.iter().cycle()).position(|(byte, count)| byte > count)?;
-    let place = match mistake {
-        Some(RunMistake::PlaceOfNineInCycle) => place % counts.len(),
-        _ => place,
-    };
     Some(Answer { code: WRONG_INPUT, place: place as u32 })
 }
 

@@ -5,10 +5,9 @@ use std::collections::HashSet;
 use crate::answers::{
     Answer, TOO_DEEP, WRONG_HEADER, WRONG_LENGTH, WRONG_NAMING, WRONG_RECORD, WRONG_TYPE,
 };
-use crate::check_mistakes::{CheckMistake, Limits};
 use crate::records::{
     expression_parts, read, root, sort, words, Record, Sort, Word, A, B, C, D, FEEDBACK, FLAT,
-    HEADER, IF, KIND, NEXT, PAIR_PATTERN, PAIR_TYPE, RECORD_BYTES,
+    HEADER, IF, KIND, NEXT, PAIR_TYPE, RECORD_BYTES,
 };
 
 /// A sheet that keeps the rules of codes 1 to 6.
@@ -18,11 +17,39 @@ pub struct Structure {
     pub leaves: Vec<u64>,
 }
 
+/// The rules that a comparison can replace to make a mistake.
+#[derive(Clone, Copy)]
+pub struct Rules {
+    /// The limits of docs/SHEETS.md, "Limits".
+    pub leaves: u64,
+    pub depth: usize,
+    pub length: usize,
+    pub nesting: usize,
+    /// The record that is told of those that break a rule.
+    pub told: fn(&mut dyn DoubleEndedIterator<Item = usize>) -> Option<usize>,
+    /// Whether several words like this one, of a kind of record, may name the
+    /// same record.
+    pub shares: fn(u16, usize, Word) -> bool,
+}
+
+pub const RULES: Rules = Rules {
+    leaves: 64,
+    depth: 64,
+    length: 49_152,
+    nesting: 3,
+    told: |breaking| breaking.next(),
+    shares: pattern_of_choice,
+};
+
+/// Of words that count as naming, only the d of IFs share what they name.
+pub fn pattern_of_choice(kind: u16, index: usize, _: Word) -> bool {
+    kind == IF && index == D
+}
+
 /// The records of a sheet, or the first code of 1 to 6 that applies. Each step
 /// relies on the steps before it.
-pub fn judge(sheet: &[u8], mistake: Option<CheckMistake>) -> Result<Structure, Answer> {
-    let limits = Limits::of(mistake);
-    let length_holds = (RECORD_BYTES..=limits.length).contains(&sheet.len())
+pub fn judge(sheet: &[u8], rules: &Rules) -> Result<Structure, Answer> {
+    let length_holds = (RECORD_BYTES..=rules.length).contains(&sheet.len())
         && sheet.len().is_multiple_of(RECORD_BYTES);
     if !length_holds {
         return Err(Answer { code: WRONG_LENGTH, place: 0 });
@@ -32,23 +59,18 @@ pub fn judge(sheet: &[u8], mistake: Option<CheckMistake>) -> Result<Structure, A
         return Err(Answer { code: WRONG_HEADER, place: 0 });
     }
     let lowest = |code: u8, breaks: &dyn Fn(usize) -> bool| {
-        let mut numbers = 1..records.len();
-        let found = if mistake == Some(CheckMistake::HighestRecord) {
-            numbers.rfind(|&i| breaks(i))
-        } else {
-            numbers.find(|&i| breaks(i))
-        };
+        let found = (rules.told)(&mut (1..records.len()).filter(|&i| breaks(i)));
         found.map_or(Ok(()), |i| Err(Answer { code, place: i as u32 }))
     };
-    lowest(WRONG_RECORD, &|i| !record_holds(&records, i, mistake))?;
-    let namings = namings(&records, mistake);
+    lowest(WRONG_RECORD, &|i| !record_holds(&records, i))?;
+    let namings = namings(&records, rules);
     lowest(WRONG_NAMING, &|i| !namings[i].hold())?;
     let leaves = type_leaves(&records);
     let repeated = repeated_pairs(&records);
-    lowest(WRONG_TYPE, &|i| repeated[i] || leaves[i] > limits.leaves)?;
+    lowest(WRONG_TYPE, &|i| repeated[i] || leaves[i] > rules.leaves)?;
     let depths = depths(&records);
     let nestings = nestings(&records);
-    lowest(TOO_DEEP, &|i| depths[i] > limits.depth || nestings[i] > limits.nesting)?;
+    lowest(TOO_DEEP, &|i| depths[i] > rules.depth || nestings[i] > rules.nesting)?;
     Ok(Structure { records, leaves })
 }
 
@@ -69,14 +91,10 @@ fn header_holds(records: &[Record]) -> bool {
 }
 
 /// Code 3: a known kind outside the header, and every word as its kind asks.
-fn record_holds(records: &[Record], number: usize, mistake: Option<CheckMistake>) -> bool {
-    let asked = |word: Word| match word {
-        Word::Label if mistake == Some(CheckMistake::LabelsRefused) => Word::Zero,
-        word => word,
-    };
+fn record_holds(records: &[Record], number: usize) -> bool {
     match words(records[number][KIND]) {
         None => false,
-        Some(words) => (0..5).all(|k| word_holds(records, number, NEXT + k, asked(words[k]))),
+        Some(words) => (0..5).all(|k| word_holds(records, number, NEXT + k, words[k])),
     }
 }
 
@@ -123,20 +141,8 @@ impl Namings {
     }
 }
 
-/// Whether several words like this one may name the same record.
-fn shares(kind: u16, index: usize, asked: Word, mistake: Option<CheckMistake>) -> bool {
-    let of_mistake = match mistake {
-        Some(CheckMistake::SharingByNext) => asked == Word::Next(Sort::Pattern),
-        Some(CheckMistake::SharingByPairPattern) => kind == PAIR_PATTERN && index != NEXT,
-        Some(CheckMistake::SharingOfExpressions) => asked == Word::Part(Sort::Expression),
-        Some(CheckMistake::NoSharing) => return false,
-        _ => false,
-    };
-    of_mistake || (kind == IF && index == D)
-}
-
 /// Code 4: the namings of each record outside the header.
-fn namings(records: &[Record], mistake: Option<CheckMistake>) -> Vec<Namings> {
+fn namings(records: &[Record], rules: &Rules) -> Vec<Namings> {
     let mut namings = vec![Namings::default(); records.len()];
     namings[usize::from(records[0][NEXT])].single += 1;
     namings[usize::from(records[0][B])].single += 1;
@@ -147,7 +153,7 @@ fn namings(records: &[Record], mistake: Option<CheckMistake>) -> Vec<Namings> {
                 Word::Part(_) | Word::Next(_) => &mut namings[usize::from(record[NEXT + k])],
                 _ => continue,
             };
-            if shares(record[KIND], NEXT + k, word, mistake) {
+            if (rules.shares)(record[KIND], NEXT + k, word) {
                 named.sharing += 1;
             } else {
                 named.single += 1;

@@ -5,7 +5,6 @@ pub mod constants;
 pub mod generate;
 pub mod grammar;
 pub mod long;
-pub mod mistakes;
 pub mod naming;
 pub mod parser;
 pub mod positions;

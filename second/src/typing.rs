@@ -4,7 +4,6 @@
 use std::collections::HashMap;
 
 use crate::answers::{Answer, ILL_TYPED};
-use crate::check_mistakes::CheckMistake;
 use crate::records::{
     root, Record, A, B, C, CONSTANT, D, DELAY, FEEDBACK, FIRST, FLAT, IF, KIND, LET, NAME, NEXT,
     PAIR, PAIR_PATTERN, PAIR_TYPE, SECOND,
@@ -24,31 +23,39 @@ pub struct Typed {
 /// A type's record, or the record where a type rule is broken.
 type Derived = Result<u16, usize>;
 
-struct Typing<'a> {
+/// The rules that a comparison can replace to make a mistake.
+#[derive(Clone, Copy)]
+pub struct Rules {
+    /// What stands for each type when two are compared.
+    pub standing: fn(&[Record]) -> Vec<u16>,
+    /// The type of an IF.
+    pub choice: fn(&mut Typing, &Record, usize) -> Result<Option<u16>, usize>,
+}
+
+pub const RULES: Rules =
+    Rules { standing, choice: |typing, record, number| typing.choice(record, number) };
+
+pub struct Typing<'a> {
     records: &'a [Record],
     leaves: &'a [u64],
-    mistake: Option<CheckMistake>,
+    rules: &'a Rules,
     /// What stands for a type when two are compared: the record itself.
     standing: Vec<u16>,
     /// The pair type of two parts.
     pairs: HashMap<(u16, u16), u16>,
     /// The types of the names in scope, the innermost last.
     scope: Vec<u16>,
-    types: Vec<u16>,
+    pub types: Vec<u16>,
 }
 
 /// Derives the type of every expression, or finds the first fault.
-pub fn judge(structure: &Structure, mistake: Option<CheckMistake>) -> Result<Typed, Answer> {
-    derive(&structure.records, &structure.leaves, mistake)
+pub fn judge(structure: &Structure, rules: &Rules) -> Result<Typed, Answer> {
+    derive(&structure.records, &structure.leaves, rules)
         .map_err(|place| Answer { code: ILL_TYPED, place: place as u32 })
 }
 
-fn derive(
-    records: &[Record],
-    leaves: &[u64],
-    mistake: Option<CheckMistake>,
-) -> Result<Typed, usize> {
-    let standing = standing(records, mistake);
+fn derive(records: &[Record], leaves: &[u64], rules: &Rules) -> Result<Typed, usize> {
+    let standing = (rules.standing)(records);
     let mut pairs = HashMap::new();
     let mut types = vec![0; records.len()];
     for (number, record) in records.iter().enumerate() {
@@ -61,44 +68,24 @@ fn derive(
         }
     }
     let scope = vec![records[0][A]];
-    let mut typing = Typing { records, leaves, mistake, standing, pairs, scope, types };
+    let mut typing = Typing { records, leaves, rules, standing, pairs, scope, types };
     let output = typing.expression(root(records))?;
-    if mistake == Some(CheckMistake::RefuseAll) {
-        return Err(root(records));
-    }
     let types = typing.types;
     let widths = types.iter().map(|&t| leaves[usize::from(t)]).collect();
     Ok(Typed { output, types, widths })
 }
 
-/// The record itself for each type; with the mistake of comparing shapes, the
-/// lowest record of the same shape.
-fn standing(records: &[Record], mistake: Option<CheckMistake>) -> Vec<u16> {
-    let mut standing: Vec<u16> = (0..records.len() as u16).collect();
-    if mistake != Some(CheckMistake::ShapeEquality) {
-        return standing;
-    }
-    let mut shapes = HashMap::new();
-    for (number, record) in records.iter().enumerate() {
-        let shape = match record[KIND] {
-            FLAT => (FLAT, record[A], 0),
-            PAIR_TYPE => {
-                let part = |word: usize| standing[usize::from(record[word])];
-                (PAIR_TYPE, part(A), part(B))
-            }
-            _ => continue,
-        };
-        standing[number] = *shapes.entry(shape).or_insert(number as u16);
-    }
-    standing
+/// The record itself for each type.
+fn standing(records: &[Record]) -> Vec<u16> {
+    (0..records.len() as u16).collect()
 }
 
 impl Typing<'_> {
-    fn same(&self, x: u16, y: u16) -> bool {
+    pub fn same(&self, x: u16, y: u16) -> bool {
         self.standing[usize::from(x)] == self.standing[usize::from(y)]
     }
 
-    fn part(&mut self, record: &Record, word: usize) -> Derived {
+    pub fn part(&mut self, record: &Record, word: usize) -> Derived {
         self.expression(usize::from(record[word]))
     }
 
@@ -132,7 +119,7 @@ impl Typing<'_> {
                 let body = self.part_with(record[A], &record, C)?;
                 self.same(defining, record[A]).then_some(body)
             }
-            IF => self.choice(&record, number)?,
+            IF => (self.rules.choice)(self, &record, number)?,
             DELAY => {
                 let part = self.part(&record, C)?;
                 let fits = self.leaves_fit(record[B], record[A]);
@@ -158,22 +145,18 @@ impl Typing<'_> {
     /// An IF: the tested part, the pattern at once, then the branches. Each IF
     /// judges its pattern by its own tested type, named by others or not.
     fn choice(&mut self, record: &Record, number: usize) -> Result<Option<u16>, usize> {
-        let late = self.mistake == Some(CheckMistake::PatternLate);
         let tested = self.part(record, A)?;
-        let judged = self.types[usize::from(record[D])] != 0;
-        let skipped = self.mistake == Some(CheckMistake::JudgedOnce) && judged;
-        let fits = skipped || self.pattern_fits(record[D], tested);
-        if !fits && !late {
+        if !self.pattern_fits(record[D], tested) {
             return Err(number);
         }
         let then = self.part(record, B)?;
         let other = self.part(record, C)?;
-        Ok((fits && self.same(then, other)).then_some(then))
+        Ok(self.same(then, other).then_some(then))
     }
 
     /// Whether every alternative of a chain has the tested type, pair
     /// patterns part by part. Patterns may nest deeply: no recursion.
-    fn pattern_fits(&mut self, first: u16, tested: u16) -> bool {
+    pub fn pattern_fits(&mut self, first: u16, tested: u16) -> bool {
         let mut open = vec![(first, tested)];
         while let Some((pattern, tested)) = open.pop() {
             let record = self.records[usize::from(pattern)];

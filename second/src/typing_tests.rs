@@ -125,7 +125,7 @@ fn code_7_patterns() {
 
 #[test]
 fn types_and_widths() {
-    let Ok(found) = judge(&samples::and(), None) else { panic!("refused") };
+    let Ok(found) = judge(&samples::and()) else { panic!("refused") };
     assert_eq!(found.output, 1);
     assert_eq!(found.types, [0, 1, 2, 1, 2, 2, 1, 1, 1, 0, 1, 0]);
     assert_eq!(found.widths, [0, 1, 2, 1, 2, 2, 1, 1, 1, 0, 1, 0]);

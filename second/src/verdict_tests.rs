@@ -7,7 +7,7 @@ use crate::shapes;
 use crate::verdict::check;
 
 pub fn verdict(sheet: &[u8]) -> (u8, u32) {
-    let Answer { code, place } = check(sheet, None);
+    let Answer { code, place } = check(sheet);
     (code, place)
 }
 

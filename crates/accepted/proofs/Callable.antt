@@ -5,7 +5,7 @@
 use mathlib.Core.Path.{_≡_, refl}
 use mathlib.Core.Bool.{true, false≢true}
 use mathlib.Core.List.{List, [], _∷_}
-use Prim.Native.Nat.{ℕ, _+_, _*_, _≤_, _<_}
+use Prim.Native.Nat.{ℕ, _+_, _*_, _/_, _≤_, _<_}
 use native.Mathlib.Omega.{arith}
 use lib.ListN.{length, replicate, length-replicate}
 use Rattle.picoella.specs.Language.{leaves}
@@ -27,7 +27,7 @@ use Rattle.structure.proofs.Depths.{depth-of}
 use Rattle.typing.specs.Judging.{Ground, Judging, Closing, Fitting, PartAt, at-first, at-second}
 use Rattle.typing.specs.LeafChains.{LeafOrEnd}
 use Rattle.typing.specs.PatternTable.{PatternsTyped, TypingPattern, TypeTables}
-use Rattle.verdict.specs.Stages.{CheckingRecords, CheckingNamings, CheckingTypes, CheckingDepths}
+use Rattle.verdict.specs.Stages.{CheckingTypes}
 use Rattle.verdict.specs.CheckedTable.{PatternsFrom}
 use Rattle.verdict.specs.Verdict.{verdict}
 use Rattle.answers.specs.declared.Verdict.the-variants.{Accepted}
@@ -73,8 +73,9 @@ module _ {s : List ℕ} (p : Passes s) (full : length s ≡ 12 * count s) where
   wrong-type-callable r h =
       let c = counts p full in let x = pairs-below s p full r (omega arith) in (c .0, x .0, size, h, c .1, x .1)
 
-  pub first-wrong-type-callable : (table : List ℕ) × Sized s (count s) × LeavesCounted s (count s) table
-  first-wrong-type-callable = let c = counts p full in (c .0, size, c .1)
+  pub first-wrong-type-callable : (table : List ℕ) × (none : List ℕ) × Sized s (count s) × LeavesCounted s (count s) table × Indexed s 0 none
+  first-wrong-type-callable =
+      let c = counts p full in let x = pairs-below s p full 0 (omega arith) in (c .0, x .0, size, c .1, x .1)
 
   -- structure: the index of pair types
   abbrev pub index : List ℕ
@@ -92,9 +93,6 @@ module _ {s : List ℕ} (p : Passes s) (full : length s ≡ 12 * count s) where
   pub note-pair-callable : (r : ℕ) → r < count s → (below : List ℕ) × Sized s (count s) × (r < count s) × Indexed s r below
   note-pair-callable r h = let x = pairs-below s p full r (omega arith) in (x .0, size, h, x .1)
 
-  pub note-pairs-callable : (none : List ℕ) × Sized s (count s) × Indexed s 0 none
-  note-pairs-callable = let x = pairs-below s p full 0 (omega arith) in (x .0, size, x .1)
-
   -- structure: depths
   pub place-callable : (r : ℕ) → 0 < r → r < count s
       → (namers : List ℕ) × (depths : List ℕ) × (nestings : List ℕ) × Placing s (count s) r namers depths nestings × (r < count s)
@@ -111,21 +109,19 @@ module _ {s : List ℕ} (p : Passes s) (full : length s ≡ 12 * count s) where
   pub first-too-deep-callable : (depths : List ℕ) × (nestings : List ℕ) × Sized s (count s) × Placed s (count s) depths nestings
   first-too-deep-callable = let x = depths-placed p full in (x .0, x .1, size, x .2)
 
-  -- typing: an expression, with a table of leaf counts, the input in scope, a table of widths, and the type tables
-  abbrev pub table : List ℕ
-  table = ready p full .0
-
+  -- typing: an expression, with the input in scope, a table of widths that has those of types, and
+  -- the type tables
   abbrev pub scopeStack : List ℕ
-  scopeStack = ready p full .1
+  scopeStack = ready p full .0
 
   abbrev pub widthsNoted : List ℕ
-  widthsNoted = ready p full .2
+  widthsNoted = ready p full .1
 
   abbrev pub typesNoted : List ℕ
   typesNoted = type-tables s p full .0
 
-  at-root : Judging s (count s) table scopeStack 1 (wordB s 0) widthsNoted
-  at-root = ready p full .3
+  at-root : Judging s (count s) scopeStack 1 (wordB s 0) widthsNoted
+  at-root = ready p full .2
 
   pub tables-right : TypeTables s (count s) index typesNoted
   tables-right = type-tables s p full .1
@@ -137,7 +133,7 @@ module _ {s : List ℕ} (p : Passes s) (full : length s ≡ 12 * count s) where
       go [] e t = absurd (false≢true t)
       go (x ∷ ns) e t = let d = depth-of w r x ns low e in omega arith
 
-  pub judge-callable : (r : ℕ) → r < count s → sortAt s r ≡ expressions → Judging s (count s) table scopeStack 1 r widthsNoted
+  pub judge-callable : (r : ℕ) → r < count s → sortAt s r ≡ expressions → Judging s (count s) scopeStack 1 r widthsNoted
   judge-callable r h e = record {
     ground = at-root .ground;
     wide = at-root .wide;
@@ -148,17 +144,21 @@ module _ {s : List ℕ} (p : Passes s) (full : length s ≡ 12 * count s) where
     context = at-root .context;
   }
 
+  pub judge-root-callable : (r : ℕ) → r < count s → sortAt s r ≡ expressions
+      → Judging s (count s) scopeStack 1 r widthsNoted × Indexed s (count s) index
+  judge-root-callable r h e = (judge-callable r h e, tables-right .indexed)
+
   pub judge-expression-callable : (r : ℕ) → r < count s → sortAt s r ≡ expressions
-      → Judging s (count s) table scopeStack 1 r widthsNoted × TypeTables s (count s) index typesNoted
+      → Judging s (count s) scopeStack 1 r widthsNoted × TypeTables s (count s) index typesNoted
   judge-expression-callable r h e = (judge-callable r h e, tables-right)
 
   -- `of_pair`, `of_let`, `of_feedback`, `of_if` and `of_delay`
   pub of-kind-callable : (k : ExpressionKind) (r : ℕ) → r < count s → kindAt s r ≡ expression k
-      → Judging s (count s) table scopeStack 1 r widthsNoted × (kindAt s r ≡ expression k) × TypeTables s (count s) index typesNoted
+      → Judging s (count s) scopeStack 1 r widthsNoted × (kindAt s r ≡ expression k) × TypeTables s (count s) index typesNoted
   of-kind-callable k r h e = (judge-callable r h (rw e), e, tables-right)
 
   pub of-part-callable : (k r : ℕ) → r < count s → PartAt s r k
-      → Judging s (count s) table scopeStack 1 r widthsNoted × PartAt s r k × TypeTables s (count s) index typesNoted
+      → Judging s (count s) scopeStack 1 r widthsNoted × PartAt s r k × TypeTables s (count s) index typesNoted
   of-part-callable k r h q = (judge-callable r h (sort q), q, tables-right)
     where
       sort : {k : ℕ} → PartAt s r k → sortAt s r ≡ expressions
@@ -166,31 +166,33 @@ module _ {s : List ℕ} (p : Passes s) (full : length s ≡ 12 * count s) where
       sort (at-second e) = rw e
 
   pub of-name-callable : (r : ℕ) → r < count s → kindAt s r ≡ expression name
-      → Judging s (count s) table scopeStack 1 r widthsNoted × (kindAt s r ≡ expression name)
+      → Judging s (count s) scopeStack 1 r widthsNoted × (kindAt s r ≡ expression name)
   of-name-callable r h e = (judge-callable r h (rw e), e)
 
   -- typing: a last judgement
-  closing-at : (r : ℕ) → r < count s → Closing s (count s) table r widthsNoted
-  closing-at r h = record { ground = at-root .ground; there = h; long = at-root .long }
+  closing-at : (r : ℕ) → r < count s → sortAt s r ≡ expressions → Closing s (count s) r widthsNoted
+  closing-at r h e = record { ground = at-root .ground; there = h; sort = e; long = at-root .long }
 
   pub of-constant-callable : (r : ℕ) → r < count s → kindAt s r ≡ expression constant
-      → Closing s (count s) table r widthsNoted × (kindAt s r ≡ expression constant)
-  of-constant-callable r h e = (closing-at r h, e)
+      → Closing s (count s) r widthsNoted × (kindAt s r ≡ expression constant)
+  of-constant-callable r h e = (closing-at r h (rw e), e)
 
   -- `note` and `same_type`
-  pub note-callable : (r t : ℕ) → r < count s → TypeRecord s t → Closing s (count s) table r widthsNoted × TypeRecord s t
-  note-callable r t h u = (closing-at r h, u)
+  pub note-callable : (r t : ℕ) → r < count s → sortAt s r ≡ expressions → TypeRecord s t
+      → Closing s (count s) r widthsNoted × TypeRecord s t
+  note-callable r t h e u = (closing-at r h e, u)
 
-  pub pair-type-callable : (r : ℕ) → r < count s → Closing s (count s) table r widthsNoted × Indexed s (count s) index
-  pair-type-callable r h = (closing-at r h, pairs-indexed s p full .1)
+  pub pair-type-callable : (r : ℕ) → r < count s → sortAt s r ≡ expressions
+      → Closing s (count s) r widthsNoted × Indexed s (count s) index
+  pair-type-callable r h e = (closing-at r h e, pairs-indexed s p full .1)
 
-  pub part-type-callable : (r t k : ℕ) → r < count s → TypeRecord s t → 1 < k → k < 4
-      → Closing s (count s) table r widthsNoted × TypeRecord s t × (1 < k) × (k < 4)
-  part-type-callable r t k h u low high = (closing-at r h, u, low, high)
+  pub part-type-callable : (r t k : ℕ) → r < count s → sortAt s r ≡ expressions → TypeRecord s t → 1 < k → k < 4
+      → Closing s (count s) r widthsNoted × TypeRecord s t × (1 < k) × (k < 4)
+  part-type-callable r t k h e u low high = (closing-at r h e, u, low, high)
 
   -- typing: leaves
   pub bound-at-callable : (t i : ℕ) → TypeRecord s t → i < leaves (typeAt s t)
-      → Ground s (count s) table × TypeRecord s t × (i < leaves (typeAt s t))
+      → Ground s (count s) widthsNoted × TypeRecord s t × (i < leaves (typeAt s t))
   bound-at-callable t i u h = (at-root .ground, u, h)
 
   pub take-off-callable : (t r : ℕ) → TypeRecord s t → r < count s → sortAt s r ≡ leafs
@@ -219,22 +221,25 @@ module _ {s : List ℕ} (p : Passes s) (full : length s ≡ 12 * count s) where
   pattern-type-callable r t h e u = (record { sized = size; passes = p; there = h; sort = e; typed = u }, tables-right .typed)
 
   -- verdict
-  pub check-rules-callable : Ground s (count s) table × (length widthsNoted ≡ 4096)
-  check-rules-callable = (at-root .ground, at-root .long)
+  pub check-stages-callable : (none : List ℕ) × (count s ≡ length s / 12) × LeavesCounted s 0 none
+  unfolding count
+  check-stages-callable = let c = counts-below p full 0 (omega arith) in (c .0, refl, c .1)
 
-  pub check-depths-callable : (namers : List ℕ) × (counted : List ℕ) × CheckingDepths s (count s) × NamingsHeld (namings s) namers
-      × LeavesCounted s (count s) counted × (length widthsNoted ≡ 4096)
-  check-depths-callable =
-      let n = namers-held p full in let c = counts p full in (n .0, c .0, fitted p full, n .1, c .1, at-root .long)
+  pub check-names-callable : (none : List ℕ) × Sized s (count s) × NamingsHeld (λ _. []) none
+  check-names-callable = note-all-callable
 
-  pub check-types-callable : (namers : List ℕ) × CheckingTypes s (count s) × NamingsHeld (namings s) namers
-  check-types-callable = let n = namers-held p full in (n .0, fitted p full .named, n .1)
+  pub check-types-callable
+      : (none : List ℕ) × (unlinked : List ℕ) × Sized s (count s) × Written s × LeavesCounted s 0 none × Indexed s 0 unlinked
+  check-types-callable =
+      let c = counts-below p full 0 (omega arith) in
+      let x = pairs-below s p full 0 (omega arith) in
+      (c .0, x .0, size, w, c .1, x .1)
 
-  pub check-names-callable : CheckingNamings s (count s)
-  check-names-callable = fitted p full .named .recorded
+  pub check-depths-callable : (namers : List ℕ) × CheckingTypes s (count s) × NamingsHeld (namings s) namers
+  check-depths-callable = let n = namers-held p full in (n .0, fitted p full .named, n .1)
 
-  pub check-records-callable : CheckingRecords s (count s)
-  check-records-callable = fitted p full .named .recorded .measured
+  pub check-rules-callable : Ground s (count s) widthsNoted × (length widthsNoted ≡ 4096) × Indexed s (count s) index
+  check-rules-callable = (at-root .ground, at-root .long, pairs-indexed s p full .1)
 
   pub note-pattern-callable : (r : ℕ) → r < count s
       → (above : List ℕ) × Sized s (count s) × Passes s × (r < count s) × PatternsFrom s (r + 1) above

@@ -92,9 +92,6 @@ sorts = (refl, refl)
 type-there : TypeRecord sheet 3
 type-there = record { past = omega arith; there = below 3 (omega arith); sort = sorts .0 }
 
-abbrev table : List ℕ
-table = Callable.table passes full
-
 abbrev scope : List ℕ
 scope = Callable.scopeStack passes full
 
@@ -108,8 +105,10 @@ abbrev types : List ℕ
 types = Callable.typesNoted passes full
 
 -- the index of pair types, before record 3 and whole
-note-pairs-there : (none : List ℕ) × Sized sheet (count sheet) × Indexed sheet 0 none
-note-pairs-there = Callable.note-pairs-callable passes full
+first-wrong-type-there
+    : (counted : List ℕ) × (none : List ℕ) × Sized sheet (count sheet) × LeavesCounted sheet (count sheet) counted
+    × Indexed sheet 0 none
+first-wrong-type-there = Callable.first-wrong-type-callable passes full
 
 note-pair-there : (lower : List ℕ) × Sized sheet (count sheet) × (3 < count sheet) × Indexed sheet 3 lower
 note-pair-there = Callable.note-pair-callable passes full 3 (below 3 (omega arith))
@@ -158,25 +157,25 @@ pattern-type-found =
 
 -- the forms of expressions that T has not
 of-let-there
-    : Judging sheet (count sheet) table scope 1 4 noted
+    : Judging sheet (count sheet) scope 1 4 noted
     × (kindAt sheet 4 ≡ expression letIn)
     × TypeTables sheet (count sheet) index types
 of-let-there = Callable.of-kind-callable passes full letIn 4 (below 4 (omega arith)) (kinds .0)
 
 of-pair-there
-    : Judging sheet (count sheet) table scope 1 5 noted
+    : Judging sheet (count sheet) scope 1 5 noted
     × (kindAt sheet 5 ≡ expression tuple)
     × TypeTables sheet (count sheet) index types
 of-pair-there = Callable.of-kind-callable passes full tuple 5 (below 5 (omega arith)) (kinds .1)
 
-of-first-there : Judging sheet (count sheet) table scope 1 6 noted × PartAt sheet 6 2 × TypeTables sheet (count sheet) index types
+of-first-there : Judging sheet (count sheet) scope 1 6 noted × PartAt sheet 6 2 × TypeTables sheet (count sheet) index types
 of-first-there = Callable.of-part-callable passes full 2 6 (below 6 (omega arith)) (at-first (kinds .2))
 
-of-second-there : Judging sheet (count sheet) table scope 1 8 noted × PartAt sheet 8 3 × TypeTables sheet (count sheet) index types
+of-second-there : Judging sheet (count sheet) scope 1 8 noted × PartAt sheet 8 3 × TypeTables sheet (count sheet) index types
 of-second-there = Callable.of-part-callable passes full 3 8 (below 8 (omega arith)) (at-second (kinds .3))
 
-pair-type-there : Closing sheet (count sheet) table 5 noted × Indexed sheet (count sheet) index
-pair-type-there = Callable.pair-type-callable passes full 5 (below 5 (omega arith))
+pair-type-there : Closing sheet (count sheet) 5 noted × Indexed sheet (count sheet) index
+pair-type-there = Callable.pair-type-callable passes full 5 (below 5 (omega arith)) (rw (kinds .1))
 
-part-type-there : Closing sheet (count sheet) table 6 noted × TypeRecord sheet 3 × (1 < 2) × (2 < 4)
-part-type-there = Callable.part-type-callable passes full 6 3 2 (below 6 (omega arith)) type-there (omega arith) (omega arith)
+part-type-there : Closing sheet (count sheet) 6 noted × TypeRecord sheet 3 × (1 < 2) × (2 < 4)
+part-type-there = Callable.part-type-callable passes full 6 3 2 (below 6 (omega arith)) (rw (kinds .2)) type-there (omega arith) (omega arith)

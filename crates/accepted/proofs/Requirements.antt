@@ -117,23 +117,23 @@ module _ {s : List ℕ} (p : Passes s) (whole : length s ≡ 12 * count s) where
   pub placing-begun : (namers : List ℕ) × (depths : List ℕ) × (nestings : List ℕ) × Placing s (count s) 1 namers depths nestings
   placing-begun = placing-at 1 (omega arith) (omega arith)
 
-  pub ground : (table : List ℕ) × Ground s (count s) table
-  ground = let c = counts in (c .0, record { sized = sized; passes = p; leaves = counts-leaves s (count s) (c .0) refl p (c .1) })
+  pub ground : (table : List ℕ) × Ground s (count s) table × (length table ≡ 4096)
+  ground =
+      let c = counts in
+      (c .0, record { sized = sized; passes = p; leaves = counts-leaves s (count s) (c .0) refl p (c .1) }, c .1 .long)
 
-  pub ready : (table : List ℕ) × (stack : List ℕ) × (widths : List ℕ) × Judging s (count s) table stack 1 (wordB s 0) widths
+  pub ready : (stack : List ℕ) × (widths : List ℕ) × Judging s (count s) stack 1 (wordB s 0) widths
   ready =
       let g = ground in
       let t = tabulated (λ r. wordA s 0) 64 in
-      let w = tabulated (λ r. 0) 4096 in (
-        g .0,
-        t .0,
-        w .0,
-        root-ready (g .1) (t .0) (w .0) refl refl (ap (λ (x : ℕ). x ∷ []) (t .2 0 (omega arith)))
-            (t .1) (w .1),
-      )
+      (t .0, g .0, root-ready (g .1) (t .0) refl refl (ap (λ (x : ℕ). x ∷ []) (t .2 0 (omega arith))) (t .1) (g .2))
 
-  pub closing : (table : List ℕ) × (widths : List ℕ) × Closing s (count s) table (wordB s 0) widths
-  closing = let r = ready in (r .0, r .2, record { ground = r .3 .ground; there = r .3 .there; long = r .3 .long })
+  pub closing : (widths : List ℕ) × Closing s (count s) (wordB s 0) widths
+  closing =
+      let r = ready in (
+        r .1,
+        record { ground = r .2 .ground; there = r .2 .there; sort = r .2 .sort; long = r .2 .long },
+      )
 
   pub patterns-judged : (table : List ℕ) × PatternsFrom s (count s) table
   patterns-judged = let c = counts in (_, judged-widths p refl (c .1))

@@ -51,7 +51,7 @@ use Rattle.structure.specs.DepthTable.{Placed, Placing}
 use Rattle.typing.specs.Judging.{Ground, Judging, Closing, Fitting}
 use Rattle.typing.specs.LeafChains.{LeafOrEnd}
 use Rattle.typing.specs.PatternTable.{PatternsTyped, TypingPattern, TypeTables}
-use Rattle.verdict.specs.Stages.{CheckingRecords, CheckingNamings, CheckingTypes, CheckingDepths}
+use Rattle.verdict.specs.Stages.{CheckingTypes, CheckingDepths}
 use Rattle.verdict.specs.CheckedTable.{PatternsFrom}
 use Rattle.accepted.specs.Accepting.{Accepting}
 use Rattle.accepted.proofs.Requirements.{sized, fitted, placing-begun, depths-placed, ready, closing, patterns-judged, widths}
@@ -114,10 +114,10 @@ placing-there = placing-begun (passes .0) full
 placed-there : (depths : List ℕ) × (nestings : List ℕ) × Placed sheet (count sheet) depths nestings
 placed-there = depths-placed (passes .0) full
 
-ready-there : (table : List ℕ) × (stack : List ℕ) × (widths : List ℕ) × Judging sheet (count sheet) table stack 1 (wordB sheet 0) widths
+ready-there : (stack : List ℕ) × (widths : List ℕ) × Judging sheet (count sheet) stack 1 (wordB sheet 0) widths
 ready-there = ready (passes .0) full
 
-closing-there : (table : List ℕ) × (widths : List ℕ) × Closing sheet (count sheet) table (wordB sheet 0) widths
+closing-there : (widths : List ℕ) × Closing sheet (count sheet) (wordB sheet 0) widths
 closing-there = closing (passes .0) full
 
 patterns-there : (table : List ℕ) × PatternsFrom sheet (count sheet) table
@@ -135,9 +135,6 @@ matching-there = record {
 }
 
 -- and what each function of the check asks, at a record of T and with the tables of `Callable`
-abbrev table : List ℕ
-table = Callable.table (passes .0) full
-
 abbrev scope : List ℕ
 scope = Callable.scopeStack (passes .0) full
 
@@ -191,7 +188,9 @@ count-type-there = Callable.count-type-callable (passes .0) full 1 (below 1 (ome
 count-types-there : (counted : List ℕ) × Sized sheet (count sheet) × Written sheet × LeavesCounted sheet 0 counted
 count-types-there = Callable.count-types-callable (passes .0) full
 
-first-wrong-type-there : (counted : List ℕ) × Sized sheet (count sheet) × LeavesCounted sheet (count sheet) counted
+first-wrong-type-there
+    : (counted : List ℕ) × (none : List ℕ) × Sized sheet (count sheet) × LeavesCounted sheet (count sheet) counted
+    × Indexed sheet 0 none
 first-wrong-type-there = Callable.first-wrong-type-callable (passes .0) full
 
 place-there
@@ -199,37 +198,40 @@ place-there
     × (3 < count sheet)
 place-there = Callable.place-callable (passes .0) full 3 (omega arith) (below 3 (omega arith))
 
-judge-expression-there : Judging sheet (count sheet) table scope 1 2 noted × TypeTables sheet (count sheet) index types
+judge-root-there : Judging sheet (count sheet) scope 1 2 noted × Indexed sheet (count sheet) index
+judge-root-there = Callable.judge-root-callable (passes .0) full 2 (below 2 (omega arith)) (sorts .1)
+
+judge-expression-there : Judging sheet (count sheet) scope 1 2 noted × TypeTables sheet (count sheet) index types
 judge-expression-there = Callable.judge-expression-callable (passes .0) full 2 (below 2 (omega arith)) (sorts .1)
 
 of-feedback-there
-    : Judging sheet (count sheet) table scope 1 2 noted
+    : Judging sheet (count sheet) scope 1 2 noted
     × (kindAt sheet 2 ≡ expression feedback)
     × TypeTables sheet (count sheet) index types
 of-feedback-there = Callable.of-kind-callable (passes .0) full feedback 2 (below 2 (omega arith)) (kinds .0)
 
 of-delay-there
-    : Judging sheet (count sheet) table scope 1 3 noted
+    : Judging sheet (count sheet) scope 1 3 noted
     × (kindAt sheet 3 ≡ expression delay)
     × TypeTables sheet (count sheet) index types
 of-delay-there = Callable.of-kind-callable (passes .0) full delay 3 (below 3 (omega arith)) (kinds .1)
 
 of-if-there
-    : Judging sheet (count sheet) table scope 1 5 noted
+    : Judging sheet (count sheet) scope 1 5 noted
     × (kindAt sheet 5 ≡ expression ifMatches)
     × TypeTables sheet (count sheet) index types
 of-if-there = Callable.of-kind-callable (passes .0) full ifMatches 5 (below 5 (omega arith)) (kinds .2)
 
-of-name-there : Judging sheet (count sheet) table scope 1 6 noted × (kindAt sheet 6 ≡ expression name)
+of-name-there : Judging sheet (count sheet) scope 1 6 noted × (kindAt sheet 6 ≡ expression name)
 of-name-there = Callable.of-name-callable (passes .0) full 6 (below 6 (omega arith)) (kinds .3)
 
-of-constant-there : Closing sheet (count sheet) table 11 noted × (kindAt sheet 11 ≡ expression constant)
+of-constant-there : Closing sheet (count sheet) 11 noted × (kindAt sheet 11 ≡ expression constant)
 of-constant-there = Callable.of-constant-callable (passes .0) full 11 (below 11 (omega arith)) (kinds .4)
 
-note-there : Closing sheet (count sheet) table 2 noted × TypeRecord sheet 1
-note-there = Callable.note-callable (passes .0) full 2 1 (below 2 (omega arith)) type-there
+note-there : Closing sheet (count sheet) 2 noted × TypeRecord sheet 1
+note-there = Callable.note-callable (passes .0) full 2 1 (below 2 (omega arith)) (sorts .1) type-there
 
-bound-at-there : Ground sheet (count sheet) table × TypeRecord sheet 1 × (0 < leaves (typeAt sheet 1))
+bound-at-there : Ground sheet (count sheet) noted × TypeRecord sheet 1 × (0 < leaves (typeAt sheet 1))
 bound-at-there = Callable.bound-at-callable (passes .0) full 1 0 type-there one-leaf
 
 take-off-there : Sized sheet (count sheet) × Passes sheet × TypeRecord sheet 1 × LeafOrEnd sheet 4
@@ -252,23 +254,22 @@ note-types-there = Callable.note-types-callable (passes .0) full
 pattern-type-there : Fitting sheet (count sheet) 7 1 × PatternsTyped sheet 0 types
 pattern-type-there = Callable.pattern-type-callable (passes .0) full 7 1 (below 7 (omega arith)) (sorts .3) type-there
 
-check-rules-there : Ground sheet (count sheet) table × (length noted ≡ 4096)
-check-rules-there = Callable.check-rules-callable (passes .0) full
+check-stages-there : (none : List ℕ) × (count sheet ≡ length sheet / 12) × LeavesCounted sheet 0 none
+check-stages-there = Callable.check-stages-callable (passes .0) full
 
-check-depths-there
-    : (namers : List ℕ) × (counted : List ℕ) × CheckingDepths sheet (count sheet) × NamingsHeld (namings sheet) namers
-    × LeavesCounted sheet (count sheet) counted
-    × (length noted ≡ 4096)
-check-depths-there = Callable.check-depths-callable (passes .0) full
-
-check-types-there : (namers : List ℕ) × CheckingTypes sheet (count sheet) × NamingsHeld (namings sheet) namers
-check-types-there = Callable.check-types-callable (passes .0) full
-
-check-names-there : CheckingNamings sheet (count sheet)
+check-names-there : (none : List ℕ) × Sized sheet (count sheet) × NamingsHeld (λ _. []) none
 check-names-there = Callable.check-names-callable (passes .0) full
 
-check-records-there : CheckingRecords sheet (count sheet)
-check-records-there = Callable.check-records-callable (passes .0) full
+check-types-there
+    : (none : List ℕ) × (unlinked : List ℕ) × Sized sheet (count sheet) × Written sheet × LeavesCounted sheet 0 none
+    × Indexed sheet 0 unlinked
+check-types-there = Callable.check-types-callable (passes .0) full
+
+check-depths-there : (namers : List ℕ) × CheckingTypes sheet (count sheet) × NamingsHeld (namings sheet) namers
+check-depths-there = Callable.check-depths-callable (passes .0) full
+
+check-rules-there : Ground sheet (count sheet) noted × (length noted ≡ 4096) × Indexed sheet (count sheet) index
+check-rules-there = Callable.check-rules-callable (passes .0) full
 
 note-pattern-there
     : (above : List ℕ) × Sized sheet (count sheet) × Passes sheet × (7 < count sheet) × PatternsFrom sheet (7 + 1) above

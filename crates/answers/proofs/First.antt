@@ -1,8 +1,8 @@
 -- The answer of a list of checks is that of the first that applies: along the list, a check that does not apply leaves the answer to
 -- those after it. And only that: of two answers that say so of one list, the checks that apply first are the same. Lists one after
--- the other, the places of what they give, and the bytes that a refusal leaves.
+-- the other, and the bytes that a refusal leaves.
 -- Assumes nothing.
-use Prim.Native.Nat.{ℕ, _<_, _^_}
+use Prim.Native.Nat.{ℕ}
 use mathlib.Core.Bool.{Bool, true, false, not}
 use mathlib.Core.List.{List, [], _∷_, _++_}
 use mathlib.Core.Option.{Option, none, some}
@@ -11,7 +11,7 @@ use mathlib.Core.Logic.{_≢_}
 use native.Mathlib.Omega.{arith}
 use lib.Dec.{eqb}
 use borrow.Author.Tests.{eqb-true, not-false}
-use Rattle.answers.specs.Answers.{code, place, whenDone, onDone, Check, check, when, orRefused, firstApplying, NoneApplies, Refuses, SaysOf}
+use Rattle.answers.specs.Answers.{code, whenDone, onDone, Check, when, orRefused, firstApplying, NoneApplies, Refuses, SaysOf}
 use Rattle.answers.specs.declared.Answer.{Answer}
 use Rattle.answers.specs.declared.Answer.the-variants.{Done, Refused}
 
@@ -87,6 +87,11 @@ pub none-split : (ks js : List Check) → NoneApplies (ks ++ js) → NoneApplies
 none-split [] js h = (tt, h)
 none-split (k ∷ ks) js h = let r = none-split ks js (h .1) in ((h .0, r .0), r .1)
 
+-- and where none of each applies, none of both does
+pub none-both : (ks js : List Check) → NoneApplies ks → NoneApplies js → NoneApplies (ks ++ js)
+none-both [] js h i = i
+none-both (k ∷ ks) js h i = (h .0, none-both ks js (h .1) i)
+
 -- what a test that applies at one place says
 pub when-some : (b : Bool) (p q : ℕ) → when b p ≡ some q → p ≡ q
 when-some true p q e = cc
@@ -94,12 +99,6 @@ when-some false p q e = let z : _≡_ {A = ℕ} 0 1 = cc in absurd (omega arith)
 
 pub same-length-by : (a b p : ℕ) → when (not (eqb a b)) p ≡ none → a ≡ b
 same-length-by a b p e = eqb-true a b (not-false (eqb a b) (when-none (not (eqb a b)) p e))
-
--- the place of an answer is small where that of each check is, as far as none before it applies
-pub place-or : (c : ℕ) (o : Option ℕ) (rest : Answer) → ((p : ℕ) → o ≡ some p → p < 2 ^ 32) → (o ≡ none → place rest < 2 ^ 32)
-    → place (orRefused c o rest) < 2 ^ 32
-place-or c (some p) rest found nothing = found p refl
-place-or c none rest found nothing = nothing refl
 
 -- a refusal leaves the bytes of a lent slice
 pub kept-bytes : (a : Answer) (new old : List ℕ) → code a ≢ 0 → whenDone a new old ≡ old

@@ -1,32 +1,29 @@
--- Each answer says what its code says, at its place, and no check before it applies; and no other answer does. A refusal leaves the
--- slices as they were. And what a call gives in each case, from what is found there.
+-- What every call promises, of the run. And what a call gives in each case, from what is found there.
 -- Assumes nothing.
-use Prim.Native.Nat.{ℕ, _*_, _≤_, _<_, _^_}
-use mathlib.Core.Bool.{Bool, true, false, not}
-use mathlib.Core.List.{List, [], _∷_, _++_}
-use mathlib.Core.Option.{Option, none, some}
+use Prim.Native.Nat.{ℕ, _*_, _≤_}
+use mathlib.Core.Bool.{false, not}
+use mathlib.Core.List.{List}
+use mathlib.Core.Option.{some}
 use mathlib.Core.Path.{_≡_, refl, sym, ap, subst, _∙_}
 use mathlib.Core.Logic.{_≢_}
 use native.Mathlib.Omega.{arith}
 use native.Mathlib.Nat.{mul-le-mul-left}
 use lib.ListN.{length}
 use lib.Dec.{eqb}
-use borrow.Author.Tests.{eqb-true, eqb-false, eq-eqb, ne-eqb, not-false}
-use Rattle.answers.specs.Answers.{code, place, inOne, packed, whenDone, onDone, Check, check, when, orRefused, firstApplying, NoneApplies, Refuses, SaysOf, lowest, verdictAnswer}
+use borrow.Author.Tests.{eq-eqb, ne-eqb}
+use Rattle.answers.specs.Answers.{inOne, onDone, firstApplying, NoneApplies, SaysOf, verdictAnswer}
+use Rattle.answers.specs.GivenSlices.{SmallPlaces, no-slice, one-slice}
 use Rattle.answers.specs.declared.Answer.{Answer}
 use Rattle.answers.specs.declared.Answer.the-variants.{Done, Refused}
 use Rattle.answers.proofs.Lowest.{lowest-some-passes}
 use Rattle.answers.proofs.First.{
   when-none,
   first-says,
-  says-first,
   first-both,
   first-then,
   none-split,
   when-some,
   same-length-by,
-  place-or,
-  kept-bytes,
 }
 use Rattle.verdict.specs.Verdict.{sheetChecks, outputType, verdict}
 use Rattle.answers.specs.declared.Verdict.{Verdict}
@@ -35,7 +32,7 @@ use Rattle.answers.specs.declared.Verdict.the-variants as Verdicts
 use Rattle.picoella.specs.Language.{leaves}
 use Rattle.records.specs.Trees.{typeAt}
 use Rattle.records.proofs.Types.{some-leaves}
-use Rattle.accepted.proofs.Calls.{accepted-output, call-place}
+use Rattle.accepted.proofs.Calls.{accepted-output, call-laws}
 use Rattle.accepted.proofs.Laws.{verdict-first, first-accepted}
 use Rattle.accepted.proofs.Small.{accepted-length, accepted-few}
 use Rattle.meaning.specs.Undecided.{undecidedRule}
@@ -55,7 +52,7 @@ use Rattle.behaviour.specs.Run.{
   RunGiven,
 }
 use Rattle.behaviour.specs.Afterwards.{WellFormed, Afterwards}
-use Rattle.behaviour.specs.Promises.{SaysOfCall, LowestFirst, PlacesSmall, RefusalUnaltered}
+use Rattle.behaviour.specs.Promises.{RunLaws}
 use Rattle.behaviour.proofs.Afterwards.{answer-done, afterwards}
 
 -- the answer of a call is that of the first of all its checks
@@ -79,44 +76,29 @@ well-formed-where s stim out next h =
       long = same-length-by (length next) (length s) (length s) (p .1 .1 .1 .1 .0);
     }
 
-says-of-call : (s stim out next : List ℕ) (a : Answer) → SaysOf (callChecks s stim out next) (cycleCount s stim) a
-    → SaysOfCall s stim out next a
-says-of-call s stim out next (Done n) h = (outputType s, well-formed-where s stim out next (h .0), h .1)
-says-of-call s stim out next (Refused c p) h = h
+-- and where it is well formed none applies
+formed-none : (s stim out next : List ℕ) (t : ℕ) → WellFormed s stim out next t → NoneApplies (callChecks s stim out next)
+formed-none s stim out next t h =
+    subst (λ (a : Answer). SaysOf (callChecks s stim out next) (cycleCount s stim) a) (sym (answer-first s stim out next) ∙ answer-done h)
+    (first-says (callChecks s stim out next) (cycleCount s stim)) .0
 
-call-says : (s stim out next : List ℕ) (a : Answer) → SaysOfCall s stim out next a → answer s stim out next ≡ a
-call-says s stim out next (Done n) h = answer-done (h .1) ∙ ap Done (sym (h .2))
-call-says s stim out next (Refused c p) h =
-    answer-first s stim out next ∙ says-first (callChecks s stim out next) (cycleCount s stim) (Refused c p) h
-
-pub lowest-first : LowestFirst
-lowest-first s stim out next a = (
-  λ e. says-of-call s stim out next a
-      (subst (λ (b : Answer). SaysOf (callChecks s stim out next) (cycleCount s stim) b) (sym (answer-first s stim out next) ∙ e)
-      (first-says (callChecks s stim out next) (cycleCount s stim))),
-  call-says s stim out next a,
+-- the place of each check is small
+slices-small : (s : List ℕ) (t : ℕ) (stim out next : List ℕ) → verdict s ≡ Accepted t → SmallPlaces (runChecks s t stim out next) (cycleCount s stim)
+slices-small s t stim out next v = (
+  λ p e. let z = when-some (wrongStimulus s stim) 0 p e in omega arith,
+  λ e. let whole = stimulus-whole s stim (when-none (wrongStimulus s stim) 0 e) in
+      let few = cycles-few s t stim v (when-none (wrongStimulus s stim) 0 e) in
+      let needed = outputNeeded s t stim in (
+        λ i f. let l = lowest-some-passes (wrongByte s stim) (length stim) i f .0 in let w = whole .0 in omega arith,
+        λ f. (
+          λ p h. let z = when-some (not (eqb (length out) needed)) needed p h in omega arith,
+          λ h. (
+            λ p k. let z = when-some (not (eqb (length next) (length s))) (length s) p k in let l = accepted-length s v in omega arith,
+            λ k. omega arith,
+          ),
+        ),
+      ),
 )
-
--- the place of each answer is small
-slices-small : (s : List ℕ) (t : ℕ) (stim out next : List ℕ) → verdict s ≡ Accepted t → place (bySlices s t stim out next) < 2 ^ 32
-unfolding bySlices
-slices-small s t stim out next v =
-    let needed = outputNeeded s t stim in
-    let done = Done (cycleCount s stim) in
-    let last = firstApplying (check 11 (when (not (eqb (length next) (length s))) (length s)) ∷ []) done in
-    let byOut = firstApplying (lengthChecks s t stim out next) done in
-    let byByte = orRefused 9 (lowest (wrongByte s stim) (length stim)) byOut in
-    place-or 8 (when (wrongStimulus s stim) 0) byByte (λ p e. let z = when-some (wrongStimulus s stim) 0 p e in omega arith)
-    (λ e. let whole = stimulus-whole s stim (when-none (wrongStimulus s stim) 0 e) in
-    let few = cycles-few s t stim v (when-none (wrongStimulus s stim) 0 e) in
-    place-or 9 (lowest (wrongByte s stim) (length stim)) byOut
-    (λ i f. let l = lowest-some-passes (wrongByte s stim) (length stim) i f .0 in let w = whole .0 in omega arith)
-    (λ f. place-or 10 (when (not (eqb (length out) needed)) needed) last
-    (λ p h. let z = when-some (not (eqb (length out) needed)) needed p h in omega arith)
-    (λ h. place-or 11 (when (not (eqb (length next) (length s))) (length s)) done
-    (λ p k. let z = when-some (not (eqb (length next) (length s))) (length s) p k in
-    let l = accepted-length s v in omega arith)
-    (λ k. omega arith))))
   where
     cycles-few : (s : List ℕ) (t : ℕ) (stim : List ℕ) → verdict s ≡ Accepted t → wrongStimulus s stim ≡ false
         → (cycleCount s stim ≤ 65535) × (outputNeeded s t stim ≤ 4194240)
@@ -130,19 +112,15 @@ slices-small s t stim out next v =
         let f = h .0 in
         (omega arith, omega arith)
 
-pub places-small : PlacesSmall
-unfolding bySlices
-places-small s stim out next =
-    rw (answer-first s stim out next)
-    (call-place s (runChecks s (outputType s) stim out next) (Done (cycleCount s stim))
-    (λ t v. rw (accepted-output s t v) at (slices-small s t stim out next v)))
-
-pub refusal-unaltered : RefusalUnaltered
+pub run-laws : RunLaws
 unfolding finalOut finalNext
-refusal-unaltered s stim out next f = (
-  kept-bytes (answer s stim out next) (endToEnd (outputsBy undecidedRule s (cycles s stim))) out f,
-  kept-bytes (answer s stim out next) (sheetAfter undecidedRule s (cycles s stim)) next f,
-)
+run-laws s stim out next =
+    call-laws s (runChecks s (outputType s) stim out next)
+    (λ h. (outputType s, well-formed-where s stim out next h), λ h. formed-none s stim out next (h .0) (h .1)) refl
+    (answer-first s stim out next)
+    (λ t v. rw (accepted-output s t v) at (slices-small s t stim out next v))
+    (one-slice (endToEnd (outputsBy undecidedRule s (cycles s stim)))
+    (one-slice (sheetAfter undecidedRule s (cycles s stim)) no-slice))
 
 -- what a call gives where it refuses
 pub gives-refusal : {s stim out next : List ℕ} {c p : ℕ} → answer s stim out next ≡ Refused c p → RunGiven s stim out next (inOne c p) out next

@@ -13,17 +13,15 @@ use Rattle.behaviour.proofs.Run.{run-outputs, run-sheet}
 use Rattle.behaviour.proofs.Reduces.{run-reduces}
 use Rattle.behaviour.proofs.ByRules.{call-by-rules}
 use Rattle.behaviour.proofs.ZeroCycles.{zero-cycles}
-use Rattle.behaviour.proofs.Answers.{lowest-first, places-small, refusal-unaltered, gives-afterwards}
+use Rattle.behaviour.proofs.Answers.{run-laws, gives-afterwards}
 use Rattle.behaviour.proofs.SheetRunOrdered.{sheet-run-ordered, late-scanner}
 use Rattle.behaviour.proofs.LateToggle.{late-input, late-delay}
 use Rattle.behaviour.proofs.EarlierBelow.{earlier-below, earlier-strictly-below}
 
 pub kept : RunPromises
 kept = record {
-  lowest-first = lowest-first;
-  places-small = places-small;
+  run-laws = run-laws;
   zero-cycles = zero-cycles;
-  refusal-unaltered = refusal-unaltered;
   write-reads = λ s t v e h. record {
     only-delays = write-only-delays s e (h .frame);
     reads = write-read s v h;

@@ -1,6 +1,6 @@
 -- What is promised of the run: each promise a named type, and at the end the list of them. One term of each stands in
 -- `proofs/Kept.antt`; the list wants them all.
-use Prim.Native.Nat.{ℕ, _<_, _^_}
+use Prim.Native.Nat.{ℕ}
 use mathlib.Core.Path.{_≡_}
 use mathlib.Core.Logic.{_↔_, _≢_}
 use mathlib.Core.Bool.{false}
@@ -10,8 +10,7 @@ use lib.ListN.{length}
 use Rattle.picoella.specs.Language.{Expr}
 use Rattle.records.specs.Trees.{typeAt, Declared, treeAt, typeRecordOf}
 use Rattle.records.specs.Decoding.{decode, expressionOf}
-use Rattle.answers.specs.Answers.{code, place, Refuses}
-use Rattle.answers.specs.declared.Answer.{Answer}
+use Rattle.answers.specs.StandardLaws.{lentSlice, StandardLaws}
 use Rattle.answers.specs.declared.Answer.the-variants.{Done, Refused}
 use Rattle.verdict.specs.Verdict.{verdict}
 use Rattle.verdict.specs.Scopes.{Scope}
@@ -33,26 +32,12 @@ use Rattle.behaviour.specs.Run.{outputsBy, sheetAfter, callChecks, answe
 use Rattle.behaviour.specs.SheetOrder.{SheetBelow, FormedCall, StrictlyBelow, holding}
 use Rattle.behaviour.specs.Bench.{toggle, agreeing, agreed}
 
--- What each answer says of the call: done, with all cycles, exactly where the call is well formed; or refused by a check of the list,
--- at its place, where no check before it applies. `FirstThatApplies`, `LowestFound` and `LowestNone` of answers say what that means of
--- each check.
-abbrev pub SaysOfCall : (sheet stimulus out next : List ℕ) → Answer → Type 0
-SaysOfCall s stim out next (Done n) = (t : ℕ) × WellFormed s stim out next t × (n ≡ cycleCount s stim)
-SaysOfCall s stim out next (Refused c p) = Refuses (callChecks s stim out next) c p
-
-abbrev pub LowestFirst : Type 0
-LowestFirst =
-    (s stim out next : List ℕ) (a : Answer) → answer s stim out next ≡ a ↔ SaysOfCall s stim out next a
-
--- The place of every answer is below 2^32, so that code and place are read back from the number returned.
-abbrev pub PlacesSmall : Type 0
-PlacesSmall = (s stim out next : List ℕ) → place (answer s stim out next) < 2 ^ 32
-
--- A refusal leaves every lent slice unaltered.
-abbrev pub RefusalUnaltered : Type 0
-RefusalUnaltered =
-    (s stim out next : List ℕ) → code (answer s stim out next) ≢ 0
-    → (finalOut s stim out next ≡ out) × (finalNext s stim out next ≡ next)
+-- What every call promises (`StandardLaws` of `answers`): done, with all cycles, exactly where the call is well formed.
+abbrev pub RunLaws : Type 0
+RunLaws =
+    (s stim out next : List ℕ)
+    → StandardLaws (callChecks s stim out next) ((t : ℕ) × WellFormed s stim out next t) (cycleCount s stim) (answer s stim out next)
+    (lentSlice out (finalOut s stim out next) ∷ lentSlice next (finalNext s stim out next) ∷ [])
 
 -- An empty stimulus is a run of no cycles: on an accepted sheet it is answered with no cycles, no outputs and the sheet as it is. An
 -- output slice that is not empty is 10 at place 0, and a next slice of another length than the sheet 11.
@@ -173,10 +158,8 @@ TermsElaborate =
 
 -- all of them
 pub record RunPromises : Type 0 where
-  pub lowest-first : LowestFirst
-  pub places-small : PlacesSmall
+  pub run-laws : RunLaws
   pub zero-cycles : ZeroCycles
-  pub refusal-unaltered : RefusalUnaltered
   pub write-reads : WriteReads
   pub write-own : WriteOwn
   pub cycles-whole : CyclesWhole

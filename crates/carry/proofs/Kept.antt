@@ -4,15 +4,13 @@
 use mathlib.Core.Path.{_∙_}
 use Rattle.behaviour.proofs.AfterRun.{run-only-delays, run-accepted}
 use Rattle.carry.specs.Promises.{CarryPromises}
-use Rattle.carry.proofs.CarryAnswers.{carry-lowest-first, carry-places-small, carry-refusal-unaltered, formed-done, formed-final}
+use Rattle.carry.proofs.CarryAnswers.{carry-laws, formed-done, formed-final}
 use Rattle.carry.proofs.CarriedBack.{carries-over, carried-returns, carried-formed, running-label}
 use Rattle.carry.proofs.LabelsIgnored.{labels-alone}
 
 pub kept : CarryPromises
 kept = record {
-  lowest-first = carry-lowest-first;
-  places-small = carry-places-small;
-  refusal-unaltered = carry-refusal-unaltered;
+  carry-laws = carry-laws;
   carried-over = λ old new next f. (formed-final old new next f, carries-over f);
   carried-back = λ s running t t′ v v′ a o next l.
       let f = carried-formed v v′ o a next l in

@@ -1,19 +1,18 @@
 -- What is promised of carrying: each promise a named type, and at the end the list of them. One term of each stands in
 -- `proofs/Kept.antt`; the list wants them all.
-use Prim.Native.Nat.{ℕ, _<_, _^_}
+use Prim.Native.Nat.{ℕ, _<_}
 use mathlib.Core.Path.{_≡_}
-use mathlib.Core.Logic.{_↔_, _≢_}
 use mathlib.Core.Bool.{true}
-use mathlib.Core.List.{List}
+use mathlib.Core.List.{List, [], _∷_}
 use mathlib.Core.Option.{none}
 use lib.ListN.{length}
 use Rattle.records.specs.Words.{count}
 use Rattle.records.specs.Kinds.{expression, delay}
 use Rattle.records.specs.Says.{kindAt}
 use Rattle.records.specs.OnlyLabels.{OnlyLabels}
-use Rattle.answers.specs.Answers.{lowest, code, place, Refuses}
-use Rattle.answers.specs.declared.Answer.{Answer}
-use Rattle.answers.specs.declared.Answer.the-variants.{Done, Refused}
+use Rattle.answers.specs.Answers.{lowest}
+use Rattle.answers.specs.StandardLaws.{lentSlice, StandardLaws}
+use Rattle.answers.specs.declared.Answer.the-variants.{Done}
 use Rattle.verdict.specs.Verdict.{verdict}
 use Rattle.answers.specs.declared.Verdict.the-variants.{Accepted}
 use Rattle.meaning.specs.Values.{AllOf}
@@ -35,23 +34,12 @@ pub record CarryFormed (old new next : List ℕ) : Type 0 where
   pub new-once : lowest (labelTwice new) (count new) ≡ none
   pub long : length next ≡ length new
 
--- What each answer says of the call: done at place 0, exactly where nothing refuses; or refused by a check of the list, at its place,
--- where no check before it applies. `FirstThatApplies`, `LowestFound` and `LowestNone` of answers say what that means of each check.
-abbrev pub SaysOfCarry : (old new next : List ℕ) → Answer → Type 0
-SaysOfCarry old new next (Done n) = CarryFormed old new next × (n ≡ 0)
-SaysOfCarry old new next (Refused c p) = Refuses (carryChecks old new next) c p
-
-abbrev pub CarryLowestFirst : Type 0
-CarryLowestFirst = (old new next : List ℕ) (a : Answer) → carryAnswer old new next ≡ a ↔ SaysOfCarry old new next a
-
--- The place of every answer is below 2^32, so that code and place are read back from the number returned.
-abbrev pub CarryPlacesSmall : Type 0
-CarryPlacesSmall = (old new next : List ℕ) → place (carryAnswer old new next) < 2 ^ 32
-
--- A refusal leaves the next slice unaltered.
-abbrev pub CarryRefusalUnaltered : Type 0
-CarryRefusalUnaltered =
-    (old new next : List ℕ) → code (carryAnswer old new next) ≢ 0 → finalCarried old new next ≡ next
+-- What every call promises (`StandardLaws` of `answers`).
+abbrev pub CarryLaws : Type 0
+CarryLaws =
+    (old new next : List ℕ)
+    → StandardLaws (carryChecks old new next) (CarryFormed old new next) 0 (carryAnswer old new next)
+    (lentSlice next (finalCarried old new next) ∷ [])
 
 -- delay r of the new sheet and delay q of the old one have the same label and types of the same shape
 pub record Partners (old new : List ℕ) (q r : ℕ) : Type 0 where
@@ -125,9 +113,7 @@ LabelsKept =
 
 -- all of them
 pub record CarryPromises : Type 0 where
-  pub lowest-first : CarryLowestFirst
-  pub places-small : CarryPlacesSmall
-  pub refusal-unaltered : CarryRefusalUnaltered
+  pub carry-laws : CarryLaws
   pub carried-over : CarriedOver
   pub carried-back : CarriedBack
   pub carried-after-run : CarriedAfterRun

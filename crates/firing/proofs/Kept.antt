@@ -7,9 +7,7 @@ use Rattle.firing.proofs.Witness.{toggle-fires}
 
 pub kept : FiringPromises
 kept = record {
-  lowest-first = Telling.fired-lowest-first;
-  places-small = Telling.fired-places-small;
-  unaltered = Telling.fired-unaltered;
+  fired-laws = Telling.fired-laws;
   reached-once = Telling.reached-once;
   reached-expressions = Telling.reached-expressions;
   fired-word = fired-words;

@@ -1,11 +1,11 @@
--- The promises of the call: its answer says what its checks say, its place is small, and a refusal leaves the slice; each expression
+-- The promises of the call: what every call promises; each expression
 -- record is reached once, and at each IF the word is what its chain tells there. And the call's ways out: what the check's answer and
 -- that of the stimulus say of it, and that the words told are the first of the evaluation's table.
 -- Assumes nothing.
 use Prim.Native.Nat.{ℕ, _-_, _≤_, _<_}
 use mathlib.Core.List.{List, [], _∷_}
 use mathlib.Core.Logic.{_≢_}
-use mathlib.Core.Path.{_≡_, refl, ap, _∙_}
+use mathlib.Core.Path.{_≡_, refl, _∙_}
 use native.Mathlib.Omega.{arith}
 use lib.ListN.{length, getD, take, replicate}
 use lib.Seq.{length-take-le}
@@ -16,7 +16,7 @@ use Rattle.records.proofs.Asked.{past-header}
 use Rattle.answers.specs.Answers.{inOne, packed, verdictAnswer}
 use Rattle.answers.specs.declared.Answer.{Answer}
 use Rattle.answers.specs.declared.Answer.the-variants.{Done, Refused}
-use Rattle.answers.proofs.First.{kept-bytes}
+use Rattle.answers.specs.GivenSlices.{no-slice, one-slice}
 use Rattle.verdict.specs.Verdict.{verdict}
 use Rattle.verdict.specs.Scopes.{inputs}
 use Rattle.answers.specs.declared.Verdict.{Verdict}
@@ -29,8 +29,7 @@ use Rattle.meaning.specs.Undecided.{undecidedRule}
 use Rattle.stimulus.specs.Holding.{HeldToOne}
 use Rattle.stimulus.proofs.OneCycle.{one-cycle-passes, one-cycle-typed}
 use Rattle.stimulus.proofs.OneCycleCalls.{
-  one-cycle-lowest-first,
-  one-cycle-place,
+  one-cycle-laws,
   one-cycle-done,
   one-cycle-sheet,
   one-cycle-input,
@@ -46,9 +45,7 @@ use Rattle.stepper.specs.Cycling.{Cycling}
 use Rattle.firing.specs.Telling.{firedAnswer, finalFired, ToldFired}
 use Rattle.firing.specs.TellingCycle.{TellingFired}
 use Rattle.firing.specs.Promises.{
-  FiredLowestFirst,
-  FiredPlacesSmall,
-  FiredUnaltered,
+  FiredLaws,
   ReachedOnce,
   ReachedExpressions,
   FiredIn,
@@ -59,18 +56,10 @@ use Rattle.firing.specs.Promises.{
 records-few : (s : List ℕ) (t : ℕ) → verdict s ≡ Accepted t → count s ≤ 4096
 records-few s t v = let l = accepted-length s v in let w = accepted-records s v in omega arith
 
-pub fired-lowest-first : FiredLowestFirst
-unfolding firedAnswer
-fired-lowest-first s stim words a = one-cycle-lowest-first 16 (count s) s stim words a
-
-pub fired-places-small : FiredPlacesSmall
-unfolding firedAnswer
-fired-places-small s stim words =
-    one-cycle-place 16 (count s) s stim words (λ t v. let f = records-few s t v in omega arith)
-
-pub fired-unaltered : FiredUnaltered
-unfolding finalFired
-fired-unaltered s stim words f = kept-bytes (firedAnswer s stim words) (fired s stim) words f
+pub fired-laws : FiredLaws
+unfolding firedAnswer finalFired
+fired-laws s stim words =
+    one-cycle-laws 16 (count s) s stim words refl (omega arith) (λ t v. let f = records-few s t v in omega arith) (one-slice (fired s stim) no-slice)
 
 pub reached-once : ReachedOnce
 reached-once s t v input r h e = evaluated-once input (accepted-passes v) r h e
@@ -82,7 +71,7 @@ reached-expressions s t v input r Γ ρ c =
 pub fired-in : FiredIn
 unfolding finalFired
 fired-in s stim words e =
-    let f = fired-lowest-first s stim words (Done 0) .0 e .0 in
+    let f = fired-laws s stim words .lowest-first (Done 0) .0 e .0 in
     (rw e (fired-words s _ (f .accepted) stim .one-a-record), rw e refl)
 
 pub first-yes-tells : FirstYesTells

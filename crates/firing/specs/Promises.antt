@@ -1,37 +1,27 @@
 -- What is promised of which alternative fired: each promise a named type, and at the end the list of them. One term of each stands in
 -- `proofs/Kept.antt`; the list wants them all.
-use Prim.Native.Nat.{ℕ, _<_, _^_}
+use Prim.Native.Nat.{ℕ, _<_}
 use mathlib.Core.Path.{_≡_}
-use mathlib.Core.Logic.{_↔_, _≢_}
 use mathlib.Core.List.{List, [], _∷_}
 use lib.ListN.{length, replicate}
 use Rattle.records.specs.Words.{count}
 use Rattle.records.specs.Kinds.{expressions, patterns}
 use Rattle.records.specs.Says.{sortAt}
-use Rattle.answers.specs.Answers.{code, place}
-use Rattle.answers.specs.declared.Answer.{Answer}
+use Rattle.answers.specs.StandardLaws.{lentSlice, StandardLaws}
 use Rattle.answers.specs.declared.Answer.the-variants.{Done, Refused}
 use Rattle.verdict.specs.Verdict.{verdict}
 use Rattle.answers.specs.declared.Verdict.the-variants.{Accepted}
-use Rattle.stimulus.specs.OneCycleCalls.{SaysOfOneCycle}
+use Rattle.stimulus.specs.OneCycleCalls.{FormedOneCycle}
 use Rattle.behaviour.specs.Bench.{toggle}
 use Rattle.behaviour.specs.Reaching.{Evaluates, EvaluatedOnce, FiredWords, TellsFirst}
 use Rattle.firing.specs.Telling.{firedChecks, firedAnswer, finalFired}
 
--- What each answer says of the call: done, at place 0, exactly where no check applies; or refused by a check of the list, at its place,
--- where no check before it applies.
-abbrev pub FiredLowestFirst : Type 0
-FiredLowestFirst =
-    (s stim words : List ℕ) (a : Answer)
-    → firedAnswer s stim words ≡ a ↔ SaysOfOneCycle (firedChecks s stim words) s stim words (count s) a
-
--- The place of every answer is below 2^32.
-abbrev pub FiredPlacesSmall : Type 0
-FiredPlacesSmall = (s stim words : List ℕ) → place (firedAnswer s stim words) < 2 ^ 32
-
--- A refusal leaves the slice unaltered.
-abbrev pub FiredUnaltered : Type 0
-FiredUnaltered = (s stim words : List ℕ) → code (firedAnswer s stim words) ≢ 0 → finalFired s stim words ≡ words
+-- What every call promises (`StandardLaws` of `answers`).
+abbrev pub FiredLaws : Type 0
+FiredLaws =
+    (s stim words : List ℕ)
+    → StandardLaws (firedChecks s stim words) (FormedOneCycle s stim words (count s)) 0 (firedAnswer s stim words)
+    (lentSlice words (finalFired s stim words) ∷ [])
 
 -- Every expression record of an accepted sheet is reached exactly once, in the evaluation of the root for an input with every feedback
 -- at its settled value; and no other record is reached.
@@ -75,9 +65,7 @@ FiredToggle =
 
 -- all of them
 pub record FiringPromises : Type 0 where
-  pub lowest-first : FiredLowestFirst
-  pub places-small : FiredPlacesSmall
-  pub unaltered : FiredUnaltered
+  pub fired-laws : FiredLaws
   pub reached-once : ReachedOnce
   pub reached-expressions : ReachedExpressions
   pub fired-word : FiredWord

@@ -15,16 +15,16 @@ use answers::WRONG_WORDS;
 use answers::in_one;
 use answers::packed;
 use answers::packed_verdict;
-use records::RECORDS;
+use records::ENVIRONMENT;
 use records::VALUE_BYTES;
 use records::WidthTable;
 use records::no_widths;
 use records::records_in;
 use stepper::look;
-use stepper::no_names;
-use stepper::no_next_values;
 use stimulus::check_one_cycle;
 use values::Fired;
+use values::no_names;
+use values::no_next_values;
 use values::none_fired;
 use verdict::check_into;
 
@@ -69,7 +69,7 @@ fn tell_fired(
         sheet,
         n,
         widths,
-        &mut env[0..RECORDS],
+        &mut env[0..ENVIRONMENT],
         &mut held,
         &mut table,
         input,
@@ -91,9 +91,9 @@ fn fired_accepted(
     requires { ⌜ Accepting (now sheet) n (now widths) × (verdict (now sheet) ≡ Accepted t) ⌝ }
     ensures { λ r. ⌜ ToldFired (now (sheet .entry)) (now (stim .entry)) (now (words .entry)) r (now (words .exit)) ⌝ }
 {
-    let held = check_one_cycle(sheet, n, widths, stim);
-    let Answer::Done(_cycles) = held else {
-        return packed(held);
+    let answer = check_one_cycle(sheet, n, widths, stim);
+    let Answer::Done(_cycles) = answer else {
+        return packed(answer);
     };
     if words.len() != n {
         return in_one(WRONG_WORDS, n as u64);

@@ -31,6 +31,14 @@ none-bad [] e = no-check-left
 none-bad (checkAt p true ∷ cs) e = one-holds (none-bad cs e)
 none-bad (checkAt p false ∷ cs) e = absurd (let z : _≡_ {A = ℕ} 0 1 = cc in omega arith)
 
+pub pass-none : {cs : List PlacedCheck} → AllPass cs → firstBadPlace cs ≡ none
+pass-none no-check-left = refl
+pass-none (one-holds h) = pass-none h
+
+pub pass-split : (cs : List PlacedCheck) {ds : List PlacedCheck} → AllPass (cs ++ ds) → AllPass cs × AllPass ds
+pass-split [] h = (no-check-left, h)
+pass-split (checkAt p true ∷ cs) (one-holds h) = let r = pass-split cs h in (one-holds (r .0), r .1)
+
 pub both-pass : {cs ds : List PlacedCheck} → AllPass cs → AllPass ds → AllPass (cs ++ ds)
 both-pass no-check-left k = k
 both-pass (one-holds h) k = one-holds (both-pass h k)

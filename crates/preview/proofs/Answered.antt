@@ -1,4 +1,4 @@
--- The promises of the preview: its answer says what its checks say; its place is small; on one cycle's bytes it is answered as the run
+-- The promises of the preview: what every call promises; on one cycle's bytes it is answered as the run
 -- is, whose checks are then the same ones; and its outputs are the cycle's, of the output type.
 -- Assumes nothing.
 use Prim.Native.Nat.{ℕ, _≤_}
@@ -12,7 +12,8 @@ use borrow.Author.Tests.{eq-eqb}
 use Rattle.answers.specs.Answers.{onDone, Check, check, when, firstApplying, NoneApplies}
 use Rattle.answers.specs.declared.Answer.{Answer}
 use Rattle.answers.specs.declared.Answer.the-variants.{Done, Refused}
-use Rattle.answers.proofs.First.{first-both, first-then, kept-bytes}
+use Rattle.answers.specs.GivenSlices.{no-slice, one-slice}
+use Rattle.answers.proofs.First.{first-both, first-then}
 use Rattle.verdict.specs.Verdict.{sheetChecks, outputType, verdict}
 use Rattle.answers.specs.declared.Verdict.the-variants.{Accepted}
 use Rattle.accepted.proofs.Calls.{accepted-output}
@@ -21,36 +22,27 @@ use Rattle.meaning.proofs.UndecidedRule.{rule-lawful}
 use Rattle.stimulus.specs.Stimulus.{inputLeaves, cycleCount, stimulusChecks}
 use Rattle.stimulus.specs.OneCycle.{oneCycleChecks}
 use Rattle.stimulus.proofs.OneCycle.{one-cycle-run, one-cycle-counted, one-cycle-alone, one-cycle-typed}
-use Rattle.stimulus.proofs.OneCycleCalls.{one-cycle-lowest-first, one-cycle-place}
+use Rattle.stimulus.proofs.OneCycleCalls.{one-cycle-laws}
 use Rattle.behaviour.specs.Cycle.{output}
 use Rattle.behaviour.specs.Run.{outputNeeded, lengthChecks, runChecks, answer, finalOut}
 use Rattle.behaviour.proofs.Answers.{answer-first}
 use Rattle.behaviour.proofs.Cycle.{output-of-type}
 use Rattle.preview.specs.Preview.{outputLeaves, shownChecks, previewAnswer, finalPreview}
 use Rattle.preview.specs.Promises.{
-  PreviewLowestFirst,
-  PreviewPlacesSmall,
-  PreviewUnaltered,
+  PreviewLaws,
   AsRun,
   PreviewAsRun,
   PreviewTyped,
 }
 
-pub preview-lowest-first : PreviewLowestFirst
-unfolding previewAnswer
-preview-lowest-first s stim out a = one-cycle-lowest-first 10 (outputLeaves s) s stim out a
-
 -- an accepted sheet's output type has at most 64 leaves
 leaves-few : (s : List ℕ) (t : ℕ) → verdict s ≡ Accepted t → outputLeaves s ≤ 64
 leaves-few s t v = rw (accepted-output s t v) at (accepted-few s v)
 
-pub preview-places-small : PreviewPlacesSmall
-unfolding previewAnswer
-preview-places-small s stim out = one-cycle-place 10 (outputLeaves s) s stim out (λ t v. let few = leaves-few s t v in omega arith)
-
-pub preview-unaltered : PreviewUnaltered
-unfolding finalPreview
-preview-unaltered s stim out f = kept-bytes (previewAnswer s stim out) _ out f
+pub preview-laws : PreviewLaws
+unfolding previewAnswer finalPreview
+preview-laws s stim out =
+    one-cycle-laws 10 (outputLeaves s) s stim out refl (omega arith) (λ t v. let few = leaves-few s t v in omega arith) (one-slice (output s stim) no-slice)
 
 -- 10 alone
 abbrev roomChecks : (s out : List ℕ) → List Check
@@ -98,7 +90,7 @@ module _
     answered-alike = run-left ∙ left-then ∙ ap (λ (a : Answer). onDone a (λ p. Done 1)) (sym preview-left)
 
     zero-from : (a : Answer) → previewAnswer s stim shown ≡ a → onDone a (λ p. Done 1) ≡ Done 1 → a ≡ Done 0
-    zero-from (Done p) e q = ap Done (preview-lowest-first s stim shown (Done p) .0 e .1)
+    zero-from (Done p) e q = ap Done (preview-laws s stim shown .lowest-first (Done p) .0 e .1)
     zero-from (Refused c p) e q = let z : _≡_ {A = ℕ} 0 1 = cc in absurd (omega arith)
 
     outputs-alike : previewAnswer s stim shown ≡ Done 0 → finalPreview s stim shown ≡ finalOut s stim out next
@@ -124,6 +116,6 @@ as-run s stim shown out next l es eo en = as-run-where s stim shown out next l e
 pub typed : PreviewTyped
 unfolding finalPreview
 typed s stim out e =
-    let h = preview-lowest-first s stim out (Done 0) .0 e .0 in
+    let h = preview-laws s stim out .lowest-first (Done 0) .0 e .0 in
     let passes : NoneApplies (oneCycleChecks s stim) = (rw (h .one-cycle) refl, (h .fitting, tt)) in
     rw e (output-of-type rule-lawful s (h .accepted) (one-cycle-typed s stim passes))

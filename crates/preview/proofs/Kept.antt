@@ -6,9 +6,7 @@ use Rattle.preview.proofs.Witness.{shown-toggle}
 
 pub kept : PreviewPromises
 kept = record {
-  lowest-first = Answered.preview-lowest-first;
-  places-small = Answered.preview-places-small;
-  unaltered = Answered.preview-unaltered;
+  preview-laws = Answered.preview-laws;
   as-run = Answered.as-run;
   typed = Answered.typed;
   toggle = shown-toggle;

@@ -1,36 +1,28 @@
 -- What is promised of the preview: each promise a named type, and at the end the list of them. One term of each stands in
 -- `proofs/Kept.antt`; the list wants them all.
-use Prim.Native.Nat.{ℕ, _<_, _^_}
+use Prim.Native.Nat.{ℕ}
 use mathlib.Core.Path.{_≡_}
-use mathlib.Core.Logic.{_↔_, _≢_}
+use mathlib.Core.Logic.{_↔_}
 use mathlib.Core.List.{List, [], _∷_}
 use lib.ListN.{length}
 use Rattle.picoella.specs.Language.{OfType}
 use Rattle.records.specs.Trees.{typeAt}
-use Rattle.answers.specs.Answers.{code, place, onDone}
-use Rattle.answers.specs.declared.Answer.{Answer}
+use Rattle.answers.specs.Answers.{onDone}
+use Rattle.answers.specs.StandardLaws.{lentSlice, StandardLaws}
 use Rattle.answers.specs.declared.Answer.the-variants.{Done, Refused}
 use Rattle.verdict.specs.Verdict.{outputType}
 use Rattle.stimulus.specs.Stimulus.{inputLeaves}
-use Rattle.stimulus.specs.OneCycleCalls.{SaysOfOneCycle}
+use Rattle.stimulus.specs.OneCycleCalls.{FormedOneCycle}
 use Rattle.behaviour.specs.Run.{answer, finalOut}
 use Rattle.behaviour.specs.Bench.{toggle}
 use Rattle.preview.specs.Preview.{outputLeaves, previewChecks, previewAnswer, finalPreview}
 
--- What each answer says of the call: done, at place 0, exactly where no check applies; or refused by a check of the list, at its place,
--- where no check before it applies.
-abbrev pub PreviewLowestFirst : Type 0
-PreviewLowestFirst =
-    (s stim out : List ℕ) (a : Answer)
-    → previewAnswer s stim out ≡ a ↔ SaysOfOneCycle (previewChecks s stim out) s stim out (outputLeaves s) a
-
--- The place of every answer is below 2^32.
-abbrev pub PreviewPlacesSmall : Type 0
-PreviewPlacesSmall = (s stim out : List ℕ) → place (previewAnswer s stim out) < 2 ^ 32
-
--- A refusal leaves the output slice unaltered.
-abbrev pub PreviewUnaltered : Type 0
-PreviewUnaltered = (s stim out : List ℕ) → code (previewAnswer s stim out) ≢ 0 → finalPreview s stim out ≡ out
+-- What every call promises (`StandardLaws` of `answers`).
+abbrev pub PreviewLaws : Type 0
+PreviewLaws =
+    (s stim out : List ℕ)
+    → StandardLaws (previewChecks s stim out) (FormedOneCycle s stim out (outputLeaves s)) 0 (previewAnswer s stim out)
+    (lentSlice out (finalPreview s stim out) ∷ [])
 
 -- "These are the bytes that a run of this one cycle on a copy of the sheet gives" (docs/SHEETS.md, "The preview"): on every sheet and
 -- every stimulus of exactly one cycle's bytes, the run with slices of the right lengths is answered as the preview with one of the
@@ -63,9 +55,7 @@ PreviewToggle =
 
 -- all of them
 pub record PreviewPromises : Type 0 where
-  pub lowest-first : PreviewLowestFirst
-  pub places-small : PreviewPlacesSmall
-  pub unaltered : PreviewUnaltered
+  pub preview-laws : PreviewLaws
   pub as-run : PreviewAsRun
   pub typed : PreviewTyped
   pub toggle : PreviewToggle

@@ -12,14 +12,14 @@ use answers::WRONG_OUTPUT_LENGTH;
 use answers::in_one;
 use answers::packed;
 use answers::packed_verdict;
-use records::RECORDS;
+use records::ENVIRONMENT;
 use records::WidthTable;
 use records::no_widths;
 use records::records_in;
 use stepper::look;
-use stepper::no_names;
-use stepper::no_next_values;
 use stimulus::check_one_cycle;
+use values::no_names;
+use values::no_next_values;
 use values::none_fired;
 use verdict::check_into;
 
@@ -35,7 +35,7 @@ fn show(sheet: &[u8], n: usize, widths: &WidthTable, input: &[u8], out: &mut [u8
         sheet,
         n,
         widths,
-        &mut env[0..RECORDS],
+        &mut env[0..ENVIRONMENT],
         &mut held,
         &mut fired,
         input,
@@ -56,9 +56,9 @@ fn preview_accepted(
     requires { ⌜ Accepting (now sheet) n (now widths) × (verdict (now sheet) ≡ Accepted t) ⌝ }
     ensures { λ r. ⌜ Previewed (now (sheet .entry)) (now (stim .entry)) (now (out .entry)) r (now (out .exit)) ⌝ }
 {
-    let held = check_one_cycle(sheet, n, widths, stim);
-    let Answer::Done(_cycles) = held else {
-        return packed(held);
+    let answer = check_one_cycle(sheet, n, widths, stim);
+    let Answer::Done(_cycles) = answer else {
+        return packed(answer);
     };
     let needed = widths[t] as usize;
     if out.len() != needed {

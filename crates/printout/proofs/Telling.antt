@@ -4,7 +4,7 @@
 use Prim.Native.Nat.{ℕ, zero, suc, _-_, _≤_, _<_}
 use mathlib.Core.Path.{_≡_, refl, sym, ap, subst, _∙_}
 use mathlib.Core.Bool.{true}
-use mathlib.Core.List.{List, [], _∷_, _++_}
+use mathlib.Core.List.{List, _++_}
 use native.Mathlib.Omega.{arith}
 use native.Mathlib.Decide.{decLt}
 use lib.ListN.{length, take, drop, replicate, length-append, length-replicate}
@@ -13,7 +13,7 @@ use borrow.Author.Tests.{lt-ltb}
 use Rattle.picoella.specs.Language.{leaves}
 use Rattle.records.specs.Trees.{typeAt}
 use Rattle.records.proofs.Types.{some-leaves}
-use Rattle.answers.specs.Answers.{code, place, codeOfResult, placeOfResult, verdictAnswer, Check, firstApplying, Refuses, SaysOf}
+use Rattle.answers.specs.Answers.{code, place, codeOfResult, placeOfResult, verdictAnswer, firstApplying, SaysOf}
 use Rattle.answers.specs.declared.Answer.{Answer}
 use Rattle.answers.specs.declared.Answer.the-variants.{Done, Refused}
 use Rattle.answers.proofs.First.{first-says}
@@ -23,9 +23,9 @@ use Rattle.answers.specs.declared.Verdict.the-variants.{Accepted}
 use Rattle.accepted.proofs.Laws.{verdict-first, first-accepted}
 use Rattle.accepted.proofs.Small.{accepted-few}
 use Rattle.stimulus.specs.Stimulus.{inputType, wrongStimulus, stimulusChecks, cycleCount}
-use Rattle.behaviour.specs.Run.{outputNeeded, callChecks, bySlices, answer, finalOut, finalNext, RunGiven}
-use Rattle.behaviour.specs.Promises.{SaysOfCall}
-use Rattle.behaviour.proofs.Answers.{lowest-first, places-small, refused-by-verdict, stimulus-refused}
+use Rattle.behaviour.specs.Run.{outputNeeded, bySlices, answer, finalOut, finalNext}
+use Rattle.behaviour.specs.Afterwards.{WellFormed}
+use Rattle.behaviour.proofs.Answers.{run-laws, refused-by-verdict, stimulus-refused}
 use Rattle.simulator.specs.Running.{Measured}
 use Rattle.simulator.specs.Calls.{Ran}
 use Rattle.listing.specs.Lines.{refusedLine}
@@ -46,25 +46,8 @@ over-long s stim h = rw (lt-ltb 65535 (length stim) h) refl
 over-refused : (s stim : List ℕ) → 65535 < length stim → firstApplying (stimulusChecks s stim) (Done (cycleCount s stim)) ≡ Refused 8 0
 over-refused s stim h = rw (over-long s stim h) refl
 
--- every code of a call is above 0
-abbrev Numbered : List Check → Type 0
-Numbered [] = Unit {0}
-Numbered (k ∷ ks) = (0 < k .number) × Numbered ks
-
-numbered-in : (before : List Check) (k : Check) (after : List Check) → Numbered (before ++ (k ∷ after)) → 0 < k .number
-numbered-in [] k after h = h .0
-numbered-in (j ∷ js) k after h = numbered-in js k after (h .1)
-
-call-numbered : (s stim out next : List ℕ) → Numbered (callChecks s stim out next)
-call-numbered s stim out next =
-    (omega arith, (omega arith, (omega arith, (omega arith, (omega arith, (omega arith, (omega arith, (omega arith, (omega arith, (omega arith, (omega arith, tt)))))))))))
-
 refused-code : (s stim out next : List ℕ) (c p : ℕ) → answer s stim out next ≡ Refused c p → 0 < c
-refused-code s stim out next c p e =
-    let r : Refuses (callChecks s stim out next) c p = lowest-first s stim out next (Refused c p) .0 e in
-    let n = numbered-in (r .before) (r .applying) (r .after) (subst Numbered (r .split) (call-numbered s stim out next)) in
-    let m = r .numbered in
-    omega arith
+refused-code s stim out next c p e = run-laws s stim out next .refusal-coded c p e
 
 refusal-text : (c p t w : ℕ) (outputs : List ℕ) → 0 < c → toldText c p t w outputs ≡ refusedLine c p
 refusal-text zero p t w outputs h = absurd (omega arith)
@@ -117,12 +100,12 @@ module _ (s stim : List ℕ) (i o t many : ℕ) (m : Measured s i o t) (q : Outp
     apart : (c ≡ code (answer s stim lo ln)) × (p ≡ place (answer s stim lo ln))
     apart =
         let given = answer s stim lo ln in
-        rw (ec, ep, ran .gives .result-is) (Answers.kept .taken-apart (code given) (place given) (places-small s stim lo ln))
+        rw (ec, ep, ran .gives .result-is) (Answers.kept .taken-apart (code given) (place given) (run-laws s stim lo ln .place-small))
 
     -- done: the outputs and the sheet after them
     module _ (n : ℕ) (e : answer s stim lo ln ≡ Done n) where
-      formed : SaysOfCall s stim lo ln (Done n)
-      formed = lowest-first s stim lo ln (Done n) .0 e
+      formed : (t : ℕ) × WellFormed s stim lo ln t
+      formed = run-laws s stim lo ln .lowest-first (Done n) .0 e .0
 
       done-outputs : ro ≡ runOutputs s stim
       unfolding finalOut runOutputs

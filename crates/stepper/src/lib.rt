@@ -1,17 +1,14 @@
 // One cycle of a sheet: the root's value for an input, and the sheet with every delay holding its next value.
 ghost use mathlib.Core.Path.{_≡_};
 ghost use Prim.Native.Nat.{ℕ, _<_};
-ghost use lib.ListN.{length};
 ghost use Rattle.records.specs.Words.{wordB};
 ghost use Rattle.records.specs.Kinds.{leafs};
 ghost use Rattle.records.specs.Says.{kindAt, sortAt};
 ghost use Rattle.records.specs.Trees.{chain};
 ghost use Rattle.behaviour.specs.Copies.{copied, leavesByKind, delayChains};
 ghost use Rattle.stepper.specs.Cycling.{Copying, Cycling, Looked, Cycled};
-ghost use Rattle.records.specs.Limits.{mostRecords, environmentBytes};
 use evaluator::eval;
 use records::KIND_DELAY;
-use records::RECORDS;
 use records::WORD_A;
 use records::WORD_B;
 use records::WORD_KIND;
@@ -19,24 +16,9 @@ use records::WORD_NEXT;
 use records::WidthTable;
 use records::offset;
 use records::word;
-use values::Environment;
 use values::Fired;
 use values::NextValues;
 use values::enter_value;
-
-// The names' bytes: room for 64 values of 64 leaves.
-pub fn no_names() -> Environment
-    ensures { λ r. ⌜ length r ≡ environmentBytes ⌝ }
-{
-    [0; 4096]
-}
-
-// The table of the delays' next values.
-pub fn no_next_values() -> NextValues
-    ensures { λ r. ⌜ length r ≡ mostRecords ⌝ }
-{
-    [0; RECORDS]
-}
 
 // Copies a table's entries to the leaves from `first`: word a, low byte first.
 fn copy_chain(sheet: &[u8], n: usize, first: usize, held: &NextValues, current: &mut [u8])

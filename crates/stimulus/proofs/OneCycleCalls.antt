@@ -1,40 +1,40 @@
--- A call on one cycle that is lent one slice, whose length is checked last, by code c: its answer says what its checks say, its place
--- is small where the length needed is, and what the check's answer and that of the stimulus say of it.
+-- A call on one cycle that is lent one slice, whose length is checked last, by code c: what every call
+-- promises, where the length needed is small, and what the check's answer and that of the stimulus say of it.
 -- Assumes nothing.
 use Prim.Native.Nat.{ℕ, _<_, _^_}
-use mathlib.Core.Bool.{Bool, false, not}
+use mathlib.Core.Bool.{false, not}
 use mathlib.Core.List.{List, [], _∷_, _++_}
-use mathlib.Core.Logic.{_↔_, _≢_}
+use mathlib.Core.Logic.{_≢_}
 use mathlib.Core.Option.{some}
-use mathlib.Core.Path.{_≡_, refl, sym, ap, subst, _∙_}
+use mathlib.Core.Path.{_≡_, refl, sym, ap, _∙_}
 use native.Mathlib.Omega.{arith}
 use lib.ListN.{length}
 use lib.Dec.{eqb}
-use borrow.Author.Tests.{eq-eqb, ne-eqb}
-use Rattle.answers.specs.Answers.{place, onDone, lowest, Check, check, when, orRefused, firstApplying, NoneApplies, SaysOf, verdictAnswer}
+use borrow.Author.Tests.{eq-eqb, ne-eqb, lt-ltb}
+use Rattle.answers.specs.Answers.{onDone, lowest, Check, check, when, firstApplying, NoneApplies, verdictAnswer}
+use Rattle.answers.specs.StandardLaws.{LentSlice, StandardLaws}
+use Rattle.answers.specs.GivenSlices.{SmallPlaces, GivenSlices}
 use Rattle.answers.specs.declared.Answer.{Answer}
 use Rattle.answers.specs.declared.Answer.the-variants.{Done, Refused}
 use Rattle.answers.proofs.Lowest.{lowest-some-passes}
 use Rattle.answers.proofs.First.{
   when-none,
   when-some,
-  first-says,
-  says-first,
   first-both,
   first-then,
   none-split,
   same-length-by,
-  place-or,
+  none-done,
 }
 use Rattle.verdict.specs.Verdict.{sheetChecks, outputType, verdict}
 use Rattle.answers.specs.declared.Verdict.{Verdict}
 use Rattle.answers.specs.declared.Verdict.the-variants.{Accepted}
-use Rattle.accepted.proofs.Calls.{accepted-output, sheet-refused, sheet-accepted, call-place}
+use Rattle.accepted.proofs.Calls.{accepted-output, sheet-refused, sheet-accepted, none-of-call, call-laws}
 use Rattle.accepted.proofs.Laws.{first-accepted, Refusing, refusing-answer}
 use Rattle.stimulus.specs.Stimulus.{wrongByte}
 use Rattle.stimulus.specs.OneCycle.{notOneCycle, oneCycleChecks}
 use Rattle.stimulus.specs.Holding.{HeldToOne}
-use Rattle.stimulus.specs.OneCycleCalls.{FormedOneCycle, SaysOfOneCycle}
+use Rattle.stimulus.specs.OneCycleCalls.{FormedOneCycle}
 use Rattle.stimulus.proofs.Stimulus.{stimulus-whole}
 use Rattle.stimulus.proofs.OneCycle.{one-cycle-whole, one-cycle-passes}
 
@@ -57,17 +57,14 @@ module _ (c needed : ℕ) (s stim lent : List ℕ) where
       let l = lowest-some-passes (wrongByte s stim) (length stim) i f .0 in
       omega arith
 
-  own-small : needed < 2 ^ 32 → place (firstApplying ownChecks (Done 0)) < 2 ^ 32
-  own-small small =
-      let other = not (eqb (length lent) needed) in
-      let last = firstApplying lengthCheck (Done 0) in
-      let byByte = orRefused 9 (lowest (wrongByte s stim) (length stim)) last in
-      place-or 8 (when (notOneCycle s stim) 0) byByte (λ p e. let z = when-some (notOneCycle s stim) 0 p e in omega arith)
-      (λ e. place-or 9 (lowest (wrongByte s stim) (length stim)) last (λ i f. byte-small i (when-none (notOneCycle s stim) 0 e) f)
-      (λ f. place-or c (when other needed) (Done 0) (λ p h. let z = when-some other needed p h in omega arith) (λ h. omega arith)))
-
-  pub one-cycle-place : ((t : ℕ) → verdict s ≡ Accepted t → needed < 2 ^ 32) → place (firstApplying allChecks (Done 0)) < 2 ^ 32
-  one-cycle-place small = call-place s ownChecks (Done 0) (λ t v. own-small (small t v))
+  own-small : needed < 2 ^ 32 → SmallPlaces ownChecks 0
+  own-small small = (
+    λ p e. let z = when-some (notOneCycle s stim) 0 p e in omega arith,
+    λ e. (
+      λ i f. byte-small i (when-none (notOneCycle s stim) 0 e) f,
+      λ f. (λ p h. let z = when-some (not (eqb (length lent) needed)) needed p h in omega arith, λ h. omega arith),
+    ),
+  )
 
   -- 1 to 7
   pub one-cycle-sheet : (w : Verdict) → w ≡ verdict s → Refusing w
@@ -78,7 +75,7 @@ module _ (c needed : ℕ) (s stim lent : List ℕ) where
       (r .0, r .1, r .2, sheet-refused s ownChecks (Done 0) (r .0) (r .1) f)
 
 module _ (c : ℕ) {needed : ℕ} {s stim lent : List ℕ} where
-  pub one-cycle-formed : NoneApplies (allChecks c needed s stim lent) → FormedOneCycle s stim lent needed
+  one-cycle-formed : NoneApplies (allChecks c needed s stim lent) → FormedOneCycle s stim lent needed
   one-cycle-formed h =
       let p = none-split (sheetChecks s) (ownChecks c needed s stim lent) h in
       record {
@@ -88,30 +85,21 @@ module _ (c : ℕ) {needed : ℕ} {s stim lent : List ℕ} where
         room = same-length-by (length lent) needed needed (p .1 .1 .1 .0);
       }
 
+  formed-none : FormedOneCycle s stim lent needed → NoneApplies (allChecks c needed s stim lent)
+  formed-none h =
+      none-of-call s (ownChecks c needed s stim lent) (outputType s) (h .accepted)
+      (rw (h .one-cycle) refl, (h .fitting, (rw (eq-eqb (length lent) needed (h .room)) refl, tt)))
+
   pub one-cycle-done : FormedOneCycle s stim lent needed → firstApplying (allChecks c needed s stim lent) (Done 0) ≡ Done 0
-  one-cycle-done h =
-      sheet-accepted s (ownChecks c needed s stim lent) (Done 0) (outputType s) (h .accepted)
-      ∙ rw (h .one-cycle, h .fitting, eq-eqb (length lent) needed (h .room)) refl
+  one-cycle-done h = none-done (allChecks c needed s stim lent) (Done 0) (formed-none h)
 
--- nor here: what an answer says is by its cases
-module _ (c needed : ℕ) (s stim lent : List ℕ) where
-  -- each answer says what its checks say, and no other does
-  says-of-one-cycle : (a : Answer) → SaysOf (allChecks c needed s stim lent) 0 a
-      → SaysOfOneCycle (allChecks c needed s stim lent) s stim lent needed a
-  says-of-one-cycle (Done p) h = (one-cycle-formed c (h .0), h .1)
-  says-of-one-cycle (Refused k p) h = h
-
-  one-cycle-says : (a : Answer) → SaysOfOneCycle (allChecks c needed s stim lent) s stim lent needed a
-      → firstApplying (allChecks c needed s stim lent) (Done 0) ≡ a
-  one-cycle-says (Done p) h = one-cycle-done c (h .0) ∙ ap Done (sym (h .1))
-  one-cycle-says (Refused k p) h = says-first (allChecks c needed s stim lent) 0 (Refused k p) h
-
-  pub one-cycle-lowest-first : (a : Answer)
-      → firstApplying (allChecks c needed s stim lent) (Done 0) ≡ a ↔ SaysOfOneCycle (allChecks c needed s stim lent) s stim lent needed a
-  one-cycle-lowest-first a = (
-    λ e. says-of-one-cycle a (subst (λ (b : Answer). SaysOf (allChecks c needed s stim lent) 0 b) e (first-says (allChecks c needed s stim lent) 0)),
-    one-cycle-says a,
-  )
+-- what every call promises, of a call on one cycle
+pub one-cycle-laws : (c needed : ℕ) (s stim lent : List ℕ) {a : Answer} {slices : List LentSlice}
+    → a ≡ firstApplying (allChecks c needed s stim lent) (Done 0) → 0 < c
+    → ((t : ℕ) → verdict s ≡ Accepted t → needed < 2 ^ 32) → GivenSlices a slices
+    → StandardLaws (allChecks c needed s stim lent) (FormedOneCycle s stim lent needed) 0 a slices
+one-cycle-laws c needed s stim lent is above small given =
+    call-laws s (ownChecks c needed s stim lent) (one-cycle-formed c, formed-none c) (rw (lt-ltb 0 c above) refl) is (λ t v. own-small c needed s stim lent (small t v)) given
 
 module _ (c needed : ℕ) {s stim : List ℕ} (lent : List ℕ) {t : ℕ} (v : verdict s ≡ Accepted t) {a : Answer} (h : HeldToOne s stim a) where
   by-length : firstApplying (allChecks c needed s stim lent) (Done 0)

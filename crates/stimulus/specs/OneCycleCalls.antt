@@ -6,9 +6,7 @@ use mathlib.Core.Bool.{false}
 use mathlib.Core.List.{List}
 use mathlib.Core.Option.{none}
 use lib.ListN.{length}
-use Rattle.answers.specs.Answers.{lowest, Check, Refuses}
-use Rattle.answers.specs.declared.Answer.{Answer}
-use Rattle.answers.specs.declared.Answer.the-variants.{Done, Refused}
+use Rattle.answers.specs.Answers.{lowest}
 use Rattle.verdict.specs.Verdict.{outputType, verdict}
 use Rattle.answers.specs.declared.Verdict.the-variants.{Accepted}
 use Rattle.stimulus.specs.Stimulus.{wrongByte}
@@ -20,9 +18,3 @@ pub record FormedOneCycle (sheet stimulus lent : List ℕ) (needed : ℕ) : Type
   pub one-cycle : notOneCycle sheet stimulus ≡ false
   pub fitting : lowest (wrongByte sheet stimulus) (length stimulus) ≡ none
   pub room : length lent ≡ needed
-
--- What each answer says of the call: done, at place 0, exactly where it is such a one; or refused by a check of the list, at its
--- place, where no check before it applies.
-abbrev pub SaysOfOneCycle : (checks : List Check) (sheet stimulus lent : List ℕ) (needed : ℕ) → Answer → Type 0
-SaysOfOneCycle checks s stim lent needed (Done p) = FormedOneCycle s stim lent needed × (p ≡ 0)
-SaysOfOneCycle checks s stim lent needed (Refused c p) = Refuses checks c p

@@ -13,7 +13,6 @@ pub use naming::no_namings;
 pub use naming::note_all;
 pub use pairs::PairIndex;
 pub use pairs::no_pairs;
-pub use pairs::note_pairs;
 pub use pairs::pair_of;
 pub use said::first_wrong_record;
 pub use said::wrong_header;

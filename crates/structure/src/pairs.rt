@@ -96,15 +96,3 @@ pub fn note_pair(sheet: &[u8], n: usize, rec: usize, index: &mut PairIndex) -> u
     }
     lower
 }
-
-// Fills an empty index with all pair types.
-pub fn note_pairs(sheet: &[u8], n: usize, index: &mut PairIndex)
-    requires { ⌜ Sized (now sheet) n × Indexed (now sheet) 0 (now index) ⌝ }
-    ensures { λ _. ⌜ Indexed (now (sheet .entry)) n (now (index .exit)) ⌝ }
-{
-    let mut rec = 0;
-    while rec < n {
-        note_pair(sheet, n, rec, index);
-        rec += 1;
-    }
-}

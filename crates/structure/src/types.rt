@@ -8,10 +8,10 @@ ghost use Rattle.structure.specs.LeafTable.{LeavesCounted};
 ghost use Rattle.structure.specs.PairIndex.{Indexed};
 ghost use Rattle.answers.specs.Answers.{lowest};
 ghost use Rattle.answers.specs.Searches.{found};
+ghost use Rattle.answers.specs.declared.Found.the-variants.{Nothing};
 ghost use Rattle.structure.specs.Rules.{wrongType};
 ghost use Rattle.records.specs.Limits.{pastLeaves};
 use crate::pairs::PairIndex;
-use crate::pairs::no_pairs;
 use crate::pairs::note_pair;
 use answers::Found;
 use records::KIND_FLAT_TYPE;
@@ -86,14 +86,15 @@ fn wrong_type(sheet: &[u8], n: usize, rec: usize, table: &WidthTable, index: &mu
     lower != 0
 }
 
-pub fn first_wrong_type(sheet: &[u8], n: usize, table: &WidthTable) -> Found
-    requires { ⌜ Sized (now sheet) n × LeavesCounted (now sheet) n (now table) ⌝ }
-    ensures { λ r. ⌜ found r ≡ lowest (wrongType (now (sheet .entry))) n ⌝ }
+// The lowest type record that is wrong: code 5. Where there is none, an empty index then has all
+// pair types.
+pub fn first_wrong_type(sheet: &[u8], n: usize, table: &WidthTable, index: &mut PairIndex) -> Found
+    requires { ⌜ Sized (now sheet) n × LeavesCounted (now sheet) n (now table) × Indexed (now sheet) 0 (now index) ⌝ }
+    ensures { λ r. ⌜ (found r ≡ lowest (wrongType (now (sheet .entry))) n) × (r ≡ Nothing → Indexed (now (sheet .entry)) n (now (index .exit))) ⌝ }
 {
-    let mut index = no_pairs();
     let mut rec = 0;
     while rec < n {
-        if wrong_type(sheet, n, rec, table, &mut index) {
+        if wrong_type(sheet, n, rec, table, index) {
             return Found::At(rec);
         }
         rec += 1;

@@ -24,7 +24,7 @@ use Rattle.translator.proofs.Kept as Translator
 use Rattle.text_meaning.proofs.Kept as Meaning
 use Rattle.text_table.proofs.Kept as Table
 use Rattle.text_calls.specs.RunRows.{TextsRun}
-use Rattle.text_calls.specs.CallPromises.{RanAsMeant, TranslatedRunMeans, TextCallPromises}
+use Rattle.text_calls.specs.Promises.{RanAsMeant, TranslatedRunMeans, TextCallPromises}
 
 run-means : TranslatedRunMeans
 run-means bytes entry n exit h stim out next τ result out′ next′ w g =

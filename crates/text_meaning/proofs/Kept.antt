@@ -35,7 +35,7 @@ use Rattle.translation.proofs.Kept.{names-good}
 use Rattle.text_meaning.specs.NamedValues.{NamedValue, valueOf}
 use Rattle.text_meaning.specs.Circuits.{NamedCircuit, circuitOf}
 use Rattle.text_meaning.specs.NamedRules.{GivesSeq, no-cycle, one-cycle}
-use Rattle.text_meaning.specs.TextPromises.{declarations, Means, OneMeaning, RunGivesMeaning, MeaningExists, TextPromises}
+use Rattle.text_meaning.specs.Promises.{declarations, Means, OneMeaning, RunGivesMeaning, MeaningExists, TextPromises}
 use Rattle.text_meaning.proofs.OneMeaning.{run-one}
 use Rattle.text_meaning.proofs.Naming.{nameTree, KnownType, value-of}
 use Rattle.text_meaning.proofs.Related.{Related, scoped-input, none-known, one-known}

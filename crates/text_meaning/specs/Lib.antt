@@ -3,4 +3,4 @@
 pub mod NamedValues
 pub mod Circuits
 pub mod NamedRules
-pub mod TextPromises
+pub mod Promises

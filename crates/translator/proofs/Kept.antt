@@ -3,22 +3,24 @@
 use Prim.Native.Nat.{ℕ, _+_, _*_, _-_, _^_, _≤_, _<_}
 use native.Mathlib.Omega.{arith}
 use mathlib.Core.Path.{_≡_, refl, sym, ap, subst, _∙_}
-use mathlib.Core.Logic.{_⊎_, inl, inr, _≢_, _↔_}
+use mathlib.Core.Logic.{_⊎_, inl, inr, _↔_}
 use mathlib.Core.Bool.{Bool, true, false, cond, not}
 use mathlib.Core.List.{List, [], _∷_, _++_}
-use mathlib.Core.Option.{Option, none, some}
+use mathlib.Core.Option.{none, some}
 use lib.ListN.{length, take, drop, replicate, length-append, length-replicate}
 use lib.Dec.{T, ltb, nltb→le}
 use Rattle.records.specs.SheetOf.{Record, words, sheetOf}
-use Rattle.answers.specs.Answers.{code, place, whenDone, check, when, firstApplying, SaysOf}
+use Rattle.answers.specs.Answers.{whenDone, check, when, NoneApplies, SaysOf}
+use Rattle.answers.specs.GivenSlices.{no-slice, one-slice}
 use Rattle.answers.specs.declared.Answer.{Answer}
 use Rattle.answers.specs.declared.Answer.the-variants.{Done, Refused}
-use Rattle.answers.proofs.First.{first-says, says-first, place-or, when-none, when-some, kept-bytes}
+use Rattle.answers.proofs.First.{first-says, says-first, when-none, when-some}
+use Rattle.answers.proofs.StandardLaws.{first-place, standard-laws}
 use Rattle.grammar.specs.Tokens.{Token}
 use Rattle.grammar.specs.Source.{Text}
 use Rattle.grammar.specs.Legal.{Reading, LeavesGrammar, Keeps}
 use Rattle.grammar.proofs.Kept as Grammar
-use Rattle.naming.specs.Checks.{AllPass, firstBadPlace}
+use Rattle.naming.specs.Checks.{AllPass}
 use Rattle.naming.specs.Constants.{constantsOfText}
 use Rattle.naming.specs.Names.{nameChecks, textChecks}
 use Rattle.naming.specs.RecordsNeeded.{recordsNeeded}
@@ -34,9 +36,12 @@ use Rattle.translator.specs.Translated.{
   Translated,
   outside-grammar,
   in-grammar,
+  TranslationFormed,
+  checks-outside,
+  checks-inside,
 }
-use Rattle.translator.specs.Promises.{EveryTranslated, OneTranslation, TextFirstThatApplies, TranslationPlacesSmall, TranslationUnaltered, WroteSheet, WritesSheet, TranslatorPromises}
-use Rattle.naming.proofs.First.{none-bad, both-pass}
+use Rattle.translator.specs.Promises.{EveryTranslated, OneTranslation, TextFirstThatApplies, TranslationLaws, WroteSheet, WritesSheet, TranslatorPromises}
+use Rattle.naming.proofs.First.{none-bad, pass-none, pass-split, both-pass}
 use Rattle.translator.proofs.PlacesWithin.{names-within, constants-within}
 
 every : EveryTranslated
@@ -65,25 +70,60 @@ first t room a = (
   says-first (textCallChecks t room) (lengthNeeded t) a,
 )
 
-small : TranslationPlacesSmall
-unfolding textAnswer
-small bytes entry a exit (outside-grammar {i} l) = let w = Grammar.kept .place-within bytes i l .1 in omega (arith, w)
-small bytes entry a exit (in-grammar {ts} {t} k r) =
+-- where the text leaves the grammar, 13 applies and no call is well formed
+outside-formed : {bytes : List ℕ} {i room : ℕ} → LeavesGrammar bytes i → NoneApplies (check 13 (some i) ∷ []) ↔ TranslationFormed bytes room
+outside-formed {bytes} {i} l = (
+  λ h. let z : _≡_ {A = ℕ} 0 1 = let e = h .0 in cc in absurd (omega arith),
+  λ f. absurd (Grammar.kept .never-both bytes i l (f .keeps)),
+)
+
+-- and in the grammar the checks are those of the one text that is read
+inside-formed : {bytes : List ℕ} {ts : List Token} {t : Text} {room : ℕ} → Keeps bytes → Reading bytes ts t
+    → NoneApplies (check 13 none ∷ textCallChecks t room) ↔ TranslationFormed bytes room
+inside-formed {bytes} {ts} {t} {room} k r = (
+  λ h. record {
+    keeps = k;
+    tokens = ts;
+    source = t;
+    reading = r;
+    good = both-pass (none-bad (nameChecks t) (h .1 .0)) (none-bad (constantsOfText t) (h .1 .1 .0));
+    fits = when-none (noRoom t room) (lengthNeeded t) (h .1 .1 .1 .0);
+  },
+  λ f. let e = Grammar.kept .one-reading bytes (f .tokens) ts (f .source) t (f .reading) r .1 in
+      let g = pass-split (nameChecks t) (subst (λ u. AllPass (textChecks u)) e (f .good)) in
+      let y : noRoom t room ≡ false = subst (λ u. noRoom u room ≡ false) e (f .fits) in
+      (refl, (pass-none (g .0), (pass-none (g .1), (ap (λ b. when b (lengthNeeded t)) y, tt)))),
+)
+
+laws : TranslationLaws
+unfolding textAnswer finalSheet
+laws bytes entry a exit (outside-grammar {i} l) =
+    let w = Grammar.kept .place-within bytes i l .1 in
+    record {
+      checks = check 13 (some i) ∷ [];
+      done = 0;
+      are-checks = checks-outside l;
+      laws = standard-laws (outside-formed l) refl refl (omega (arith, w)) (one-slice [] no-slice);
+    }
+laws bytes entry a exit (in-grammar {ts} {t} k r) =
     let s = k .short in
     let b = records-bounded (r .lexed) (r .parsed) in
     let n : lengthNeeded t < 2 ^ 32 = omega (arith, s, b) in
-    place-or 14 (firstBadPlace (nameChecks t)) _
-    (λ p e. let w = names-within (r .lexed) (r .parsed) p e in omega (arith, s, w))
-    (λ _. place-or 14 (firstBadPlace (constantsOfText t)) _
-    (λ p e. let w = constants-within (r .lexed) (r .parsed) p e in omega (arith, s, w))
-    (λ _. place-or 15 (when (noRoom t (length entry)) (lengthNeeded t)) _
-    (λ p e. let w = when-some (noRoom t (length entry)) (lengthNeeded t) p e in omega (arith, n, w)) (λ _. n)))
-
-unaltered : TranslationUnaltered
-unfolding finalSheet
-unaltered bytes entry a exit (outside-grammar l) h = refl
-unaltered bytes entry a exit (in-grammar {t} k r) h =
-    kept-bytes (textAnswer t (length entry)) (sheetOfText t ++ replicate (length entry - lengthNeeded t) 0) entry h
+    record {
+      checks = check 13 none ∷ textCallChecks t (length entry);
+      done = lengthNeeded t;
+      are-checks = checks-inside k r;
+      laws =
+          standard-laws (inside-formed k r) refl refl
+          (first-place (textCallChecks t (length entry)) (lengthNeeded t) (
+            λ p e. let w = names-within (r .lexed) (r .parsed) p e in omega (arith, s, w),
+            λ _. (
+              λ p e. let w = constants-within (r .lexed) (r .parsed) p e in omega (arith, s, w),
+              λ _. (λ p e. let w = when-some (noRoom t (length entry)) (lengthNeeded t) p e in omega (arith, n, w), λ _. n),
+            ),
+          ))
+          (one-slice (sheetOfText t ++ replicate (length entry - lengthNeeded t) 0) no-slice);
+    }
 
 take-first : (xs ys : List ℕ) → take (length xs) (xs ++ ys) ≡ xs
 take-first [] ys = refl
@@ -161,7 +201,6 @@ kept =
       every-translated = every;
       one-translation = one;
       first-that-applies = first;
-      places-small = small;
-      unaltered = unaltered;
+      translation-laws = laws;
       writes-sheet = writes;
     }

@@ -1,11 +1,12 @@
 -- What is promised of the translation: each promise a named type, and at the end the list of them. One term of each stands in
 -- `proofs/Kept.antt`.
-use Prim.Native.Nat.{ℕ, _-_, _≤_, _<_, _^_}
+use Prim.Native.Nat.{ℕ, _-_, _≤_}
 use mathlib.Core.Path.{_≡_}
-use mathlib.Core.Logic.{_≢_, _↔_}
-use mathlib.Core.List.{List}
+use mathlib.Core.Logic.{_↔_}
+use mathlib.Core.List.{List, [], _∷_}
 use lib.ListN.{length, take, drop, replicate}
-use Rattle.answers.specs.Answers.{code, place, SaysOf}
+use Rattle.answers.specs.Answers.{Check, SaysOf}
+use Rattle.answers.specs.StandardLaws.{lentSlice, StandardLaws}
 use Rattle.answers.specs.declared.Answer.{Answer}
 use Rattle.answers.specs.declared.Answer.the-variants.{Done}
 use Rattle.grammar.specs.Tokens.{Token}
@@ -14,7 +15,7 @@ use Rattle.grammar.specs.Legal.{Reading}
 use Rattle.naming.specs.Checks.{AllPass}
 use Rattle.naming.specs.Names.{textChecks}
 use Rattle.translation.specs.Layout.{sheetOfText}
-use Rattle.translator.specs.Translated.{lengthNeeded, textCallChecks, textAnswer, Translated}
+use Rattle.translator.specs.Translated.{lengthNeeded, textCallChecks, textAnswer, Translated, TranslationChecks, TranslationFormed}
 
 -- 1. Every call is answered, and in one way.
 abbrev pub EveryTranslated : Type 0
@@ -29,15 +30,18 @@ abbrev pub TextFirstThatApplies : Type 0
 TextFirstThatApplies =
     (t : Text) (room : ℕ) (a : Answer) → textAnswer t room ≡ a ↔ SaysOf (textCallChecks t room) (lengthNeeded t) a
 
--- 3. The place of every answer is below 2^32.
-abbrev pub TranslationPlacesSmall : Type 0
-TranslationPlacesSmall = (bytes entry : List ℕ) (a : Answer) (exit : List ℕ) → Translated bytes entry a exit → place a < 2 ^ 32
+-- 3. What every call promises (`StandardLaws` of `answers`), whatever the call gave.
+pub record TranslationLawful (bytes entry : List ℕ) (a : Answer) (exit : List ℕ) : Type 0 where
+  pub checks : List Check
+  pub done : ℕ
+  pub are-checks : TranslationChecks bytes (length entry) checks done
+  pub laws : StandardLaws checks (TranslationFormed bytes (length entry)) done a (lentSlice entry exit ∷ [])
 
--- 4. A refusal leaves the slice unaltered.
-abbrev pub TranslationUnaltered : Type 0
-TranslationUnaltered = (bytes entry : List ℕ) (a : Answer) (exit : List ℕ) → Translated bytes entry a exit → code a ≢ 0 → exit ≡ entry
+abbrev pub TranslationLaws : Type 0
+TranslationLaws =
+    (bytes entry : List ℕ) (a : Answer) (exit : List ℕ) → Translated bytes entry a exit → TranslationLawful bytes entry a exit
 
--- 5. Where the call gives 0 with length n, the names and constants of the text are good, the first n bytes are its sheet, at most as many as
+-- 4. Where the call gives 0 with length n, the names and constants of the text are good, the first n bytes are its sheet, at most as many as
 -- the slice has and as a sheet may have, and after them are zeros.
 pub record WroteSheet (bytes entry : List ℕ) (n : ℕ) (exit : List ℕ) : Type 0 where
   pub tokens : List Token
@@ -59,6 +63,5 @@ pub record TranslatorPromises : Type 0 where
   pub every-translated : EveryTranslated
   pub one-translation : OneTranslation
   pub first-that-applies : TextFirstThatApplies
-  pub places-small : TranslationPlacesSmall
-  pub unaltered : TranslationUnaltered
+  pub translation-laws : TranslationLaws
   pub writes-sheet : WritesSheet

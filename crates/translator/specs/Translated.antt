@@ -4,8 +4,9 @@
 -- there to its end."
 use Prim.Native.Nat.{ℕ, _*_, _-_}
 use mathlib.Core.Path.{_≡_}
-use mathlib.Core.Bool.{Bool, true, cond}
+use mathlib.Core.Bool.{Bool, true, false, cond}
 use mathlib.Core.List.{List, [], _∷_, _++_}
+use mathlib.Core.Option.{none, some}
 use lib.ListN.{length, replicate}
 use lib.Dec.{ltb}
 use Rattle.answers.specs.Answers.{packed, whenDone, Check, check, when, firstApplying}
@@ -14,9 +15,9 @@ use Rattle.answers.specs.declared.Answer.the-variants.{Done, Refused}
 use Rattle.grammar.specs.Tokens.{Token}
 use Rattle.grammar.specs.Source.{Text}
 use Rattle.grammar.specs.Legal.{Reading, LeavesGrammar, Keeps}
-use Rattle.naming.specs.Checks.{firstBadPlace}
+use Rattle.naming.specs.Checks.{AllPass, firstBadPlace}
 use Rattle.naming.specs.Constants.{constantsOfText}
-use Rattle.naming.specs.Names.{nameChecks}
+use Rattle.naming.specs.Names.{nameChecks, textChecks}
 use Rattle.naming.specs.RecordsNeeded.{recordsNeeded}
 use Rattle.translation.specs.Layout.{sheetOfText}
 
@@ -48,6 +49,22 @@ pub data Translated (bytes entry : List ℕ) : Answer → List ℕ → Type 0 wh
   outside-grammar : {i : ℕ} → LeavesGrammar bytes i → Translated bytes entry (Refused 13 i) entry
   in-grammar : {ts : List Token} {t : Text} → Keeps bytes → Reading bytes ts t
       → Translated bytes entry (textAnswer t (length entry)) (finalSheet t entry)
+
+-- all checks of a call, in their order, and the place that it gives where none applies: 13 for a text that leaves the grammar; it does not
+-- apply to a text in the grammar, and then come the checks on what is read
+pub data TranslationChecks (bytes : List ℕ) (room : ℕ) : List Check → (done : ℕ) → Type 0 where
+  checks-outside : {i : ℕ} → LeavesGrammar bytes i → TranslationChecks bytes room (check 13 (some i) ∷ []) 0
+  checks-inside : {ts : List Token} {t : Text} → Keeps bytes → Reading bytes ts t
+      → TranslationChecks bytes room (check 13 none ∷ textCallChecks t room) (lengthNeeded t)
+
+-- a call to which none applies: the text is in the grammar, its names and constants are good, and its sheet has room
+pub record TranslationFormed (bytes : List ℕ) (room : ℕ) : Type 0 where
+  pub keeps : Keeps bytes
+  pub tokens : List Token
+  pub source : Text
+  pub reading : Reading bytes tokens source
+  pub good : AllPass (textChecks source)
+  pub fits : noRoom source room ≡ false
 
 -- the same with the answer in one number
 pub record TranslatedInOne (bytes entry : List ℕ) (result : ℕ) (exit : List ℕ) : Type 0 where

@@ -1,6 +1,6 @@
 -- The last judgement of an expression: where its rule fails it is the fault, and where it holds the type's leaf count is noted.
 -- Assumes nothing.
-use mathlib.Core.Path.{_≡_, refl, _∙_, ap}
+use mathlib.Core.Path.{_≡_, refl, sym, _∙_, ap}
 use mathlib.Core.Bool.{Bool, true, false}
 use mathlib.Core.List.{List, _∷_}
 use Prim.Native.Nat.{ℕ, zero, suc, _+_, _-_, _≤_, _<_}
@@ -11,12 +11,14 @@ use lib.ListN.{length, set, length-set}
 use lib.Seq.{getD-set-same, getD-set-other}
 use Rattle.picoella.specs.Language.{leaves}
 use Rattle.records.specs.Words.{word}
+use Rattle.records.specs.Kinds.{types, expressions, sortNumber}
+use Rattle.records.specs.Says.{sortAt}
 use Rattle.records.specs.Trees.{typeAt, TypeRecord, pairOf, pairBelow}
 use Rattle.records.proofs.CodeTable.{pair-number}
 use Rattle.records.proofs.TypeRecords.{found-pair, first-part, second-part}
 use Rattle.structure.proofs.LeafCounts.{pair-kind}
 use Rattle.typing.specs.Judgements.{Rule, holds, pairDeclared, pairType, sameType}
-use Rattle.typing.specs.Judging.{Closing, Closed, lastly, scopeOf}
+use Rattle.typing.specs.Judging.{TypesCounted, Closing, Closed, lastly, scopeOf}
 use Rattle.typing.specs.declared.Outcome.{Outcome}
 use Rattle.typing.specs.declared.Outcome.the-variants.{Sound, Fault}
 use Rattle.typing.proofs.Bounds.{ground-written}
@@ -35,11 +37,26 @@ one-name-more stack n t long h =
 not-typed : (r u : ℕ) → Fault r ≡ Sound u → ⊥
 not-typed r u e = let z : _≡_ {A = ℕ} 0 1 = cc in omega arith
 
-module _ {s : List ℕ} {n : ℕ} {table : List ℕ} {rec : ℕ} {before : List ℕ} (c : Closing s n table rec before) where
+module _ {s : List ℕ} {n : ℕ} {rec : ℕ} {before : List ℕ} (c : Closing s n rec before) where
+  pub closing-counted : TypesCounted s before
+  closing-counted = record { long = c .long; leaves = c .ground .leaves }
+
+  -- a store at an expression's record leaves the types
+  pub note-counted : (v : ℕ) → TypesCounted s (set before rec v)
+  note-counted v = record {
+    long = length-set before rec v ∙ c .long;
+    leaves = λ t r. getD-set-other before rec t v 0 (λ e. other t r e) ∙ c .ground .leaves t r;
+  }
+    where
+      other : (t : ℕ) → TypeRecord s t → t ≡ rec → ⊥
+      other t r e =
+          let z : sortNumber types ≡ sortNumber expressions = ap sortNumber (sym (r .sort) ∙ ap (sortAt s) e ∙ c .sort) in
+          omega arith
+
   pub fails-closed : (rule : Rule) (t : ℕ) → holds s rule ≡ false → Closed s rule rec t (Fault rec) before before
   fails-closed rule t e = record {
     answered = rw e;
-    long = c .long;
+    counted = closing-counted;
     notes = λ u q. absurd (not-typed rec u q);
   }
 
@@ -47,7 +64,7 @@ module _ {s : List ℕ} {n : ℕ} {table : List ℕ} {rec : ℕ} {before : List 
       → after ≡ set before rec (leaves (typeAt s t)) → Closed s rule rec t answer before after
   noted-closed rule t answer after e ea en = record {
     answered = ea ∙ rw e;
-    long = ap length en ∙ length-set before rec (leaves (typeAt s t)) ∙ c .long;
+    counted = rw en (note-counted (leaves (typeAt s t)));
     notes = λ u q. en;
   }
 

@@ -26,7 +26,7 @@ use Rattle.records.specs.Trees.{typeAt, TypeRecord, pairOf, treeAt, chain, alte
 use Rattle.records.specs.Written.{Written}
 use Rattle.records.proofs.Trees.{tree-of}
 use Rattle.typing.specs.Judgements.{holds, leavesFit, inScope, pairDeclared, pairType, sameType, patternHas, judge, firstFailing}
-use Rattle.typing.specs.Judging.{Judged, Closed, Closing, PartAt, at-first, at-second, lastly, scopeOf, Context}
+use Rattle.typing.specs.Judging.{TypesCounted, Judged, Closed, Closing, PartAt, at-first, at-second, lastly, scopeOf, Context}
 use Rattle.typing.specs.declared.Outcome.{Outcome}
 use Rattle.typing.specs.declared.Outcome.the-variants.{Sound, Fault}
 use Rattle.typing.proofs.Outcomes.{Passed, lastly-fails}
@@ -103,9 +103,10 @@ module _ {s : List ℕ} {rec : ℕ} (w : Written s) (h : rec < count s) where
           rw let-tree (let-body-faults _ _ t p w0 w1 w2 (rw ea at pa) (rw (eb, q) at d) f)
 
       pub let-closes : (Δ : List ℕ) (t u : ℕ) (w0 w1 w2 w3 : List ℕ) → Δ ≡ t ∷ Γ → Passed s Γ (treeAt s a) t w0 w1
-          → Passed s Δ (treeAt s b) u w1 w2 → ans ≡ Sound u → w3 ≡ set w2 rec (leaves (typeAt s u)) → Judged s Γ (treeAt s rec) ans w0 w3
-      let-closes Δ t u w0 w1 w2 w3 q pa pb f n =
-          rw let-tree (let-passes _ _ t u w0 w1 w2 w3 (rw ea at pa) (rw (eb, q) at pb) f n)
+          → Passed s Δ (treeAt s b) u w1 w2 → ans ≡ Sound u → w3 ≡ set w2 rec (leaves (typeAt s u)) → TypesCounted s w3
+          → Judged s Γ (treeAt s rec) ans w0 w3
+      let-closes Δ t u w0 w1 w2 w3 q pa pb f n l =
+          rw let-tree (let-passes _ _ t u w0 w1 w2 w3 (rw ea at pa) (rw (eb, q) at pb) f n l)
 
   module _ (e : kindAt s rec ≡ expression feedback) (t a b : ℕ) (et : t ≡ word s rec 2) (ea : a ≡ word s rec 3) (eb : b ≡ word s rec 4)
       {Γ : List ℕ} (Δ : List ℕ) (q : Δ ≡ t ∷ Γ) where
@@ -177,20 +178,21 @@ module _ {s : List ℕ} {rec : ℕ} (w : Written s) (h : rec < count s) where
           → Closed s (sameType u t) rec t ans w1 w2 → Judged s Γ (treeAt s rec) ans w0 w2
       delay-closing u w0 w1 w2 pa f c = rw delay-tree (delay-closes _ t (chain s l) u w0 w1 w2 (rw ea at pa) f c)
 
-  module _ (e : kindAt s rec ≡ expression constant) (t l : ℕ) (et : t ≡ word s rec 2) (el : l ≡ word s rec 3) (w0 : List ℕ) (long : length w0 ≡ 4096) where
+  module _ (e : kindAt s rec ≡ expression constant) (t l : ℕ) (et : t ≡ word s rec 2) (el : l ≡ word s rec 3) (w0 : List ℕ) where
     constant-tree : treeAt s rec ≡ constantOf rec t (chain s l)
     constant-tree = tree-of w rec h (expression constant) e ∙ rw (← et, ← el)
 
     module _ {Γ : List ℕ} {ans : Outcome} where
-      pub constant-fault : (u p : ℕ) → ans ≡ lastly (holds s (leavesFit t (chain s l))) rec u → ans ≡ Fault p → Judged s Γ (treeAt s rec) ans w0 w0
-      constant-fault u p f g =
+      pub constant-fault : (u p : ℕ) → ans ≡ lastly (holds s (leavesFit t (chain s l))) rec u → ans ≡ Fault p → TypesCounted s w0
+          → Judged s Γ (treeAt s rec) ans w0 w0
+      constant-fault u p f g n =
           rw constant-tree
           (constant-faults t p (chain s l) w0
-          (lastly-fails s rec (leavesFit t (chain s l)) u p ans f g) g long)
+          (lastly-fails s rec (leavesFit t (chain s l)) u p ans f g) g n)
 
       pub constant-typed : (w1 : List ℕ) → firstFailing s (judge rec (leavesFit t (chain s l))) ≡ none → ans ≡ Sound t
-          → w1 ≡ set w0 rec (leaves (typeAt s t)) → Judged s Γ (treeAt s rec) ans w0 w1
-      constant-typed w1 f g n = rw constant-tree (constant-passes t (chain s l) w0 w1 f g long n)
+          → w1 ≡ set w0 rec (leaves (typeAt s t)) → TypesCounted s w1 → Judged s Γ (treeAt s rec) ans w0 w1
+      constant-typed w1 f g n k = rw constant-tree (constant-passes t (chain s l) w0 w1 f g k n)
 
   module _ (e : kindAt s rec ≡ expression name) (k : ℕ) (ek : k ≡ word s rec 2) {Γ : List ℕ} {ans : Outcome} where
     pub name-closing : (w0 w1 : List ℕ) → Closed s (inScope k (length Γ)) rec (getD Γ k 0) ans w0 w1 → Judged s Γ (treeAt s rec) ans w0 w1
@@ -206,7 +208,7 @@ scope-at zero stack k h = absurd (omega arith)
 scope-at (suc n) stack zero h = ap (λ (i : ℕ). getD stack i 0) (omega arith)
 scope-at (suc n) stack (suc k) h = scope-at n stack k (omega arith) ∙ ap (λ (i : ℕ). getD stack i 0) (omega arith)
 
-module _ {s : List ℕ} {n : ℕ} {table : List ℕ} {rec : ℕ} {w0 : List ℕ} (c : Closing s n table rec w0) (stack : List ℕ) (names k : ℕ) where
+module _ {s : List ℕ} {n : ℕ} {rec : ℕ} {w0 : List ℕ} (c : Closing s n rec w0) (stack : List ℕ) (names k : ℕ) where
   pub name-outside : names ≤ k → Closed s (inScope k (length (scopeOf names stack))) rec (getD (scopeOf names stack) k 0) (Fault rec) w0 w0
   name-outside h =
       fails-closed c (inScope k (length (scopeOf names stack))) (getD (scopeOf names stack) k 0)

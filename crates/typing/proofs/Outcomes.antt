@@ -6,10 +6,10 @@ use mathlib.Core.List.{List, _++_}
 use mathlib.Core.Option.{Option, none, some}
 use Prim.Native.Nat.{ℕ}
 use native.Mathlib.Omega.{arith}
-use lib.ListN.{length, set}
+use lib.ListN.{set}
 use Rattle.records.specs.Trees.{Tree, typeRecordOf}
 use Rattle.typing.specs.Judgements.{Judgement, Rule, holds, judge, judgements, firstFailing}
-use Rattle.typing.specs.Judging.{conclude, judged, noted, Judged, lastly, Closed}
+use Rattle.typing.specs.Judging.{conclude, judged, noted, TypesCounted, Judged, lastly, Closed}
 use Rattle.typing.specs.ExpressionWidth.{width}
 use Rattle.typing.specs.declared.Outcome.{Outcome}
 use Rattle.typing.specs.declared.Outcome.the-variants.{Sound, Fault}
@@ -19,7 +19,7 @@ use Rattle.typing.proofs.Failing.{first-of-both}
 pub record Passed (s Γ : List ℕ) (e : Tree) (t : ℕ) (before after : List ℕ) : Type 0 where
   pub none-fails : firstFailing s (judgements s Γ e) ≡ none
   pub typed : typeRecordOf s Γ e ≡ t
-  pub long : length after ≡ 4096
+  pub counted : TypesCounted s after
   pub notes : after ≡ noted s Γ e before
 
 typed-of : (o : Option ℕ) (u t : ℕ) → conclude o u ≡ Sound t → (o ≡ none) × (u ≡ t)
@@ -35,27 +35,27 @@ module _ {s Γ : List ℕ} {e : Tree} {answer : Outcome} {before after : List �
   unfolding judged
   passed t d a =
       let p = typed-of (firstFailing s (judgements s Γ e)) (typeRecordOf s Γ e) t (sym (d .answered) ∙ a) in
-      record { none-fails = p .0; typed = p .1; long = d .long; notes = d .notes t a }
+      record { none-fails = p .0; typed = p .1; counted = d .counted; notes = d .notes t a }
 
   pub faulted : (p : ℕ) → Judged s Γ e answer before after → answer ≡ Fault p → firstFailing s (judgements s Γ e) ≡ some p
   unfolding judged
   faulted p d a = fault-of (firstFailing s (judgements s Γ e)) (typeRecordOf s Γ e) p (sym (d .answered) ∙ a)
 
   -- a fault
-  pub fault-done : (p : ℕ) → firstFailing s (judgements s Γ e) ≡ some p → answer ≡ Fault p → length after ≡ 4096
+  pub fault-done : (p : ℕ) → firstFailing s (judgements s Γ e) ≡ some p → answer ≡ Fault p → TypesCounted s after
       → Judged s Γ e answer before after
   unfolding judged
   fault-done p f a l = record {
     answered = a ∙ rw f;
-    long = l;
+    counted = l;
     notes = λ t q. let z : _≡_ {A = ℕ} 0 1 = cc in absurd (omega arith);
   }
 
   -- no fault
-  pub typed-done : firstFailing s (judgements s Γ e) ≡ none → answer ≡ Sound (typeRecordOf s Γ e) → length after ≡ 4096
+  pub typed-done : firstFailing s (judgements s Γ e) ≡ none → answer ≡ Sound (typeRecordOf s Γ e) → TypesCounted s after
       → after ≡ noted s Γ e before → Judged s Γ e answer before after
   unfolding judged
-  typed-done f a l n = record { answered = a ∙ rw f; long = l; notes = λ t q. n }
+  typed-done f a l n = record { answered = a ∙ rw f; counted = l; notes = λ t q. n }
 
   -- the last judgement decides
   pub closing-done : (rec : ℕ) (rule : Rule) (middle : List ℕ) → firstFailing s (judgements s Γ e) ≡ firstFailing s (judge rec rule)
@@ -64,7 +64,7 @@ module _ {s Γ : List ℕ} {e : Tree} {answer : Outcome} {before after : List �
   unfolding judged
   closing-done rec rule middle f c n = record {
     answered = c .answered ∙ rw f (concludes (holds s rule));
-    long = c .long;
+    counted = c .counted;
     notes = λ t q. c .notes t q ∙ n;
   }
     where

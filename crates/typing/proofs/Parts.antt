@@ -4,7 +4,7 @@ use mathlib.Core.Path.{_≡_, refl, sym, _∙_, ap, subst}
 use mathlib.Core.List.{List, _∷_, _++_}
 use mathlib.Core.Option.{Option, none, some}
 use Prim.Native.Nat.{ℕ}
-use lib.ListN.{length, getD, set, length-set}
+use lib.ListN.{length, getD, set}
 use Rattle.picoella.specs.Language.{leaves}
 use Rattle.records.specs.Words.{wordA, wordB}
 use Rattle.records.specs.Trees.{
@@ -35,7 +35,7 @@ use Rattle.typing.specs.Judgements.{
   judgements,
   firstFailing,
 }
-use Rattle.typing.specs.Judging.{noted, Judged, Closed}
+use Rattle.typing.specs.Judging.{noted, TypesCounted, Judged, Closed}
 use Rattle.typing.specs.ExpressionWidth.{width}
 use Rattle.typing.specs.declared.Outcome.{Outcome}
 use Rattle.typing.specs.declared.Outcome.the-variants.{Sound, Fault}
@@ -63,7 +63,7 @@ module _ {s Γ : List ℕ} {ans : Outcome} where
   pub first-faults : (Δ : List ℕ) (e A : Tree) (rest : List Judgement) (p : ℕ) (w0 w1 : List ℕ) → judgements s Γ e ≡ judgements s Δ A ++ rest
       → Judged s Δ A ans w0 w1 → ans ≡ Fault p → Judged s Γ e ans w0 w1
   first-faults Δ e A rest p w0 w1 q d a =
-      fault-done p (rw q (fault-first s (judgements s Δ A) rest p (faulted p d a))) a (d .long)
+      fault-done p (rw q (fault-first s (judgements s Δ A) rest p (faulted p d a))) a (d .counted)
 
 module _ {s Γ : List ℕ} {rec : ℕ} {ans : Outcome} where
   -- tuples
@@ -73,7 +73,7 @@ module _ {s Γ : List ℕ} {rec : ℕ} {ans : Outcome} where
     tuple-second-faults t p w0 w1 w2 pa d a =
         fault-done p
         (then-second s (judgements s Γ A) _ (some p) (pa .none-fails)
-        (fault-first s (judgements s Γ B) _ p (faulted p d a))) a (d .long)
+        (fault-first s (judgements s Γ B) _ p (faulted p d a))) a (d .counted)
 
     pub tuple-closes : (t u : ℕ) (w0 w1 w2 w3 : List ℕ) → Passed s Γ A t w0 w1 → Passed s Γ B u w1 w2
         → Closed s (pairDeclared t u) rec (pairOf s t u) ans w2 w3 → Judged s Γ (tupleOf rec A B) ans w0 w3
@@ -88,16 +88,16 @@ module _ {s Γ : List ℕ} {rec : ℕ} {ans : Outcome} where
         → Judged s Γ (letOf rec A B) ans w0 w2
     let-body-faults t p w0 w1 w2 pa d a =
         let f = faulted p d a in
-        fault-done p (then-second s (judgements s Γ A) _ (some p) (pa .none-fails) (rw (pa .typed) f)) a (d .long)
+        fault-done p (then-second s (judgements s Γ A) _ (some p) (pa .none-fails) (rw (pa .typed) f)) a (d .counted)
 
     pub let-passes : (t u : ℕ) (w0 w1 w2 w3 : List ℕ) → Passed s Γ A t w0 w1 → Passed s (t ∷ Γ) B u w1 w2 → ans ≡ Sound u
-        → w3 ≡ set w2 rec (leaves (typeAt s u)) → Judged s Γ (letOf rec A B) ans w0 w3
-    let-passes t u w0 w1 w2 w3 pa pb a q =
+        → w3 ≡ set w2 rec (leaves (typeAt s u)) → TypesCounted s w3 → Judged s Γ (letOf rec A B) ans w0 w3
+    let-passes t u w0 w1 w2 w3 pa pb a q l =
         let pc : Passed s (typeRecordOf s Γ A ∷ Γ) B u w1 w2 = subst (λ (x : ℕ). Passed s (x ∷ Γ) B u w1 w2) (sym (pa .typed)) pb in
         typed-done
         (then-second s (judgements s Γ A) _ none (pa .none-fails) (pc .none-fails))
         (a ∙ ap Sound (sym (pc .typed)))
-        (ap length q ∙ length-set w2 rec _ ∙ pb .long)
+        l
         (q
         ∙ ap (λ (x : ℕ). set w2 rec (leaves (typeAt s x))) (sym (pc .typed))
         ∙ noted-last (letOf rec A B) s Γ rec w2 _ (pc .notes ∙ ap (noted s (typeRecordOf s Γ A ∷ Γ) B) (pa .notes)))
@@ -109,7 +109,7 @@ module _ {s Γ : List ℕ} {rec : ℕ} {ans : Outcome} where
       feedback-body-faults d p w0 w1 w2 pa db a =
           fault-done p
           (then-second s (judgements s (t ∷ Γ) A) _ (some p) (pa .none-fails)
-          (fault-first s (judgements s (t ∷ Γ) B) _ p (faulted p db a))) a (db .long)
+          (fault-first s (judgements s (t ∷ Γ) B) _ p (faulted p db a))) a (db .counted)
 
       pub feedback-closes : (d u : ℕ) (w0 w1 w2 w3 : List ℕ) → Passed s (t ∷ Γ) A d w0 w1 → Passed s (t ∷ Γ) B u w1 w2
           → Closed s (sameType d t) rec u ans w2 w3 → Judged s Γ (feedbackOf rec t A B) ans w0 w3
@@ -143,7 +143,7 @@ module _ {s Γ : List ℕ} {rec : ℕ} {ans : Outcome} where
           → ans ≡ Fault p → Judged s Γ (delayOf rec t ls A) ans w0 w1
       delay-leaves-fault u p w0 w1 pa f a =
           fault-done p
-          (then-second s (judgements s Γ A) _ (some p) (pa .none-fails) (fault-first s (judge rec (leavesFit t ls)) (judge rec (sameType (typeRecordOf s Γ A) t)) p f)) a (pa .long)
+          (then-second s (judgements s Γ A) _ (some p) (pa .none-fails) (fault-first s (judge rec (leavesFit t ls)) (judge rec (sameType (typeRecordOf s Γ A) t)) p f)) a (pa .counted)
 
       pub delay-closes : (u : ℕ) (w0 w1 w2 : List ℕ) → Passed s Γ A u w0 w1 → firstFailing s (judge rec (leavesFit t ls)) ≡ none
           → Closed s (sameType u t) rec t ans w1 w2 → Judged s Γ (delayOf rec t ls A) ans w0 w2
@@ -159,7 +159,7 @@ module _ {s Γ : List ℕ} {rec : ℕ} {ans : Outcome} where
     if-pattern-faults p f a =
         fault-done p
         (then-second s (judgements s Γ A) _ (some p) (pa .none-fails)
-        (fault-first s (judge rec (patternHas (typeRecordOf s Γ A) m)) (branches s Γ rec B C) p (matches rec m pa (some p) f))) a (pa .long)
+        (fault-first s (judge rec (patternHas (typeRecordOf s Γ A) m)) (branches s Γ rec B C) p (matches rec m pa (some p) f))) a (pa .counted)
 
     module _ (fm : firstFailing s (judge rec (patternHas t m)) ≡ none) where
       pub if-then-faults : (p : ℕ) (w2 : List ℕ) → Judged s Γ B ans w1 w2 → ans ≡ Fault p → Judged s Γ (ifOf rec A m B C) ans w0 w2
@@ -167,7 +167,7 @@ module _ {s Γ : List ℕ} {rec : ℕ} {ans : Outcome} where
           fault-done p
           (then-second s (judgements s Γ A) _ (some p) (pa .none-fails)
           (then-second s (judge rec (patternHas (typeRecordOf s Γ A) m)) (branches s Γ rec B C) (some p) (matches rec m pa none fm)
-          (fault-first s (judgements s Γ B) (judgements s Γ C ++ last s Γ rec B C) p (faulted p d a)))) a (d .long)
+          (fault-first s (judgements s Γ B) (judgements s Γ C ++ last s Γ rec B C) p (faulted p d a)))) a (d .counted)
 
       module _ (u : ℕ) (w2 : List ℕ) (pb : Passed s Γ B u w1 w2) where
         pub if-else-faults : (p : ℕ) (w3 : List ℕ) → Judged s Γ C ans w2 w3 → ans ≡ Fault p → Judged s Γ (ifOf rec A m B C) ans w0 w3
@@ -176,7 +176,7 @@ module _ {s Γ : List ℕ} {rec : ℕ} {ans : Outcome} where
             (then-second s (judgements s Γ A) _ (some p) (pa .none-fails)
             (then-second s (judge rec (patternHas (typeRecordOf s Γ A) m)) (branches s Γ rec B C) (some p) (matches rec m pa none fm)
             (then-second s (judgements s Γ B) (judgements s Γ C ++ last s Γ rec B C) (some p) (pb .none-fails)
-            (fault-first s (judgements s Γ C) (last s Γ rec B C) p (faulted p d a))))) a (d .long)
+            (fault-first s (judgements s Γ C) (last s Γ rec B C) p (faulted p d a))))) a (d .counted)
 
         pub if-closes : (v : ℕ) (w3 w4 : List ℕ) → Passed s Γ C v w2 w3 → Closed s (sameType u v) rec u ans w3 w4
             → Judged s Γ (ifOf rec A m B C) ans w0 w4
@@ -191,14 +191,14 @@ module _ {s Γ : List ℕ} {rec : ℕ} {ans : Outcome} where
             (pc .notes ∙ ap (noted s Γ C) (pb .notes ∙ ap (noted s Γ B) (pa .notes))))
 
   -- constants and names
-  pub constant-faults : (t p : ℕ) (ls w0 : List ℕ) → firstFailing s (judge rec (leavesFit t ls)) ≡ some p → ans ≡ Fault p → length w0 ≡ 4096
+  pub constant-faults : (t p : ℕ) (ls w0 : List ℕ) → firstFailing s (judge rec (leavesFit t ls)) ≡ some p → ans ≡ Fault p → TypesCounted s w0
       → Judged s Γ (constantOf rec t ls) ans w0 w0
   constant-faults t p ls w0 f a l = fault-done p f a l
 
-  pub constant-passes : (t : ℕ) (ls w0 w1 : List ℕ) → firstFailing s (judge rec (leavesFit t ls)) ≡ none → ans ≡ Sound t → length w0 ≡ 4096
+  pub constant-passes : (t : ℕ) (ls w0 w1 : List ℕ) → firstFailing s (judge rec (leavesFit t ls)) ≡ none → ans ≡ Sound t → TypesCounted s w1
       → w1 ≡ set w0 rec (leaves (typeAt s t)) → Judged s Γ (constantOf rec t ls) ans w0 w1
   constant-passes t ls w0 w1 f a l q =
-      typed-done f a (ap length q ∙ length-set w0 rec _ ∙ l) q
+      typed-done f a l q
 
   pub name-closes : (k : ℕ) (w0 w1 : List ℕ) → Closed s (inScope k (length Γ)) rec (getD Γ k 0) ans w0 w1 → Judged s Γ (nameOf rec k) ans w0 w1
   name-closes k w0 w1 c = closing-done rec (inScope k (length Γ)) w0 refl c refl

@@ -21,20 +21,27 @@ use Rattle.records.proofs.TypeRecords.{type-word}
 use Rattle.structure.specs.Rules.{depth}
 use Rattle.structure.proofs.Passes.{written, well-named, not-deep}
 use Rattle.structure.proofs.Depths.{depth-of-part}
-use Rattle.typing.specs.Judging.{Judging, Closing, Fitting, Context, scopeOf, PartAt, at-first, at-second}
+use Rattle.typing.specs.Judging.{Ground, TypesCounted, Judging, Closing, Fitting, Context, scopeOf, PartAt, at-first, at-second}
 use Rattle.typing.proofs.Judged.{passed-judged}
 use Rattle.typing.proofs.TypeRecordsOf.{type-of-record}
 use Rattle.typing.proofs.Outcomes.{Passed}
 
-module _ {s : List ℕ} {n : ℕ} {table stack : List ℕ} {names rec : ℕ} {widths : List ℕ} (r : Judging s n table stack names rec widths) where
+module _ {s : List ℕ} {n : ℕ} {stack : List ℕ} {names rec : ℕ} {widths : List ℕ} (r : Judging s n stack names rec widths) where
   pub judging-written : Written s
   judging-written = written (r .ground .passes)
 
   pub judging-there : rec < count s
   judging-there = let c = r .ground .sized .counted in let h = r .there in omega arith
 
-  pub ready-closing : (after : List ℕ) → length after ≡ 4096 → Closing s n table rec after
-  ready-closing after l = record { ground = r .ground; there = r .there; long = l }
+  pub judging-counted : TypesCounted s widths
+  judging-counted = record { long = r .long; leaves = r .ground .leaves }
+
+  -- what was noted since then leaves the types
+  ground-after : (after : List ℕ) → TypesCounted s after → Ground s n after
+  ground-after after l = record { sized = r .ground .sized; passes = r .ground .passes; leaves = l .leaves }
+
+  pub ready-closing : (after : List ℕ) → TypesCounted s after → Closing s n rec after
+  ready-closing after l = record { ground = ground-after after l; there = r .there; sort = r .sort; long = l .long }
 
   past : 0 < rec
   past = past-header judging-written rec (rw (r .sort))
@@ -56,7 +63,7 @@ module _ {s : List ℕ} {n : ℕ} {table stack : List ℕ} {names rec : ℕ} {wi
         let l = r .deep in
         omega (arith, d .0)
 
-    pub part-ready : (after : List ℕ) → length after ≡ 4096 → (rec < x) × Judging s n table stack names x after
+    pub part-ready : (after : List ℕ) → TypesCounted s after → (rec < x) × Judging s n stack names x after
     part-ready after l =
         let p = part-there in
         let c = r .ground .sized .counted in
@@ -64,9 +71,9 @@ module _ {s : List ℕ} {n : ℕ} {table stack : List ℕ} {names rec : ℕ} {wi
         let d = r .deep in (
           p .0,
           record {
-            ground = r .ground;
+            ground = ground-after after l;
             wide = r .wide;
-            long = l;
+            long = l .long;
             there = omega (arith, p .1);
             sort = p .2;
             deep = omega arith;
@@ -75,7 +82,7 @@ module _ {s : List ℕ} {n : ℕ} {table stack : List ℕ} {names rec : ℕ} {wi
         )
 
     pub body-ready : (inner : List ℕ) (u : ℕ) (after : List ℕ) → length inner ≡ 64 → scopeOf (names + 1) inner ≡ u ∷ scopeOf names stack
-        → TypeRecord s u → length after ≡ 4096 → (rec < x) × Judging s n table inner (names + 1) x after
+        → TypeRecord s u → TypesCounted s after → (rec < x) × Judging s n inner (names + 1) x after
     body-ready inner u after wide scope typed l =
         let p = part-there in
         let c = r .ground .sized .counted in
@@ -83,9 +90,9 @@ module _ {s : List ℕ} {n : ℕ} {table stack : List ℕ} {names rec : ℕ} {wi
         let d = r .deep in (
           p .0,
           record {
-            ground = r .ground;
+            ground = ground-after after l;
             wide = wide;
-            long = l;
+            long = l .long;
             there = omega (arith, p .1);
             sort = p .2;
             deep = omega arith;
@@ -115,7 +122,7 @@ module _ {s : List ℕ} {n : ℕ} {table stack : List ℕ} {names rec : ℕ} {wi
       (passed-judged s (scopeOf names stack) (treeAt s rec) (p .none-fails)))
 
 -- a chain of leaves in a word of a record
-pub leaves-there : {s : List ℕ} {n : ℕ} {table : List ℕ} {rec : ℕ} {w : List ℕ} → Closing s n table rec w → (k : Kind) → kindAt s rec ≡ k
+pub leaves-there : {s : List ℕ} {n : ℕ} {rec : ℕ} {w : List ℕ} → Closing s n rec w → (k : Kind) → kindAt s rec ≡ k
     → (j : ℕ) → (ltb 0 j && ltb j 6) ≡ true → askOfKind k j ≡ part leafs → (x : ℕ) → x ≡ word s rec j → (x < n) × (sortAt s x ≡ leafs)
 leaves-there {rec = rec} c k e j t a x ex =
     let counted = c .ground .sized .counted in
@@ -123,14 +130,14 @@ leaves-there {rec = rec} c k e j t a x ex =
     let p = part-of-kind (written (c .ground .passes)) rec k leafs (omega arith) e j t a in
     (omega (arith, p .1, ex), rw ex (p .2))
 
-pub typed-word : {s : List ℕ} {n : ℕ} {table : List ℕ} {rec : ℕ} {w : List ℕ} → Closing s n table rec w → (k : Kind) → kindAt s rec ≡ k
+pub typed-word : {s : List ℕ} {n : ℕ} {rec : ℕ} {w : List ℕ} → Closing s n rec w → (k : Kind) → kindAt s rec ≡ k
     → (j : ℕ) → (ltb 0 j && ltb j 6) ≡ true → askOfKind k j ≡ lowerType → (x : ℕ) → x ≡ word s rec j → TypeRecord s x
 typed-word {rec = rec} c k e j t a x ex =
     let counted = c .ground .sized .counted in
     let h = c .there in
     rw ex (type-word (written (c .ground .passes)) rec k (omega arith) e j t a)
 
-module _ {s : List ℕ} {n : ℕ} {table stack : List ℕ} {names rec : ℕ} {widths : List ℕ} (r : Judging s n table stack names rec widths) where
+module _ {s : List ℕ} {n : ℕ} {stack : List ℕ} {names rec : ℕ} {widths : List ℕ} (r : Judging s n stack names rec widths) where
   pub judging-names-few : names ≤ 64
   judging-names-few =
       let c = r .ground .sized .counted in
@@ -154,8 +161,8 @@ module _ {s : List ℕ} {n : ℕ} {table stack : List ℕ} {names rec : ℕ} {wi
       omega arith
 
   -- the whole of which a first or second part is taken
-  pub part-of-pair : (k : ℕ) → PartAt s rec k → (x : ℕ) → x ≡ word s rec 2 → (after : List ℕ) → length after ≡ 4096
-      → (rec < x) × Judging s n table stack names x after
+  pub part-of-pair : (k : ℕ) → PartAt s rec k → (x : ℕ) → x ≡ word s rec 2 → (after : List ℕ) → TypesCounted s after
+      → (rec < x) × Judging s n stack names x after
   part-of-pair k (at-first e) x ex after l =
       part-ready r (expression first) e 2 refl (unfold askOfKind in refl) x ex after l
   part-of-pair k (at-second e) x ex after l =

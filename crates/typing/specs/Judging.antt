@@ -107,9 +107,15 @@ pub record Ground (s : List ℕ) (n : ℕ) (table : List ℕ) : Type 0 where
   pub passes : Passes s
   pub leaves : (t : ℕ) → TypeRecord s t → getD table t 0 ≡ leaves (typeAt s t)
 
+-- A table of widths while expressions are judged: it has the leaves of each type. Those of an
+-- expression are noted at its record, which is none of a type, so the types keep theirs.
+pub record TypesCounted (s widths : List ℕ) : Type 0 where
+  pub long : length widths ≡ mostRecords
+  pub leaves : (t : ℕ) → TypeRecord s t → getD widths t 0 ≡ leaves (typeAt s t)
+
 -- an expression is judged
-pub record Judging (s : List ℕ) (n : ℕ) (table stack : List ℕ) (names rec : ℕ) (widths : List ℕ) : Type 0 where
-  pub ground : Ground s n table
+pub record Judging (s : List ℕ) (n : ℕ) (stack : List ℕ) (names rec : ℕ) (widths : List ℕ) : Type 0 where
+  pub ground : Ground s n widths
   pub wide : length stack ≡ 64
   pub long : length widths ≡ mostRecords
   pub there : rec < n
@@ -120,7 +126,7 @@ pub record Judging (s : List ℕ) (n : ℕ) (table stack : List ℕ) (names rec 
 -- and this is what comes of it
 pub record Judged (s Γ : List ℕ) (e : Tree) (answer : Outcome) (before after : List ℕ) : Type 0 where
   pub answered : answer ≡ judged s Γ e
-  pub long : length after ≡ mostRecords
+  pub counted : TypesCounted s after
   pub notes : (t : ℕ) → answer ≡ Sound t → after ≡ noted s Γ e before
 
 -- a pattern is held against a type
@@ -143,13 +149,14 @@ lastly false rec t = Fault rec
 
 pub record Closed (s : List ℕ) (rule : Rule) (rec t : ℕ) (answer : Outcome) (before after : List ℕ) : Type 0 where
   pub answered : answer ≡ lastly (holds s rule) rec t
-  pub long : length after ≡ mostRecords
+  pub counted : TypesCounted s after
   pub notes : (u : ℕ) → answer ≡ Sound u → after ≡ set before rec (leaves (typeAt s t))
 
 -- what a last judgement is called with
-pub record Closing (s : List ℕ) (n : ℕ) (table : List ℕ) (rec : ℕ) (widths : List ℕ) : Type 0 where
-  pub ground : Ground s n table
+pub record Closing (s : List ℕ) (n : ℕ) (rec : ℕ) (widths : List ℕ) : Type 0 where
+  pub ground : Ground s n widths
   pub there : rec < n
+  pub sort : sortAt s rec ≡ expressions
   pub long : length widths ≡ mostRecords
 
 -- record rec takes the part of a pair whose type is in word k of the pair's record

@@ -3,6 +3,7 @@ ghost use mathlib.Core.Path.{_≡_};
 ghost use Rattle.records.specs.Kinds.{expression, tuple, letIn, feedback, ifMatches, delay};
 ghost use Rattle.records.specs.Says.{kindAt};
 ghost use Rattle.records.specs.Trees.{treeAt};
+ghost use Rattle.structure.specs.PairIndex.{Indexed};
 ghost use Rattle.typing.specs.Judging.{Judging, Judged, scopeOf, PartAt};
 ghost use Rattle.typing.specs.PatternTable.{TypeTables};
 use crate::Outcome;
@@ -35,14 +36,11 @@ use records::WORD_KIND;
 use records::WidthTable;
 use records::word;
 use structure::PairIndex;
-use structure::no_pairs;
-use structure::note_pairs;
 
 // Judges an expression: its parts in the order of its words, then the whole.
 fn judge_expression(
     sheet: &[u8],
     n: usize,
-    table: &WidthTable,
     index: &PairIndex,
     types: &PatternTypes,
     scope: &ScopeTable,
@@ -50,63 +48,40 @@ fn judge_expression(
     rec: usize,
     widths: &mut WidthTable,
 ) -> Outcome
-    requires { ⌜ Judging (now sheet) n (now table) (now scope) names rec (now widths) × TypeTables (now sheet) n (now index) (now types) ⌝ }
+    requires { ⌜ Judging (now sheet) n (now scope) names rec (now widths) × TypeTables (now sheet) n (now index) (now types) ⌝ }
     ensures { λ r. ⌜ Judged (now (sheet .entry)) (scopeOf names (now (scope .entry))) (treeAt (now (sheet .entry)) rec) r (now (widths .entry)) (now (widths .exit)) ⌝ }
 {
     let kind = word(sheet, n, rec, WORD_KIND);
     if kind == KIND_CONSTANT {
-        return of_constant(sheet, n, table, rec, widths);
+        return of_constant(sheet, n, rec, widths);
     }
     if kind == KIND_NAME {
-        return of_name(sheet, n, table, scope, names, rec, widths);
+        return of_name(sheet, n, scope, names, rec, widths);
     }
     if kind == KIND_PAIR {
-        return of_pair(sheet, n, table, index, types, scope, names, rec, widths);
+        return of_pair(sheet, n, index, types, scope, names, rec, widths);
     }
     if kind == KIND_FIRST {
-        return of_part(
-            sheet,
-            n,
-            table,
-            index,
-            types,
-            scope,
-            names,
-            rec,
-            WORD_A,
-            widths,
-        );
+        return of_part(sheet, n, index, types, scope, names, rec, WORD_A, widths);
     }
     if kind == KIND_SECOND {
-        return of_part(
-            sheet,
-            n,
-            table,
-            index,
-            types,
-            scope,
-            names,
-            rec,
-            WORD_B,
-            widths,
-        );
+        return of_part(sheet, n, index, types, scope, names, rec, WORD_B, widths);
     }
     if kind == KIND_LET {
-        return of_let(sheet, n, table, index, types, scope, names, rec, widths);
+        return of_let(sheet, n, index, types, scope, names, rec, widths);
     }
     if kind == KIND_FEEDBACK {
-        return of_feedback(sheet, n, table, index, types, scope, names, rec, widths);
+        return of_feedback(sheet, n, index, types, scope, names, rec, widths);
     }
     if kind == KIND_IF {
-        return of_if(sheet, n, table, index, types, scope, names, rec, widths);
+        return of_if(sheet, n, index, types, scope, names, rec, widths);
     }
-    of_delay(sheet, n, table, index, types, scope, names, rec, widths)
+    of_delay(sheet, n, index, types, scope, names, rec, widths)
 }
 
 fn of_pair(
     sheet: &[u8],
     n: usize,
-    table: &WidthTable,
     index: &PairIndex,
     types: &PatternTypes,
     scope: &ScopeTable,
@@ -114,27 +89,26 @@ fn of_pair(
     rec: usize,
     widths: &mut WidthTable,
 ) -> Outcome
-    requires { ⌜ Judging (now sheet) n (now table) (now scope) names rec (now widths) × (kindAt (now sheet) rec ≡ expression tuple) × TypeTables (now sheet) n (now index) (now types) ⌝ }
+    requires { ⌜ Judging (now sheet) n (now scope) names rec (now widths) × (kindAt (now sheet) rec ≡ expression tuple) × TypeTables (now sheet) n (now index) (now types) ⌝ }
     ensures { λ r. ⌜ Judged (now (sheet .entry)) (scopeOf names (now (scope .entry))) (treeAt (now (sheet .entry)) rec) r (now (widths .entry)) (now (widths .exit)) ⌝ }
 {
     let a = word(sheet, n, rec, WORD_A);
-    let first = judge_expression(sheet, n, table, index, types, scope, names, a, widths);
+    let first = judge_expression(sheet, n, index, types, scope, names, a, widths);
     let Outcome::Sound(t) = first else {
         return first;
     };
     let b = word(sheet, n, rec, WORD_B);
-    let second = judge_expression(sheet, n, table, index, types, scope, names, b, widths);
+    let second = judge_expression(sheet, n, index, types, scope, names, b, widths);
     let Outcome::Sound(u) = second else {
         return second;
     };
-    pair_type(sheet, n, table, index, rec, t, u, widths)
+    pair_type(sheet, n, index, rec, t, u, widths)
 }
 
 // A first part where k is 2, a second part where k is 3.
 fn of_part(
     sheet: &[u8],
     n: usize,
-    table: &WidthTable,
     index: &PairIndex,
     types: &PatternTypes,
     scope: &ScopeTable,
@@ -143,21 +117,20 @@ fn of_part(
     k: usize,
     widths: &mut WidthTable,
 ) -> Outcome
-    requires { ⌜ Judging (now sheet) n (now table) (now scope) names rec (now widths) × PartAt (now sheet) rec k × TypeTables (now sheet) n (now index) (now types) ⌝ }
+    requires { ⌜ Judging (now sheet) n (now scope) names rec (now widths) × PartAt (now sheet) rec k × TypeTables (now sheet) n (now index) (now types) ⌝ }
     ensures { λ r. ⌜ Judged (now (sheet .entry)) (scopeOf names (now (scope .entry))) (treeAt (now (sheet .entry)) rec) r (now (widths .entry)) (now (widths .exit)) ⌝ }
 {
     let a = word(sheet, n, rec, WORD_A);
-    let whole = judge_expression(sheet, n, table, index, types, scope, names, a, widths);
+    let whole = judge_expression(sheet, n, index, types, scope, names, a, widths);
     let Outcome::Sound(t) = whole else {
         return whole;
     };
-    part_type(sheet, n, table, rec, t, k, widths)
+    part_type(sheet, n, rec, t, k, widths)
 }
 
 fn of_let(
     sheet: &[u8],
     n: usize,
-    table: &WidthTable,
     index: &PairIndex,
     types: &PatternTypes,
     scope: &ScopeTable,
@@ -165,27 +138,26 @@ fn of_let(
     rec: usize,
     widths: &mut WidthTable,
 ) -> Outcome
-    requires { ⌜ Judging (now sheet) n (now table) (now scope) names rec (now widths) × (kindAt (now sheet) rec ≡ expression letIn) × TypeTables (now sheet) n (now index) (now types) ⌝ }
+    requires { ⌜ Judging (now sheet) n (now scope) names rec (now widths) × (kindAt (now sheet) rec ≡ expression letIn) × TypeTables (now sheet) n (now index) (now types) ⌝ }
     ensures { λ r. ⌜ Judged (now (sheet .entry)) (scopeOf names (now (scope .entry))) (treeAt (now (sheet .entry)) rec) r (now (widths .entry)) (now (widths .exit)) ⌝ }
 {
     let a = word(sheet, n, rec, WORD_A);
-    let defined = judge_expression(sheet, n, table, index, types, scope, names, a, widths);
+    let defined = judge_expression(sheet, n, index, types, scope, names, a, widths);
     let Outcome::Sound(t) = defined else {
         return defined;
     };
     let inner = with_name(scope, names, t);
     let b = word(sheet, n, rec, WORD_B);
-    let body = judge_expression(sheet, n, table, index, types, &inner, names + 1, b, widths);
+    let body = judge_expression(sheet, n, index, types, &inner, names + 1, b, widths);
     let Outcome::Sound(u) = body else {
         return body;
     };
-    note(sheet, n, table, rec, u, widths)
+    note(sheet, n, rec, u, widths)
 }
 
 fn of_feedback(
     sheet: &[u8],
     n: usize,
-    table: &WidthTable,
     index: &PairIndex,
     types: &PatternTypes,
     scope: &ScopeTable,
@@ -193,28 +165,27 @@ fn of_feedback(
     rec: usize,
     widths: &mut WidthTable,
 ) -> Outcome
-    requires { ⌜ Judging (now sheet) n (now table) (now scope) names rec (now widths) × (kindAt (now sheet) rec ≡ expression feedback) × TypeTables (now sheet) n (now index) (now types) ⌝ }
+    requires { ⌜ Judging (now sheet) n (now scope) names rec (now widths) × (kindAt (now sheet) rec ≡ expression feedback) × TypeTables (now sheet) n (now index) (now types) ⌝ }
     ensures { λ r. ⌜ Judged (now (sheet .entry)) (scopeOf names (now (scope .entry))) (treeAt (now (sheet .entry)) rec) r (now (widths .entry)) (now (widths .exit)) ⌝ }
 {
     let t = word(sheet, n, rec, WORD_A);
     let inner = with_name(scope, names, t);
     let b = word(sheet, n, rec, WORD_B);
-    let defined = judge_expression(sheet, n, table, index, types, &inner, names + 1, b, widths);
+    let defined = judge_expression(sheet, n, index, types, &inner, names + 1, b, widths);
     let Outcome::Sound(d) = defined else {
         return defined;
     };
     let c = word(sheet, n, rec, WORD_C);
-    let body = judge_expression(sheet, n, table, index, types, &inner, names + 1, c, widths);
+    let body = judge_expression(sheet, n, index, types, &inner, names + 1, c, widths);
     let Outcome::Sound(u) = body else {
         return body;
     };
-    same_type(sheet, n, table, rec, d, t, u, widths)
+    same_type(sheet, n, rec, d, t, u, widths)
 }
 
 fn of_if(
     sheet: &[u8],
     n: usize,
-    table: &WidthTable,
     index: &PairIndex,
     types: &PatternTypes,
     scope: &ScopeTable,
@@ -222,11 +193,11 @@ fn of_if(
     rec: usize,
     widths: &mut WidthTable,
 ) -> Outcome
-    requires { ⌜ Judging (now sheet) n (now table) (now scope) names rec (now widths) × (kindAt (now sheet) rec ≡ expression ifMatches) × TypeTables (now sheet) n (now index) (now types) ⌝ }
+    requires { ⌜ Judging (now sheet) n (now scope) names rec (now widths) × (kindAt (now sheet) rec ≡ expression ifMatches) × TypeTables (now sheet) n (now index) (now types) ⌝ }
     ensures { λ r. ⌜ Judged (now (sheet .entry)) (scopeOf names (now (scope .entry))) (treeAt (now (sheet .entry)) rec) r (now (widths .entry)) (now (widths .exit)) ⌝ }
 {
     let a = word(sheet, n, rec, WORD_A);
-    let tested = judge_expression(sheet, n, table, index, types, scope, names, a, widths);
+    let tested = judge_expression(sheet, n, index, types, scope, names, a, widths);
     let Outcome::Sound(t) = tested else {
         return tested;
     };
@@ -235,22 +206,21 @@ fn of_if(
         return matched;
     };
     let b = word(sheet, n, rec, WORD_B);
-    let then = judge_expression(sheet, n, table, index, types, scope, names, b, widths);
+    let then = judge_expression(sheet, n, index, types, scope, names, b, widths);
     let Outcome::Sound(u) = then else {
         return then;
     };
     let c = word(sheet, n, rec, WORD_C);
-    let otherwise = judge_expression(sheet, n, table, index, types, scope, names, c, widths);
+    let otherwise = judge_expression(sheet, n, index, types, scope, names, c, widths);
     let Outcome::Sound(v) = otherwise else {
         return otherwise;
     };
-    same_type(sheet, n, table, rec, u, v, u, widths)
+    same_type(sheet, n, rec, u, v, u, widths)
 }
 
 fn of_delay(
     sheet: &[u8],
     n: usize,
-    table: &WidthTable,
     index: &PairIndex,
     types: &PatternTypes,
     scope: &ScopeTable,
@@ -258,11 +228,11 @@ fn of_delay(
     rec: usize,
     widths: &mut WidthTable,
 ) -> Outcome
-    requires { ⌜ Judging (now sheet) n (now table) (now scope) names rec (now widths) × (kindAt (now sheet) rec ≡ expression delay) × TypeTables (now sheet) n (now index) (now types) ⌝ }
+    requires { ⌜ Judging (now sheet) n (now scope) names rec (now widths) × (kindAt (now sheet) rec ≡ expression delay) × TypeTables (now sheet) n (now index) (now types) ⌝ }
     ensures { λ r. ⌜ Judged (now (sheet .entry)) (scopeOf names (now (scope .entry))) (treeAt (now (sheet .entry)) rec) r (now (widths .entry)) (now (widths .exit)) ⌝ }
 {
     let c = word(sheet, n, rec, WORD_C);
-    let delayed = judge_expression(sheet, n, table, index, types, scope, names, c, widths);
+    let delayed = judge_expression(sheet, n, index, types, scope, names, c, widths);
     let Outcome::Sound(u) = delayed else {
         return delayed;
     };
@@ -271,25 +241,23 @@ fn of_delay(
     let Outcome::Sound(_) = fit else {
         return fit;
     };
-    same_type(sheet, n, table, rec, u, t, t, widths)
+    same_type(sheet, n, rec, u, t, t, widths)
 }
 
-// Judges an expression, with an index of the sheet's pair types and the types of its patterns.
+// Finds the types of patterns by the index of the sheet's pair types, and judges an expression.
 pub fn judge_root(
     sheet: &[u8],
     n: usize,
-    table: &WidthTable,
+    index: &PairIndex,
     scope: &ScopeTable,
     names: usize,
     rec: usize,
     widths: &mut WidthTable,
 ) -> Outcome
-    requires { ⌜ Judging (now sheet) n (now table) (now scope) names rec (now widths) ⌝ }
+    requires { ⌜ Judging (now sheet) n (now scope) names rec (now widths) × Indexed (now sheet) n (now index) ⌝ }
     ensures { λ r. ⌜ Judged (now (sheet .entry)) (scopeOf names (now (scope .entry))) (treeAt (now (sheet .entry)) rec) r (now (widths .entry)) (now (widths .exit)) ⌝ }
 {
-    let mut index = no_pairs();
-    note_pairs(sheet, n, &mut index);
     let mut types = no_types();
-    note_types(sheet, n, &index, &mut types);
-    judge_expression(sheet, n, table, &index, &types, scope, names, rec, widths)
+    note_types(sheet, n, index, &mut types);
+    judge_expression(sheet, n, index, &types, scope, names, rec, widths)
 }

@@ -16,14 +16,8 @@ use records::WidthTable;
 use records::word;
 
 // Judges a constant.
-pub fn of_constant(
-    sheet: &[u8],
-    n: usize,
-    table: &WidthTable,
-    rec: usize,
-    widths: &mut WidthTable,
-) -> Outcome
-    requires { ⌜ Closing (now sheet) n (now table) rec (now widths) × (kindAt (now sheet) rec ≡ expression constant) ⌝ }
+pub fn of_constant(sheet: &[u8], n: usize, rec: usize, widths: &mut WidthTable) -> Outcome
+    requires { ⌜ Closing (now sheet) n rec (now widths) × (kindAt (now sheet) rec ≡ expression constant) ⌝ }
     ensures { λ r. ⌜ ((Γ : List ℕ) → Judged (now (sheet .entry)) Γ (treeAt (now (sheet .entry)) rec) r (now (widths .entry)) (now (widths .exit))) ⌝ }
 {
     let t = word(sheet, n, rec, WORD_A);
@@ -31,20 +25,19 @@ pub fn of_constant(
     let Outcome::Sound(u) = fit else {
         return fit;
     };
-    note(sheet, n, table, rec, u, widths)
+    note(sheet, n, rec, u, widths)
 }
 
 // Judges a name.
 pub fn of_name(
     sheet: &[u8],
     n: usize,
-    table: &WidthTable,
     scope: &ScopeTable,
     names: usize,
     rec: usize,
     widths: &mut WidthTable,
 ) -> Outcome
-    requires { ⌜ Judging (now sheet) n (now table) (now scope) names rec (now widths) × (kindAt (now sheet) rec ≡ expression name) ⌝ }
+    requires { ⌜ Judging (now sheet) n (now scope) names rec (now widths) × (kindAt (now sheet) rec ≡ expression name) ⌝ }
     ensures { λ r. ⌜ Judged (now (sheet .entry)) (scopeOf names (now (scope .entry))) (treeAt (now (sheet .entry)) rec) r (now (widths .entry)) (now (widths .exit)) ⌝ }
 {
     let k = word(sheet, n, rec, WORD_A);
@@ -52,5 +45,5 @@ pub fn of_name(
         return Outcome::Fault(rec);
     }
     let t = scope[names - 1 - k] as usize;
-    note(sheet, n, table, rec, t, widths)
+    note(sheet, n, rec, t, widths)
 }

@@ -38,6 +38,20 @@ pub type NextValues = [u8; RECORDS];
 // where none does.
 pub type Fired = [u16; RECORDS];
 
+// The names' bytes: room for 64 values of 64 leaves.
+pub fn no_names() -> Environment
+    ensures { λ r. ⌜ length r ≡ environmentBytes ⌝ }
+{
+    [0; 4096]
+}
+
+// The table of the delays' next values.
+pub fn no_next_values() -> NextValues
+    ensures { λ r. ⌜ length r ≡ mostRecords ⌝ }
+{
+    [0; RECORDS]
+}
+
 // The table in which none has fired.
 pub fn none_fired() -> Fired
     ensures { λ r. ⌜ r ≡ replicate mostRecords 0 ⌝ }

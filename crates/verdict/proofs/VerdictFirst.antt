@@ -1,22 +1,21 @@
 -- The verdict is the answer of the first check of a sheet that applies: each test and each search refuses with its code and place, or
 -- leaves the answer to those after it. Assumes nothing.
 use Prim.Native.Nat.{ℕ}
-use mathlib.Core.Path.{_≡_, refl, _∙_}
+use mathlib.Core.Path.{_≡_, refl, sym, ap, subst, _∙_}
 use native.Mathlib.Omega.{arith}
 use mathlib.Core.Bool.{Bool, true, false}
 use mathlib.Core.List.{List}
 use mathlib.Core.Option.{Option, none, some}
 use Rattle.answers.specs.declared.Answer.{Answer}
 use Rattle.answers.specs.declared.Answer.the-variants.{Done, Refused}
-use Rattle.answers.specs.Answers.{when, orRefused, NoneApplies, lowest, verdictAnswer}
-use Rattle.answers.proofs.First.{none-done}
+use Rattle.answers.specs.Answers.{when, orRefused, firstApplying, NoneApplies, SaysOf, lowest, verdictAnswer}
+use Rattle.answers.proofs.First.{none-done, first-says}
 use Rattle.records.specs.Words.{count}
 use Rattle.records.specs.Trees.{circuit}
 use Rattle.structure.specs.Rules.{wrongLength, wrongHeader, wrongRecord, wrongNaming, wrongType, tooDeep}
 use Rattle.typing.specs.Judgements.{judgements, firstFailing}
 use Rattle.verdict.specs.Verdict.{outputType, sheetChecks, unless, refusing, byTypes, byDepths, byTypeRecords, byNamings, byRecords, verdict}
 use Rattle.verdict.specs.Scopes.{inputs}
-use Rattle.verdict.specs.Promises.{VerdictFirst}
 use Rattle.answers.specs.declared.Verdict.{Verdict}
 use Rattle.answers.specs.declared.Verdict.the-variants.{
   Accepted,
@@ -40,7 +39,7 @@ searched-first : (o : Option ℕ) (g : ℕ → Verdict) (w : Verdict) (c : ℕ) 
 searched-first (some r) g w c rest e f = e r
 searched-first none g w c rest e f = f
 
-pub verdict-first : VerdictFirst
+pub verdict-first : (s : List ℕ) → verdictAnswer (verdict s) ≡ firstApplying (sheetChecks s) (Done (outputType s))
 unfolding verdict byRecords byTypes
 verdict-first s =
     tested-first (wrongLength s) WrongLength _ 1 _ refl
@@ -65,3 +64,9 @@ accepted-by (IllTyped r) t e = let z : _≡_ {A = ℕ} 0 1 = cc in absurd (omega
 pub first-accepted : (s : List ℕ) → NoneApplies (sheetChecks s) → verdict s ≡ Accepted (outputType s)
 first-accepted s h =
     accepted-by (verdict s) (outputType s) (verdict-first s ∙ none-done (sheetChecks s) (Done (outputType s)) h)
+
+-- and an accepted sheet is one to which none applies
+pub accepted-first : (s : List ℕ) (t : ℕ) → verdict s ≡ Accepted t → NoneApplies (sheetChecks s) × (t ≡ outputType s)
+accepted-first s t v =
+    subst (λ (a : Answer). SaysOf (sheetChecks s) (outputType s) a) (sym (verdict-first s) ∙ ap verdictAnswer v)
+    (first-says (sheetChecks s) (outputType s))

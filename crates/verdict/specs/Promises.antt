@@ -12,9 +12,9 @@ use Rattle.records.specs.Kinds.{expressions}
 use Rattle.records.specs.Says.{sortAt}
 use Rattle.records.specs.Trees.{typeAt, TypeRecord, Declared, circuit}
 use Rattle.records.specs.Decoding.{decode}
-use Rattle.answers.specs.Answers.{lowest, place, firstApplying, verdictAnswer}
+use Rattle.answers.specs.Answers.{lowest, place, verdictAnswer}
+use Rattle.answers.specs.StandardLaws.{StandardLaws}
 use Rattle.answers.specs.Promises.{LowestBreaking}
-use Rattle.answers.specs.declared.Answer.the-variants.{Done}
 use Rattle.structure.specs.Rules.{wrongLength, wrongHeader, wrongRecord, wrongNaming, wrongType, tooDeep, Passes}
 use Rattle.typing.specs.Judgements.{Judgement, holds, judgements}
 use Rattle.verdict.specs.Verdict.{outputType, sheetChecks, verdict}
@@ -82,12 +82,14 @@ Places = (s : List ℕ) → Says s (verdict s)
 abbrev pub SaysExactly : Type 0
 SaysExactly = (s : List ℕ) (v : Verdict) → verdict s ≡ v ↔ Says s v
 
--- The verdict is the answer of the first check of a sheet that applies.
-abbrev pub VerdictFirst : Type 0
-VerdictFirst = (s : List ℕ) → verdictAnswer (verdict s) ≡ firstApplying (sheetChecks s) (Done (outputType s))
+-- What every call promises (`StandardLaws` of `answers`): the verdict is the answer of the first check of a sheet that applies, and done
+-- where the sheet passes codes 1 to 6 and every judgement holds. The check writes to no slice.
+abbrev pub CheckLaws : Type 0
+CheckLaws =
+    (s : List ℕ)
+    → StandardLaws (sheetChecks s) (Passes s × AllHold s (judgements s (inputs s) (circuit s))) (outputType s) (verdictAnswer (verdict s)) []
 
--- The place of a verdict is below 4,096, so below 2^32: code and place are read back from the one number that is returned
--- (`TakenApart` of `answers`).
+-- The place of a verdict is a record's number or 0, so below 4,096.
 abbrev pub PlacesBelow : Type 0
 PlacesBelow = (s : List ℕ) → place (verdictAnswer (verdict s)) < 4096
 
@@ -124,7 +126,7 @@ TableFixed = (s : List ℕ) → Passes s → (table other : List ℕ) → Widths
 pub record CheckPromises : Type 0 where
   pub places : Places
   pub says-exactly : SaysExactly
-  pub verdict-first : VerdictFirst
+  pub check-laws : CheckLaws
   pub places-below : PlacesBelow
   pub exact : Exact
   pub ill-typed-exactly : IllTypedExactly

@@ -1,2 +1,2 @@
 -- The proof of the table of verdicts.
-pub mod VerdictTable
+pub mod Kept

@@ -1,6 +1,6 @@
 -- The table of verdicts on bytes.
 -- To believe:
-pub mod VerdictTable
+pub mod Promises
 -- Examples, by computation, of which its promise speaks:
 pub mod Rows
 pub mod LengthRows

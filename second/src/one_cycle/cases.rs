@@ -1,47 +1,8 @@
-//! Calls, and those among them that keep every rule.
+//! Calls that keep every rule.
 
-use second::accepted::Circuit;
-use second::answers::Answer;
-use second::random::Random;
-
-/// A call to compare. The slice's length is counted in items.
-#[derive(Clone)]
-pub struct Case {
-    pub source: String,
-    pub sheet: Vec<u8>,
-    pub stimulus: Vec<u8>,
-    pub slice_length: usize,
-}
-
-/// What the second implementation gives: the bytes of the slice, none where it
-/// is left unaltered.
-pub struct Outcome {
-    pub answer: Answer,
-    pub slice: Option<Vec<u8>>,
-}
-
-/// A kind of call; `M` are the mistakes that its second implementation makes.
-pub struct Kind<M: 'static> {
-    /// What the last line counts.
-    pub what: &'static str,
-    /// How many calls are to be accepted at least.
-    pub least: u64,
-    /// The code for a slice of the wrong length.
-    pub length_code: u8,
-    /// How many bytes an item of the slice has.
-    pub item: usize,
-    /// How many items the slice of an accepted sheet has.
-    pub items: fn(&Circuit) -> usize,
-    pub second: fn(&Case, Option<M>) -> Outcome,
-    pub archive: fn(&[u8], &[u8], &mut [u8]) -> u64,
-    /// What is wrong with the archive's answer and slice, whatever the second
-    /// implementation gives.
-    pub wrong: fn(&Case, u64, &[u8]) -> Option<&'static str>,
-    /// The quotas of the counts that this kind has of its own.
-    pub quotas: &'static [(&'static str, u64)],
-    /// What comes up in an accepted call.
-    pub counts: fn(&Case) -> Vec<(&'static str, bool)>,
-}
+use super::kind::{Case, Kind};
+use crate::accepted::Circuit;
+use crate::random::Random;
 
 /// What a call needs to know of an accepted sheet.
 pub struct Ground {
@@ -53,9 +14,9 @@ pub struct Ground {
 
 impl Ground {
     /// The ground of a sheet, none if it is refused.
-    pub fn of<M>(kind: &Kind<M>, sheet: &[u8]) -> Option<Ground> {
+    pub fn of<K: Kind>(sheet: &[u8]) -> Option<Ground> {
         let circuit = Circuit::read(sheet).ok()?;
-        Some(Ground { counts: circuit.counts(circuit.input()), items: (kind.items)(&circuit) })
+        Some(Ground { counts: circuit.counts(circuit.input()), items: K::items(&circuit) })
     }
 
     /// So many cycles of input: any values, defined ones only, or mostly

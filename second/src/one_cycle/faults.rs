@@ -1,38 +1,26 @@
 //! Calls with faults: in the sheet, the stimulus or the slice's length.
 
-use second::answers::{ILL_TYPED, WRONG_INPUT, WRONG_STIMULUS};
-use second::draft::Draft;
-use second::faults::category::Category;
-use second::generate::circuits::circuit;
-use second::layout::sheet;
-use second::random::Random;
-use second::stimulus::LONGEST_STIMULUS;
-
-use super::cases::{Case, Ground, Kind};
+use super::cases::Ground;
+use super::kind::{Case, Kind};
 use super::tally;
-use crate::runs::faults::break_sheet;
-
-/// A circuit that faults are put into, mostly not a large one.
-pub fn base(random: &mut Random) -> Draft {
-    loop {
-        let draft = circuit(random);
-        if draft.nodes.len() <= 160 || random.one_in(20) {
-            return draft;
-        }
-    }
-}
+use crate::answers::{ILL_TYPED, WRONG_INPUT, WRONG_STIMULUS};
+use crate::calls::runs::faults::{break_sheet, raise_byte};
+use crate::faults::category::Category;
+use crate::generate::mixed::for_faults;
+use crate::layout::sheet;
+use crate::random::Random;
+use crate::stimulus::LONGEST_STIMULUS;
 
 /// A call with faults of some codes; the ways in which those from 8 on were
 /// made. None if the circuit has no place for a fault.
-pub fn broken<M>(
-    kind: &Kind<M>,
+pub fn broken<K: Kind>(
     codes: &[u8],
     categories: &[Category],
     random: &mut Random,
 ) -> Option<(Case, Vec<&'static str>)> {
-    let draft = base(random);
+    let draft = for_faults(random);
     let whole = sheet(&draft, random);
-    let ground = Ground::of(kind, &whole)?;
+    let ground = Ground::of::<K>(&whole)?;
     let mut case = ground.good("one call", whole, random);
     for &code in codes.iter().filter(|&&code| code <= ILL_TYPED) {
         (case.source, case.sheet) = break_sheet(&draft, code, categories, random)?;
@@ -83,17 +71,7 @@ fn break_bytes(case: &mut Case, ground: &Ground, random: &mut Random) -> Option<
     let several = breakable.len() > 1 && random.one_in(2);
     let times = if several { random.range(2, 5) } else { 1 };
     for _ in 0..times {
-        let place = match random.below(6) {
-            0 => breakable.first().copied()?,
-            1 => breakable.last().copied()?,
-            _ => random.pick(&breakable)?,
-        };
-        let above = usize::from(ground.counts[place % leaves]) + 1;
-        case.stimulus[place] = match random.below(3) {
-            0 => above as u8,
-            1 => 255,
-            _ => random.range(above, 255) as u8,
-        };
+        raise_byte(&mut case.stimulus, &ground.counts, &breakable, random)?;
     }
     Some(if several { tally::SOME_ABOVE } else { tally::ABOVE })
 }

@@ -1,28 +1,26 @@
 //! The parts of the comparison. The fixed sheets come first, then shards of
 //! the random ones.
 
-use second::answers::ILL_TYPED;
-use second::faults::category::Category;
-use second::fuzz;
-use second::generate::boundary::{deepen, nest};
-use second::generate::circuits::{circuit, circuit_of_records};
-use second::generate::network::{chain_of_64, network};
-use second::generate::small::small;
-use second::layout::{layout, layout_in, record_count, sheet, Order};
-use second::random::Random;
-use second::records::{bytes, MAX_RECORDS};
-use second::samples;
-use second::shapes;
+use super::cases::Ground;
+use super::compare::OneCycle;
+use super::faults::broken;
+use super::kind::Kind;
+use super::tally::{self, codes, two_codes, QUOTAS};
+use crate::answers::ILL_TYPED;
+use crate::faults::category::Category;
+use crate::frame::comparison::{self, Ended, SHARDS, TRIES};
+use crate::frame::tally::{laid_out, least, of_codes};
+use crate::fuzz;
+use crate::generate::circuits::circuit_of_records;
+use crate::generate::mixed::{for_faults, with_limits};
+use crate::generate::small::small;
+use crate::layout::{layout, layout_in, sheet, Order, ORDERS};
+use crate::random::Random;
+use crate::records::{bytes, MAX_RECORDS};
+use crate::samples;
+use crate::shapes;
 
-use super::cases::{Ground, Kind};
-use super::compare::{Comparer, Ended};
-use super::faults::{base, broken};
-use super::tally::{self, codes, quota, two_codes};
-
-/// Into how many shards the random calls are divided.
-pub const SHARDS: u64 = 8;
-/// A shard gives up after so many tries for each call it needs.
-const TRIES: u64 = 40;
+type Comparer<'a, K> = comparison::Comparer<'a, OneCycle<K>>;
 
 pub enum Job {
     Bench,
@@ -35,10 +33,10 @@ pub enum Job {
 }
 
 /// All jobs, in order.
-pub fn in_order<M>(kind: &Kind<M>) -> Vec<Job> {
+pub fn in_order(least: u64) -> Vec<Job> {
     let mut jobs = vec![Job::Bench, Job::Shapes];
     for _ in 0..SHARDS {
-        let accepted = kind.least.div_ceil(SHARDS);
+        let accepted = least.div_ceil(SHARDS);
         jobs.extend([
             Job::Refused,
             Job::TwoFaults,
@@ -51,9 +49,9 @@ pub fn in_order<M>(kind: &Kind<M>) -> Vec<Job> {
 }
 
 impl Job {
-    pub fn run<M: Copy>(
+    pub fn run<K: Kind>(
         &self,
-        to: &mut Comparer<M>,
+        to: &mut Comparer<K>,
         categories: &[Category],
         random: &mut Random,
     ) -> Ended {
@@ -70,23 +68,15 @@ impl Job {
 }
 
 fn share(name: &str) -> u64 {
-    quota(name).div_ceil(SHARDS)
+    least(&QUOTAS, name).div_ceil(SHARDS)
 }
 
 /// T and the circuits of the bench cases on random inputs.
-fn bench_cases<M: Copy>(to: &mut Comparer<M>, random: &mut Random) -> Ended {
-    let sheets = [
-        samples::t(),
-        samples::and(),
-        samples::not_feedback(),
-        samples::pair_feedback(),
-        samples::self_feedback(),
-        samples::two_pairs(),
-    ];
-    for sheet in sheets {
-        let Some(ground) = Ground::of(to.kind, &sheet) else { continue };
+fn bench_cases<K: Kind>(to: &mut Comparer<K>, random: &mut Random) -> Ended {
+    for sheet in samples::bench_cases() {
+        let Some(ground) = Ground::of::<K>(&sheet) else { continue };
         for _ in 0..40 {
-            to.compare_good(&ground.good(tally::BENCH, sheet.clone(), random))?;
+            to.good_call(&ground.good(tally::BENCH, sheet.clone(), random))?;
             to.tally.add(tally::BENCH, 1);
         }
     }
@@ -94,12 +84,12 @@ fn bench_cases<M: Copy>(to: &mut Comparer<M>, random: &mut Random) -> Ended {
 }
 
 /// Every accepted named sheet but the slowest.
-fn named_shapes<M: Copy>(to: &mut Comparer<M>, random: &mut Random) -> Ended {
+fn named_shapes<K: Kind>(to: &mut Comparer<K>, random: &mut Random) -> Ended {
     for (name, make) in shapes::all().filter(|(name, _)| *name != "three-slow-feedbacks-64") {
         let sheet = make();
-        let Some(ground) = Ground::of(to.kind, &sheet) else { continue };
+        let Some(ground) = Ground::of::<K>(&sheet) else { continue };
         for _ in 0..5 {
-            to.compare_good(&ground.good(name, sheet.clone(), random))?;
+            to.good_call(&ground.good(name, sheet.clone(), random))?;
             to.tally.add(tally::SHAPES, 1);
         }
     }
@@ -107,14 +97,14 @@ fn named_shapes<M: Copy>(to: &mut Comparer<M>, random: &mut Random) -> Ended {
 }
 
 /// Each code in turn, until every way to break a rule has enough.
-fn refused<M: Copy>(to: &mut Comparer<M>, categories: &[Category], random: &mut Random) -> Ended {
-    for code in codes(to.kind) {
+fn refused<K: Kind>(to: &mut Comparer<K>, categories: &[Category], random: &mut Random) -> Ended {
+    for code in codes::<K>() {
         let need = tally::PER_CODE.div_ceil(SHARDS);
         let ways = if code <= ILL_TYPED { &[] } else { tally::ways(code) };
         let mut hits = 0;
         for _ in 0..need * TRIES {
-            let Some((case, made)) = broken(to.kind, &[code], categories, random) else { continue };
-            if to.compare(&case)?.code == code {
+            let Some((case, made)) = broken::<K>(&[code], categories, random) else { continue };
+            if to.call(&case)?.code == code {
                 hits += 1;
                 made.into_iter().for_each(|way| to.tally.add(way, 1));
             }
@@ -127,20 +117,20 @@ fn refused<M: Copy>(to: &mut Comparer<M>, categories: &[Category], random: &mut 
 }
 
 /// For each two codes, calls with a fault of either.
-fn two_faults<M: Copy>(
-    to: &mut Comparer<M>,
+fn two_faults<K: Kind>(
+    to: &mut Comparer<K>,
     categories: &[Category],
     random: &mut Random,
 ) -> Ended {
     let need = tally::PER_TWO_CODES.div_ceil(SHARDS);
-    for (low, high) in two_codes(to.kind) {
+    for (low, high) in two_codes::<K>() {
         for _ in 0..need * TRIES {
-            let made = broken(to.kind, &[low, high], categories, random);
+            let made = broken::<K>(&[low, high], categories, random);
             let Some((case, _)) = made else { continue };
-            let code = to.compare(&case)?.code;
-            let hits = &mut to.tally.two_codes[usize::from(low)][usize::from(high)];
-            *hits += u64::from(code == low);
-            if *hits >= need {
+            let code = to.call(&case)?.code;
+            let both = of_codes(low, high);
+            to.tally.add_if(&both, code == low);
+            if to.tally.got(&both) >= need {
                 break;
             }
         }
@@ -149,56 +139,43 @@ fn two_faults<M: Copy>(
 }
 
 /// Accepted sheets: small types, all types, and limits.
-fn accepted<M: Copy>(to: &mut Comparer<M>, calls: u64, random: &mut Random) -> Ended {
+fn accepted<K: Kind>(to: &mut Comparer<K>, calls: u64, random: &mut Random) -> Ended {
     let mut made = 0;
     while made < calls {
-        let mut draft = match random.below(200) {
-            0 => chain_of_64(random),
-            1..=20 => network(random),
-            21..=120 => small(random),
-            _ => circuit(random),
-        };
-        let changed = match random.below(40) {
-            0 => nest(&mut draft, 3, random),
-            1 => deepen(&mut draft, 64, random),
-            _ => true,
-        };
-        if !changed || record_count(&draft) > MAX_RECORDS {
-            continue;
-        }
+        let Some(draft) = with_limits(100, random) else { continue };
         let order = Order::any(random);
         let sheet = bytes(&layout_in(&draft, order, random));
-        let Some(ground) = Ground::of(to.kind, &sheet) else { continue };
-        to.compare_good(&ground.good("accepted", sheet, random))?;
-        to.tally.layouts[order as usize] += 1;
+        let Some(ground) = Ground::of::<K>(&sheet) else { continue };
+        to.good_call(&ground.good("accepted", sheet, random))?;
+        to.tally.add(&laid_out(ORDERS[order as usize]), 1);
         made += 1;
     }
     Ok(())
 }
 
 /// Sheets changed at random, with the calls of the sheets before the change.
-fn fuzzed<M: Copy>(to: &mut Comparer<M>, random: &mut Random) -> Ended {
+fn fuzzed<K: Kind>(to: &mut Comparer<K>, random: &mut Random) -> Ended {
     for k in 0..share(tally::FUZZED) {
-        let draft = if k % 2 == 0 { base(random) } else { small(random) };
+        let draft = if k % 2 == 0 { for_faults(random) } else { small(random) };
         let mut records = layout(&draft, random);
-        let Some(ground) = Ground::of(to.kind, &bytes(&records)) else { continue };
+        let Some(ground) = Ground::of::<K>(&bytes(&records)) else { continue };
         match k % 5 {
             0 => fuzz::change_words(&mut records, random),
             1 => fuzz::change_records(&mut records, random),
             _ => fuzz::change_types(&mut records, random),
         }
-        to.compare(&ground.good(tally::FUZZED, bytes(&records), random))?;
+        to.call(&ground.good(tally::FUZZED, bytes(&records), random))?;
         to.tally.add(tally::FUZZED, 1);
     }
     Ok(())
 }
 
 /// Sheets of 4,096 records.
-fn large<M: Copy>(to: &mut Comparer<M>, random: &mut Random) -> Ended {
+fn large<K: Kind>(to: &mut Comparer<K>, random: &mut Random) -> Ended {
     for _ in 0..share(tally::LONGEST) {
         let sheet = sheet(&circuit_of_records(MAX_RECORDS, random), random);
-        let Some(ground) = Ground::of(to.kind, &sheet) else { continue };
-        to.compare_good(&ground.good(tally::LONGEST, sheet, random))?;
+        let Some(ground) = Ground::of::<K>(&sheet) else { continue };
+        to.good_call(&ground.good(tally::LONGEST, sheet, random))?;
         to.tally.add(tally::LONGEST, 1);
     }
     Ok(())

@@ -1,31 +1,10 @@
 //! What was compared, and the quotas it has to meet.
 
-use std::collections::BTreeMap;
-
-use second::answers::{ACCEPTED, WRONG_INPUT, WRONG_LENGTH, WRONG_STIMULUS, WRONG_WORDS};
-use second::layout::ORDERS;
-
-use super::cases::Kind;
-use crate::memory::PLACEMENTS;
-use crate::workers::Count;
-
-/// One more than the greatest code.
-const CODES: usize = WRONG_WORDS as usize + 1;
-
-#[derive(Clone, Default)]
-pub struct Tally {
-    pub compared: u64,
-    /// Calls by code.
-    pub codes: [u64; CODES],
-    /// Calls by the placement of the lent slices.
-    pub placements: [u64; PLACEMENTS],
-    /// Accepted sheets laid out in each order.
-    pub layouts: [u64; ORDERS.len()],
-    /// Refused calls with faults of two codes, by the lower and the higher one.
-    pub two_codes: [[u64; CODES]; CODES],
-    /// Everything else, by name.
-    pub named: BTreeMap<&'static str, u64>,
-}
+use super::kind::Kind;
+use crate::answers::{WRONG_INPUT, WRONG_LENGTH, WRONG_STIMULUS};
+use crate::frame::memory::PLACEMENTS;
+use crate::frame::tally::{laid_out, of_codes, Quota};
+use crate::layout::ORDERS;
 
 pub const PER_CODE: u64 = 1_000;
 pub const PER_TWO_CODES: u64 = 120;
@@ -51,7 +30,7 @@ pub const OF_INPUT: &str = "slice as long as the input has leaves";
 pub const OF_TWO: &str = "slice as long as two cycles ask for";
 
 /// The quotas of the named counts that every kind has.
-const QUOTAS: [(&str, u64); 17] = [
+pub const QUOTAS: [(&str, u64); 17] = [
     (BENCH, 200),
     (SHAPES, 100),
     (LONGEST, 40),
@@ -80,80 +59,39 @@ pub fn ways(code: u8) -> &'static [&'static str] {
     }
 }
 
-/// The quota of a named count that every kind has.
-pub fn quota(name: &str) -> u64 {
-    QUOTAS.iter().find(|(n, _)| *n == name).map_or(0, |(_, need)| *need)
-}
-
 /// The codes of a kind, the lowest first.
-pub fn codes<M>(kind: &Kind<M>) -> impl Iterator<Item = u8> {
-    (WRONG_LENGTH..=WRONG_INPUT).chain([kind.length_code])
+pub fn codes<K: Kind>() -> impl Iterator<Item = u8> {
+    (WRONG_LENGTH..=WRONG_INPUT).chain([K::LENGTH_CODE])
 }
 
 /// Two codes of which one is about the call: the lower one, the higher one.
-pub fn two_codes<M>(kind: &Kind<M>) -> Vec<(u8, u8)> {
-    let about_call = [WRONG_STIMULUS, WRONG_INPUT, kind.length_code];
+pub fn two_codes<K: Kind>() -> Vec<(u8, u8)> {
+    let about_call = [WRONG_STIMULUS, WRONG_INPUT, K::LENGTH_CODE];
     about_call
         .into_iter()
-        .flat_map(|high| codes(kind).take_while(move |low| *low < high).map(move |low| (low, high)))
+        .flat_map(|high| {
+            codes::<K>().take_while(move |low| *low < high).map(move |low| (low, high))
+        })
         .collect()
 }
 
-impl Tally {
-    pub fn add(&mut self, name: &'static str, count: u64) {
-        *self.named.entry(name).or_default() += count;
-    }
-
-    pub fn got(&self, name: &str) -> u64 {
-        self.named.get(name).copied().unwrap_or(0)
-    }
-
-    /// Prints every quota; hands back those that are not met.
-    pub fn print<M>(&self, kind: &Kind<M>) -> Vec<String> {
-        let mut unmet = Vec::new();
-        let what = kind.what;
-        let mut line = |name: String, got: u64, need: u64| {
-            println!("quota {name}: {got} of {need}");
-            if got < need {
-                unmet.push(format!("{name}: {got} of {need}"));
-            }
-        };
-        line(format!("accepted {what}"), self.codes[usize::from(ACCEPTED)], kind.least);
-        for (name, need) in kind.quotas.iter().chain(&QUOTAS) {
-            line(name.to_string(), self.got(name), *need);
-        }
-        for code in codes(kind) {
-            line(format!("{what} with code {code}"), self.codes[usize::from(code)], PER_CODE);
-        }
-        for (low, high) in two_codes(kind) {
-            let got = self.two_codes[usize::from(low)][usize::from(high)];
-            line(format!("faults of codes {low} and {high}"), got, PER_TWO_CODES);
-        }
-        for (order, count) in ORDERS.iter().zip(self.layouts) {
-            line(format!("accepted sheets laid out {order}"), count, PER_LAYOUT);
-        }
-        let names = ["before a closed page", "after a closed page", "between kept bytes"];
-        for (name, count) in names.iter().zip(self.placements) {
-            line(format!("{what} with slices {name}"), count, PER_PLACEMENT);
-        }
-        unmet
-    }
+/// The name of the count of calls that are accepted.
+pub fn accepted(what: &str) -> String {
+    format!("accepted {what}")
 }
 
-impl Count for Tally {
-    fn merge(&mut self, other: &Tally) {
-        self.compared += other.compared;
-        let sum = |mine: &mut [u64], theirs: &[u64]| {
-            mine.iter_mut().zip(theirs).for_each(|(m, t)| *m += t);
-        };
-        sum(&mut self.codes, &other.codes);
-        sum(&mut self.placements, &other.placements);
-        sum(&mut self.layouts, &other.layouts);
-        for (mine, theirs) in self.two_codes.iter_mut().zip(&other.two_codes) {
-            sum(mine, theirs);
-        }
-        for (name, count) in &other.named {
-            self.add(name, *count);
-        }
-    }
+/// Every quota.
+pub fn quotas<K: Kind>() -> Vec<Quota> {
+    let what = K::WHAT;
+    let of_code = |code: u8, least: u64| Quota::new(format!("{what} with code {code}"), least);
+    let mut quotas = vec![Quota::new(accepted(what), K::LEAST)];
+    quotas.extend(Quota::all(K::QUOTAS));
+    quotas.extend(Quota::all(&QUOTAS));
+    quotas.extend(codes::<K>().map(|code| of_code(code, PER_CODE)));
+    let both = |(low, high)| Quota::new(of_codes(low, high), PER_TWO_CODES);
+    quotas.extend(two_codes::<K>().into_iter().map(both));
+    quotas.extend(ORDERS.iter().map(|order| Quota::new(laid_out(order), PER_LAYOUT)));
+    let placed = |name| Quota::new(format!("{what} with slices {name}"), PER_PLACEMENT);
+    quotas.extend(PLACEMENTS.map(placed));
+    quotas
 }

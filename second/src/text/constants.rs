@@ -2,13 +2,18 @@
 
 use std::collections::HashMap;
 
-use super::mistakes::TextMistake;
 use super::naming::Names;
 use super::syntax::{Constant, Definition, Expression, Syntax};
 
+/// Which of two pair types with the same parts is taken, of which the first
+/// was declared before the second: a comparison can replace it to make a mistake.
+pub type Taken = fn(usize, usize) -> usize;
+
+pub const TAKEN: Taken = |first, _| first;
+
 /// The type of each constant, if it has one.
-pub fn types(syntax: &Syntax, names: &Names, mistake: Option<TextMistake>) -> Vec<Option<usize>> {
-    let pairs = pair_types(syntax, names, mistake);
+pub fn types(taken: Taken, syntax: &Syntax, names: &Names) -> Vec<Option<usize>> {
+    let pairs = pair_types(taken, syntax, names);
     let mut types: Vec<Option<usize>> = Vec::new();
     for constant in &syntax.constants {
         types.push(match constant {
@@ -24,12 +29,8 @@ pub fn types(syntax: &Syntax, names: &Names, mistake: Option<TextMistake>) -> Ve
 }
 
 /// The type of each constant, or the place of the first pair without one.
-pub fn all_types(
-    syntax: &Syntax,
-    names: &Names,
-    mistake: Option<TextMistake>,
-) -> Result<Vec<usize>, usize> {
-    let types = types(syntax, names, mistake);
+pub fn all_types(taken: Taken, syntax: &Syntax, names: &Names) -> Result<Vec<usize>, usize> {
+    let types = types(taken, syntax, names);
     // A pair over a part without a type has none, so the first place is that
     // of a whole constant.
     let places = syntax.expressions.iter().filter_map(|expression| match expression {
@@ -52,20 +53,15 @@ fn place(constant: &Constant) -> usize {
     }
 }
 
-/// The first declared pair type of each two parts.
-fn pair_types(
-    syntax: &Syntax,
-    names: &Names,
-    mistake: Option<TextMistake>,
-) -> HashMap<(usize, usize), usize> {
-    let mut pairs = HashMap::new();
+/// The pair type of each two parts.
+fn pair_types(taken: Taken, syntax: &Syntax, names: &Names) -> HashMap<(usize, usize), usize> {
+    let mut pairs: HashMap<(usize, usize), usize> = HashMap::new();
     for (before, declaration) in syntax.declarations.iter().enumerate() {
         if let Definition::Pair(first, second) = &declaration.definition {
             let parts = (names.types[&first.letters], names.types[&second.letters]);
-            if mistake == Some(TextMistake::LastPairType) {
-                pairs.remove(&parts);
-            }
-            pairs.entry(parts).or_insert(before + 1);
+            let number = before + 1;
+            let of = pairs.entry(parts).or_insert(number);
+            *of = taken(*of, number);
         }
     }
     pairs

@@ -3,7 +3,6 @@
 
 use std::collections::HashMap;
 
-use super::mistakes::TextMistake;
 use super::syntax::{Alternative, Constant, Definition, Expression, Name, Pattern, Syntax};
 use super::tokens::INPUT;
 
@@ -31,13 +30,33 @@ pub struct Names {
     pub meant: Vec<Option<Meant>>,
 }
 
+/// The rules of scope, which a comparison can replace to make a mistake.
+#[derive(Clone, Copy)]
+pub struct Rules {
+    /// The one that is meant of the places where a name stands in scope, the
+    /// innermost last.
+    pub meant: fn(&mut dyn DoubleEndedIterator<Item = usize>) -> Option<usize>,
+    /// The steps of a LET: its name, its defining part and its body.
+    pub bind: for<'a> fn(&'a Name, usize, usize) -> Vec<Step<'a>>,
+    /// Those of a LET REC after its type.
+    pub bind_feedback: for<'a> fn(&'a Name, usize, usize) -> Vec<Step<'a>>,
+}
+
+pub const RULES: Rules =
+    Rules { meant: |places| places.next_back(), bind: bound_in_body, bind_feedback: bound_in_both };
+
 /// What the names of a text stand for, or the place of the first bad one.
-pub fn resolve(syntax: &Syntax, mistake: Option<TextMistake>) -> Result<Names, usize> {
+pub fn resolve(syntax: &Syntax) -> Result<Names, usize> {
+    resolve_by(&RULES, syntax)
+}
+
+/// The same by some rules of scope.
+pub fn resolve_by(rules: &Rules, syntax: &Syntax) -> Result<Names, usize> {
     let mut names = declared(syntax)?;
     names.of_type(&syntax.input)?;
     names.meant = vec![None; syntax.expressions.len()];
-    let input = Entry { letters: INPUT, counted: true, known: true };
-    Walk { syntax, mistake, names, scope: vec![input], to_do: vec![Step::Visit(syntax.root())] }
+    let input = Entry { letters: INPUT, counted: true };
+    Walk { syntax, rules, names, scope: vec![input], to_do: vec![Step::Visit(syntax.root())] }
         .walk()
 }
 
@@ -90,16 +109,16 @@ impl Names {
     }
 }
 
-/// A name in scope. Mistakes leave one out of the count, or unknown.
+/// A name in scope.
 #[derive(Clone, Copy)]
-struct Entry<'a> {
-    letters: &'a str,
-    counted: bool,
-    known: bool,
+pub struct Entry<'a> {
+    pub letters: &'a str,
+    /// Whether it counts in distances, as all do but for a mistake.
+    pub counted: bool,
 }
 
 /// What is still to be done, in the order of the text.
-enum Step<'a> {
+pub enum Step<'a> {
     Visit(usize),
     Constant(usize),
     Alternative(usize),
@@ -107,14 +126,29 @@ enum Step<'a> {
     Take(&'a Name),
     Type(&'a Name),
     Enter(Entry<'a>),
-    /// The innermost name is known from here.
-    Know,
     Leave,
+}
+
+impl<'a> Step<'a> {
+    /// A name comes into scope.
+    pub fn enter(name: &'a Name) -> Step<'a> {
+        Step::Enter(Entry { letters: &name.letters, counted: true })
+    }
+}
+
+/// A LET: its name is in scope in its body alone.
+fn bound_in_body(name: &Name, defining: usize, body: usize) -> Vec<Step<'_>> {
+    vec![Step::Take(name), Step::Visit(defining), Step::enter(name), Step::Visit(body), Step::Leave]
+}
+
+/// A LET REC: its name is in scope in both parts.
+fn bound_in_both(name: &Name, defining: usize, body: usize) -> Vec<Step<'_>> {
+    vec![Step::Take(name), Step::enter(name), Step::Visit(defining), Step::Visit(body), Step::Leave]
 }
 
 struct Walk<'a> {
     syntax: &'a Syntax,
-    mistake: Option<TextMistake>,
+    rules: &'a Rules,
     names: Names,
     /// The innermost last.
     scope: Vec<Entry<'a>>,
@@ -132,7 +166,6 @@ impl<'a> Walk<'a> {
                 Step::Take(name) => self.names.not_declared(name)?,
                 Step::Type(name) => self.names.of_type(name)?,
                 Step::Enter(entry) => self.scope.push(entry),
-                Step::Know => self.scope.iter_mut().last().into_iter().for_each(|e| e.known = true),
                 Step::Leave => {
                     self.scope.pop();
                 }
@@ -159,19 +192,12 @@ impl<'a> Walk<'a> {
                 self.then([Step::Visit(*first), Step::Visit(*second)]);
             }
             Expression::First(part) | Expression::Second(part) => self.then([Step::Visit(*part)]),
-            Expression::Let { name, defining, body } => self.bind(name, *defining, *body),
+            Expression::Let { name, defining, body } => {
+                self.then((self.rules.bind)(name, *defining, *body));
+            }
             Expression::Feedback { of, name, defining, body } => {
-                let known = self.mistake != Some(TextMistake::FeedbackNotInOwnPart);
-                let entry = Entry { letters: &name.letters, counted: true, known };
-                self.then([
-                    Step::Type(of),
-                    Step::Take(name),
-                    Step::Enter(entry),
-                    Step::Visit(*defining),
-                    Step::Know,
-                    Step::Visit(*body),
-                    Step::Leave,
-                ]);
+                let bind = (self.rules.bind_feedback)(name, *defining, *body);
+                self.then([Step::Type(of)].into_iter().chain(bind));
             }
             Expression::If { tested, pattern, then, other } => {
                 let alternatives = pattern.iter().map(|number| Step::Alternative(*number));
@@ -185,32 +211,11 @@ impl<'a> Walk<'a> {
         Ok(())
     }
 
-    /// A LET: its name is in scope in its body alone, unless a mistake is made.
-    fn bind(&mut self, name: &'a Name, defining: usize, body: usize) {
-        let entry = Entry { letters: &name.letters, counted: true, known: true };
-        let own = self.mistake == Some(TextMistake::LetInOwnPart);
-        let early = Entry { counted: false, known: own, ..entry };
-        self.then([
-            Step::Take(name),
-            Step::Enter(early),
-            Step::Visit(defining),
-            Step::Leave,
-            Step::Enter(entry),
-            Step::Visit(body),
-            Step::Leave,
-        ]);
-    }
-
     /// What a name in an expression stands for: the nearest one in scope, or a
     /// constructor.
     fn meant(&self, letters: &str) -> Option<Meant> {
-        let mut places = (0..self.scope.len())
-            .filter(|&at| self.scope[at].known && self.scope[at].letters == letters);
-        let found = match self.mistake {
-            Some(TextMistake::FarthestName) => places.next(),
-            _ => places.next_back(),
-        };
-        match found {
+        let mut places = (0..self.scope.len()).filter(|&at| self.scope[at].letters == letters);
+        match (self.rules.meant)(&mut places) {
             Some(at) => {
                 let nearer = self.scope[at + 1..].iter().filter(|entry| entry.counted).count();
                 Some(Meant::Distance(nearer))

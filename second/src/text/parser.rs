@@ -2,7 +2,6 @@
 //! may nest very deeply.
 
 use super::grammar::Piece;
-use super::mistakes::TextMistake;
 use super::prediction::Prediction;
 use super::syntax::{
     Alternative, Constant, Declaration, Definition, Expression, Name, Pattern, Syntax,
@@ -29,7 +28,7 @@ struct Parser {
 }
 
 /// The abstract syntax of a text with these tokens, which are legal.
-pub fn parse(text: &[u8], tokens: &[Placed], mistake: Option<TextMistake>) -> Syntax {
+pub fn parse(text: &[u8], tokens: &[Placed]) -> Syntax {
     let mut parser = Parser::new();
     let mut prediction = Prediction::new();
     for placed in tokens {
@@ -37,14 +36,10 @@ pub fn parse(text: &[u8], tokens: &[Placed], mistake: Option<TextMistake>) -> Sy
         parser.read(text, placed);
     }
     prediction.end(|piece| parser.complete(piece));
-    let mut expressions = parser.expressions;
-    if mistake == Some(TextMistake::PartsTurnedRound) {
-        turn_parts_round(&mut expressions);
-    }
     Syntax {
         declarations: parser.declarations,
         input: parser.input.unwrap_or_else(|| panic!("no input type")),
-        expressions,
+        expressions: parser.expressions,
         constants: parser.constants,
         alternatives: parser.alternatives,
     }
@@ -184,30 +179,5 @@ impl Parser {
         self.alternatives.push(alternative);
         let number = self.alternatives.len() - 1;
         self.open_patterns.iter_mut().last().into_iter().for_each(|chain| chain.push(number));
-    }
-}
-
-/// The mistake of taking the parts in each row of [1] and [2] in the other
-/// order.
-fn turn_parts_round(expressions: &mut [Expression]) {
-    let part = |expression: &Expression| match expression {
-        Expression::First(of) | Expression::Second(of) => Some(*of),
-        _ => None,
-    };
-    let mut below_part = vec![false; expressions.len()];
-    for number in (0..expressions.len()).rev() {
-        let mut row = Vec::new();
-        let mut next = Some(number).filter(|_| !below_part[number]);
-        while let Some(of) = next.and_then(|at| part(&expressions[at]).map(|of| (at, of))) {
-            row.push(of.0);
-            below_part[of.1] = true;
-            next = Some(of.1);
-        }
-        let firsts: Vec<bool> =
-            row.iter().map(|&at| matches!(expressions[at], Expression::First(_))).collect();
-        for (&at, first) in row.iter().zip(firsts.into_iter().rev()) {
-            let of = part(&expressions[at]).unwrap_or(0);
-            expressions[at] = if first { Expression::First(of) } else { Expression::Second(of) };
-        }
     }
 }

@@ -1,7 +1,6 @@
 //! Reads a text byte by byte: its tokens, or the first byte after which no
 //! legal text begins with what was read. Code 13.
 
-use super::mistakes::TextMistake;
 use super::positions::Position;
 use super::prediction::Prediction;
 use super::tokens::{is_blank, sign, Placed, Token, KEYWORDS, LONGEST_NAME, LONGEST_TEXT};
@@ -47,6 +46,15 @@ struct Word {
     allowed: Vec<Token>,
 }
 
+/// The limits of texts, which a comparison can replace to make a mistake.
+#[derive(Clone, Copy)]
+pub struct Limits {
+    pub text: usize,
+    pub name: usize,
+}
+
+pub const LIMITS: Limits = Limits { text: LONGEST_TEXT, name: LONGEST_NAME };
+
 pub struct Lexer<'a> {
     text: &'a [u8],
     longest_name: usize,
@@ -56,34 +64,27 @@ pub struct Lexer<'a> {
 }
 
 /// The tokens of a text.
-pub fn tokens(text: &[u8], mistake: Option<TextMistake>) -> Result<Vec<Placed>, Illegal> {
-    let longest_text = LONGEST_TEXT + usize::from(mistake == Some(TextMistake::OneByteMore));
-    let mut lexer = Lexer::new(text, mistake);
-    for place in 0..text.len().min(longest_text) {
-        lexer.byte(place).map_err(|illegal| illegal_place(&lexer, illegal, mistake))?;
+pub fn tokens(text: &[u8]) -> Result<Vec<Placed>, Illegal> {
+    tokens_within(&LIMITS, text)
+}
+
+/// The tokens of a text within some limits.
+pub fn tokens_within(limits: &Limits, text: &[u8]) -> Result<Vec<Placed>, Illegal> {
+    let mut lexer = Lexer::new(limits, text);
+    for place in 0..text.len().min(limits.text) {
+        lexer.byte(place)?;
     }
-    if text.len() > longest_text {
-        return Err(lexer.illegal(longest_text, Way::TooLong));
+    if text.len() > limits.text {
+        return Err(lexer.illegal(limits.text, Way::TooLong));
     }
     lexer.end()
 }
 
-/// The mistake of giving the place of a word's first byte.
-fn illegal_place(lexer: &Lexer, illegal: Illegal, mistake: Option<TextMistake>) -> Illegal {
-    match &lexer.word {
-        Some(word) if mistake == Some(TextMistake::PlaceAtToken) => {
-            Illegal { place: word.place, ..illegal }
-        }
-        _ => illegal,
-    }
-}
-
 impl<'a> Lexer<'a> {
-    pub fn new(text: &'a [u8], mistake: Option<TextMistake>) -> Self {
-        let more = usize::from(mistake == Some(TextMistake::SeventeenLetters));
+    pub fn new(limits: &Limits, text: &'a [u8]) -> Self {
         Lexer {
             text,
-            longest_name: LONGEST_NAME + more,
+            longest_name: limits.name,
             prediction: Prediction::new(),
             word: None,
             tokens: Vec::new(),
@@ -180,7 +181,7 @@ fn is_word(token: Token, letters: &[u8]) -> bool {
 /// The position before each byte of a text that is legal up to there, and
 /// whether the byte goes on with a word.
 pub fn positions_in(text: &[u8]) -> Vec<(Position, bool)> {
-    let mut lexer = Lexer::new(text, None);
+    let mut lexer = Lexer::new(&LIMITS, text);
     let mut found = Vec::new();
     for place in 0..text.len() {
         found.push((lexer.prediction.position(), lexer.word.is_some()));

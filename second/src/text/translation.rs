@@ -1,7 +1,6 @@
 //! The records of a text whose names are right: header, types as declared, then
 //! each expression before its parts, parts by the order of their words.
 
-use super::mistakes::TextMistake;
 use super::naming::{Meant, Names};
 use super::syntax::{Alternative, Constant, Definition, Expression, Name, Pattern, Syntax};
 use crate::records::{
@@ -14,27 +13,38 @@ const LEAVES: usize = 64;
 
 /// A word that gets the number of the next record written.
 #[derive(Clone, Copy)]
-struct Slot {
+pub struct Slot {
     record: usize,
     word: usize,
 }
 
 /// What is still to be written, and the word that names it.
-enum Part<'a> {
+pub enum Part<'a> {
     Expression(usize, Slot),
     /// The alternatives of a chain.
     Pattern(&'a [usize], Slot),
 }
+
+/// The rules of the layout, which a comparison can replace to make a mistake.
+#[derive(Clone, Copy)]
+pub struct Rules {
+    /// The most leaves of an undefined constant.
+    pub most_leaves: usize,
+    /// The order of an IF's parts: the tested one, the two branches and the
+    /// pattern are handed to it.
+    pub choice: for<'a> fn([Part<'a>; 4]) -> [Part<'a>; 4],
+}
+
+pub const RULES: Rules = Rules { most_leaves: LEAVES, choice: |parts| parts };
 
 struct Layout<'a> {
     syntax: &'a Syntax,
     names: &'a Names,
     /// The type of each constant.
     constant_types: &'a [usize],
-    mistake: Option<TextMistake>,
+    rules: &'a Rules,
     /// The leaves of each type, at most `most_leaves`; those of type 1 first.
     leaves: Vec<usize>,
-    most_leaves: usize,
     records: Vec<Record>,
     /// The next part last.
     to_do: Vec<Part<'a>>,
@@ -42,22 +52,13 @@ struct Layout<'a> {
 
 /// All records; there may be more than a sheet can have.
 pub fn records(
+    rules: &Rules,
     syntax: &Syntax,
     names: &Names,
     constant_types: &[usize],
-    mistake: Option<TextMistake>,
 ) -> Vec<Record> {
-    let most_leaves = LEAVES + usize::from(mistake == Some(TextMistake::SixtyFiveLeaves));
-    let mut layout = Layout {
-        syntax,
-        names,
-        constant_types,
-        mistake,
-        leaves: Vec::new(),
-        most_leaves,
-        records: Vec::new(),
-        to_do: Vec::new(),
-    };
+    let (leaves, records, to_do) = (Vec::new(), Vec::new(), Vec::new());
+    let mut layout = Layout { syntax, names, constant_types, rules, leaves, records, to_do };
     layout.header_and_types();
     layout.expressions();
     layout.records[0][C] = layout.records.len() as u16;
@@ -105,7 +106,7 @@ impl<'a> Layout<'a> {
                     self.leaves[first - 1] + self.leaves[second - 1]
                 }
             };
-            self.leaves.push(leaves.min(self.most_leaves));
+            self.leaves.push(leaves.min(self.rules.most_leaves));
         }
     }
 
@@ -157,7 +158,7 @@ impl<'a> Layout<'a> {
             }
             Expression::If { tested, pattern, then, other } => {
                 let record = self.write(slot, IF);
-                self.choice(record, *tested, pattern, [*then, *other]);
+                self.choice(record, [*tested, *then, *other], pattern);
             }
             Expression::Delay { constant, part } => {
                 let record = self.write(slot, DELAY);
@@ -190,17 +191,12 @@ impl<'a> Layout<'a> {
     }
 
     /// An IF: the pattern is the last of its parts.
-    fn choice(&mut self, record: usize, tested: usize, pattern: &'a Pattern, branches: [usize; 2]) {
+    fn choice(&mut self, record: usize, parts: [usize; 3], pattern: &'a Pattern) {
+        let [tested, then, other] = parts;
+        let part = |number: usize, word: usize| Part::Expression(number, Slot { record, word });
         let pattern = Part::Pattern(pattern, Slot { record, word: D });
-        let [then, other] = branches;
-        if self.mistake == Some(TextMistake::PatternBeforeBranches) {
-            self.then(record, &[(B, then), (C, other)]);
-            self.to_do.push(pattern);
-            self.then(record, &[(A, tested)]);
-        } else {
-            self.to_do.push(pattern);
-            self.then(record, &[(A, tested), (B, then), (C, other)]);
-        }
+        let parts = [part(tested, A), part(then, B), part(other, C), pattern];
+        self.to_do.extend((self.rules.choice)(parts).into_iter().rev());
     }
 
     /// The leaves of a constant or delay, whose word b names the first.

@@ -15,7 +15,7 @@ pub const LONG: usize = 60_000;
 
 /// The code and place for a text.
 pub fn answer(text: &[u8], slice_length: usize) -> (u8, u32) {
-    let Answer { code, place } = translate(text, slice_length, None).answer;
+    let Answer { code, place } = translate(text, slice_length).answer;
     (code, place)
 }
 
@@ -35,7 +35,7 @@ pub fn translated(text: &str) {
 
 /// The records of a text.
 pub fn records(text: &str) -> Vec<Record> {
-    let outcome = translate(text.as_bytes(), LONG, None);
+    let outcome = translate(text.as_bytes(), LONG);
     assert_eq!(outcome.answer.code, 0, "{text}");
     read(&outcome.written[..outcome.answer.place as usize])
 }

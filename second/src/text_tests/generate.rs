@@ -1,6 +1,7 @@
 //! The generators of texts keep the rules, or break the one they aim at.
 
 use crate::accepted::Circuit;
+use crate::calls::texts::mistakes::{self, TextMistake, MISTAKES};
 use crate::generate::circuits::circuit;
 use crate::generate::small::small;
 use crate::random::Random;
@@ -12,7 +13,6 @@ use crate::text::generate::faults::categories;
 use crate::text::generate::sentence::Sentence;
 use crate::text::generate::{circuits, damage, free, sizes};
 use crate::text::long;
-use crate::text::mistakes::{self, TextMistake, MISTAKES};
 use crate::text::reading::{positions_in, tokens, Way};
 use crate::text::text_meaning::outputs;
 use crate::text::translator::{records, syntax, translate};
@@ -33,7 +33,7 @@ fn good_texts_are_translated() {
     let mut random = Random::new(21);
     for _ in 0..600 {
         let (text, _) = good(&mut random).spell(&mut random);
-        let answer = translate(&text, 12 * MAX_RECORDS, None).answer;
+        let answer = translate(&text, 12 * MAX_RECORDS).answer;
         assert!([0, 15].contains(&answer.code), "{}", String::from_utf8_lossy(&text));
     }
 }
@@ -46,8 +46,8 @@ fn reading_17_runs_give_the_meaning() {
     for k in 0..500 {
         let draft = if k % 5 == 0 { circuit(&mut random) } else { small(&mut random) };
         let (text, _) = circuits::sentence(&draft, &mut random).spell(&mut random);
-        let Ok(syntax) = syntax(&text, None) else { panic!("13") };
-        let Ok(records) = records(&syntax, None) else { panic!("14") };
+        let Ok(syntax) = syntax(&text) else { panic!("13") };
+        let Ok(records) = records(&syntax) else { panic!("14") };
         let sheet = bytes(&records);
         let Ok(circuit) = Circuit::read(&sheet) else { continue };
         accepted += 1;
@@ -59,7 +59,7 @@ fn reading_17_runs_give_the_meaning() {
             Call { sheet: &sheet, stimulus: &stimulus, output_length, next_length: sheet.len() };
         let inputs = stimulus::cycles(&circuit, &stimulus);
         let meant = outputs(&syntax, inputs, IN_FORCE).concat();
-        assert_eq!(run(&call, None).outputs, Some(meant), "{}", String::from_utf8_lossy(&text));
+        assert_eq!(run(&call).outputs, Some(meant), "{}", String::from_utf8_lossy(&text));
     }
     assert!(accepted > 450, "{accepted}");
 }
@@ -76,7 +76,7 @@ fn bad_names_are_found() {
             let mut sentence = whole.clone();
             let Some(at) = category.put(&mut sentence, &mut random) else { continue };
             let (text, places) = sentence.spell(&mut random);
-            let answer = translate(&text, 0, None).answer;
+            let answer = translate(&text, 0).answer;
             hits.0 += 1;
             hits.1 += usize::from((answer.code, answer.place) == (14, places[at] as u32));
         }
@@ -94,15 +94,15 @@ fn damaged_texts_have_an_answer() {
         let (mut text, _) = good(&mut random).spell(&mut random);
         damage::damage_anywhere(&mut text, &mut random);
         let length = random.below(70_000);
-        codes[usize::from(translate(&text, length, None).answer.code)] += 1;
+        codes[usize::from(translate(&text, length).answer.code)] += 1;
         let found = positions_in(&text);
-        let legal = tokens(&text, None).map_or_else(|illegal| illegal.place + 1, |_| text.len());
+        let legal = tokens(&text).map_or_else(|illegal| illegal.place + 1, |_| text.len());
         assert_eq!(found.len(), legal.min(text.len()));
     }
     assert!([0, 13, 14, 15].iter().all(|&code| codes[code] > 0), "{codes:?}");
     for _ in 0..1000 {
         let length = random.below(60);
-        translate(&damage::random_bytes(length, &mut random), 60_000, None);
+        translate(&damage::random_bytes(length, &mut random), 60_000);
     }
 }
 
@@ -111,26 +111,26 @@ fn sizes_are_met() {
     let mut random = Random::new(25);
     for count in [7, 100, 4096, 4097] {
         let (text, _) = sizes::of_records(count, &mut random).spell(&mut random);
-        let answer = translate(&text, 12 * count, None).answer;
+        let answer = translate(&text, 12 * count).answer;
         assert_eq!((answer.code == 0, answer.place), (count <= 4096, 12 * count as u32));
     }
     for count in [65_535, 65_536, 70_000] {
         let sentence = free::sentence(20, false, &mut random);
         let text = sizes::of_bytes(&sentence, count, &mut random);
-        assert_eq!((text.len(), tokens(&text, None).is_ok()), (count, count == 65_535));
+        assert_eq!((text.len(), tokens(&text).is_ok()), (count, count == 65_535));
     }
     for _ in 0..50 {
         let sentence = sizes::with_long_name(&good(&mut random), &mut random);
         let (text, _) = sentence.spell(&mut random);
-        assert_eq!(tokens(&text, None).err().map(|illegal| illegal.way), Some(Way::LongName));
-        translate(&sizes::deep(&mut random), 49_152, None);
+        assert_eq!(tokens(&text).err().map(|illegal| illegal.way), Some(Way::LongName));
+        translate(&sizes::deep(&mut random), 49_152);
     }
 }
 
 #[test]
 fn long_texts_are_translated_but_for_their_records() {
     for (name, text) in long::all() {
-        let outcome = translate(&text, 12 * MAX_RECORDS, None);
+        let outcome = translate(&text, 12 * MAX_RECORDS);
         let (code, place) = (outcome.answer.code, outcome.answer.place as usize);
         assert_eq!(text.len(), 65_535);
         assert_eq!(code, if place <= 12 * MAX_RECORDS { 0 } else { 15 }, "{name}");
@@ -170,7 +170,7 @@ fn mistakes_are_seen() {
             let text = texts_for(mistake, &mut random);
             let length = 12 * random.range(1, 300);
             let (right, wrong) =
-                (translate(&text, length, None), translate(&text, length, Some(mistake)));
+                (translate(&text, length), mistakes::translate(&text, length, Some(mistake)));
             right.answer != wrong.answer || right.written != wrong.written
         });
         assert!(seen, "{name}");
@@ -185,10 +185,10 @@ fn sheets_are_accepted_and_refused() {
     let mut codes = [0; 8];
     for _ in 0..1500 {
         let (text, _) = good(&mut random).spell(&mut random);
-        let outcome = translate(&text, 49_152, None);
+        let outcome = translate(&text, 49_152);
         if outcome.answer.code == 0 {
             let sheet = &outcome.written[..outcome.answer.place as usize];
-            codes[usize::from(check(sheet, None).code)] += 1;
+            codes[usize::from(check(sheet).code)] += 1;
         }
     }
     assert_eq!((codes[1], codes[2], codes[4]), (0, 0, 0));

@@ -17,7 +17,7 @@ fn illegal_in(marked: &str) {
 }
 
 fn legal(text: &str) {
-    assert!(tokens(text.as_bytes(), None).is_ok(), "{text}");
+    assert!(tokens(text.as_bytes()).is_ok(), "{text}");
 }
 
 fn legal_in(expression: &str) {
@@ -154,7 +154,7 @@ fn reading_7_length() {
         text[place] = b'*';
         assert_eq!(answer(&text, LONG), (13, found));
     }
-    let illegal = tokens(&padded(65_536), None).err().map(|illegal| illegal.way);
+    let illegal = tokens(&padded(65_536)).err().map(|illegal| illegal.way);
     assert_eq!(illegal, Some(Way::TooLong));
 }
 

@@ -9,7 +9,7 @@ use crate::text::translator::syntax;
 
 /// The outputs of a text, by one rule for undecided IFs.
 fn meant(text: &str, leaves: usize, stimulus: &[u8], rule: Rule) -> Vec<u8> {
-    let Ok(syntax) = syntax(text.as_bytes(), None) else { panic!("{text}") };
+    let Ok(syntax) = syntax(text.as_bytes()) else { panic!("{text}") };
     outputs(&syntax, stimulus.chunks_exact(leaves), rule).concat()
 }
 
@@ -19,7 +19,7 @@ fn ran(text: &str, stimulus: &[u8]) -> Vec<u8> {
     let Ok(ready) = ready(&sheet, stimulus) else { panic!("{text}") };
     let lengths = (ready.output_length, sheet.len());
     let call = Call { sheet: &sheet, stimulus, output_length: lengths.0, next_length: lengths.1 };
-    run(&call, None).outputs.unwrap_or_default()
+    run(&call).outputs.unwrap_or_default()
 }
 
 /// Outputs by the rule in force: the meaning's and the run's.

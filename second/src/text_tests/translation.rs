@@ -154,17 +154,17 @@ fn reading_14_leaves() {
     assert_eq!(count("(DELAY ((?f, ?f), input))"), 1 + 9 + 1 + 128 + 1);
     assert_eq!(count("(DELAY ((?f, hi), input))"), 1 + 9 + 1 + 65 + 1);
     let sheet = bytes(&records(&format!("{DOUBLED}?more")));
-    assert_eq!((check(&sheet, None).code, check(&sheet, None).place), (5, 8));
+    assert_eq!((check(&sheet).code, check(&sheet).place), (5, 8));
 }
 
 #[test]
 fn reading_15_lengths() {
     for length in [0, 1, 192, 203] {
         assert_eq!(answer(T.as_bytes(), length), (15, 204));
-        assert!(translate(T.as_bytes(), length, None).written.is_empty());
+        assert!(translate(T.as_bytes(), length).written.is_empty());
     }
     assert_eq!(answer(T.as_bytes(), 204), (0, 204));
-    let longer = translate(T.as_bytes(), 300, None);
+    let longer = translate(T.as_bytes(), 300);
     assert_eq!((longer.answer.code, longer.answer.place, longer.written.len()), (0, 204, 300));
     assert!(longer.written[204..].iter().all(|&byte| byte == 0));
     // Header, type, IF and three names are 6 records.
@@ -185,7 +185,7 @@ fn reading_15_lengths() {
 
 /// The code and place of the check for a text's sheet.
 fn checked(text: &str) -> (u8, u32) {
-    let found = check(&bytes(&records(text)), None);
+    let found = check(&bytes(&records(text)));
     (found.code, found.place)
 }
 

@@ -8,8 +8,8 @@ use Rattle.firing.proofs.fired_accepted.Tie as tie
 check-one-cycle-requires : tie.Need-check-one-cycle-requires
 check-one-cycle-requires c κs = search needs
 
-enum-known-held : tie.Need-enum-known-held
-enum-known-held c = search needs
+enum-known-answer : tie.Need-enum-known-answer
+enum-known-answer c = search needs
 
 enum-told : tie.Need-enum-told
 enum-told c = search needs
@@ -24,23 +24,23 @@ in-one-requires : tie.Need-in-one-requires
 in-one-requires c κs = search needs
 
 returns-2 : tie.Need-returns-2
-returns-2 c = told-length (c .before .before .before .before .before .before .before .before .before .pre .0) (c .before .before .before .before .before .before .before .before .before .pre .1) (now (c .before .before .before .before .before .before .before .before .before .args .stim)) (now (c .before .before .before .before .before .before .before .before .before .args .words)) _ (c .before .before .before .before .before .check-one-cycle .ensures) _ (c .before .before .before .held .given .1) (c .before .if1 .taken) _ (c .in-one .ensures)
+returns-2 c = told-length (c .before .before .before .before .before .before .before .before .before .pre .0) (c .before .before .before .before .before .before .before .before .before .pre .1) (now (c .before .before .before .before .before .before .before .before .before .args .stim)) (now (c .before .before .before .before .before .before .before .before .before .args .words)) _ (c .before .before .before .before .before .check-one-cycle .ensures) _ (c .before .before .before .answer .given .1) (c .before .if1 .taken) _ (c .in-one .ensures)
 
 tell-fired-requires : tie.Need-tell-fired-requires
-tell-fired-requires c κs = telling (c .before .before .before .before .before .before .before .before .before .pre .0) (c .before .before .before .before .before .before .before .before .before .pre .1) (now (c .before .before .before .before .before .before .before .before .before .args .stim)) (now (c .before .before .before .before .before .before .before .before .before .args .words)) _ (c .before .before .before .before .before .check-one-cycle .ensures) _ (c .before .before .before .held .given .1) (c .before .if1 .left)
+tell-fired-requires c κs = telling (c .before .before .before .before .before .before .before .before .before .pre .0) (c .before .before .before .before .before .before .before .before .before .pre .1) (now (c .before .before .before .before .before .before .before .before .before .args .stim)) (now (c .before .before .before .before .before .before .before .before .before .args .words)) _ (c .before .before .before .before .before .check-one-cycle .ensures) _ (c .before .before .before .answer .given .1) (c .before .if1 .left)
 
 same-length : tie.Need-same-length
 same-length c = search needs
 
 returns-3 : tie.Need-returns-3
-returns-3 c = told-done (c .before .before .before .before .before .before .before .before .before .before .before .before .pre .0) (c .before .before .before .before .before .before .before .before .before .before .before .before .pre .1) (now (c .before .before .before .before .before .before .before .before .before .before .before .before .args .stim)) (now (c .before .before .before .before .before .before .before .before .before .before .before .before .args .words)) _ (c .before .before .before .before .before .before .before .before .check-one-cycle .ensures) _ (c .before .before .before .before .before .before .held .given .1) (c .before .before .before .before .if1 .left) _ (c .before .before .tell-fired .ensures)
+returns-3 c = told-done (c .before .before .before .before .before .before .before .before .before .before .before .before .pre .0) (c .before .before .before .before .before .before .before .before .before .before .before .before .pre .1) (now (c .before .before .before .before .before .before .before .before .before .before .before .before .args .stim)) (now (c .before .before .before .before .before .before .before .before .before .before .before .before .args .words)) _ (c .before .before .before .before .before .before .before .before .check-one-cycle .ensures) _ (c .before .before .before .before .before .before .answer .given .1) (c .before .before .before .before .if1 .left) _ (c .before .before .tell-fired .ensures)
 
 pub fired-accepted-spec : {M : Type 1} → statement M
 fired-accepted-spec =
     tie.close
     (tie.spec
     check-one-cycle-requires
-    enum-known-held
+    enum-known-answer
     enum-told
     packed-requires
     returns

@@ -9,8 +9,8 @@ use Rattle.preview.proofs.preview_accepted.Tie as tie
 check-one-cycle-requires : tie.Need-check-one-cycle-requires
 check-one-cycle-requires c κs = search needs
 
-enum-known-held : tie.Need-enum-known-held
-enum-known-held c = search needs
+enum-known-answer : tie.Need-enum-known-answer
+enum-known-answer c = search needs
 
 enum-told : tie.Need-enum-told
 enum-told c = search needs
@@ -31,23 +31,23 @@ in-one-requires : tie.Need-in-one-requires
 in-one-requires c κs = let f = preview-room-few (c .before .before .before .before .before .before .before .before .before .pre .0) (c .before .before .before .before .before .before .before .before .before .pre .1) in (omega arith, omega arith)
 
 returns-2 : tie.Need-returns-2
-returns-2 c = preview-refused-output (c .before .before .before .before .before .before .before .before .before .before .pre .0) (c .before .before .before .before .before .before .before .before .before .before .pre .1) (now (c .before .before .before .before .before .before .before .before .before .before .args .stim)) (now (c .before .before .before .before .before .before .before .before .before .before .args .out)) _ (c .before .before .before .before .before .before .check-one-cycle .ensures) _ (c .before .before .before .before .held .given .1) (c .before .if1 .taken) _ (c .in-one .ensures)
+returns-2 c = preview-refused-output (c .before .before .before .before .before .before .before .before .before .before .pre .0) (c .before .before .before .before .before .before .before .before .before .before .pre .1) (now (c .before .before .before .before .before .before .before .before .before .before .args .stim)) (now (c .before .before .before .before .before .before .before .before .before .before .args .out)) _ (c .before .before .before .before .before .before .check-one-cycle .ensures) _ (c .before .before .before .before .answer .given .1) (c .before .if1 .taken) _ (c .in-one .ensures)
 
 show-requires : tie.Need-show-requires
-show-requires c κs = showing (c .before .before .before .before .before .before .before .before .before .before .pre .0) (c .before .before .before .before .before .before .before .before .before .before .pre .1) (now (c .before .before .before .before .before .before .before .before .before .before .args .stim)) (now (c .before .before .before .before .before .before .before .before .before .before .args .out)) _ (c .before .before .before .before .before .before .check-one-cycle .ensures) _ (c .before .before .before .before .held .given .1) (c .before .if1 .left)
+show-requires c κs = showing (c .before .before .before .before .before .before .before .before .before .before .pre .0) (c .before .before .before .before .before .before .before .before .before .before .pre .1) (now (c .before .before .before .before .before .before .before .before .before .before .args .stim)) (now (c .before .before .before .before .before .before .before .before .before .before .args .out)) _ (c .before .before .before .before .before .before .check-one-cycle .ensures) _ (c .before .before .before .before .answer .given .1) (c .before .if1 .left)
 
 same-length : tie.Need-same-length
 same-length c = search needs
 
 returns-3 : tie.Need-returns-3
-returns-3 c = preview-done (c .before .before .before .before .before .before .before .before .before .before .before .before .before .pre .0) (c .before .before .before .before .before .before .before .before .before .before .before .before .before .pre .1) (now (c .before .before .before .before .before .before .before .before .before .before .before .before .before .args .stim)) (now (c .before .before .before .before .before .before .before .before .before .before .before .before .before .args .out)) _ (c .before .before .before .before .before .before .before .before .before .check-one-cycle .ensures) _ (c .before .before .before .before .before .before .before .held .given .1) (c .before .before .before .before .if1 .left) _ (c .before .before .show .ensures)
+returns-3 c = preview-done (c .before .before .before .before .before .before .before .before .before .before .before .before .before .pre .0) (c .before .before .before .before .before .before .before .before .before .before .before .before .before .pre .1) (now (c .before .before .before .before .before .before .before .before .before .before .before .before .before .args .stim)) (now (c .before .before .before .before .before .before .before .before .before .before .before .before .before .args .out)) _ (c .before .before .before .before .before .before .before .before .before .check-one-cycle .ensures) _ (c .before .before .before .before .before .before .before .answer .given .1) (c .before .before .before .before .if1 .left) _ (c .before .before .show .ensures)
 
 pub preview-accepted-spec : {M : Type 1} → statement M
 preview-accepted-spec =
     tie.close
     (tie.spec
     check-one-cycle-requires
-    enum-known-held
+    enum-known-answer
     enum-told
     packed-requires
     returns

@@ -10,8 +10,8 @@ use Rattle.simulator.proofs.run_accepted.Tie as tie
 check-stimulus-requires : tie.Need-check-stimulus-requires
 check-stimulus-requires c κs = search needs
 
-enum-known-held : tie.Need-enum-known-held
-enum-known-held c = search needs
+enum-known-answer : tie.Need-enum-known-answer
+enum-known-answer c = search needs
 
 enum-told : tie.Need-enum-told
 enum-told c = search needs
@@ -38,25 +38,25 @@ cast-wo : tie.Need-cast-wo
 cast-wo c = let f = output-few (c .before .before .before .before .before .before .before .before .before .before .before .pre) in omega arith
 
 mul-needed : tie.Need-mul-needed
-mul-needed c = let f = needed-few (c .before .before .before .before .before .before .before .before .before .before .before .pre) (c .before .before .before .before .before .before .check-stimulus .ensures) (c .before .before .before .before .held .given .1) in omega arith
+mul-needed c = let f = needed-few (c .before .before .before .before .before .before .before .before .before .before .before .pre) (c .before .before .before .before .before .before .check-stimulus .ensures) (c .before .before .before .before .answer .given .1) in omega arith
 
 in-one-requires : tie.Need-in-one-requires
-in-one-requires c κs = let f = needed-few (c .before .before .before .before .before .before .before .before .before .before .before .before .pre) (c .before .before .before .before .before .before .before .check-stimulus .ensures) (c .before .before .before .before .before .held .given .1) in (omega arith, omega arith)
+in-one-requires c κs = let f = needed-few (c .before .before .before .before .before .before .before .before .before .before .before .before .pre) (c .before .before .before .before .before .before .before .check-stimulus .ensures) (c .before .before .before .before .before .answer .given .1) in (omega arith, omega arith)
 
 returns-2 : tie.Need-returns-2
-returns-2 c = refused-output (c .before .before .before .before .before .before .before .before .before .before .before .before .before .pre) (c .before .before .before .before .before .before .before .before .check-stimulus .ensures) (c .before .before .before .before .before .before .held .given .1) (c .before .if1 .taken) (c .in-one .ensures)
+returns-2 c = refused-output (c .before .before .before .before .before .before .before .before .before .before .before .before .before .pre) (c .before .before .before .before .before .before .before .before .check-stimulus .ensures) (c .before .before .before .before .before .before .answer .given .1) (c .before .if1 .taken) (c .in-one .ensures)
 
 in-one-requires-2 : tie.Need-in-one-requires-2
 in-one-requires-2 c κs = search needs
 
 returns-3 : tie.Need-returns-3
-returns-3 c = refused-next (c .before .before .before .before .before .before .before .before .before .before .before .before .before .before .pre) (c .before .before .before .before .before .before .before .before .before .check-stimulus .ensures) (c .before .before .before .before .before .before .before .held .given .1) (c .before .before .if1 .left) (c .before .if2 .taken) (c .in-one2 .ensures)
+returns-3 c = refused-next (c .before .before .before .before .before .before .before .before .before .before .before .before .before .before .pre) (c .before .before .before .before .before .before .before .before .before .check-stimulus .ensures) (c .before .before .before .before .before .before .before .answer .given .1) (c .before .before .if1 .left) (c .before .if2 .taken) (c .in-one2 .ensures)
 
 put-requires : tie.Need-put-requires
 put-requires c κs = search needs
 
 run-from-requires : tie.Need-run-from-requires
-run-from-requires c κs = call-running (c .before .before .before .before .before .before .before .before .before .before .before .before .before .before .before .before .before .before .before .pre) (c .before .before .before .before .before .before .before .before .before .before .before .before .before .before .check-stimulus .ensures) (c .before .before .before .before .before .before .before .before .before .before .before .before .held .given .1) (c .before .before .before .before .before .before .before .if1 .left) (now (c .before .before .before .before .before .before .before .before .before .before .before .before .before .before .before .before .before .before .before .args .next)) (c .before .before .before .before .before .before .if2 .left) (c .before .before .before .before .before .before .before .before .before .before .word .ensures .0) (c .before .before .before .before .put .ensures)
+run-from-requires c κs = call-running (c .before .before .before .before .before .before .before .before .before .before .before .before .before .before .before .before .before .before .before .pre) (c .before .before .before .before .before .before .before .before .before .before .before .before .before .before .check-stimulus .ensures) (c .before .before .before .before .before .before .before .before .before .before .before .before .answer .given .1) (c .before .before .before .before .before .before .before .if1 .left) (now (c .before .before .before .before .before .before .before .before .before .before .before .before .before .before .before .before .before .before .before .args .next)) (c .before .before .before .before .before .before .if2 .left) (c .before .before .before .before .before .before .before .before .before .before .word .ensures .0) (c .before .before .before .before .put .ensures)
 
 same-length : tie.Need-same-length
 same-length c = search needs
@@ -65,14 +65,14 @@ same-length-2 : tie.Need-same-length-2
 same-length-2 c = search needs
 
 returns-4 : tie.Need-returns-4
-returns-4 c = call-done (c .before .before .before .before .before .before .before .before .before .before .before .before .before .before .before .before .before .before .before .before .before .before .before .before .pre) (c .before .before .before .before .before .before .before .before .before .before .before .before .before .before .before .before .before .before .before .check-stimulus .ensures) (c .before .before .before .before .before .before .before .before .before .before .before .before .before .before .before .before .before .held .given .1) (c .before .before .before .before .before .before .before .before .before .before .before .before .if1 .left) (now (c .before .before .before .before .before .before .before .before .before .before .before .before .before .before .before .before .before .before .before .before .before .before .before .before .args .next)) (c .before .before .before .before .before .before .before .before .before .before .before .if2 .left) (c .before .before .before .before .run-from .ensures)
+returns-4 c = call-done (c .before .before .before .before .before .before .before .before .before .before .before .before .before .before .before .before .before .before .before .before .before .before .before .before .pre) (c .before .before .before .before .before .before .before .before .before .before .before .before .before .before .before .before .before .before .before .check-stimulus .ensures) (c .before .before .before .before .before .before .before .before .before .before .before .before .before .before .before .before .before .answer .given .1) (c .before .before .before .before .before .before .before .before .before .before .before .before .if1 .left) (now (c .before .before .before .before .before .before .before .before .before .before .before .before .before .before .before .before .before .before .before .before .before .before .before .before .args .next)) (c .before .before .before .before .before .before .before .before .before .before .before .if2 .left) (c .before .before .before .before .run-from .ensures)
 
 pub run-accepted-spec : {M : Type 1} → statement M
 run-accepted-spec =
     tie.close
     (tie.spec
     check-stimulus-requires
-    enum-known-held
+    enum-known-answer
     enum-told
     packed-requires
     returns

@@ -2,9 +2,6 @@
 use borrow.Author.Needs.{needs}
 use Rattle.verdict.proofs.check_rules.Statement.{statement}
 use Rattle.verdict.proofs.check_rules.Tie as tie
-use native.Mathlib.Omega.{arith}
-use mathlib.Core.Path.{refl, sym, _∙_, ap}
-use denote.Ref.{now}
 use Rattle.verdict.proofs.Stages.{root-ready, rules-accept, rules-refuse}
 
 word-requires : tie.Need-word-requires
@@ -14,10 +11,12 @@ input-scope-requires : tie.Need-input-scope-requires
 input-scope-requires c κs = search needs
 
 word-requires-2 : tie.Need-word-requires-2
-word-requires-2 c κs = (c .before .before .before .before .pre .0 .sized, c .before .before .before .before .pre .0 .sized .some, search needs)
+word-requires-2 c κs =
+    (c .before .before .before .before .pre .0 .sized, c .before .before .before .before .pre .0 .sized .some, search needs)
 
 judge-root-requires : tie.Need-judge-root-requires
-judge-root-requires c κs = root-ready (c .before .before .before .before .before .before .pre .0) (c .before .before .before .input-scope .result) _ (c .before .before .before .before .word .ensures .0) (c .before .word2 .ensures .0) (c .before .before .before .input-scope .ensures .1) (c .before .before .before .input-scope .ensures .0) (c .before .before .before .before .before .before .pre .1)
+judge-root-requires c κs =
+    (root-ready (c .before .before .before .before .before .before .pre .0) (c .before .before .before .input-scope .result) (c .before .before .before .before .word .ensures .0) (c .before .word2 .ensures .0) (c .before .before .before .input-scope .ensures .1) (c .before .before .before .input-scope .ensures .0) (c .before .before .before .before .before .before .pre .1), c .before .before .before .before .before .before .pre .2)
 
 enum-known-judged : tie.Need-enum-known-judged
 enum-known-judged c = search needs
@@ -27,11 +26,11 @@ enum-known-judged-2 c = search needs
 
 returns : tie.Need-returns
 returns c =
-    rules-accept (c .before .before .before .before .before .before .before .before .before .before .pre .0) (c .before .before .before .before .before .before .before .input-scope .result) (now (c .before .before .before .before .before .before .before .before .before .before .args .widths)) (c .before .before .before .before .before .before .before .before .word .ensures .0) (c .before .before .before .before .before .word2 .ensures .0) (c .before .before .before .before .before .before .before .input-scope .ensures .1) _ _ _ _ (c .before .before .before .judge-root .ensures) (c .before .judged .given .1)
+    rules-accept (c .before .before .before .before .before .before .before .before .before .before .pre .0) (c .before .before .before .before .before .before .before .input-scope .result) (c .before .before .before .before .before .before .before .before .word .ensures .0) (c .before .before .before .before .before .word2 .ensures .0) (c .before .before .before .before .before .before .before .input-scope .ensures .1) _ _ _ _ (c .before .before .before .judge-root .ensures) (c .before .judged .given .1)
 
 returns-2 : tie.Need-returns-2
 returns-2 c =
-    rules-refuse (c .before .before .before .before .before .before .before .before .before .before .pre .0) (c .before .before .before .before .before .before .before .input-scope .result) (now (c .before .before .before .before .before .before .before .before .before .before .args .widths)) (c .before .before .before .before .before .before .before .before .word .ensures .0) (c .before .before .before .before .before .word2 .ensures .0) (c .before .before .before .before .before .before .before .input-scope .ensures .1) _ _ _ _ (c .before .before .before .judge-root .ensures) (c .before .judged2 .given .1)
+    rules-refuse (c .before .before .before .before .before .before .before .before .before .before .pre .0) (c .before .before .before .before .before .before .before .input-scope .result) (c .before .before .before .before .before .before .before .before .word .ensures .0) (c .before .before .before .before .before .word2 .ensures .0) (c .before .before .before .before .before .before .before .input-scope .ensures .1) _ _ _ _ (c .before .before .before .judge-root .ensures) (c .before .judged2 .given .1)
 
 pub check-rules-spec : {M : Type 1} → statement M
 check-rules-spec =

@@ -8,6 +8,7 @@ use mathlib.Core.Path.{refl, ap}
 use Prim.Native.Nat.{ℕ}
 use lib.ListN.{set}
 use Rattle.typing.proofs.Bounds.{leaves-counted}
+use Rattle.typing.proofs.Closings.{note-counted}
 
 element-copy-out-widths : tie.Need-element-copy-out-widths
 element-copy-out-widths c =
@@ -23,6 +24,7 @@ returns : tie.Need-returns
 returns c = (
   refl,
   ap (λ (v : ℕ). set (now (c .before .args .widths)) (c .before .args .rec) v) (leaves-counted (c .before .pre .0 .ground) _ (c .before .pre .1)),
+  note-counted (c .before .pre .0) _,
 )
 
 pub note-spec : {M : Type 1} → statement M

@@ -49,74 +49,74 @@ use Rattle.typing.specs.Judgements.{leavesFit, patternHas}
 use Rattle.typing.specs.Judging.{at-first, at-second}
 use Rattle.typing.proofs.KindNumbers.{numbered, last-kind}
 use Rattle.typing.proofs.Outcomes.{passed, lastly-holds}
-use Rattle.typing.proofs.Readiness.{judging-written, judging-there, ready-closing, part-ready, part-of-pair, part-word, body-ready, pattern-ready, typed-record, typed-word, leaves-there, room-for-name, small-record, judging-names-few}
+use Rattle.typing.proofs.Readiness.{judging-written, judging-there, judging-counted, ready-closing, part-ready, part-of-pair, part-word, body-ready, pattern-ready, typed-record, typed-word, leaves-there, room-for-name, small-record, judging-names-few}
 use Rattle.typing.proofs.Judgings.{pair-first-faults, pair-second-faults, pair-closes, part-faults, part-closes, let-defining-faults, let-body-fault, let-closes, feedback-defining-faults, feedback-body-fault, feedback-closing, if-tested-faults, if-pattern-fault, if-then-fault, if-else-fault, if-closing, delay-part-faults, delay-leaves-faults, delay-closing}
 
-abbrev μ-judge : Measures 6 judge-kinds.ps ℕ
-μ-judge κs a = 2 * (a .1 .0 - a .1 .1 .1 .1 .1 .1 .1 .0) + 1
+abbrev μ-judge : Measures 5 judge-kinds.ps ℕ
+μ-judge κs a = 2 * (a .1 .0 - a .1 .1 .1 .1 .1 .1 .0) + 1
 
-abbrev μ-of-delay : Measures 6 of-delay-kinds.ps ℕ
-μ-of-delay κs a = 2 * (a .1 .0 - a .1 .1 .1 .1 .1 .1 .1 .0)
+abbrev μ-of-delay : Measures 5 of-delay-kinds.ps ℕ
+μ-of-delay κs a = 2 * (a .1 .0 - a .1 .1 .1 .1 .1 .1 .0)
 
-abbrev μ-of-feedback : Measures 6 of-feedback-kinds.ps ℕ
-μ-of-feedback κs a = 2 * (a .1 .0 - a .1 .1 .1 .1 .1 .1 .1 .0)
+abbrev μ-of-feedback : Measures 5 of-feedback-kinds.ps ℕ
+μ-of-feedback κs a = 2 * (a .1 .0 - a .1 .1 .1 .1 .1 .1 .0)
 
-abbrev μ-of-if : Measures 6 of-if-kinds.ps ℕ
-μ-of-if κs a = 2 * (a .1 .0 - a .1 .1 .1 .1 .1 .1 .1 .0)
+abbrev μ-of-if : Measures 5 of-if-kinds.ps ℕ
+μ-of-if κs a = 2 * (a .1 .0 - a .1 .1 .1 .1 .1 .1 .0)
 
-abbrev μ-of-let : Measures 6 of-let-kinds.ps ℕ
-μ-of-let κs a = 2 * (a .1 .0 - a .1 .1 .1 .1 .1 .1 .1 .0)
+abbrev μ-of-let : Measures 5 of-let-kinds.ps ℕ
+μ-of-let κs a = 2 * (a .1 .0 - a .1 .1 .1 .1 .1 .1 .0)
 
-abbrev μ-of-pair : Measures 6 of-pair-kinds.ps ℕ
-μ-of-pair κs a = 2 * (a .1 .0 - a .1 .1 .1 .1 .1 .1 .1 .0)
+abbrev μ-of-pair : Measures 5 of-pair-kinds.ps ℕ
+μ-of-pair κs a = 2 * (a .1 .0 - a .1 .1 .1 .1 .1 .1 .0)
 
-abbrev μ-of-part : Measures 6 of-part-kinds.ps ℕ
-μ-of-part κs a = 2 * (a .1 .0 - a .1 .1 .1 .1 .1 .1 .1 .0)
+abbrev μ-of-part : Measures 5 of-part-kinds.ps ℕ
+μ-of-part κs a = 2 * (a .1 .0 - a .1 .1 .1 .1 .1 .1 .0)
 
-abbrev judge-at : ℕ → In 6 judge-kinds.ps
-judge-at t = and 6 judge-kinds.ps (is 6 judge-kinds.ps μ-judge t) judge.Pre
+abbrev judge-at : ℕ → In 5 judge-kinds.ps
+judge-at t = and 5 judge-kinds.ps (is 5 judge-kinds.ps μ-judge t) judge.Pre
 
-abbrev judge-below : ℕ → In 6 judge-kinds.ps
-judge-below t = and 6 judge-kinds.ps (falls 6 judge-kinds.ps _<_ μ-judge t) judge.Pre
+abbrev judge-below : ℕ → In 5 judge-kinds.ps
+judge-below t = and 5 judge-kinds.ps (falls 5 judge-kinds.ps _<_ μ-judge t) judge.Pre
 
-abbrev of-delay-at : ℕ → In 6 of-delay-kinds.ps
-of-delay-at t = and 6 of-delay-kinds.ps (is 6 of-delay-kinds.ps μ-of-delay t) of-delay.Pre
+abbrev of-delay-at : ℕ → In 5 of-delay-kinds.ps
+of-delay-at t = and 5 of-delay-kinds.ps (is 5 of-delay-kinds.ps μ-of-delay t) of-delay.Pre
 
-abbrev of-delay-below : ℕ → In 6 of-delay-kinds.ps
+abbrev of-delay-below : ℕ → In 5 of-delay-kinds.ps
 of-delay-below t =
-    and 6 of-delay-kinds.ps (falls 6 of-delay-kinds.ps _<_ μ-of-delay t) of-delay.Pre
+    and 5 of-delay-kinds.ps (falls 5 of-delay-kinds.ps _<_ μ-of-delay t) of-delay.Pre
 
-abbrev of-feedback-at : ℕ → In 6 of-feedback-kinds.ps
+abbrev of-feedback-at : ℕ → In 5 of-feedback-kinds.ps
 of-feedback-at t =
-    and 6 of-feedback-kinds.ps (is 6 of-feedback-kinds.ps μ-of-feedback t) of-feedback.Pre
+    and 5 of-feedback-kinds.ps (is 5 of-feedback-kinds.ps μ-of-feedback t) of-feedback.Pre
 
-abbrev of-feedback-below : ℕ → In 6 of-feedback-kinds.ps
+abbrev of-feedback-below : ℕ → In 5 of-feedback-kinds.ps
 of-feedback-below t =
-    and 6 of-feedback-kinds.ps (falls 6 of-feedback-kinds.ps _<_ μ-of-feedback t) of-feedback.Pre
+    and 5 of-feedback-kinds.ps (falls 5 of-feedback-kinds.ps _<_ μ-of-feedback t) of-feedback.Pre
 
-abbrev of-if-at : ℕ → In 6 of-if-kinds.ps
-of-if-at t = and 6 of-if-kinds.ps (is 6 of-if-kinds.ps μ-of-if t) of-if.Pre
+abbrev of-if-at : ℕ → In 5 of-if-kinds.ps
+of-if-at t = and 5 of-if-kinds.ps (is 5 of-if-kinds.ps μ-of-if t) of-if.Pre
 
-abbrev of-if-below : ℕ → In 6 of-if-kinds.ps
-of-if-below t = and 6 of-if-kinds.ps (falls 6 of-if-kinds.ps _<_ μ-of-if t) of-if.Pre
+abbrev of-if-below : ℕ → In 5 of-if-kinds.ps
+of-if-below t = and 5 of-if-kinds.ps (falls 5 of-if-kinds.ps _<_ μ-of-if t) of-if.Pre
 
-abbrev of-let-at : ℕ → In 6 of-let-kinds.ps
-of-let-at t = and 6 of-let-kinds.ps (is 6 of-let-kinds.ps μ-of-let t) of-let.Pre
+abbrev of-let-at : ℕ → In 5 of-let-kinds.ps
+of-let-at t = and 5 of-let-kinds.ps (is 5 of-let-kinds.ps μ-of-let t) of-let.Pre
 
-abbrev of-let-below : ℕ → In 6 of-let-kinds.ps
-of-let-below t = and 6 of-let-kinds.ps (falls 6 of-let-kinds.ps _<_ μ-of-let t) of-let.Pre
+abbrev of-let-below : ℕ → In 5 of-let-kinds.ps
+of-let-below t = and 5 of-let-kinds.ps (falls 5 of-let-kinds.ps _<_ μ-of-let t) of-let.Pre
 
-abbrev of-pair-at : ℕ → In 6 of-pair-kinds.ps
-of-pair-at t = and 6 of-pair-kinds.ps (is 6 of-pair-kinds.ps μ-of-pair t) of-pair.Pre
+abbrev of-pair-at : ℕ → In 5 of-pair-kinds.ps
+of-pair-at t = and 5 of-pair-kinds.ps (is 5 of-pair-kinds.ps μ-of-pair t) of-pair.Pre
 
-abbrev of-pair-below : ℕ → In 6 of-pair-kinds.ps
-of-pair-below t = and 6 of-pair-kinds.ps (falls 6 of-pair-kinds.ps _<_ μ-of-pair t) of-pair.Pre
+abbrev of-pair-below : ℕ → In 5 of-pair-kinds.ps
+of-pair-below t = and 5 of-pair-kinds.ps (falls 5 of-pair-kinds.ps _<_ μ-of-pair t) of-pair.Pre
 
-abbrev of-part-at : ℕ → In 6 of-part-kinds.ps
-of-part-at t = and 6 of-part-kinds.ps (is 6 of-part-kinds.ps μ-of-part t) of-part.Pre
+abbrev of-part-at : ℕ → In 5 of-part-kinds.ps
+of-part-at t = and 5 of-part-kinds.ps (is 5 of-part-kinds.ps μ-of-part t) of-part.Pre
 
-abbrev of-part-below : ℕ → In 6 of-part-kinds.ps
-of-part-below t = and 6 of-part-kinds.ps (falls 6 of-part-kinds.ps _<_ μ-of-part t) of-part.Pre
+abbrev of-part-below : ℕ → In 5 of-part-kinds.ps
+of-part-below t = and 5 of-part-kinds.ps (falls 5 of-part-kinds.ps _<_ μ-of-part t) of-part.Pre
 
 abbrev judge-claims : ℕ → judge-lts.Claims
 judge-claims t = (word-reads.Asked, word-reads.Learnt, of-constant-reads.Asked, of-constant-reads.Learnt, of-name-reads.Asked, of-name-reads.Learnt, of-pair-below t, of-pair.Post, of-part-below t, of-part.Post, of-let-below t, of-let.Post, of-feedback-below t, of-feedback.Post, of-if-below t, of-if.Post, of-delay-below t, of-delay.Post)
@@ -143,7 +143,7 @@ judge-word-requires : (t : ℕ) → judge-lts.Need-word-requires (judge-claims t
 judge-word-requires t c κs = (c .before .pre .1 .0 .ground .sized, c .before .pre .1 .0 .there, search needs)
 
 judge-of-constant-requires : (t : ℕ) → judge-lts.Need-of-constant-requires (judge-claims t) (judge-at t) judge.Post
-judge-of-constant-requires t c κs = (ready-closing (c .before .before .before .before .pre .1 .0) (now (c .before .before .before .before .args .widths)) (c .before .before .before .before .pre .1 .0 .long), (numbered _ _ _ 32 (expression constant) (c .before .before .word .ensures .0) (c .before .if1 .taken) (unfold kindOf in refl)))
+judge-of-constant-requires t c κs = (ready-closing (c .before .before .before .before .pre .1 .0) (now (c .before .before .before .before .args .widths)) (judging-counted (c .before .before .before .before .pre .1 .0)), (numbered _ _ _ 32 (expression constant) (c .before .before .word .ensures .0) (c .before .if1 .taken) (unfold kindOf in refl)))
 
 judge-returns : (t : ℕ) → judge-lts.Need-returns (judge-claims t) (judge-at t) judge.Post
 judge-returns t c = c .of-constant .ensures _
@@ -208,7 +208,7 @@ of-delay-word-requires t c κs = (c .before .pre .1 .0 .ground .sized, c .before
 
 of-delay-judge-requires : (t : ℕ) → of-delay-lts.Need-judge-expression-requires (of-delay-claims t) (of-delay-at t) of-delay.Post
 of-delay-judge-requires t c κs =
-    let p = (part-ready (c .before .before .before .pre .1 .0) (expression delay) (c .before .before .before .pre .1 .1) 4 refl (unfold askOfKind in refl) _ (c .before .word .ensures .0) (now (c .before .before .before .args .widths)) (c .before .before .before .pre .1 .0 .long)) in
+    let p = (part-ready (c .before .before .before .pre .1 .0) (expression delay) (c .before .before .before .pre .1 .1) 4 refl (unfold askOfKind in refl) _ (c .before .word .ensures .0) (now (c .before .before .before .args .widths)) (judging-counted (c .before .before .before .pre .1 .0))) in
     let h = p .1 .there in
     (omega (arith, c .before .before .before .pre .0, p .0), (p .1, c .before .before .before .pre .1 .2))
 
@@ -230,8 +230,8 @@ of-delay-word-requires-3 t c κs = (c .before .before .before .before .before .b
 
 of-delay-leaves-type-requires : (t : ℕ) → of-delay-lts.Need-leaves-type-requires (of-delay-claims t) (of-delay-at t) of-delay.Post
 of-delay-leaves-type-requires t c κs =
-    let l = leaves-there (ready-closing (c .before .before .before .before .before .before .before .before .before .pre .1 .0) (now (c .before .before .before .before .before .before .before .before .before .args .widths)) (c .before .before .before .before .before .before .before .before .before .pre .1 .0 .long)) (expression delay) (c .before .before .before .before .before .before .before .before .before .pre .1 .1) 3 refl (unfold askOfKind in refl) _ (c .word3 .ensures .0) in
-    (c .before .before .before .before .before .before .before .before .before .pre .1 .0 .ground .sized, c .before .before .before .before .before .before .before .before .before .pre .1 .0 .ground .passes, (typed-word (ready-closing (c .before .before .before .before .before .before .before .before .before .pre .1 .0) (now (c .before .before .before .before .before .before .before .before .before .args .widths)) (c .before .before .before .before .before .before .before .before .before .pre .1 .0 .long)) (expression delay) (c .before .before .before .before .before .before .before .before .before .pre .1 .1) 2 refl (unfold askOfKind in refl) _ (c .before .word2 .ensures .0)), l .0, l .1)
+    let l = leaves-there (ready-closing (c .before .before .before .before .before .before .before .before .before .pre .1 .0) (now (c .before .before .before .before .before .before .before .before .before .args .widths)) (judging-counted (c .before .before .before .before .before .before .before .before .before .pre .1 .0))) (expression delay) (c .before .before .before .before .before .before .before .before .before .pre .1 .1) 3 refl (unfold askOfKind in refl) _ (c .word3 .ensures .0) in
+    (c .before .before .before .before .before .before .before .before .before .pre .1 .0 .ground .sized, c .before .before .before .before .before .before .before .before .before .pre .1 .0 .ground .passes, (typed-word (ready-closing (c .before .before .before .before .before .before .before .before .before .pre .1 .0) (now (c .before .before .before .before .before .before .before .before .before .args .widths)) (judging-counted (c .before .before .before .before .before .before .before .before .before .pre .1 .0))) (expression delay) (c .before .before .before .before .before .before .before .before .before .pre .1 .1) 2 refl (unfold askOfKind in refl) _ (c .before .word2 .ensures .0)), l .0, l .1)
 
 of-delay-enum-told-2 : (t : ℕ) → of-delay-lts.Need-enum-told-2 (of-delay-claims t) (of-delay-at t) of-delay.Post
 of-delay-enum-told-2 t c = search needs
@@ -245,7 +245,7 @@ of-delay-returns-2 t c =
 
 of-delay-same-type-requires : (t : ℕ) → of-delay-lts.Need-same-type-requires (of-delay-claims t) (of-delay-at t) of-delay.Post
 of-delay-same-type-requires t c κs =
-    ((ready-closing (c .before .before .before .before .before .before .before .before .before .before .before .before .before .pre .1 .0) (c .before .before .before .before .before .before .before .before .before .judge-expression .last .1 .1 .1 .1 .1 .1 .1 .1 .0) (c .before .before .before .before .before .before .before .before .before .judge-expression .ensures .long)), (typed-word (ready-closing (c .before .before .before .before .before .before .before .before .before .before .before .before .before .pre .1 .0) (now (c .before .before .before .before .before .before .before .before .before .before .before .before .before .args .widths)) (c .before .before .before .before .before .before .before .before .before .before .before .before .before .pre .1 .0 .long)) (expression delay) (c .before .before .before .before .before .before .before .before .before .before .before .before .before .pre .1 .1) 2 refl (unfold askOfKind in refl) _ (c .before .before .before .before .before .word2 .ensures .0)))
+    ((ready-closing (c .before .before .before .before .before .before .before .before .before .before .before .before .before .pre .1 .0) (c .before .before .before .before .before .before .before .before .before .judge-expression .last .1 .1 .1 .1 .1 .1 .1 .0) (c .before .before .before .before .before .before .before .before .before .judge-expression .ensures .counted)), (typed-word (ready-closing (c .before .before .before .before .before .before .before .before .before .before .before .before .before .pre .1 .0) (now (c .before .before .before .before .before .before .before .before .before .before .before .before .before .args .widths)) (judging-counted (c .before .before .before .before .before .before .before .before .before .before .before .before .before .pre .1 .0))) (expression delay) (c .before .before .before .before .before .before .before .before .before .before .before .before .before .pre .1 .1) 2 refl (unfold askOfKind in refl) _ (c .before .before .before .before .before .word2 .ensures .0)))
 
 of-delay-returns-3 : (t : ℕ) → of-delay-lts.Need-returns-3 (of-delay-claims t) (of-delay-at t) of-delay.Post
 of-delay-returns-3 t c =
@@ -256,7 +256,7 @@ of-feedback-word-requires t c κs = (c .before .pre .1 .0 .ground .sized, c .bef
 
 of-feedback-with-name-requires : (t : ℕ) → of-feedback-lts.Need-with-name-requires (of-feedback-claims t) (of-feedback-at t) of-feedback.Post
 of-feedback-with-name-requires t c κs =
-    (room-for-name (c .before .before .pre .1 .0) (expression feedback) (c .before .before .pre .1 .1) 3 refl (unfold askOfKind in refl) _ refl, small-record (c .before .before .pre .1 .0) _ (typed-word (ready-closing (c .before .before .pre .1 .0) (now (c .before .before .args .widths)) (c .before .before .pre .1 .0 .long)) (expression feedback) (c .before .before .pre .1 .1) 2 refl (unfold askOfKind in refl) _ (c .word .ensures .0)), c .before .before .pre .1 .0 .wide)
+    (room-for-name (c .before .before .pre .1 .0) (expression feedback) (c .before .before .pre .1 .1) 3 refl (unfold askOfKind in refl) _ refl, small-record (c .before .before .pre .1 .0) _ (typed-word (ready-closing (c .before .before .pre .1 .0) (now (c .before .before .args .widths)) (judging-counted (c .before .before .pre .1 .0))) (expression feedback) (c .before .before .pre .1 .1) 2 refl (unfold askOfKind in refl) _ (c .word .ensures .0)), c .before .before .pre .1 .0 .wide)
 
 of-feedback-word-requires-2 : (t : ℕ) → of-feedback-lts.Need-word-requires-2 (of-feedback-claims t) (of-feedback-at t) of-feedback.Post
 of-feedback-word-requires-2 t c κs = (c .before .before .before .pre .1 .0 .ground .sized, c .before .before .before .pre .1 .0 .there, search needs)
@@ -268,7 +268,7 @@ of-feedback-add-judge t c =
 
 of-feedback-judge-requires : (t : ℕ) → of-feedback-lts.Need-judge-expression-requires (of-feedback-claims t) (of-feedback-at t) of-feedback.Post
 of-feedback-judge-requires t c κs =
-    let p = (body-ready (c .before .before .before .before .before .before .pre .1 .0) (expression feedback) (c .before .before .before .before .before .before .pre .1 .1) 3 refl (unfold askOfKind in refl) _ (c .before .before .word2 .ensures .0) (c .before .before .before .with-name .result) _ (now (c .before .before .before .before .before .before .args .widths)) (c .before .before .before .with-name .ensures .0) (c .before .before .before .with-name .ensures .1) (typed-word (ready-closing (c .before .before .before .before .before .before .pre .1 .0) (now (c .before .before .before .before .before .before .args .widths)) (c .before .before .before .before .before .before .pre .1 .0 .long)) (expression feedback) (c .before .before .before .before .before .before .pre .1 .1) 2 refl (unfold askOfKind in refl) _ (c .before .before .before .before .word .ensures .0)) (c .before .before .before .before .before .before .pre .1 .0 .long)) in
+    let p = (body-ready (c .before .before .before .before .before .before .pre .1 .0) (expression feedback) (c .before .before .before .before .before .before .pre .1 .1) 3 refl (unfold askOfKind in refl) _ (c .before .before .word2 .ensures .0) (c .before .before .before .with-name .result) _ (now (c .before .before .before .before .before .before .args .widths)) (c .before .before .before .with-name .ensures .0) (c .before .before .before .with-name .ensures .1) (typed-word (ready-closing (c .before .before .before .before .before .before .pre .1 .0) (now (c .before .before .before .before .before .before .args .widths)) (judging-counted (c .before .before .before .before .before .before .pre .1 .0))) (expression feedback) (c .before .before .before .before .before .before .pre .1 .1) 2 refl (unfold askOfKind in refl) _ (c .before .before .before .before .word .ensures .0)) (judging-counted (c .before .before .before .before .before .before .pre .1 .0))) in
     let h = p .1 .there in
     (omega (arith, c .before .before .before .before .before .before .pre .0, p .0), (p .1, c .before .before .before .before .before .before .pre .1 .2))
 
@@ -292,7 +292,7 @@ of-feedback-add-judge-2 t c =
 
 of-feedback-judge-requires-2 : (t : ℕ) → of-feedback-lts.Need-judge-expression-requires-2 (of-feedback-claims t) (of-feedback-at t) of-feedback.Post
 of-feedback-judge-requires-2 t c κs =
-    let p = (body-ready (c .before .before .before .before .before .before .before .before .before .before .before .before .before .pre .1 .0) (expression feedback) (c .before .before .before .before .before .before .before .before .before .before .before .before .before .pre .1 .1) 4 refl (unfold askOfKind in refl) _ (c .before .before .word3 .ensures .0) (c .before .before .before .before .before .before .before .before .before .before .with-name .result) _ (c .before .before .before .before .before .before .judge-expression .last .1 .1 .1 .1 .1 .1 .1 .1 .0) (c .before .before .before .before .before .before .before .before .before .before .with-name .ensures .0) (c .before .before .before .before .before .before .before .before .before .before .with-name .ensures .1) (typed-word (ready-closing (c .before .before .before .before .before .before .before .before .before .before .before .before .before .pre .1 .0) (now (c .before .before .before .before .before .before .before .before .before .before .before .before .before .args .widths)) (c .before .before .before .before .before .before .before .before .before .before .before .before .before .pre .1 .0 .long)) (expression feedback) (c .before .before .before .before .before .before .before .before .before .before .before .before .before .pre .1 .1) 2 refl (unfold askOfKind in refl) _ (c .before .before .before .before .before .before .before .before .before .before .before .word .ensures .0)) (c .before .before .before .before .before .before .judge-expression .ensures .long)) in
+    let p = (body-ready (c .before .before .before .before .before .before .before .before .before .before .before .before .before .pre .1 .0) (expression feedback) (c .before .before .before .before .before .before .before .before .before .before .before .before .before .pre .1 .1) 4 refl (unfold askOfKind in refl) _ (c .before .before .word3 .ensures .0) (c .before .before .before .before .before .before .before .before .before .before .with-name .result) _ (c .before .before .before .before .before .before .judge-expression .last .1 .1 .1 .1 .1 .1 .1 .0) (c .before .before .before .before .before .before .before .before .before .before .with-name .ensures .0) (c .before .before .before .before .before .before .before .before .before .before .with-name .ensures .1) (typed-word (ready-closing (c .before .before .before .before .before .before .before .before .before .before .before .before .before .pre .1 .0) (now (c .before .before .before .before .before .before .before .before .before .before .before .before .before .args .widths)) (judging-counted (c .before .before .before .before .before .before .before .before .before .before .before .before .before .pre .1 .0))) (expression feedback) (c .before .before .before .before .before .before .before .before .before .before .before .before .before .pre .1 .1) 2 refl (unfold askOfKind in refl) _ (c .before .before .before .before .before .before .before .before .before .before .before .word .ensures .0)) (c .before .before .before .before .before .before .judge-expression .ensures .counted)) in
     let h = p .1 .there in
     (omega (arith, c .before .before .before .before .before .before .before .before .before .before .before .before .before .pre .0, p .0), (p .1, c .before .before .before .before .before .before .before .before .before .before .before .before .before .pre .1 .2))
 
@@ -308,7 +308,7 @@ of-feedback-returns-2 t c =
 
 of-feedback-same-type-requires : (t : ℕ) → of-feedback-lts.Need-same-type-requires (of-feedback-claims t) (of-feedback-at t) of-feedback.Post
 of-feedback-same-type-requires t c κs =
-    ((ready-closing (c .before .before .before .before .before .before .before .before .before .before .before .before .before .before .before .before .before .before .pre .1 .0) (c .before .before .before .before .judge-expression2 .last .1 .1 .1 .1 .1 .1 .1 .1 .0) (c .before .before .before .before .judge-expression2 .ensures .long)), (typed-record ((body-ready (c .before .before .before .before .before .before .before .before .before .before .before .before .before .before .before .before .before .before .pre .1 .0) (expression feedback) (c .before .before .before .before .before .before .before .before .before .before .before .before .before .before .before .before .before .before .pre .1 .1) 4 refl (unfold askOfKind in refl) _ (c .before .before .before .before .before .before .before .word3 .ensures .0) (c .before .before .before .before .before .before .before .before .before .before .before .before .before .before .before .with-name .result) _ (c .before .before .before .before .before .before .before .before .before .before .before .judge-expression .last .1 .1 .1 .1 .1 .1 .1 .1 .0) (c .before .before .before .before .before .before .before .before .before .before .before .before .before .before .before .with-name .ensures .0) (c .before .before .before .before .before .before .before .before .before .before .before .before .before .before .before .with-name .ensures .1) (typed-word (ready-closing (c .before .before .before .before .before .before .before .before .before .before .before .before .before .before .before .before .before .before .pre .1 .0) (now (c .before .before .before .before .before .before .before .before .before .before .before .before .before .before .before .before .before .before .args .widths)) (c .before .before .before .before .before .before .before .before .before .before .before .before .before .before .before .before .before .before .pre .1 .0 .long)) (expression feedback) (c .before .before .before .before .before .before .before .before .before .before .before .before .before .before .before .before .before .before .pre .1 .1) 2 refl (unfold askOfKind in refl) _ (c .before .before .before .before .before .before .before .before .before .before .before .before .before .before .before .before .word .ensures .0)) (c .before .before .before .before .before .before .before .before .before .before .before .judge-expression .ensures .long)) .1) _ _ _ (passed _ (c .before .before .before .before .judge-expression2 .ensures) (c .before .before .body .given .1))))
+    ((ready-closing (c .before .before .before .before .before .before .before .before .before .before .before .before .before .before .before .before .before .before .pre .1 .0) (c .before .before .before .before .judge-expression2 .last .1 .1 .1 .1 .1 .1 .1 .0) (c .before .before .before .before .judge-expression2 .ensures .counted)), (typed-record ((body-ready (c .before .before .before .before .before .before .before .before .before .before .before .before .before .before .before .before .before .before .pre .1 .0) (expression feedback) (c .before .before .before .before .before .before .before .before .before .before .before .before .before .before .before .before .before .before .pre .1 .1) 4 refl (unfold askOfKind in refl) _ (c .before .before .before .before .before .before .before .word3 .ensures .0) (c .before .before .before .before .before .before .before .before .before .before .before .before .before .before .before .with-name .result) _ (c .before .before .before .before .before .before .before .before .before .before .before .judge-expression .last .1 .1 .1 .1 .1 .1 .1 .0) (c .before .before .before .before .before .before .before .before .before .before .before .before .before .before .before .with-name .ensures .0) (c .before .before .before .before .before .before .before .before .before .before .before .before .before .before .before .with-name .ensures .1) (typed-word (ready-closing (c .before .before .before .before .before .before .before .before .before .before .before .before .before .before .before .before .before .before .pre .1 .0) (now (c .before .before .before .before .before .before .before .before .before .before .before .before .before .before .before .before .before .before .args .widths)) (judging-counted (c .before .before .before .before .before .before .before .before .before .before .before .before .before .before .before .before .before .before .pre .1 .0))) (expression feedback) (c .before .before .before .before .before .before .before .before .before .before .before .before .before .before .before .before .before .before .pre .1 .1) 2 refl (unfold askOfKind in refl) _ (c .before .before .before .before .before .before .before .before .before .before .before .before .before .before .before .before .word .ensures .0)) (c .before .before .before .before .before .before .before .before .before .before .before .judge-expression .ensures .counted)) .1) _ _ _ (passed _ (c .before .before .before .before .judge-expression2 .ensures) (c .before .before .body .given .1))))
 
 of-feedback-returns-3 : (t : ℕ) → of-feedback-lts.Need-returns-3 (of-feedback-claims t) (of-feedback-at t) of-feedback.Post
 of-feedback-returns-3 t c =
@@ -319,7 +319,7 @@ of-if-word-requires t c κs = (c .before .pre .1 .0 .ground .sized, c .before .p
 
 of-if-judge-requires : (t : ℕ) → of-if-lts.Need-judge-expression-requires (of-if-claims t) (of-if-at t) of-if.Post
 of-if-judge-requires t c κs =
-    let p = (part-ready (c .before .before .before .pre .1 .0) (expression ifMatches) (c .before .before .before .pre .1 .1) 2 refl (unfold askOfKind in refl) _ (c .before .word .ensures .0) (now (c .before .before .before .args .widths)) (c .before .before .before .pre .1 .0 .long)) in
+    let p = (part-ready (c .before .before .before .pre .1 .0) (expression ifMatches) (c .before .before .before .pre .1 .1) 2 refl (unfold askOfKind in refl) _ (c .before .word .ensures .0) (now (c .before .before .before .args .widths)) (judging-counted (c .before .before .before .pre .1 .0))) in
     let h = p .1 .there in
     (omega (arith, c .before .before .before .pre .0, p .0), (p .1, c .before .before .before .pre .1 .2))
 
@@ -338,7 +338,7 @@ of-if-word-requires-2 t c κs = (c .before .before .before .before .before .befo
 
 of-if-pattern-type-requires : (t : ℕ) → of-if-lts.Need-pattern-type-requires (of-if-claims t) (of-if-at t) of-if.Post
 of-if-pattern-type-requires t c κs =
-    (pattern-ready (c .before .before .before .before .before .before .before .before .pre .1 .0) _ _ (expression ifMatches) (c .before .before .before .before .before .before .before .before .pre .1 .1) 5 refl (unfold askOfKind in refl) (c .word2 .ensures .0) (typed-record ((part-ready (c .before .before .before .before .before .before .before .before .pre .1 .0) (expression ifMatches) (c .before .before .before .before .before .before .before .before .pre .1 .1) 2 refl (unfold askOfKind in refl) _ (c .before .before .before .before .before .before .word .ensures .0) (now (c .before .before .before .before .before .before .before .before .args .widths)) (c .before .before .before .before .before .before .before .before .pre .1 .0 .long)) .1) _ _ _ (passed _ (c .before .before .before .before .judge-expression .ensures) (c .before .before .tested .given .1))), c .before .before .before .before .before .before .before .before .pre .1 .2 .typed)
+    (pattern-ready (c .before .before .before .before .before .before .before .before .pre .1 .0) _ _ (expression ifMatches) (c .before .before .before .before .before .before .before .before .pre .1 .1) 5 refl (unfold askOfKind in refl) (c .word2 .ensures .0) (typed-record ((part-ready (c .before .before .before .before .before .before .before .before .pre .1 .0) (expression ifMatches) (c .before .before .before .before .before .before .before .before .pre .1 .1) 2 refl (unfold askOfKind in refl) _ (c .before .before .before .before .before .before .word .ensures .0) (now (c .before .before .before .before .before .before .before .before .args .widths)) (judging-counted (c .before .before .before .before .before .before .before .before .pre .1 .0))) .1) _ _ _ (passed _ (c .before .before .before .before .judge-expression .ensures) (c .before .before .tested .given .1))), c .before .before .before .before .before .before .before .before .pre .1 .2 .typed)
 
 of-if-enum-told-2 : (t : ℕ) → of-if-lts.Need-enum-told-2 (of-if-claims t) (of-if-at t) of-if.Post
 of-if-enum-told-2 t c = search needs
@@ -355,7 +355,7 @@ of-if-word-requires-3 t c κs = (c .before .before .before .before .before .befo
 
 of-if-judge-requires-2 : (t : ℕ) → of-if-lts.Need-judge-expression-requires-2 (of-if-claims t) (of-if-at t) of-if.Post
 of-if-judge-requires-2 t c κs =
-    let p = (part-ready (c .before .before .before .before .before .before .before .before .before .before .before .before .before .pre .1 .0) (expression ifMatches) (c .before .before .before .before .before .before .before .before .before .before .before .before .before .pre .1 .1) 3 refl (unfold askOfKind in refl) _ (c .before .word3 .ensures .0) (c .before .before .before .before .before .before .before .before .before .judge-expression .last .1 .1 .1 .1 .1 .1 .1 .1 .0) (c .before .before .before .before .before .before .before .before .before .judge-expression .ensures .long)) in
+    let p = (part-ready (c .before .before .before .before .before .before .before .before .before .before .before .before .before .pre .1 .0) (expression ifMatches) (c .before .before .before .before .before .before .before .before .before .before .before .before .before .pre .1 .1) 3 refl (unfold askOfKind in refl) _ (c .before .word3 .ensures .0) (c .before .before .before .before .before .before .before .before .before .judge-expression .last .1 .1 .1 .1 .1 .1 .1 .0) (c .before .before .before .before .before .before .before .before .before .judge-expression .ensures .counted)) in
     let h = p .1 .there in
     (omega (arith, c .before .before .before .before .before .before .before .before .before .before .before .before .before .pre .0, p .0), (p .1, c .before .before .before .before .before .before .before .before .before .before .before .before .before .pre .1 .2))
 
@@ -375,7 +375,7 @@ of-if-word-requires-4 t c κs = (c .before .before .before .before .before .befo
 
 of-if-judge-requires-3 : (t : ℕ) → of-if-lts.Need-judge-expression-requires-3 (of-if-claims t) (of-if-at t) of-if.Post
 of-if-judge-requires-3 t c κs =
-    let p = (part-ready (c .before .before .before .before .before .before .before .before .before .before .before .before .before .before .before .before .before .before .before .pre .1 .0) (expression ifMatches) (c .before .before .before .before .before .before .before .before .before .before .before .before .before .before .before .before .before .before .before .pre .1 .1) 4 refl (unfold askOfKind in refl) _ (c .before .word4 .ensures .0) (c .before .before .before .before .before .judge-expression2 .last .1 .1 .1 .1 .1 .1 .1 .1 .0) (c .before .before .before .before .before .judge-expression2 .ensures .long)) in
+    let p = (part-ready (c .before .before .before .before .before .before .before .before .before .before .before .before .before .before .before .before .before .before .before .pre .1 .0) (expression ifMatches) (c .before .before .before .before .before .before .before .before .before .before .before .before .before .before .before .before .before .before .before .pre .1 .1) 4 refl (unfold askOfKind in refl) _ (c .before .word4 .ensures .0) (c .before .before .before .before .before .judge-expression2 .last .1 .1 .1 .1 .1 .1 .1 .0) (c .before .before .before .before .before .judge-expression2 .ensures .counted)) in
     let h = p .1 .there in
     (omega (arith, c .before .before .before .before .before .before .before .before .before .before .before .before .before .before .before .before .before .before .before .pre .0, p .0), (p .1, c .before .before .before .before .before .before .before .before .before .before .before .before .before .before .before .before .before .before .before .pre .1 .2))
 
@@ -392,7 +392,7 @@ of-if-returns-4 t c =
 
 of-if-same-type-requires : (t : ℕ) → of-if-lts.Need-same-type-requires (of-if-claims t) (of-if-at t) of-if.Post
 of-if-same-type-requires t c κs =
-    ((ready-closing (c .before .before .before .before .before .before .before .before .before .before .before .before .before .before .before .before .before .before .before .before .before .before .before .before .pre .1 .0) (c .before .before .before .before .judge-expression3 .last .1 .1 .1 .1 .1 .1 .1 .1 .0) (c .before .before .before .before .judge-expression3 .ensures .long)), (typed-record ((part-ready (c .before .before .before .before .before .before .before .before .before .before .before .before .before .before .before .before .before .before .before .before .before .before .before .before .pre .1 .0) (expression ifMatches) (c .before .before .before .before .before .before .before .before .before .before .before .before .before .before .before .before .before .before .before .before .before .before .before .before .pre .1 .1) 3 refl (unfold askOfKind in refl) _ (c .before .before .before .before .before .before .before .before .before .before .before .before .word3 .ensures .0) (c .before .before .before .before .before .before .before .before .before .before .before .before .before .before .before .before .before .before .before .before .judge-expression .last .1 .1 .1 .1 .1 .1 .1 .1 .0) (c .before .before .before .before .before .before .before .before .before .before .before .before .before .before .before .before .before .before .before .before .judge-expression .ensures .long)) .1) _ _ _ (passed _ (c .before .before .before .before .before .before .before .before .before .before .judge-expression2 .ensures) (c .before .before .before .before .before .before .before .before .then .given .1))))
+    ((ready-closing (c .before .before .before .before .before .before .before .before .before .before .before .before .before .before .before .before .before .before .before .before .before .before .before .before .pre .1 .0) (c .before .before .before .before .judge-expression3 .last .1 .1 .1 .1 .1 .1 .1 .0) (c .before .before .before .before .judge-expression3 .ensures .counted)), (typed-record ((part-ready (c .before .before .before .before .before .before .before .before .before .before .before .before .before .before .before .before .before .before .before .before .before .before .before .before .pre .1 .0) (expression ifMatches) (c .before .before .before .before .before .before .before .before .before .before .before .before .before .before .before .before .before .before .before .before .before .before .before .before .pre .1 .1) 3 refl (unfold askOfKind in refl) _ (c .before .before .before .before .before .before .before .before .before .before .before .before .word3 .ensures .0) (c .before .before .before .before .before .before .before .before .before .before .before .before .before .before .before .before .before .before .before .before .judge-expression .last .1 .1 .1 .1 .1 .1 .1 .0) (c .before .before .before .before .before .before .before .before .before .before .before .before .before .before .before .before .before .before .before .before .judge-expression .ensures .counted)) .1) _ _ _ (passed _ (c .before .before .before .before .before .before .before .before .before .before .judge-expression2 .ensures) (c .before .before .before .before .before .before .before .before .then .given .1))))
 
 of-if-returns-5 : (t : ℕ) → of-if-lts.Need-returns-5 (of-if-claims t) (of-if-at t) of-if.Post
 of-if-returns-5 t c =
@@ -404,7 +404,7 @@ of-let-word-requires t c κs = (c .before .pre .1 .0 .ground .sized, c .before .
 
 of-let-judge-requires : (t : ℕ) → of-let-lts.Need-judge-expression-requires (of-let-claims t) (of-let-at t) of-let.Post
 of-let-judge-requires t c κs =
-    let p = (part-ready (c .before .before .before .pre .1 .0) (expression letIn) (c .before .before .before .pre .1 .1) 2 refl (unfold askOfKind in refl) _ (c .before .word .ensures .0) (now (c .before .before .before .args .widths)) (c .before .before .before .pre .1 .0 .long)) in
+    let p = (part-ready (c .before .before .before .pre .1 .0) (expression letIn) (c .before .before .before .pre .1 .1) 2 refl (unfold askOfKind in refl) _ (c .before .word .ensures .0) (now (c .before .before .before .args .widths)) (judging-counted (c .before .before .before .pre .1 .0))) in
     let h = p .1 .there in
     (omega (arith, c .before .before .before .pre .0, p .0), (p .1, c .before .before .before .pre .1 .2))
 
@@ -420,7 +420,7 @@ of-let-returns t c =
 
 of-let-with-name-requires : (t : ℕ) → of-let-lts.Need-with-name-requires (of-let-claims t) (of-let-at t) of-let.Post
 of-let-with-name-requires t c κs =
-    (room-for-name (c .before .before .before .before .before .before .before .pre .1 .0) (expression letIn) (c .before .before .before .before .before .before .before .pre .1 .1) 3 refl (unfold askOfKind in refl) _ refl, small-record (c .before .before .before .before .before .before .before .pre .1 .0) _ (typed-record ((part-ready (c .before .before .before .before .before .before .before .pre .1 .0) (expression letIn) (c .before .before .before .before .before .before .before .pre .1 .1) 2 refl (unfold askOfKind in refl) _ (c .before .before .before .before .before .word .ensures .0) (now (c .before .before .before .before .before .before .before .args .widths)) (c .before .before .before .before .before .before .before .pre .1 .0 .long)) .1) _ _ _ (passed _ (c .before .before .before .judge-expression .ensures) (c .before .defined .given .1))), c .before .before .before .before .before .before .before .pre .1 .0 .wide)
+    (room-for-name (c .before .before .before .before .before .before .before .pre .1 .0) (expression letIn) (c .before .before .before .before .before .before .before .pre .1 .1) 3 refl (unfold askOfKind in refl) _ refl, small-record (c .before .before .before .before .before .before .before .pre .1 .0) _ (typed-record ((part-ready (c .before .before .before .before .before .before .before .pre .1 .0) (expression letIn) (c .before .before .before .before .before .before .before .pre .1 .1) 2 refl (unfold askOfKind in refl) _ (c .before .before .before .before .before .word .ensures .0) (now (c .before .before .before .before .before .before .before .args .widths)) (judging-counted (c .before .before .before .before .before .before .before .pre .1 .0))) .1) _ _ _ (passed _ (c .before .before .before .judge-expression .ensures) (c .before .defined .given .1))), c .before .before .before .before .before .before .before .pre .1 .0 .wide)
 
 of-let-word-requires-2 : (t : ℕ) → of-let-lts.Need-word-requires-2 (of-let-claims t) (of-let-at t) of-let.Post
 of-let-word-requires-2 t c κs = (c .before .before .before .before .before .before .before .before .pre .1 .0 .ground .sized, c .before .before .before .before .before .before .before .before .pre .1 .0 .there, search needs)
@@ -432,7 +432,7 @@ of-let-add-judge t c =
 
 of-let-judge-requires-2 : (t : ℕ) → of-let-lts.Need-judge-expression-requires-2 (of-let-claims t) (of-let-at t) of-let.Post
 of-let-judge-requires-2 t c κs =
-    let p = (body-ready (c .before .before .before .before .before .before .before .before .before .before .before .pre .1 .0) (expression letIn) (c .before .before .before .before .before .before .before .before .before .before .before .pre .1 .1) 3 refl (unfold askOfKind in refl) _ (c .before .before .word2 .ensures .0) (c .before .before .before .with-name .result) _ (c .before .before .before .before .before .before .before .judge-expression .last .1 .1 .1 .1 .1 .1 .1 .1 .0) (c .before .before .before .with-name .ensures .0) (c .before .before .before .with-name .ensures .1) (typed-record ((part-ready (c .before .before .before .before .before .before .before .before .before .before .before .pre .1 .0) (expression letIn) (c .before .before .before .before .before .before .before .before .before .before .before .pre .1 .1) 2 refl (unfold askOfKind in refl) _ (c .before .before .before .before .before .before .before .before .before .word .ensures .0) (now (c .before .before .before .before .before .before .before .before .before .before .before .args .widths)) (c .before .before .before .before .before .before .before .before .before .before .before .pre .1 .0 .long)) .1) _ _ _ (passed _ (c .before .before .before .before .before .before .before .judge-expression .ensures) (c .before .before .before .before .before .defined .given .1))) (c .before .before .before .before .before .before .before .judge-expression .ensures .long)) in
+    let p = (body-ready (c .before .before .before .before .before .before .before .before .before .before .before .pre .1 .0) (expression letIn) (c .before .before .before .before .before .before .before .before .before .before .before .pre .1 .1) 3 refl (unfold askOfKind in refl) _ (c .before .before .word2 .ensures .0) (c .before .before .before .with-name .result) _ (c .before .before .before .before .before .before .before .judge-expression .last .1 .1 .1 .1 .1 .1 .1 .0) (c .before .before .before .with-name .ensures .0) (c .before .before .before .with-name .ensures .1) (typed-record ((part-ready (c .before .before .before .before .before .before .before .before .before .before .before .pre .1 .0) (expression letIn) (c .before .before .before .before .before .before .before .before .before .before .before .pre .1 .1) 2 refl (unfold askOfKind in refl) _ (c .before .before .before .before .before .before .before .before .before .word .ensures .0) (now (c .before .before .before .before .before .before .before .before .before .before .before .args .widths)) (judging-counted (c .before .before .before .before .before .before .before .before .before .before .before .pre .1 .0))) .1) _ _ _ (passed _ (c .before .before .before .before .before .before .before .judge-expression .ensures) (c .before .before .before .before .before .defined .given .1))) (c .before .before .before .before .before .before .before .judge-expression .ensures .counted)) in
     let h = p .1 .there in
     (omega (arith, c .before .before .before .before .before .before .before .before .before .before .before .pre .0, p .0), (p .1, c .before .before .before .before .before .before .before .before .before .before .before .pre .1 .2))
 
@@ -449,19 +449,19 @@ of-let-returns-2 t c =
 
 of-let-note-requires : (t : ℕ) → of-let-lts.Need-note-requires (of-let-claims t) (of-let-at t) of-let.Post
 of-let-note-requires t c κs =
-    ((ready-closing (c .before .before .before .before .before .before .before .before .before .before .before .before .before .before .before .before .pre .1 .0) (c .before .before .before .before .judge-expression2 .last .1 .1 .1 .1 .1 .1 .1 .1 .0) (c .before .before .before .before .judge-expression2 .ensures .long)), (typed-record ((body-ready (c .before .before .before .before .before .before .before .before .before .before .before .before .before .before .before .before .pre .1 .0) (expression letIn) (c .before .before .before .before .before .before .before .before .before .before .before .before .before .before .before .before .pre .1 .1) 3 refl (unfold askOfKind in refl) _ (c .before .before .before .before .before .before .before .word2 .ensures .0) (c .before .before .before .before .before .before .before .before .with-name .result) _ (c .before .before .before .before .before .before .before .before .before .before .before .before .judge-expression .last .1 .1 .1 .1 .1 .1 .1 .1 .0) (c .before .before .before .before .before .before .before .before .with-name .ensures .0) (c .before .before .before .before .before .before .before .before .with-name .ensures .1) (typed-record ((part-ready (c .before .before .before .before .before .before .before .before .before .before .before .before .before .before .before .before .pre .1 .0) (expression letIn) (c .before .before .before .before .before .before .before .before .before .before .before .before .before .before .before .before .pre .1 .1) 2 refl (unfold askOfKind in refl) _ (c .before .before .before .before .before .before .before .before .before .before .before .before .before .before .word .ensures .0) (now (c .before .before .before .before .before .before .before .before .before .before .before .before .before .before .before .before .args .widths)) (c .before .before .before .before .before .before .before .before .before .before .before .before .before .before .before .before .pre .1 .0 .long)) .1) _ _ _ (passed _ (c .before .before .before .before .before .before .before .before .before .before .before .before .judge-expression .ensures) (c .before .before .before .before .before .before .before .before .before .before .defined .given .1))) (c .before .before .before .before .before .before .before .before .before .before .before .before .judge-expression .ensures .long)) .1) _ _ _ (passed _ (c .before .before .before .before .judge-expression2 .ensures) (c .before .before .body .given .1))))
+    ((ready-closing (c .before .before .before .before .before .before .before .before .before .before .before .before .before .before .before .before .pre .1 .0) (c .before .before .before .before .judge-expression2 .last .1 .1 .1 .1 .1 .1 .1 .0) (c .before .before .before .before .judge-expression2 .ensures .counted)), (typed-record ((body-ready (c .before .before .before .before .before .before .before .before .before .before .before .before .before .before .before .before .pre .1 .0) (expression letIn) (c .before .before .before .before .before .before .before .before .before .before .before .before .before .before .before .before .pre .1 .1) 3 refl (unfold askOfKind in refl) _ (c .before .before .before .before .before .before .before .word2 .ensures .0) (c .before .before .before .before .before .before .before .before .with-name .result) _ (c .before .before .before .before .before .before .before .before .before .before .before .before .judge-expression .last .1 .1 .1 .1 .1 .1 .1 .0) (c .before .before .before .before .before .before .before .before .with-name .ensures .0) (c .before .before .before .before .before .before .before .before .with-name .ensures .1) (typed-record ((part-ready (c .before .before .before .before .before .before .before .before .before .before .before .before .before .before .before .before .pre .1 .0) (expression letIn) (c .before .before .before .before .before .before .before .before .before .before .before .before .before .before .before .before .pre .1 .1) 2 refl (unfold askOfKind in refl) _ (c .before .before .before .before .before .before .before .before .before .before .before .before .before .before .word .ensures .0) (now (c .before .before .before .before .before .before .before .before .before .before .before .before .before .before .before .before .args .widths)) (judging-counted (c .before .before .before .before .before .before .before .before .before .before .before .before .before .before .before .before .pre .1 .0))) .1) _ _ _ (passed _ (c .before .before .before .before .before .before .before .before .before .before .before .before .judge-expression .ensures) (c .before .before .before .before .before .before .before .before .before .before .defined .given .1))) (c .before .before .before .before .before .before .before .before .before .before .before .before .judge-expression .ensures .counted)) .1) _ _ _ (passed _ (c .before .before .before .before .judge-expression2 .ensures) (c .before .before .body .given .1))))
 
 of-let-returns-3 : (t : ℕ) → of-let-lts.Need-returns-3 (of-let-claims t) (of-let-at t) of-let.Post
 of-let-returns-3 t c =
     let-closes (judging-written (c .before .before .before .before .before .before .before .before .before .before .before .before .before .before .before .before .before .pre .1 .0)) (judging-there (c .before .before .before .before .before .before .before .before .before .before .before .before .before .before .before .before .before .pre .1 .0)) (c .before .before .before .before .before .before .before .before .before .before .before .before .before .before .before .before .before .pre .1 .1) _ _ (c .before .before .before .before .before .before .before .before .before .before .before .before .before .before .before .word .ensures .0) (c .before .before .before .before .before .before .before .before .word2 .ensures .0) _ _ _ _ _ _ _ (c .before .before .before .before .before .before .before .before .before .with-name .ensures .1) (passed _ (c .before .before .before .before .before .before .before .before .before .before .before .before .before .judge-expression .ensures) (c .before .before .before .before .before .before .before .before .before .before .before .defined .given .1))
-    (passed _ (c .before .before .before .before .before .judge-expression2 .ensures) (c .before .before .before .body .given .1)) (c .note .ensures .0) (c .note .ensures .1)
+    (passed _ (c .before .before .before .before .before .judge-expression2 .ensures) (c .before .before .before .body .given .1)) (c .note .ensures .0) (c .note .ensures .1) (c .note .ensures .2)
 
 of-pair-word-requires : (t : ℕ) → of-pair-lts.Need-word-requires (of-pair-claims t) (of-pair-at t) of-pair.Post
 of-pair-word-requires t c κs = (c .before .pre .1 .0 .ground .sized, c .before .pre .1 .0 .there, search needs)
 
 of-pair-judge-requires : (t : ℕ) → of-pair-lts.Need-judge-expression-requires (of-pair-claims t) (of-pair-at t) of-pair.Post
 of-pair-judge-requires t c κs =
-    let p = (part-ready (c .before .before .before .pre .1 .0) (expression tuple) (c .before .before .before .pre .1 .1) 2 refl (unfold askOfKind in refl) _ (c .before .word .ensures .0) (now (c .before .before .before .args .widths)) (c .before .before .before .pre .1 .0 .long)) in
+    let p = (part-ready (c .before .before .before .pre .1 .0) (expression tuple) (c .before .before .before .pre .1 .1) 2 refl (unfold askOfKind in refl) _ (c .before .word .ensures .0) (now (c .before .before .before .args .widths)) (judging-counted (c .before .before .before .pre .1 .0))) in
     let h = p .1 .there in
     (omega (arith, c .before .before .before .pre .0, p .0), (p .1, c .before .before .before .pre .1 .2))
 
@@ -481,7 +481,7 @@ of-pair-word-requires-2 t c κs = (c .before .before .before .before .before .be
 
 of-pair-judge-requires-2 : (t : ℕ) → of-pair-lts.Need-judge-expression-requires-2 (of-pair-claims t) (of-pair-at t) of-pair.Post
 of-pair-judge-requires-2 t c κs =
-    let p = (part-ready (c .before .before .before .before .before .before .before .before .before .pre .1 .0) (expression tuple) (c .before .before .before .before .before .before .before .before .before .pre .1 .1) 3 refl (unfold askOfKind in refl) _ (c .before .word2 .ensures .0) (c .before .before .before .before .before .judge-expression .last .1 .1 .1 .1 .1 .1 .1 .1 .0) (c .before .before .before .before .before .judge-expression .ensures .long)) in
+    let p = (part-ready (c .before .before .before .before .before .before .before .before .before .pre .1 .0) (expression tuple) (c .before .before .before .before .before .before .before .before .before .pre .1 .1) 3 refl (unfold askOfKind in refl) _ (c .before .word2 .ensures .0) (c .before .before .before .before .before .judge-expression .last .1 .1 .1 .1 .1 .1 .1 .0) (c .before .before .before .before .before .judge-expression .ensures .counted)) in
     let h = p .1 .there in
     (omega (arith, c .before .before .before .before .before .before .before .before .before .pre .0, p .0), (p .1, c .before .before .before .before .before .before .before .before .before .pre .1 .2))
 
@@ -498,7 +498,7 @@ of-pair-returns-2 t c =
 
 of-pair-pair-type-requires : (t : ℕ) → of-pair-lts.Need-pair-type-requires (of-pair-claims t) (of-pair-at t) of-pair.Post
 of-pair-pair-type-requires t c κs =
-    (ready-closing (c .before .before .before .before .before .before .before .before .before .before .before .before .before .before .pre .1 .0) (c .before .before .before .before .judge-expression2 .last .1 .1 .1 .1 .1 .1 .1 .1 .0) (c .before .before .before .before .judge-expression2 .ensures .long), c .before .before .before .before .before .before .before .before .before .before .before .before .before .before .pre .1 .2 .indexed)
+    (ready-closing (c .before .before .before .before .before .before .before .before .before .before .before .before .before .before .pre .1 .0) (c .before .before .before .before .judge-expression2 .last .1 .1 .1 .1 .1 .1 .1 .0) (c .before .before .before .before .judge-expression2 .ensures .counted), c .before .before .before .before .before .before .before .before .before .before .before .before .before .before .pre .1 .2 .indexed)
 
 of-pair-returns-3 : (t : ℕ) → of-pair-lts.Need-returns-3 (of-pair-claims t) (of-pair-at t) of-pair.Post
 of-pair-returns-3 t c =
@@ -510,7 +510,7 @@ of-part-word-requires t c κs = (c .before .pre .1 .0 .ground .sized, c .before 
 
 of-part-judge-requires : (t : ℕ) → of-part-lts.Need-judge-expression-requires (of-part-claims t) (of-part-at t) of-part.Post
 of-part-judge-requires t c κs =
-    let p = (part-of-pair (c .before .before .before .pre .1 .0) _ (c .before .before .before .pre .1 .1) _ (c .before .word .ensures .0) (now (c .before .before .before .args .widths)) (c .before .before .before .pre .1 .0 .long)) in
+    let p = (part-of-pair (c .before .before .before .pre .1 .0) _ (c .before .before .before .pre .1 .1) _ (c .before .word .ensures .0) (now (c .before .before .before .args .widths)) (judging-counted (c .before .before .before .pre .1 .0))) in
     let h = p .1 .there in
     (omega (arith, c .before .before .before .pre .0, p .0), (p .1, c .before .before .before .pre .1 .2))
 
@@ -527,7 +527,7 @@ of-part-returns t c =
 of-part-part-type-requires : (t : ℕ) → of-part-lts.Need-part-type-requires (of-part-claims t) (of-part-at t) of-part.Post
 of-part-part-type-requires t c κs =
     let k = part-word (c .before .before .before .before .before .before .before .before .pre .1 .1) in
-    ((ready-closing (c .before .before .before .before .before .before .before .before .pre .1 .0) (c .before .before .before .before .judge-expression .last .1 .1 .1 .1 .1 .1 .1 .1 .0) (c .before .before .before .before .judge-expression .ensures .long)), (typed-record ((part-of-pair (c .before .before .before .before .before .before .before .before .pre .1 .0) _ (c .before .before .before .before .before .before .before .before .pre .1 .1) _ (c .before .before .before .before .before .before .word .ensures .0) (now (c .before .before .before .before .before .before .before .before .args .widths)) (c .before .before .before .before .before .before .before .before .pre .1 .0 .long)) .1) _ _ _ (passed _ (c .before .before .before .before .judge-expression .ensures) (c .before .before .whole .given .1))), k .0, k .1)
+    ((ready-closing (c .before .before .before .before .before .before .before .before .pre .1 .0) (c .before .before .before .before .judge-expression .last .1 .1 .1 .1 .1 .1 .1 .0) (c .before .before .before .before .judge-expression .ensures .counted)), (typed-record ((part-of-pair (c .before .before .before .before .before .before .before .before .pre .1 .0) _ (c .before .before .before .before .before .before .before .before .pre .1 .1) _ (c .before .before .before .before .before .before .word .ensures .0) (now (c .before .before .before .before .before .before .before .before .args .widths)) (judging-counted (c .before .before .before .before .before .before .before .before .pre .1 .0))) .1) _ _ _ (passed _ (c .before .before .before .before .judge-expression .ensures) (c .before .before .whole .given .1))), k .0, k .1)
 
 of-part-returns-2 : (t : ℕ) → of-part-lts.Need-returns-2 (of-part-claims t) (of-part-at t) of-part.Post
 of-part-returns-2 t c =

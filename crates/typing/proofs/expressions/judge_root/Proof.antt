@@ -4,22 +4,16 @@ use denote.Ref.{now}
 use Rattle.typing.proofs.expressions.judge_root.Statement.{statement}
 use Rattle.typing.proofs.expressions.judge_root.Tie as tie
 
-no-pairs-requires : tie.Need-no-pairs-requires
-no-pairs-requires c κs = search needs
-
-note-pairs-requires : tie.Need-note-pairs-requires
-note-pairs-requires c κs = (c .before .before .before .pre .ground .sized, c .before .no-pairs .ensures (now (c .before .before .before .args .sheet)))
-
 no-types-requires : tie.Need-no-types-requires
 no-types-requires c κs = search needs
 
 note-types-requires : tie.Need-note-types-requires
 note-types-requires c κs =
-    let ground = c .before .before .before .before .before .before .before .pre .ground in
-    (ground .sized, ground .passes, c .before .before .before .note-pairs .ensures, c .before .before .no-types .ensures (now (c .before .before .before .before .before .before .before .args .sheet)))
+    (c .before .before .before .pre .0 .ground .sized, c .before .before .before .pre .0 .ground .passes, c .before .before .before .pre .1, c .before .no-types .ensures (now (c .before .before .before .args .sheet)))
 
 judge-expression-requires : tie.Need-judge-expression-requires
-judge-expression-requires c κs = search needs
+judge-expression-requires c κs =
+    (c .before .before .before .before .before .before .pre .0, record { indexed = c .before .before .before .before .before .before .pre .1; typed = c .before .before .note-types .ensures })
 
 returns : tie.Need-returns
 returns c = c .judge-expression .ensures
@@ -28,8 +22,6 @@ pub judge-root-spec : {M : Type 1} → statement M
 judge-root-spec =
     tie.close
     (tie.spec
-    no-pairs-requires
-    note-pairs-requires
     no-types-requires
     note-types-requires
     judge-expression-requires

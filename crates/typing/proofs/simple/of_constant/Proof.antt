@@ -13,6 +13,7 @@ use Rattle.typing.specs.Judgements.{leavesFit}
 use Rattle.records.proofs.Table.{askOfKind}
 use Rattle.typing.specs.declared.Outcome.the-variants.{Sound}
 use Rattle.typing.proofs.Bounds.{ground-written, in-count}
+use Rattle.typing.proofs.Closings.{closing-counted}
 use Rattle.typing.proofs.Outcomes.{lastly-holds}
 use Rattle.typing.proofs.Readiness.{leaves-there, typed-word}
 use Rattle.typing.proofs.Judgings.{constant-fault, constant-typed}
@@ -36,7 +37,7 @@ enum-told c = search needs
 
 returns : tie.Need-returns
 returns c = λ Γ.
-    constant-fault (ground-written (c .before .before .before .before .before .before .pre .0 .ground)) (in-count (c .before .before .before .before .before .before .pre .0 .ground) _ (c .before .before .before .before .before .before .pre .0 .there)) (c .before .before .before .before .before .before .pre .1) _ _ (c .before .before .before .before .word .ensures .0) (c .before .before .before .word2 .ensures .0) _ (c .before .before .before .before .before .before .pre .0 .long) _ _ (c .before .before .leaves-type .ensures) (c .enum-told .given .1)
+    constant-fault (ground-written (c .before .before .before .before .before .before .pre .0 .ground)) (in-count (c .before .before .before .before .before .before .pre .0 .ground) _ (c .before .before .before .before .before .before .pre .0 .there)) (c .before .before .before .before .before .before .pre .1) _ _ (c .before .before .before .before .word .ensures .0) (c .before .before .before .word2 .ensures .0) _ _ _ (c .before .before .leaves-type .ensures) (c .enum-told .given .1) (closing-counted (c .before .before .before .before .before .before .pre .0))
 
 note-requires : tie.Need-note-requires
 note-requires c κs =
@@ -48,8 +49,8 @@ note-requires c κs =
 returns-2 : tie.Need-returns-2
 returns-2 c = λ Γ.
     let u = lastly-holds (now (c .before .before .before .before .before .before .before .before .before .args .sheet)) (c .before .before .before .before .before .before .before .before .before .args .rec) (leavesFit (c .before .before .before .before .before .before .before .word .result) (chain (now (c .before .before .before .before .before .before .before .before .before .args .sheet)) (c .before .before .before .before .before .before .word2 .result))) _ _ _ (c .before .before .before .before .before .leaves-type .ensures) (c .before .before .before .fit .given .1) in
-    constant-typed (ground-written (c .before .before .before .before .before .before .before .before .before .pre .0 .ground)) (in-count (c .before .before .before .before .before .before .before .before .before .pre .0 .ground) _ (c .before .before .before .before .before .before .before .before .before .pre .0 .there)) (c .before .before .before .before .before .before .before .before .before .pre .1) _ _ (c .before .before .before .before .before .before .before .word .ensures .0) (c .before .before .before .before .before .before .word2 .ensures .0) _ (c .before .before .before .before .before .before .before .before .before .pre .0 .long) _ (u .0) (c .note .ensures .0 ∙ ap Sound (u .1))
-    (c .note .ensures .1 ∙ ap (λ (t : ℕ). set (now (c .before .before .before .before .before .before .before .before .before .args .widths)) (c .before .before .before .before .before .before .before .before .before .args .rec) (leaves (typeAt (now (c .before .before .before .before .before .before .before .before .before .args .sheet)) t))) (u .1))
+    constant-typed (ground-written (c .before .before .before .before .before .before .before .before .before .pre .0 .ground)) (in-count (c .before .before .before .before .before .before .before .before .before .pre .0 .ground) _ (c .before .before .before .before .before .before .before .before .before .pre .0 .there)) (c .before .before .before .before .before .before .before .before .before .pre .1) _ _ (c .before .before .before .before .before .before .before .word .ensures .0) (c .before .before .before .before .before .before .word2 .ensures .0) _ _ (u .0) (c .note .ensures .0 ∙ ap Sound (u .1))
+    (c .note .ensures .1 ∙ ap (λ (t : ℕ). set (now (c .before .before .before .before .before .before .before .before .before .args .widths)) (c .before .before .before .before .before .before .before .before .before .args .rec) (leaves (typeAt (now (c .before .before .before .before .before .before .before .before .before .args .sheet)) t))) (u .1)) (c .note .ensures .2)
 
 pub of-constant-spec : {M : Type 1} → statement M
 of-constant-spec =
