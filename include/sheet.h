@@ -11,6 +11,8 @@
  *         Which alternative of each IF says yes first in one cycle?
  *     uint64_t sheet_preview(sheet, sheet_length, stim, stim_length, out, out_length)
  *         What would it put out for one cycle, without taking it?
+ *     struct sheet_pressed sheet_press(sheet, sheet_length, stim, stim_length, leaf)
+ *         Which change of one input leaf alters this output leaf in one cycle?
  *     uint64_t sheet_translate(text, text_length, sheet, sheet_length)
  *         What is the sheet of a circuit typed with names?
  *
@@ -27,6 +29,8 @@
  *   threads may call at the same time.
  * - Any content and any length is a good call. What is wrong with a sheet or a text is said by the result, and a refusal leaves
  *   every lent slice unaltered.
+ * - A call that finds more than a code and a place returns a struct by value. Its first field is
+ *   the result, and a refusal leaves 0 in all the others.
  *
  * PLATFORM
  *
@@ -39,7 +43,8 @@
  *
  *     cc -Iinclude host.c target/staticlib/libsheets.a
  *
- * examples/check.c, examples/run.c, examples/carry.c, examples/fired.c, examples/preview.c and examples/translate.c are whole hosts.
+ * examples/check.c, examples/run.c, examples/carry.c, examples/fired.c, examples/preview.c,
+ * examples/press.c and examples/translate.c are whole hosts.
  */
 #ifndef SHEET_H
 #define SHEET_H
@@ -56,11 +61,11 @@ extern "C" {
  * be, the second where a call or a code is added, the third where neither is so.
  */
 #define SHEET_VERSION_MAJOR 1
-#define SHEET_VERSION_MINOR 5
-#define SHEET_VERSION_PATCH 1
+#define SHEET_VERSION_MINOR 6
+#define SHEET_VERSION_PATCH 0
 
 /* The same as text, and as one number to compare: 1.2.3 is 10203. */
-#define SHEET_VERSION "1.5.1"
+#define SHEET_VERSION "1.6.0"
 #define SHEET_VERSION_NUMBER (SHEET_VERSION_MAJOR * 10000 + SHEET_VERSION_MINOR * 100 + SHEET_VERSION_PATCH)
 
 /* The most records that a sheet may have. */
@@ -107,7 +112,7 @@ enum sheet_code {
     /* The first record that breaks a type rule, parts before the whole. */
     SHEET_ILL_TYPED = 7,
 
-    /* The sheet is accepted and the run, the preview or sheet_fired is refused. */
+    /* The sheet is accepted, and the run or a call on one cycle is refused. */
     /* Place 0. */
     SHEET_WRONG_STIMULUS = 8,
     /* The first byte of the stimulus that is above the constructor count of its leaf, counted from 0. */
@@ -134,7 +139,12 @@ enum sheet_code {
     /* The code, 1 to 7, by which the check refuses the new sheet. */
     SHEET_NEW_SHEET_REFUSED = 18,
     /* The lowest delay whose label a lower-numbered delay of the same sheet bears; the old sheet is searched first. */
-    SHEET_LABEL_TWICE = 19
+    SHEET_LABEL_TWICE = 19,
+
+    /* Place 0. Kept for a call that goes through all inputs of a sheet: no call gives it yet. */
+    SHEET_TOO_MANY_INPUTS = 20,
+    /* Of sheet_press: the number of output leaves. */
+    SHEET_NO_OUTPUT_LEAF = 21
 };
 
 /* The code of a result. */
@@ -177,6 +187,10 @@ static inline const char *sheet_sentence(uint32_t code)
         return "The new sheet is refused by the check.";
     case SHEET_LABEL_TWICE:
         return "Two delays of one sheet bear the same label.";
+    case SHEET_TOO_MANY_INPUTS:
+        return "The product of the constructor counts of the input's leaves is over 65,536.";
+    case SHEET_NO_OUTPUT_LEAF:
+        return "The output has no leaf of this number.";
     }
     return code < sizeof sentences / sizeof *sentences ? sentences[code] : "No call returns this code.";
 }
@@ -302,6 +316,49 @@ uint64_t sheet_fired(const uint8_t *sheet, size_t sheet_length, const uint8_t *s
  */
 uint64_t sheet_preview(const uint8_t *sheet, size_t sheet_length, const uint8_t *stim, size_t stim_length, uint8_t *out,
                        size_t out_length);
+
+/* The stack need of the call for one press, measured as the check's and bounded as the run's. */
+#define SHEET_PRESS_STACK 131072
+
+/*
+ * What sheet_press returns, 32 bytes: the result; 1 if a change is found and 0 if none is; the
+ * input leaf that changes, counted from 0; and the constructor that it changes to. Where no change
+ * is found, and on a refusal, the last three are 0.
+ */
+struct sheet_pressed {
+    uint64_t result, found, leaf, constructor;
+};
+
+/*
+ * One press away: which change of one input leaf alone alters an output leaf in one cycle. It
+ * begins with the check. Codes 0 to 9 and 21, and 0 at place 0.
+ *
+ * `stim` is exactly one cycle, as many bytes as the input has leaves; an empty stimulus and one of
+ * several cycles are refused by 8. `leaf` is the number of an output leaf, counted from 0. Any
+ * number is a good call: one that no output leaf has is refused by 21, whose place is the number
+ * of output leaves, 1 to SHEET_MOST_LEAVES. So a host can ask for that number with the leaf
+ * SIZE_MAX.
+ *
+ * A change sets one input leaf to a constructor of its type other than its value in `stim`. A leaf
+ * that is undefined there, 0, can change to each of its constructors; no leaf changes to 0. The
+ * change alters the output leaf if sheet_preview shows another byte there for the changed input
+ * than for `stim`; one of the two bytes may be 0. The call gives the lowest input leaf that has
+ * such a change, and the lowest constructor with which it is one. It gives none exactly where
+ * there is none. The sheet and the stimulus are only read, and delays hold what they hold in the
+ * sheet.
+ *
+ * A call may take long. It evaluates the cycle once for `stim` and once for each change that it
+ * tries until one alters the output leaf: at most 16,320 changes, of 64 leaves with 255
+ * constructors. Each evaluation may be as long as a preview.
+ *
+ *     struct sheet_pressed pressed = sheet_press(sheet, length, stim, stim_length, 0);
+ *     if (sheet_code_of(pressed.result) != SHEET_DONE)
+ *         printf("%s\n", sheet_sentence(sheet_code_of(pressed.result)));
+ *     else if (pressed.found)
+ *         printf("leaf %u to %u\n", (unsigned)pressed.leaf, (unsigned)pressed.constructor);
+ */
+struct sheet_pressed sheet_press(const uint8_t *sheet, size_t sheet_length, const uint8_t *stim,
+                                 size_t stim_length, size_t leaf);
 
 /*
  * The translation's stack need, measured as the check's, by host/text_stack.c on the deepest and the widest texts. It is far more than

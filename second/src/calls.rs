@@ -17,6 +17,7 @@ calls! {
     pub mod runs;
     pub mod previews;
     pub mod firings;
+    pub mod presses;
     pub mod carries;
     pub mod texts;
 }

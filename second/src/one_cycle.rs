@@ -4,7 +4,7 @@
 pub mod cases;
 pub mod compare;
 mod comparison;
-mod faults;
+pub mod faults;
 mod jobs;
 pub mod kind;
-mod tally;
+pub mod tally;

@@ -23,6 +23,7 @@ use Rattle.answers.specs.declared.Verdict.the-variants as Verdicts
 use Rattle.verdict.proofs.PlacesSmall.{verdict-place}
 use Rattle.verdict.proofs.VerdictFirst.{verdict-first, accepted-first}
 use Rattle.accepted.specs.Accepting.{Accepting}
+use Rattle.accepted.proofs.Refusing.{Refusing, refusing-answer}
 use Rattle.accepted.proofs.Small.{accepted-sized}
 
 -- the output type that an accepted sheet is accepted with
@@ -42,6 +43,13 @@ module _ (s : List ℕ) (own : List Check) (done : Answer) where
 
   pub sheet-accepted : (t : ℕ) → verdict s ≡ Accepted t → firstApplying (sheetChecks s ++ own) done ≡ firstApplying own done
   sheet-accepted t v = by-verdict ∙ ap (λ (w : Verdict). onDone (verdictAnswer w) (λ t. firstApplying own done)) v
+
+  -- a verdict that refuses is the answer
+  pub refused-by-sheet : (w : Verdict) → w ≡ verdict s → Refusing w
+      → (c : ℕ) × (p : ℕ) × (verdictAnswer w ≡ Refused c p) × (firstApplying (sheetChecks s ++ own) done ≡ Refused c p)
+  refused-by-sheet w e o =
+      let r = refusing-answer w o in
+      (r .0, r .1, r .2, sheet-refused (r .0) (r .1) (ap verdictAnswer (sym e) ∙ r .2))
 
   -- the place is small where those of the call's own checks are
   call-place : ((t : ℕ) → verdict s ≡ Accepted t → place (firstApplying own done) < 2 ^ 32)

@@ -77,6 +77,11 @@ abbrev pub lowest : (ℕ → Bool) → ℕ → Option ℕ
 lowest p zero = none
 lowest p (suc n) = orHere (lowest p n) (p n) n
 
+-- whether a search found one
+abbrev pub isSome : Option ℕ → Bool
+isSome none = false
+isSome (some k) = true
+
 -- The checks of a call as a list, in the order in which they are made (docs/SHEETS.md, "Codes": "Of all codes that apply the first in a
 -- call's order is returned"). A check has a code, and a place where it applies. The answer is that of the first that applies.
 

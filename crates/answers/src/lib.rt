@@ -44,6 +44,10 @@ pub const NEW_SHEET_REFUSED: u64 = 18;
 
 pub const LABEL_TWICE: u64 = 19;
 
+pub const TOO_MANY_INPUTS: u64 = 20;
+
+pub const NO_OUTPUT_LEAF: u64 = 21;
+
 // The number that a search found, if it found one.
 pub enum Found {
     At(usize),

@@ -20,10 +20,10 @@ use Rattle.records.proofs.Tests.{both-left, both-right}
 use Rattle.records.proofs.Table.{is-delay}
 use Rattle.records.proofs.CodeTable.{delay-number}
 use Rattle.records.proofs.Asked.{past-header}
-use Rattle.answers.specs.Answers.{lowest, orHere}
+use Rattle.answers.specs.Answers.{lowest, orHere, isSome}
 use Rattle.answers.specs.declared.Found.the-variants.{At, Nothing}
 use Rattle.answers.proofs.Lowest.{lowest-none, lowest-is}
-use Rattle.carry.specs.Labels.{label, bears, isSome, labelTwice}
+use Rattle.carry.specs.Labels.{label, bears, labelTwice}
 use Rattle.carry.specs.Bearers.{entryBearer, Bearers, Labelling, Labelled, AllLabelled}
 
 -- a record that is no delay has no label

@@ -21,7 +21,7 @@ use Rattle.records.specs.Rewritten.{Rewritten}
 use Rattle.records.proofs.Table.{kind-of-sort}
 use Rattle.records.proofs.Rewritten.{same-count, same-kind, same-type, same-chain}
 use Rattle.records.proofs.Leaves.{circuit-leaves}
-use Rattle.answers.specs.Answers.{lowest}
+use Rattle.answers.specs.Answers.{lowest, isSome}
 use Rattle.answers.proofs.Lowest.{lowest-is, lowest-none-fails}
 use Rattle.verdict.specs.Verdict.{verdict}
 use Rattle.answers.specs.declared.Verdict.the-variants.{Accepted}
@@ -31,7 +31,7 @@ use Rattle.behaviour.proofs.Members.{member-or-not}
 use Rattle.behaviour.proofs.Sheets.{same-word, only-leaves, leaf-small, accepted-written}
 use Rattle.behaviour.proofs.OnlyDelays.{only-delays-circuit}
 use Rattle.behaviour.proofs.DelayRecords.{circuit-delay-leaf}
-use Rattle.carry.specs.Labels.{label, bears, bearer, labelTwice, isSome, delayType}
+use Rattle.carry.specs.Labels.{label, bears, bearer, labelTwice, delayType}
 use Rattle.carry.specs.Carried.{leavesAt, giver, carried}
 use Rattle.carry.specs.Promises.{Partners, CarryFormed, CarriesOver, AllLabels}
 use Rattle.carry.proofs.Bearing.{own-label}

@@ -45,18 +45,18 @@ preview-refused-sheet s stim out w e o result q =
     rw (q, r .2) (previewed-refusal s stim out (r .0) (r .1) (r .3))
 
 module _ {s : List ℕ} {n : ℕ} {W : List ℕ} {t : ℕ} (g : Accepting s n W) (v : verdict s ≡ Accepted t) where
-  pub preview-type-there : t < 4096
-  preview-type-there =
+  pub output-type-there : t < 4096
+  output-type-there =
       let c = g .sized .counted in let f = g .sized .few in let h = output-typed v .there in omega arith
 
-  output-width : getD W t 0 ≡ leaves (typeAt s t)
+  pub output-width : getD W t 0 ≡ leaves (typeAt s t)
   output-width = g .table .types t (output-typed v)
 
-  pub preview-room-few : getD W t 0 ≤ 64
-  preview-room-few = let f = accepted-few s v in let e = output-width in omega arith
+  pub output-few : getD W t 0 ≤ 64
+  output-few = let f = accepted-few s v in let e = output-width in omega arith
 
-  needed : getD W t 0 ≡ outputLeaves s
-  needed = output-width ∙ ap (λ (u : ℕ). leaves (typeAt s u)) (accepted-output s t v)
+  pub output-needed : getD W t 0 ≡ outputLeaves s
+  output-needed = output-width ∙ ap (λ (u : ℕ). leaves (typeAt s u)) (accepted-output s t v)
 
   module _ (stim out : List ℕ) (a : Answer) (h : HeldToOne s stim a) where
     -- 8 and 9
@@ -71,9 +71,9 @@ module _ {s : List ℕ} {n : ℕ} {W : List ℕ} {t : ℕ} (g : Accepting s n W)
           → Previewed s stim out result out
       unfolding previewAnswer
       preview-refused-output d result q =
-          rw (q, needed)
+          rw (q, output-needed)
           (previewed-refusal s stim out 10 (outputLeaves s)
-          (one-cycle-length 10 (outputLeaves s) out v h k e (λ y. d (y ∙ sym needed))))
+          (one-cycle-length 10 (outputLeaves s) out v h k e (λ y. d (y ∙ sym output-needed))))
 
       module _ (y : length out ≡ getD W t 0) where
         pub showing : Showing s n W stim out
@@ -89,7 +89,7 @@ module _ {s : List ℕ} {n : ℕ} {W : List ℕ} {t : ℕ} (g : Accepting s n W)
         pub preview-done : (out′ : List ℕ) → out′ ≡ output s stim → Previewed s stim out 0 out′
         unfolding finalPreview previewAnswer
         preview-done out′ o =
-            let f = one-cycle-good {lent = out} v h k e (y ∙ needed) in
+            let f = one-cycle-good {lent = out} v h k e (y ∙ output-needed) in
             let d : previewAnswer s stim out ≡ Done 0 = one-cycle-done 10 f in
             record { result-is = rw d refl; out-is = rw (o, d) refl }
 

@@ -46,29 +46,29 @@ pub shown-toggle : PreviewToggle
 unfolding previewAnswer finalPreview notOneCycle wrongLength wrongHeader wrongRecord wrongNaming wrongType tooDeep depth nesting ancestry ancestryWithin circuit treeAt treeWithin alternatives alternativesWithin chain chainWithin pairOf typeAt typeWithin namings wellSaid askOf kindOf rowOf word count wrongStimulus wrongByte eval next undecidedRule circuitTerm outputBy
 shown-toggle = (refl, refl, refl, refl, refl)
 
-toggle-accepted : verdict toggle ≡ Accepted 1
+pub toggle-accepted : verdict toggle ≡ Accepted 1
 unfolding verdict byRecords byTypes wrongLength wrongHeader wrongRecord wrongNaming wrongType tooDeep depth nesting ancestry ancestryWithin circuit treeAt treeWithin alternatives alternativesWithin chain chainWithin pairOf typeAt typeWithin namings wellSaid askOf kindOf rowOf word count
 toggle-accepted = refl
 
-passes : Passes toggle
-passes = accepted-passes toggle-accepted
+pub toggle-passes : Passes toggle
+toggle-passes = accepted-passes toggle-accepted
 
-full : length toggle ≡ 12 * count toggle
-full = accepted-records toggle toggle-accepted
+pub toggle-full : length toggle ≡ 12 * count toggle
+toggle-full = accepted-records toggle toggle-accepted
 
-abbrev table : List ℕ
-table = Requirements.widths passes full .0
+abbrev pub toggleTable : List ℕ
+toggleTable = Requirements.widths toggle-passes toggle-full .0
 
-toggle-accepting : Accepting toggle (count toggle) table
+pub toggle-accepting : Accepting toggle (count toggle) toggleTable
 toggle-accepting =
     record {
-      sized = Requirements.sized passes full;
+      sized = Requirements.sized toggle-passes toggle-full;
       type = 1;
       accepted = toggle-accepted;
-      table = Requirements.widths passes full .1;
+      table = Requirements.widths toggle-passes toggle-full .1;
     }
 
-toggle-showing : Showing toggle (count toggle) table (1 ∷ []) (9 ∷ [])
+toggle-showing : Showing toggle (count toggle) toggleTable (1 ∷ []) (9 ∷ [])
 unfolding notOneCycle wrongStimulus wrongByte typeAt typeWithin kindOf rowOf word
 toggle-showing =
     record {
@@ -79,5 +79,5 @@ toggle-showing =
       room = refl;
     }
 
-toggle-shown : Cycling toggle (count toggle) table (replicate 4096 0) (replicate 4096 0) (1 ∷ []) toggle (9 ∷ [])
+toggle-shown : Cycling toggle (count toggle) toggleTable (replicate 4096 0) (replicate 4096 0) (1 ∷ []) toggle (9 ∷ [])
 toggle-shown = shown-cycling toggle-showing (replicate 4096 0) (replicate 4096 0) (zeros-long 4096) (zeros-long 4096)

@@ -6,9 +6,12 @@ ghost use Rattle.simulator.specs.Calls.{Ran};
 ghost use Rattle.carry.specs.Carry.{CarryGiven};
 ghost use Rattle.firing.specs.Telling.{ToldFired};
 ghost use Rattle.preview.specs.Preview.{Previewed};
+ghost use Rattle.press.specs.Press.{PressGiven};
 ghost use Rattle.translator.specs.Translated.{TranslatedInOne};
 use carry::carry;
 use firing::fired_of;
+use press::Pressed;
+use press::press_of;
 use preview::preview;
 use simulator::run;
 use translator::translate;
@@ -52,6 +55,14 @@ pub extern "C" fn sheet_preview(sheet: &[u8], stim: &[u8], out: &mut [u8]) -> u6
     ensures { λ r. ⌜ Previewed (now (sheet .entry)) (now (stim .entry)) (now (out .entry)) r (now (out .exit)) ⌝ }
 {
     preview(sheet, stim, out)
+}
+
+// One press away, in one cycle: the answer's code times 2^32, plus its place; and the change, if one is found.
+#[no_mangle]
+pub extern "C" fn sheet_press(sheet: &[u8], stim: &[u8], leaf: usize) -> Pressed
+    ensures { λ r. ⌜ PressGiven (now (sheet .entry)) (now (stim .entry)) leaf (r .result) (r .found) (r .leaf) (r .constructor) ⌝ }
+{
+    press_of(sheet, stim, leaf)
 }
 
 // The translation of a text into a sheet: the code times 2^32, plus the place.

@@ -29,14 +29,36 @@ use Rattle.answers.proofs.First.{
 use Rattle.verdict.specs.Verdict.{sheetChecks, outputType, verdict}
 use Rattle.answers.specs.declared.Verdict.{Verdict}
 use Rattle.answers.specs.declared.Verdict.the-variants.{Accepted}
-use Rattle.accepted.proofs.Calls.{accepted-output, sheet-refused, sheet-accepted, none-of-call, call-laws}
-use Rattle.accepted.proofs.Laws.{first-accepted, Refusing, refusing-answer}
+use Rattle.accepted.proofs.Calls.{accepted-output, sheet-accepted, refused-by-sheet, none-of-call, call-laws}
+use Rattle.accepted.proofs.Laws.{first-accepted, Refusing}
 use Rattle.stimulus.specs.Stimulus.{wrongByte}
 use Rattle.stimulus.specs.OneCycle.{notOneCycle, oneCycleChecks}
 use Rattle.stimulus.specs.Holding.{HeldToOne}
 use Rattle.stimulus.specs.OneCycleCalls.{FormedOneCycle}
 use Rattle.stimulus.proofs.Stimulus.{stimulus-whole}
 use Rattle.stimulus.proofs.OneCycle.{one-cycle-whole, one-cycle-passes}
+
+-- whatever checks stand last: their places, and the answer where the sheet is accepted
+byte-small : (s stim : List ℕ) (i : ℕ) → notOneCycle s stim ≡ false → lowest (wrongByte s stim) (length stim) ≡ some i → i < 2 ^ 32
+byte-small s stim i e f =
+    let w = stimulus-whole s stim (one-cycle-whole s stim e .0) .0 in
+    let l = lowest-some-passes (wrongByte s stim) (length stim) i f .0 in
+    omega arith
+
+pub after-cycle-small : (s stim : List ℕ) (last : List Check) → SmallPlaces last 0 → SmallPlaces (oneCycleChecks s stim ++ last) 0
+after-cycle-small s stim last small = (
+  λ p e. let z = when-some (notOneCycle s stim) 0 p e in omega arith,
+  λ e. (λ i f. byte-small s stim i (when-none (notOneCycle s stim) 0 e) f, λ f. small),
+)
+
+pub by-cycle : {s stim : List ℕ} (last : List Check) {t : ℕ} → verdict s ≡ Accepted t → {a : Answer} → HeldToOne s stim a
+    → firstApplying (sheetChecks s ++ (oneCycleChecks s stim ++ last)) (Done 0) ≡ onDone a (λ k. firstApplying last (Done 0))
+by-cycle {s} {stim} last {t} v h =
+    let rest : ℕ → Answer = λ k. firstApplying last (Done 0) in
+    sheet-accepted s (oneCycleChecks s stim ++ last) (Done 0) t v
+    ∙ first-both (oneCycleChecks s stim) last (Done 0)
+    ∙ first-then (oneCycleChecks s stim) 1 rest
+    ∙ ap (λ (b : Answer). onDone b rest) (sym (h .answered))
 
 -- no signature here determines the sheet or the stimulus
 module _ (c needed : ℕ) (s stim lent : List ℕ) where
@@ -51,28 +73,15 @@ module _ (c needed : ℕ) (s stim lent : List ℕ) where
   abbrev allChecks : List Check
   allChecks = sheetChecks s ++ ownChecks
 
-  byte-small : (i : ℕ) → notOneCycle s stim ≡ false → lowest (wrongByte s stim) (length stim) ≡ some i → i < 2 ^ 32
-  byte-small i e f =
-      let w = stimulus-whole s stim (one-cycle-whole s stim e .0) .0 in
-      let l = lowest-some-passes (wrongByte s stim) (length stim) i f .0 in
-      omega arith
-
   own-small : needed < 2 ^ 32 → SmallPlaces ownChecks 0
-  own-small small = (
-    λ p e. let z = when-some (notOneCycle s stim) 0 p e in omega arith,
-    λ e. (
-      λ i f. byte-small i (when-none (notOneCycle s stim) 0 e) f,
-      λ f. (λ p h. let z = when-some (not (eqb (length lent) needed)) needed p h in omega arith, λ h. omega arith),
-    ),
-  )
+  own-small small =
+      after-cycle-small s stim lengthCheck
+      (λ p h. let z = when-some (not (eqb (length lent) needed)) needed p h in omega arith, λ h. omega arith)
 
   -- 1 to 7
   pub one-cycle-sheet : (w : Verdict) → w ≡ verdict s → Refusing w
       → (k : ℕ) × (p : ℕ) × (verdictAnswer w ≡ Refused k p) × (firstApplying allChecks (Done 0) ≡ Refused k p)
-  one-cycle-sheet w e o =
-      let r = refusing-answer w o in
-      let f : verdictAnswer (verdict s) ≡ Refused (r .0) (r .1) = ap verdictAnswer (sym e) ∙ r .2 in
-      (r .0, r .1, r .2, sheet-refused s ownChecks (Done 0) (r .0) (r .1) f)
+  one-cycle-sheet = refused-by-sheet s ownChecks (Done 0)
 
 module _ (c : ℕ) {needed : ℕ} {s stim lent : List ℕ} where
   one-cycle-formed : NoneApplies (allChecks c needed s stim lent) → FormedOneCycle s stim lent needed
@@ -104,12 +113,7 @@ one-cycle-laws c needed s stim lent is above small given =
 module _ (c needed : ℕ) {s stim : List ℕ} (lent : List ℕ) {t : ℕ} (v : verdict s ≡ Accepted t) {a : Answer} (h : HeldToOne s stim a) where
   by-length : firstApplying (allChecks c needed s stim lent) (Done 0)
       ≡ onDone a (λ k. firstApplying (lengthCheck c needed s stim lent) (Done 0))
-  by-length =
-      let rest : ℕ → Answer = λ k. firstApplying (lengthCheck c needed s stim lent) (Done 0) in
-      sheet-accepted s (ownChecks c needed s stim lent) (Done 0) t v
-      ∙ first-both (oneCycleChecks s stim) (lengthCheck c needed s stim lent) (Done 0)
-      ∙ first-then (oneCycleChecks s stim) 1 rest
-      ∙ ap (λ (b : Answer). onDone b rest) (sym (h .answered))
+  by-length = by-cycle (lengthCheck c needed s stim lent) v h
 
   -- 8 and 9
   pub one-cycle-input : (k p : ℕ) → a ≡ Refused k p → firstApplying (allChecks c needed s stim lent) (Done 0) ≡ Refused k p

@@ -30,7 +30,7 @@ pub fn broken<K: Kind>(
     for &code in codes.iter().filter(|&&code| code > ILL_TYPED) {
         let way = match code {
             WRONG_STIMULUS => break_stimulus(&mut case, &ground, random)?,
-            WRONG_INPUT => break_bytes(&mut case, &ground, random)?,
+            WRONG_INPUT => raise_bytes(&mut case.stimulus, &ground, random)?,
             _ => break_length(&mut case, &ground, random)?,
         };
         case.source = format!("{}; {way}", case.source);
@@ -42,6 +42,17 @@ pub fn broken<K: Kind>(
 /// Code 8: not exactly one cycle. The slice is as long as one cycle asks for,
 /// or as so many cycles.
 fn break_stimulus(case: &mut Case, ground: &Ground, random: &mut Random) -> Option<&'static str> {
+    let (way, stimulus) = other_cycles(ground, random)?;
+    case.stimulus = stimulus;
+    if random.one_in(2) {
+        let cycles = case.stimulus.len() / ground.counts.len();
+        case.slice_length = (cycles * ground.items).min(1 << 16);
+    }
+    Some(way)
+}
+
+/// A stimulus that is not exactly one cycle, and its way.
+pub fn other_cycles(ground: &Ground, random: &mut Random) -> Option<(&'static str, Vec<u8>)> {
     let leaves = ground.counts.len();
     let way = random.pick(tally::ways(WRONG_STIMULUS))?;
     let length = match way {
@@ -55,23 +66,24 @@ fn break_stimulus(case: &mut Case, ground: &Ground, random: &mut Random) -> Opti
         }
         _ => LONGEST_STIMULUS + random.range(1, 2 * leaves),
     };
-    case.stimulus = ground.stimulus(length / leaves + 1, random);
-    case.stimulus.truncate(length);
-    if random.one_in(2) {
-        case.slice_length = (length / leaves * ground.items).min(1 << 16);
-    }
-    Some(way)
+    let mut stimulus = ground.stimulus(length / leaves + 1, random);
+    stimulus.truncate(length);
+    Some((way, stimulus))
 }
 
-/// Code 9: one byte or some, at the first place, the last or any.
-fn break_bytes(case: &mut Case, ground: &Ground, random: &mut Random) -> Option<&'static str> {
+/// Code 9: one byte or some, at the first place, the last or any; the way.
+pub fn raise_bytes(
+    stimulus: &mut [u8],
+    ground: &Ground,
+    random: &mut Random,
+) -> Option<&'static str> {
     let leaves = ground.counts.len();
     let breakable: Vec<usize> =
-        (0..case.stimulus.len()).filter(|k| ground.counts[k % leaves] < 255).collect();
+        (0..stimulus.len()).filter(|k| ground.counts[k % leaves] < 255).collect();
     let several = breakable.len() > 1 && random.one_in(2);
     let times = if several { random.range(2, 5) } else { 1 };
     for _ in 0..times {
-        raise_byte(&mut case.stimulus, &ground.counts, &breakable, random)?;
+        raise_byte(stimulus, &ground.counts, &breakable, random)?;
     }
     Some(if several { tally::SOME_ABOVE } else { tally::ABOVE })
 }

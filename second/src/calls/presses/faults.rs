@@ -1,0 +1,58 @@
+//! Presses with faults: in the sheet, the stimulus or the output leaf.
+
+use super::case::Case;
+use super::cases::Plain;
+use super::press::NO_OUTPUT_LEAF;
+use super::tally;
+use crate::answers::{ILL_TYPED, WRONG_STIMULUS};
+use crate::calls::runs::faults::break_sheet;
+use crate::faults::category::Category;
+use crate::generate::mixed::for_faults;
+use crate::layout::sheet;
+use crate::one_cycle::faults::{other_cycles, raise_bytes};
+use crate::random::Random;
+
+/// A call with faults of some codes; the ways in which those from 8 on were
+/// made. None if the circuit has no place for a fault.
+pub fn broken(
+    codes: &[u8],
+    categories: &[Category],
+    random: &mut Random,
+) -> Option<(Case, Vec<&'static str>)> {
+    let draft = for_faults(random);
+    let whole = sheet(&draft, random);
+    let plain = Plain::of(&whole)?;
+    let mut case = plain.any("one call", whole, random);
+    for &code in codes.iter().filter(|&&code| code <= ILL_TYPED) {
+        (case.source, case.sheet) = break_sheet(&draft, code, categories, random)?;
+    }
+    let mut ways = Vec::new();
+    // The stimulus gets its length first, and then bytes that are too great.
+    for &code in codes.iter().filter(|&&code| code > ILL_TYPED) {
+        let way = match code {
+            WRONG_STIMULUS => {
+                let (way, stimulus) = other_cycles(&plain.ground, random)?;
+                case.stimulus = stimulus;
+                way
+            }
+            NO_OUTPUT_LEAF => break_leaf(&mut case, plain.ground.items, random)?,
+            _ => raise_bytes(&mut case.stimulus, &plain.ground, random)?,
+        };
+        case.source = format!("{}; {way}", case.source);
+        ways.push(way);
+    }
+    Some((case, ways))
+}
+
+/// Code 21: a number that is not below that of the output leaves.
+fn break_leaf(case: &mut Case, leaves: usize, random: &mut Random) -> Option<&'static str> {
+    let way = random.pick(tally::ways(NO_OUTPUT_LEAF))?;
+    case.leaf = match way {
+        tally::AT_COUNT => leaves,
+        tally::SOME_MORE => leaves + random.range(1, 300),
+        tally::TWO_TO_32 => 1 << 32,
+        tally::LOW_HALF => (random.range(1, u32::MAX as usize) << 32) + random.below(leaves),
+        _ => usize::MAX,
+    };
+    Some(way)
+}
