@@ -29,8 +29,8 @@
  *   threads may call at the same time.
  * - Any content and any length is a good call. What is wrong with a sheet or a text is said by the result, and a refusal leaves
  *   every lent slice unaltered.
- * - A call that finds more than a code and a place returns a struct by value. Its first field is
- *   the result, and a refusal leaves 0 in all the others.
+ * - What a call finds and does not write to a slice it returns in a struct by value. The first
+ *   field of the struct is the result, and a refusal leaves 0 in all the others.
  *
  * PLATFORM
  *

@@ -32,15 +32,25 @@ def reached(crate, named):
     return found
 
 
-# The functions that the archive of a crate exports, in the order of its sources.
+# The functions that the archive of a crate exports, in the order of its sources. Ends the script
+# where one is marked that is not understood.
 def exports(crate, root=ROOT):
-    files = sorted((root / "crates" / crate / "src").rglob("*.rt"))
-    return [name for file in files for name in EXPORT.findall(COMMENTS.sub("", file.read_text()))]
+    found = []
+    for file in sorted((root / "crates" / crate / "src").rglob("*.rt")):
+        text = COMMENTS.sub("", file.read_text())
+        names = EXPORT.findall(text)
+        if len(names) != text.count("no_mangle"):
+            sys.exit(f"{file.relative_to(root)}: not every function marked no_mangle is understood")
+        found += names
+    return found
 
 
-# The crates that are archives: those that export something.
+# The crates that are archives: those that export something. The two that hosts link are there.
 def archives(root=ROOT):
-    return [crate for crate in crates(root) if exports(crate, root)]
+    found = [crate for crate in crates(root) if exports(crate, root)]
+    if not {"checker", "sheets"} <= set(found):
+        sys.exit(f"{sys.argv[0]}: checker or sheets exports nothing")
+    return found
 
 
 # The parameters of a call as include/sheet.h declares it, or none.

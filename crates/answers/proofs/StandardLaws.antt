@@ -1,6 +1,6 @@
--- What every call promises, from its list of checks: the answer of the list is that of the first that applies, with its code;
--- its place is that of a
--- check before which none applies; and a slice that holds what is computed only where the call is done is unaltered by a refusal.
+-- What every call promises, from its list of checks: the answer of the list is that of the first
+-- that applies, with its code; its place is that of a check before which none applies; and a slice
+-- that holds what is computed only where the call is done is unaltered by a refusal.
 -- Assumes nothing.
 use Prim.Native.Nat.{ℕ, _<_, _^_}
 use mathlib.Core.Logic.{_↔_, _≢_}

@@ -1,5 +1,5 @@
--- What the laws of every call ask of a call: that its codes are above 0 and its places small, and that its slices hold what is computed
--- where it is done.
+-- What the laws of every call ask of a call: that its codes are above 0 and its places small, and
+-- that its slices hold what is computed where it is done.
 use Prim.Native.Nat.{ℕ, _^_, _<_}
 use mathlib.Core.Path.{_≡_}
 use mathlib.Core.Bool.{Bool, true, _&&_}
@@ -15,7 +15,8 @@ abbrev pub codesAbove : List Check → Bool
 codesAbove [] = true
 codesAbove (k ∷ ks) = ltb 0 (k .number) && codesAbove ks
 
--- the place of each check is small, as far as none before it applies, and so is the place of a call to which none applies
+-- the place of each check is small, as far as none before it applies, and so is the place of a call
+-- to which none applies
 abbrev pub SmallPlaces : List Check → (done : ℕ) → Type 0
 SmallPlaces [] done = done < 2 ^ 32
 SmallPlaces (k ∷ ks) done = ((p : ℕ) → k .found ≡ some p → p < 2 ^ 32) × (k .found ≡ none → SmallPlaces ks done)

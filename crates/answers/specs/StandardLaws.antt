@@ -1,7 +1,9 @@
--- What every call promises (docs/SHEETS.md, "Codes"): "Of all codes that apply the first in a call's order is returned", every place is
--- a number of 32 bits, and "On a refusal every lent slice is as it was". It is one record over a call's list of checks, what a call to
--- which none applies is in the call's own words, the place that it then gives, its answer, and the slices that it is lent. Each call has
--- it as one promise of its front page; `proofs/StandardLaws.antt` gives it to every list of checks.
+-- What every call promises (docs/SHEETS.md, "Codes"): "Of all codes that apply the first in a
+-- call's order is returned", every place is a number of 32 bits, and "On a refusal every lent slice
+-- is as it was". It is one record over a call's list of checks, what a call to which none applies
+-- is in the call's own words, the place that it then gives, its answer, and the slices that it is
+-- lent. Each call has it as one promise of its front page; `proofs/StandardLaws.antt` gives it to
+-- every list of checks.
 use Prim.Native.Nat.{ℕ, _^_, _<_}
 use mathlib.Core.Path.{_≡_}
 use mathlib.Core.Logic.{_↔_, _≢_}
@@ -22,8 +24,8 @@ abbrev pub AllUnaltered : List LentSlice → Type 0
 AllUnaltered [] = Unit {0}
 AllUnaltered (l ∷ ls) = (l .exit ≡ l .entry) × AllUnaltered ls
 
--- what an answer says of a call: done, with that place, where the call is well formed; or refused by a check of the list, at its place,
--- where no check before it applies
+-- what an answer says of a call: done, with that place, where the call is well formed; or refused
+-- by a check of the list, at its place, where no check before it applies
 abbrev pub SaysOfCall : (checks : List Check) (Formed : Type 0) (done : ℕ) → Answer → Type 0
 SaysOfCall ks Formed done (Done p) = Formed × (p ≡ done)
 SaysOfCall ks Formed done (Refused c p) = Refuses ks c p
@@ -35,7 +37,8 @@ pub record StandardLaws (checks : List Check) (Formed : Type 0) (done : ℕ) (an
   pub lowest-first : (a : Answer) → answer ≡ a ↔ SaysOfCall checks Formed done a
   -- the code of a refusal is not 0
   pub refusal-coded : (c p : ℕ) → answer ≡ Refused c p → 0 < c
-  -- the place is below 2^32, so that code and place are read back from the number returned (`TakenApart`)
+  -- the place is below 2^32, so that code and place are read back from the number returned
+  -- (`TakenApart`)
   pub place-small : place answer < 2 ^ 32
   -- a refusal leaves every lent slice as it was
   pub unaltered : code answer ≢ 0 → AllUnaltered slices

@@ -1,4 +1,5 @@
--- One term of each promise of the front page, `specs/Promises.antt`. A promise without a term is refused here.
+-- One term of each promise of the front page, `specs/Promises.antt`. A promise without a term is
+-- refused here.
 -- Assumes nothing.
 use Rattle.press.specs.Promises.{PressPromises}
 use Rattle.press.proofs.Promised as Promised

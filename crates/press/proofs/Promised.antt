@@ -1,5 +1,6 @@
--- The promises of one press away: the change that is told is the lowest that alters the output leaf, and none is told exactly where none
--- does; its answer says what its checks say; and what is compared is what previews show.
+-- The promises of one press away: the change that is told is the lowest that alters the output
+-- leaf, and none is told exactly where none does; its answer says what its checks say; and what is
+-- compared is what previews show.
 -- Assumes nothing.
 use Prim.Native.Nat.{ℕ, zero, suc, _≤_, _<_}
 use mathlib.Core.Path.{_≡_, refl, sym, ap, _∙_}

@@ -1,4 +1,5 @@
--- The AND of two bits and the sheet T, by computation. What the functions ask is not contradictory: the sheet T on 1 meets it.
+-- The AND of two bits and the sheet T, by computation. What the functions ask is not contradictory:
+-- the sheet T on 1 meets it.
 -- Assumes nothing.
 use mathlib.Core.Path.{refl}
 use mathlib.Core.List.{[], _∷_}

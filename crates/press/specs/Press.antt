@@ -1,6 +1,7 @@
--- One press away (docs/SHEETS.md, "One press away"): for one cycle of input and an output leaf, the lowest input leaf whose change alone, to a
--- constructor other than its present value, alters that output leaf, and for it the lowest such constructor. The checks are 1 to 9, with 8 for
--- one cycle, and 21. Where nothing refuses, the call gives 0 at place 0.
+-- One press away (docs/SHEETS.md, "One press away"): for one cycle of input and an output leaf, the
+-- lowest input leaf whose change alone, to a constructor other than its present value, alters that
+-- output leaf, and for it the lowest such constructor. The checks are 1 to 9, with 8 for one cycle,
+-- and 21. Where nothing refuses, the call gives 0 at place 0.
 use Prim.Native.Nat.{ℕ, suc}
 use mathlib.Core.Path.{_≡_}
 use mathlib.Core.Bool.{Bool, not, _&&_}

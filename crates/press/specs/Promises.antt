@@ -1,9 +1,11 @@
--- What is promised of one press away: each promise a named type, and at the end the list of them. One term of each stands in
--- `proofs/Kept.antt`.
+-- What is promised of one press away: each promise a named type, and at the end the list of them.
+-- One term of each stands in `proofs/Kept.antt`.
 use Prim.Native.Nat.{ℕ, _≤_, _<_}
 use mathlib.Core.Path.{_≡_}
 use mathlib.Core.Logic.{_↔_, _≢_}
+use mathlib.Core.Bool.{false}
 use mathlib.Core.List.{List, [], _∷_}
+use mathlib.Core.Option.{none}
 use lib.ListN.{length, getD, set}
 use Rattle.picoella.specs.Language.{bounds}
 use Rattle.answers.specs.Answers.{code, lowest}
@@ -18,10 +20,9 @@ use Rattle.preview.specs.Preview.{outputLeaves, Previewed}
 use Rattle.probe.specs.OutputLeaf.{leafFor}
 use Rattle.press.specs.Press.{onePress, pressChecks, pressAnswer, finalPress, PressGiven}
 use Rattle.press.specs.declared.Press.the-variants.{Change, NoChange}
-use mathlib.Core.Bool.{false}
-use mathlib.Core.Option.{none}
 
--- a change of one input leaf, to a constructor other than its present value, that alters the output leaf
+-- a change of one input leaf, to a constructor other than its present value, that alters the output
+-- leaf
 pub record Alters (sheet input : List ℕ) (leaf j c : ℕ) : Type 0 where
   pub there : j < inputLeaves sheet
   pub defined : 1 ≤ c
@@ -35,7 +36,8 @@ pub record LowestChange (sheet input : List ℕ) (leaf j c : ℕ) : Type 0 where
   pub first-leaf : (i d : ℕ) → Alters sheet input leaf i d → j ≤ i
   pub first-constructor : (d : ℕ) → Alters sheet input leaf j d → c ≤ d
 
--- A change is told exactly when it is that one, and none exactly when no change alters the output leaf.
+-- A change is told exactly when it is that one, and none exactly when no change alters the output
+-- leaf.
 abbrev pub PressTold : Type 0
 PressTold = (s i : List ℕ) (l j c : ℕ) → onePress s i l ≡ Change j c ↔ LowestChange s i l j c
 
@@ -57,9 +59,11 @@ PressLaws = (s stim : List ℕ) (l : ℕ) → StandardLaws (pressChecks s stim l
 abbrev pub PressRefusedUntold : Type 0
 PressRefusedUntold = (s stim : List ℕ) (l : ℕ) → code (pressAnswer s stim l) ≢ 0 → finalPress s stim l ≡ NoChange
 
--- What is compared is what the other calls show. Whatever a press that is done gave by its contract, and whatever a preview of the
--- same cycle gave by its own: the preview is done; a change that is told gives another value at the output leaf in the preview of the
--- changed input; and where none is told every such change gives the same value there. `PreviewAsRun` says the same of the run.
+-- What is compared is what the other calls show. Whatever a press that is done gave by its
+-- contract, and whatever a preview of the same cycle gave by its own: the preview is done; a change
+-- that is told gives another value at the output leaf in the preview of the changed input; and
+-- where none is told every such change gives the same value there. `PreviewAsRun` says the same of
+-- the run.
 pub record PressedAsShown (sheet stimulus : List ℕ) (leaf found j c : ℕ) (out : List ℕ) : Type 0 where
   pub told : found ≡ 1 → (shown : List ℕ) (result : ℕ) (other : List ℕ) → length shown ≡ outputLeaves sheet
       → Previewed sheet (set stimulus j c) shown result other → (result ≡ 0) × (getD other leaf 0 ≢ getD out leaf 0)
@@ -73,8 +77,9 @@ PressAsShown =
     → (shown : List ℕ) (result : ℕ) (out : List ℕ) → length shown ≡ outputLeaves s → Previewed s stim shown result out
     → (result ≡ 0) × PressedAsShown s stim l found j c out
 
--- The AND of two bits: from (1,1), which gives 1, the first leaf to 2; from (2,2), which gives 2, nothing; from (0,0), which is
--- undefined, the first leaf to 2. The sheet T puts out what its delay holds, whatever its input.
+-- The AND of two bits: from (1,1), which gives 1, the first leaf to 2; from (2,2), which gives 2,
+-- nothing; from (0,0), which is undefined, the first leaf to 2. The sheet T puts out what its delay
+-- holds, whatever its input.
 abbrev pub PressExamples : Type 0
 PressExamples =
     (finalPress gateAnd (1 ∷ 1 ∷ []) 0 ≡ Change 0 2)
