@@ -83,7 +83,8 @@ const STIMULUS_FILE: u64 = 2;
 
 const RECORD_FILE: u64 = 3;
 
-// The place of the file that could not be opened: the sheet's, or where that was opened the stimulus's, or where both were the record's.
+// The place of the file that could not be opened: the sheet's, or where that was opened the
+// stimulus's, or where both were the record's.
 pub fn unopened_file(sheet: bool, stim: bool) -> u64
     ensures { λ r. ⌜ r ≡ unopenedFile sheet stim ⌝ }
 {

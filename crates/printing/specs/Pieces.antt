@@ -17,7 +17,8 @@ toldText (suc c) p t w outputs = refusedLine (suc c) p
 abbrev pub noFileLine : (place : ℕ) → List ℕ
 noFileLine place = refusedLine 12 place
 
--- that place: 1 for the sheet's, which "is tried first", 2 for the stimulus's, and 3 for the record's, where a program reads one
+-- that place: 1 for the sheet's, which "is tried first", 2 for the stimulus's, and 3 for the
+-- record's, where a program reads one
 abbrev pub unopenedFile : (sheetOpened stimulusOpened : Bool) → ℕ
 unopenedFile false b = 1
 unopenedFile true false = 2

@@ -36,8 +36,9 @@ printed s stim =
     toldText (code (runAnswer s stim)) (place (runAnswer s stim)) (outputRecord s) (leaves (typeAt s (outputRecord s)))
     (runOutputs s stim)
 
--- what is told of a sheet and a stimulus: the code and the place of the run's answer, and where nothing is refused the output type's
--- record, its leaves, the outputs in the first so many bytes of their room, and the sheet for next.bin
+-- what is told of a sheet and a stimulus: the code and the place of the run's answer, and where
+-- nothing is refused the output type's record, its leaves, the outputs in the first so many bytes
+-- of their room, and the sheet for next.bin
 pub record RunTold (s stim : List ℕ) (c p t w many : ℕ) (out′ next′ : List ℕ) : Type 0 where
   pub coded : c ≡ code (runAnswer s stim)
   pub placed : p ≡ place (runAnswer s stim)

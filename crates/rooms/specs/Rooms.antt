@@ -1,4 +1,5 @@
--- How long the rooms are that programs lend: a file that is longer than any accepted one fills its room and is refused for its length.
+-- How long the rooms are that programs lend: a file that is longer than any accepted one fills its
+-- room and is refused for its length.
 use Prim.Native.Nat.{ℕ}
 
 -- the outputs of 65,535 cycles of 64 leaves

@@ -1,33 +1,28 @@
 -- The call: what the check's answer and the stimulus' say of it, and what each way out gives.
 -- Assumes nothing.
-use Prim.Native.Nat.{ℕ, _+_, _*_, _/_, _≤_, _<_}
-use mathlib.Core.Bool.{false}
+use Prim.Native.Nat.{ℕ, _+_, _*_, _/_}
 use mathlib.Core.List.{List, _++_}
-use mathlib.Core.Option.{none}
-use mathlib.Core.Path.{_≡_, refl, sym, ap, subst, _∙_}
+use mathlib.Core.Path.{_≡_, refl, sym, ap, _∙_}
 use native.Mathlib.Omega.{arith}
-use native.Mathlib.Nat.{mul-le-mul-left}
 use mir.Syntax.{w8}
 use mir.Val.{Fits}
 use lib.ListN.{length, getD, drop}
 use Rattle.records.specs.Words.{word}
-use Rattle.answers.specs.Answers.{code, place, inOne, packed, firstApplying, SaysOf, lowest, verdictAnswer}
+use Rattle.answers.specs.Answers.{inOne, packed, firstApplying, verdictAnswer}
 use Rattle.answers.specs.declared.Answer.{Answer}
 use Rattle.answers.specs.declared.Answer.the-variants.{Done, Refused}
-use Rattle.answers.proofs.First.{when-none, first-says}
 use Rattle.verdict.specs.Verdict.{verdict}
-use Rattle.verdict.specs.Widths.{Widths}
 use Rattle.verdict.specs.CheckedTable.{Checked}
 use Rattle.answers.specs.declared.Verdict.{Verdict}
 use Rattle.answers.specs.declared.Verdict.the-variants as Verdicts
 use Rattle.accepted.specs.Accepting.{Accepting}
 use Rattle.accepted.proofs.Laws.{Refusing, refusing-answer}
-use Rattle.accepted.proofs.Small.{output-typed, accepted-sized, accepted-few}
-use Rattle.stimulus.specs.Stimulus.{cycleCount, wrongStimulus, wrongByte, stimulusChecks}
+use Rattle.accepted.proofs.Small.{output-typed, accepted-sized}
+use Rattle.stimulus.specs.Stimulus.{cycleCount, stimulusChecks}
 use Rattle.stimulus.specs.Holding.{Held}
 use Rattle.stimulus.proofs.Holding as Holding
 use Rattle.stepper.proofs.CallCycles as Cycles
-use Rattle.behaviour.specs.Run.{outputNeeded, answer, RunGiven}
+use Rattle.behaviour.specs.Run.{outputNeeded, RunGiven}
 use Rattle.behaviour.specs.Afterwards.{WellFormed}
 use Rattle.behaviour.proofs.Answers.{
   gives-refusal,

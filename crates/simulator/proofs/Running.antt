@@ -1,4 +1,5 @@
--- Cycle after cycle: the outputs of the cycles before cycle k stand at the front of the output slice.
+-- Cycle after cycle: the outputs of the cycles before cycle k stand at the front of the output
+-- slice.
 -- Assumes nothing.
 use Prim.Native.Nat.{ℕ, _+_, _-_, _*_, _≤_, _<_}
 use mathlib.Core.List.{List, [], _∷_, _++_, append-assoc, append-nil}

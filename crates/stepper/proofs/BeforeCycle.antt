@@ -1,5 +1,5 @@
--- Cycle after cycle: before cycle k the sheet is the one that it begins from, the cycle is ready to be run on its part of the stimulus,
--- and after it the sheet is the next cycle's.
+-- Cycle after cycle: before cycle k the sheet is the one that it begins from, the cycle is ready to
+-- be run on its part of the stimulus, and after it the sheet is the next cycle's.
 -- Assumes nothing.
 use Prim.Native.Nat.{ℕ, _+_, _-_, _*_, _≤_, _<_}
 use mathlib.Core.List.{List, []}
@@ -8,7 +8,7 @@ use native.Mathlib.Omega.{arith}
 use native.Mathlib.Numerals.{add-one}
 use native.Mathlib.Nat.{zero-mul, mul-le-mul-left, mul-le-mul-right}
 use lib.ListN.{length, getD, take, drop}
-use Rattle.picoella.specs.Language.{leaves, OfType}
+use Rattle.picoella.specs.Language.{OfType}
 use Rattle.records.specs.Words.{wordA}
 use Rattle.records.specs.Trees.{typeAt}
 use Rattle.records.specs.Rewritten.{Rewritten}
@@ -22,7 +22,7 @@ use Rattle.meaning.specs.Undecided.{undecidedRule}
 use Rattle.meaning.proofs.UndecidedRule.{rule-lawful}
 use Rattle.meaning.proofs.Order.{value-length}
 use Rattle.behaviour.specs.Afterwards.{OnlyDelays}
-use Rattle.behaviour.specs.Cycle.{output, sheetAfterCycle}
+use Rattle.behaviour.specs.Cycle.{output}
 use Rattle.behaviour.proofs.Cycle.{output-of-type}
 use Rattle.behaviour.proofs.Sheets.{only-leaves, header-same, accepted-written}
 use Rattle.stimulus.specs.Stimulus.{inputType, cycles}

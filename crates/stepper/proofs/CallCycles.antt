@@ -1,5 +1,5 @@
--- A call over the cycles of a stimulus: what an accepted sheet and a stimulus that is not refused say of its output type and of its
--- cycles.
+-- A call over the cycles of a stimulus: what an accepted sheet and a stimulus that is not refused
+-- say of its output type and of its cycles.
 -- Assumes nothing.
 use Prim.Native.Nat.{ℕ, _*_, _≤_, _<_}
 use mathlib.Core.Bool.{false}

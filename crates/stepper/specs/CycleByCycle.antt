@@ -1,4 +1,5 @@
--- The cycles of a well-formed stimulus of an accepted sheet, one after the other: each takes `wi` bytes and puts out `wo`.
+-- The cycles of a well-formed stimulus of an accepted sheet, one after the other: each takes `wi`
+-- bytes and puts out `wo`.
 use Prim.Native.Nat.{ℕ}
 use mathlib.Core.Path.{_≡_}
 use mathlib.Core.Bool.{false}

@@ -1,4 +1,5 @@
--- A repeat of a number has as many elements as it says; antt does not count them out. Assumes nothing.
+-- A repeat of a number has as many elements as it says; antt does not count them out.
+-- Assumes nothing.
 use Prim.Native.Nat.{ℕ}
 use mathlib.Core.Path.{sym}
 use lib.ListN.{length-replicate}

@@ -3,7 +3,6 @@ use Rattle.simulator.proofs.Calls.{accepted-call, call-accepting, measu
 use Rattle.stepper.proofs.CallCycles.{output-there, output-few}
 use Rattle.stimulus.proofs.Holding.{input-there, input-few}
 use native.Mathlib.Omega.{arith}
-use denote.Ref.{now}
 use borrow.Author.Needs.{needs}
 use Rattle.simulator.proofs.leaves_of.Statement.{statement}
 use Rattle.simulator.proofs.leaves_of.Tie as tie

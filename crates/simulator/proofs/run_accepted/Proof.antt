@@ -1,6 +1,6 @@
 -- Assumes nothing.
 use Rattle.simulator.proofs.Calls.{call-accepting, refused-stimulus, refused-output, refused-next, call-running, call-done}
-use Rattle.stepper.proofs.CallCycles.{output-there, output-few, count-few, needed-few}
+use Rattle.stepper.proofs.CallCycles.{output-there, output-few, needed-few}
 use Rattle.stimulus.proofs.Holding.{input-there, input-few}
 use native.Mathlib.Omega.{arith}
 use denote.Ref.{now}
