@@ -64,6 +64,12 @@ answer-first s stim out next =
     ∙ sym (first-then (sheetChecks s) (outputType s) rest)
     ∙ sym (first-both (sheetChecks s) (runChecks s (outputType s) stim out next) (Done (cycleCount s stim)))
 
+-- and depends on the slices' lengths alone
+pub answer-by-lengths : (s stim out out₂ next next₂ : List ℕ) → length out ≡ length out₂ → length next ≡ length next₂
+    → answer s stim out next ≡ answer s stim out₂ next₂
+unfolding answer bySlices
+answer-by-lengths s stim out out₂ next next₂ e f = rw (e, f) refl
+
 -- where none applies the call is well formed
 well-formed-where : (s stim out next : List ℕ) → NoneApplies (callChecks s stim out next) → WellFormed s stim out next (outputType s)
 well-formed-where s stim out next h =

@@ -5,16 +5,18 @@ use Prim.Native.Nat.{ℕ}
 use mathlib.Core.List.{List, [], _∷_, map}
 use mathlib.Core.Path.{_≡_, refl, sym, ap, ap₂, _∙_}
 use lib.ListN.{length, length-map}
-use Rattle.picoella.specs.Language.{Ty}
+use lib.Seq.{take-at, drop-at}
+use Rattle.picoella.specs.Language.{Ty, leaves}
 use Rattle.records.specs.Trees.{typeAt}
 use Rattle.meaning.specs.Elaboration.{erase}
 use Rattle.meaning.specs.Values.{AllOf, all-none, all-more}
 use Rattle.meaning.specs.Constants.{ConstantTree, AllConstantsOf, of-all-none, of-all-more, flatten}
 use Rattle.meaning.specs.Undecided.{undecidedRule}
 use Rattle.meaning.specs.Run.{after}
-use Rattle.meaning.proofs.FlattenOneToOne.{flatten-onto}
+use Rattle.meaning.proofs.FlattenOneToOne.{flatten-typed, flatten-onto}
+use Rattle.meaning.proofs.Order.{value-length}
 use Rattle.meaning.proofs.UndecidedRule.{rule-lawful}
-use Rattle.stimulus.specs.Stimulus.{inputType, cycles, endToEnd}
+use Rattle.stimulus.specs.Stimulus.{inputType, cycles, pieces, endToEnd}
 use Rattle.stimulus.proofs.Stimulus.{cycles-typed, cycles-joined, cycles-counted}
 use Rattle.behaviour.specs.Terms.{circuitTerm}
 use Rattle.behaviour.specs.Run.{outputsBy, finalOut, finalNext, sheetAfter, RunsByRules}
@@ -23,6 +25,14 @@ use Rattle.behaviour.specs.Promises.{CallByRules}
 use Rattle.behaviour.proofs.Run.{outputs-counted, outputs-typed}
 use Rattle.behaviour.proofs.Reduces.{decodes-to, decodes-after, run-reduces}
 use Rattle.behaviour.proofs.Afterwards as Afterwards
+
+-- constants of one type, flattened end to end, are cut into them again
+pub pieces-back : {τ : Ty} {cs : List ConstantTree} → AllConstantsOf τ cs → pieces (leaves τ) (length cs) (endToEnd (map flatten cs)) ≡ map flatten cs
+pieces-back of-all-none = refl
+pieces-back {τ} (of-all-more {c = c} {cs = cs} h hs) =
+    let l = value-length τ (flatten-typed h) in
+    ap₂ (λ v vs. v ∷ vs) (take-at (flatten c) (endToEnd (map flatten cs)) (leaves τ) l)
+    (ap (pieces (leaves τ) (length cs)) (drop-at (flatten c) (endToEnd (map flatten cs)) (leaves τ) l) ∙ pieces-back hs)
 
 -- values of a type are constants of it, flattened
 all-onto : (τ : Ty) {vs : List (List ℕ)} → AllOf τ vs → (cs : List ConstantTree) × AllConstantsOf τ cs × (map flatten cs ≡ vs)

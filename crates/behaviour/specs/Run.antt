@@ -34,6 +34,10 @@ module _ (undecided : List ℕ → List ℕ → List ℕ) where
   sheetAfter s [] = s
   sheetAfter s (i ∷ is) = sheetAfter (afterBy undecided s i) is
 
+-- the bytes of one cycle's outputs
+abbrev pub outputLeaves : (sheet : List ℕ) → ℕ
+outputLeaves s = leaves (typeAt s (outputType s))
+
 -- the cycles times the output type's leaves, where that type is t
 abbrev pub outputNeeded : (sheet : List ℕ) (t : ℕ) (stimulus : List ℕ) → ℕ
 outputNeeded s t stim = cycleCount s stim * leaves (typeAt s t)

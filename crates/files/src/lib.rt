@@ -5,6 +5,7 @@ ghost use mathlib.Core.Path.{_≡_};
 ghost use lib.ListN.{length};
 ghost use Rattle.io.specs.Counts.{Counts};
 ghost use Rattle.records.specs.Limits.{mostLeaves};
+ghost use Rattle.printing.specs.Pieces.{unopenedFile};
 use libc::STDOUT_FILENO;
 use listing::LINE_BYTES;
 use listing::put_refused;
@@ -73,6 +74,63 @@ pub fn refuse_file(place: u64) {
     let mut line = [0u8; LINE_BYTES];
     let end = put_no_file(&mut line, place);
     io::write_all(STDOUT_FILENO, &line[0..end]);
+}
+
+// The places of the files of a program, by which one that cannot be opened is refused.
+const SHEET_FILE: u64 = 1;
+
+const STIMULUS_FILE: u64 = 2;
+
+const RECORD_FILE: u64 = 3;
+
+// The place of the file that could not be opened: the sheet's, or where that was opened the
+// stimulus's, or where both were the record's.
+pub fn unopened_file(sheet: bool, stim: bool) -> u64
+    ensures { λ r. ⌜ r ≡ unopenedFile sheet stim ⌝ }
+{
+    if !sheet {
+        return SHEET_FILE;
+    }
+    if !stim {
+        return STIMULUS_FILE;
+    }
+    RECORD_FILE
+}
+
+// The lengths of the sheet and of the stimulus, unless one could not be read.
+pub struct Inputs {
+    pub ok: bool,
+    pub sheet: usize,
+    pub stim: usize,
+}
+
+// Reads sheet.bin and stim.bin; of the first that cannot be opened it prints the refusal.
+pub fn read_inputs(sheet: &mut [u8], stim: &mut [u8]) -> Inputs
+    ensures { λ r. ⌜ Counts (r .sheet) (now (sheet .exit)) × Counts (r .stim) (now (stim .exit)) ⌝ }
+{
+    let sheet_got = read_named(b"sheet.bin", sheet);
+    if !sheet_got.ok {
+        refuse_file(unopened_file(false, false));
+        return Inputs {
+            ok: false,
+            sheet: 0,
+            stim: 0,
+        };
+    }
+    let stim_got = read_named(b"stim.bin", stim);
+    if !stim_got.ok {
+        refuse_file(unopened_file(true, false));
+        return Inputs {
+            ok: false,
+            sheet: 0,
+            stim: 0,
+        };
+    }
+    Inputs {
+        ok: true,
+        sheet: sheet_got.n,
+        stim: stim_got.n,
+    }
 }
 
 // Prints what was told, piece by piece: laid end to end the pieces are the listing, or the line of a refusal.

@@ -2,16 +2,14 @@
 -- record is reached once, and at each IF the word is what its chain tells there. And the call's ways out: what the check's answer and
 -- that of the stimulus say of it, and that the words told are the first of the evaluation's table.
 -- Assumes nothing.
-use Prim.Native.Nat.{ℕ, _-_, _≤_, _<_}
+use Prim.Native.Nat.{ℕ, _-_, _≤_}
 use mathlib.Core.List.{List, [], _∷_}
 use mathlib.Core.Logic.{_≢_}
 use mathlib.Core.Path.{_≡_, refl, _∙_}
 use native.Mathlib.Omega.{arith}
 use lib.ListN.{length, getD, take, replicate}
 use lib.Seq.{length-take-le}
-use Rattle.picoella.specs.Language.{leaves}
 use Rattle.records.specs.Words.{count, wordB}
-use Rattle.records.specs.Trees.{typeAt}
 use Rattle.records.proofs.Asked.{past-header}
 use Rattle.answers.specs.Answers.{inOne, packed, verdictAnswer}
 use Rattle.answers.specs.declared.Answer.{Answer}
@@ -24,7 +22,7 @@ use Rattle.answers.specs.declared.Verdict.the-variants.{Accepted}
 use Rattle.accepted.specs.Accepting.{Accepting}
 use Rattle.accepted.proofs.Laws.{written, Refusing}
 use Rattle.accepted.proofs.Scopes.{scope-checked}
-use Rattle.accepted.proofs.Small.{accepted-passes, accepted-length, accepted-records, accepted-few, output-typed}
+use Rattle.accepted.proofs.Small.{accepted-passes, accepted-length, accepted-records}
 use Rattle.meaning.specs.Undecided.{undecidedRule}
 use Rattle.stimulus.specs.Holding.{HeldToOne}
 use Rattle.stimulus.proofs.OneCycle.{one-cycle-passes, one-cycle-typed}
@@ -42,6 +40,7 @@ use Rattle.behaviour.proofs.Reaching.{evaluates-scope, evaluated-once}
 use Rattle.behaviour.proofs.FiredWords.{fired-words, fired-first}
 use Rattle.behaviour.proofs.FirstYes.{tells-first}
 use Rattle.stepper.specs.Cycling.{Cycling}
+use Rattle.stepper.proofs.CallCycles.{output-width, output-few}
 use Rattle.firing.specs.Telling.{firedAnswer, finalFired, ToldFired}
 use Rattle.firing.specs.TellingCycle.{TellingFired}
 use Rattle.firing.specs.Promises.{
@@ -128,19 +127,6 @@ module _ {s : List ℕ} {n : ℕ} {W : List ℕ} {t : ℕ} (g : Accepting s n W)
 
 -- the cycle whose words are told begins from the sheet that was checked
 module _ {s : List ℕ} {n : ℕ} {W : List ℕ} {t : ℕ} {input words : List ℕ} (g : TellingFired s n W t input words) where
-  pub fired-output-there : t < 4096
-  fired-output-there =
-      let c = g .accepting .sized .counted in
-      let f = g .accepting .sized .few in
-      let h = output-typed (g .accepted) .there in
-      omega arith
-
-  output-width : getD W t 0 ≡ leaves (typeAt s t)
-  output-width = g .accepting .table .types t (output-typed (g .accepted))
-
-  pub fired-output-few : getD W t 0 ≤ 64
-  fired-output-few = let f = accepted-few s (g .accepted) in let e = output-width in omega arith
-
   pub words-few : length words ≤ 4096
   words-few = let f = records-few s t (g .accepted) in let r = g .room in omega arith
 
@@ -157,7 +143,7 @@ module _ {s : List ℕ} {n : ℕ} {W : List ℕ} {t : ℕ} {input words : List �
         wide = wide;
         long = long;
         typed = g .typed;
-        room = room ∙ output-width;
+        room = room ∙ output-width (g .accepting) (g .accepted);
       }
 
   -- the words are the first of the table that the evaluation leaves
@@ -171,6 +157,6 @@ module _ {s : List ℕ} {n : ℕ} {W : List ℕ} {t : ℕ} {input words : List �
   pub told-looking : (names held output : List ℕ) → length names ≡ 4096 → length held ≡ 4096 → length output ≡ 64
       → Cycling s n W (take 4096 names) held input s (take (getD W t 0 - 0) output)
   told-looking names held output wide long room =
-      let f = fired-output-few in
+      let f = output-few (g .accepting) (g .accepted) in
       told-cycling (take 4096 names) held (take (getD W t 0 - 0) output) (length-take-le 4096 names (omega arith)) long
       (length-take-le (getD W t 0 - 0) output (omega arith) ∙ omega arith)

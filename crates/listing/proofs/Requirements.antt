@@ -30,6 +30,9 @@ put-number = room 1 (lit≤ tt)
 put-word-line : 0 + length (ascii "type ") + 21 ≤ length buffer
 put-word-line = room 26 (lit≤ tt)
 
+put-numbers-line : 0 + length (ascii "cycle ") + length (ascii " leaf ") + 41 ≤ length buffer
+put-numbers-line = room 53 (lit≤ tt)
+
 -- `put_type`, `put_cycles` and `put_refused`
 put-line : 0 + 280 ≤ length buffer
 put-line = room 280 (lit≤ tt)

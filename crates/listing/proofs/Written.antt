@@ -53,6 +53,15 @@ module _ {buffer : List ℕ} {at : ℕ} {text after : List ℕ} {place : ℕ} (w
         inside = let i = v .inside in let l = wrote-long in omega arith;
       }
 
+-- a text from the start is the buffer's front
+pub text-front : {buffer text after : List ℕ} {end : ℕ} → TextPut buffer 0 text after end → (take end after ≡ text) × (end ≤ length after)
+unfolding withText
+text-front {buffer} {text} {after} {end} t =
+    let p = t .place in
+    let l = wrote-long t in
+    let i = t .inside in
+    (ap (take end) (t .bytes) ∙ take-at text (drop (0 + length text) buffer) end (omega arith), omega arith)
+
 pub wrote-none : (buffer : List ℕ) (at : ℕ) → at ≤ length buffer → TextPut buffer at [] buffer at
 unfolding withText
 wrote-none buffer at h =

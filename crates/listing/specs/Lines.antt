@@ -23,8 +23,12 @@ typeLine t = wordLine (ascii "type ") t
 abbrev pub cyclesLine : (count : ℕ) → List ℕ
 cyclesLine n = wordLine (ascii "cycles ") n
 
+-- a word, a number, another word, another number and the line's end
+abbrev pub numbersLine : (word : List ℕ) (number : ℕ) (second : List ℕ) → ℕ → List ℕ
+numbersLine word n second m = word ++ digits n ++ wordLine second m
+
 abbrev pub refusedLine : (code place : ℕ) → List ℕ
-refusedLine c p = ascii "refused " ++ digits c ++ wordLine (ascii " at ") p
+refusedLine c p = numbersLine (ascii "refused ") c (ascii " at ") p
 
 -- "for each leaf a space and its value in decimal"
 abbrev pub leafText : (leaf : ℕ) → List ℕ

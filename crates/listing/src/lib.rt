@@ -5,7 +5,7 @@ ghost use mathlib.Core.List.{[], _∷_};
 ghost use Prim.Native.Nat.{_+_, _≤_, _<_};
 ghost use lib.ListN.{length};
 ghost use Rattle.listing.specs.Digits.{digits};
-ghost use Rattle.listing.specs.Lines.{wordLine, typeLine, cyclesLine, refusedLine, leafText, leafTexts, cycleLine};
+ghost use Rattle.listing.specs.Lines.{wordLine, numbersLine, typeLine, cyclesLine, refusedLine, leafText, leafTexts, cycleLine};
 ghost use Rattle.listing.specs.Wrote.{TextPut, lineBytes};
 ghost use Rattle.listing.specs.Fills.{FillingLines, FilledLines};
 
@@ -47,7 +47,7 @@ pub fn put_number(buffer: &mut [u8], at: usize, n: u64) -> usize
 }
 
 // A word, a number and the line's end.
-fn put_word_line(buffer: &mut [u8], at: usize, word: &[u8], n: u64) -> usize
+pub fn put_word_line(buffer: &mut [u8], at: usize, word: &[u8], n: u64) -> usize
     requires { ⌜ at + length (now word) + 21 ≤ length (now buffer) ⌝ }
     ensures { λ r. ⌜ TextPut (now (buffer .entry)) at (wordLine (now (word .entry)) n) (now (buffer .exit)) r ⌝ }
 {
@@ -72,14 +72,29 @@ pub fn put_cycles(buffer: &mut [u8], at: usize, count: usize) -> usize
     put_word_line(buffer, at, b"cycles ", count as u64)
 }
 
+// A word, a number, another word, another number and the line's end.
+pub fn put_numbers_line(
+    buffer: &mut [u8],
+    at: usize,
+    word: &[u8],
+    n: u64,
+    second: &[u8],
+    m: u64,
+) -> usize
+    requires { ⌜ at + length (now word) + length (now second) + 41 ≤ length (now buffer) ⌝ }
+    ensures { λ r. ⌜ TextPut (now (buffer .entry)) at (numbersLine (now (word .entry)) n (now (second .entry)) m) (now (buffer .exit)) r ⌝ }
+{
+    let number = put_text(buffer, at, word);
+    let end = put_number(buffer, number, n);
+    put_word_line(buffer, end, second, m)
+}
+
 // The line of a refusal.
 pub fn put_refused(buffer: &mut [u8], at: usize, code: u64, place: u64) -> usize
     requires { ⌜ at + lineBytes ≤ length (now buffer) ⌝ }
     ensures { λ r. ⌜ TextPut (now (buffer .entry)) at (refusedLine code place) (now (buffer .exit)) r ⌝ }
 {
-    let number = put_text(buffer, at, b"refused ");
-    let end = put_number(buffer, number, code);
-    put_word_line(buffer, end, b" at ", place)
+    put_numbers_line(buffer, at, b"refused ", code, b" at ", place)
 }
 
 fn put_leaf(buffer: &mut [u8], at: usize, leaf: u8) -> usize

@@ -27,10 +27,11 @@ use Rattle.stimulus.proofs.Holding.{input-typed}
 use Rattle.stimulus.proofs.OneCycle.{one-cycle-passes, one-cycle-typed}
 use Rattle.stimulus.proofs.OneCycleCalls.{by-cycle}
 use Rattle.evaluator.proofs.Frames.{put-whole}
-use Rattle.preview.specs.Preview.{outputLeaves}
+use Rattle.behaviour.specs.Run.{outputLeaves}
 use Rattle.probe.specs.OutputLeaf.{leafCheck}
 use Rattle.probe.specs.Looking.{Looking}
-use Rattle.preview.proofs.Showing.{output-width, output-needed}
+use Rattle.stepper.proofs.CallCycles.{output-width}
+use Rattle.preview.proofs.Showing.{output-needed}
 use Rattle.probe.proofs.Rooms.{front-inside, front-is}
 use Rattle.press.specs.Press.{onePress, ownPressChecks, pressAnswer, finalPress, pressFound, pressLeaf, pressConstructor, PressGiven}
 use Rattle.press.specs.declared.Press.{Press}

@@ -29,7 +29,8 @@ use Rattle.stimulus.specs.Stimulus.{inputType, inputLeaves}
 use Rattle.stimulus.specs.OneCycle.{notOneCycle}
 use Rattle.stimulus.proofs.OneCycle.{one-cycle-typed}
 use Rattle.stimulus.proofs.OneCycleCalls.{after-cycle-small}
-use Rattle.preview.specs.Preview.{outputLeaves, Previewed}
+use Rattle.behaviour.specs.Run.{outputLeaves}
+use Rattle.preview.specs.Preview.{Previewed}
 use Rattle.probe.specs.OutputLeaf.{leafFor, leafCheck}
 use Rattle.probe.proofs.Inputs.{set-within}
 use Rattle.probe.proofs.Shown.{shown-good, shown-leaf}

@@ -16,7 +16,8 @@ use Rattle.answers.specs.declared.Verdict.the-variants.{Accepted}
 use Rattle.stimulus.specs.Stimulus.{inputType, inputLeaves, wrongByte}
 use Rattle.stimulus.specs.OneCycle.{notOneCycle}
 use Rattle.behaviour.specs.Bench.{gateAnd, toggle}
-use Rattle.preview.specs.Preview.{outputLeaves, Previewed}
+use Rattle.behaviour.specs.Run.{outputLeaves}
+use Rattle.preview.specs.Preview.{Previewed}
 use Rattle.probe.specs.OutputLeaf.{leafFor}
 use Rattle.press.specs.Press.{onePress, pressChecks, pressAnswer, finalPress, PressGiven}
 use Rattle.press.specs.declared.Press.the-variants.{Change, NoChange}

@@ -24,10 +24,10 @@ use Rattle.stimulus.specs.OneCycle.{oneCycleChecks}
 use Rattle.stimulus.proofs.OneCycle.{one-cycle-run, one-cycle-counted, one-cycle-alone, one-cycle-typed}
 use Rattle.stimulus.proofs.OneCycleCalls.{one-cycle-laws}
 use Rattle.behaviour.specs.Cycle.{output}
-use Rattle.behaviour.specs.Run.{outputNeeded, lengthChecks, runChecks, answer, finalOut}
+use Rattle.behaviour.specs.Run.{outputLeaves, outputNeeded, lengthChecks, runChecks, answer, finalOut}
 use Rattle.behaviour.proofs.Answers.{answer-first}
 use Rattle.behaviour.proofs.Cycle.{output-of-type}
-use Rattle.preview.specs.Preview.{outputLeaves, shownChecks, previewAnswer, finalPreview}
+use Rattle.preview.specs.Preview.{shownChecks, previewAnswer, finalPreview}
 use Rattle.preview.specs.Promises.{
   PreviewLaws,
   AsRun,

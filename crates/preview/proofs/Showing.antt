@@ -1,7 +1,7 @@
 -- The call: what the check's answer and the stimulus' say of it, what each way out gives, and that a shown cycle is a cycle from the
 -- sheet as it is.
 -- Assumes nothing.
-use Prim.Native.Nat.{ℕ, _≤_, _<_}
+use Prim.Native.Nat.{ℕ}
 use mathlib.Core.List.{List}
 use mathlib.Core.Path.{_≡_, refl, sym, ap, _∙_}
 use native.Mathlib.Omega.{arith}
@@ -17,7 +17,6 @@ use Rattle.answers.specs.declared.Verdict.the-variants.{Accepted}
 use Rattle.accepted.specs.Accepting.{Accepting}
 use Rattle.accepted.proofs.Calls.{accepted-output}
 use Rattle.accepted.proofs.Laws.{Refusing}
-use Rattle.accepted.proofs.Small.{output-typed, accepted-few}
 use Rattle.stimulus.specs.Holding.{HeldToOne}
 use Rattle.stimulus.proofs.OneCycle.{one-cycle-passes, one-cycle-typed}
 use Rattle.stimulus.proofs.OneCycleCalls.{
@@ -29,7 +28,9 @@ use Rattle.stimulus.proofs.OneCycleCalls.{
 }
 use Rattle.behaviour.specs.Cycle.{output}
 use Rattle.stepper.specs.Cycling.{Cycling}
-use Rattle.preview.specs.Preview.{outputLeaves, previewAnswer, finalPreview, Previewed}
+use Rattle.stepper.proofs.CallCycles.{output-width}
+use Rattle.behaviour.specs.Run.{outputLeaves}
+use Rattle.preview.specs.Preview.{previewAnswer, finalPreview, Previewed}
 use Rattle.preview.specs.Showing.{Showing}
 
 previewed-refusal : (s stim out : List ℕ) (c p : ℕ) → previewAnswer s stim out ≡ Refused c p → Previewed s stim out (inOne c p) out
@@ -45,18 +46,8 @@ preview-refused-sheet s stim out w e o result q =
     rw (q, r .2) (previewed-refusal s stim out (r .0) (r .1) (r .3))
 
 module _ {s : List ℕ} {n : ℕ} {W : List ℕ} {t : ℕ} (g : Accepting s n W) (v : verdict s ≡ Accepted t) where
-  pub output-type-there : t < 4096
-  output-type-there =
-      let c = g .sized .counted in let f = g .sized .few in let h = output-typed v .there in omega arith
-
-  pub output-width : getD W t 0 ≡ leaves (typeAt s t)
-  output-width = g .table .types t (output-typed v)
-
-  pub output-few : getD W t 0 ≤ 64
-  output-few = let f = accepted-few s v in let e = output-width in omega arith
-
   pub output-needed : getD W t 0 ≡ outputLeaves s
-  output-needed = output-width ∙ ap (λ (u : ℕ). leaves (typeAt s u)) (accepted-output s t v)
+  output-needed = output-width g v ∙ ap (λ (u : ℕ). leaves (typeAt s u)) (accepted-output s t v)
 
   module _ (stim out : List ℕ) (a : Answer) (h : HeldToOne s stim a) where
     -- 8 and 9
@@ -83,7 +74,7 @@ module _ {s : List ℕ} {n : ℕ} {W : List ℕ} {t : ℕ} (g : Accepting s n W)
               type = t;
               accepted = v;
               typed = one-cycle-typed s stim (one-cycle-passes s stim h e);
-              room = y ∙ output-width;
+              room = y ∙ output-width g v;
             }
 
         pub preview-done : (out′ : List ℕ) → out′ ≡ output s stim → Previewed s stim out 0 out′

@@ -6,18 +6,13 @@ use mathlib.Core.Bool.{not}
 use mathlib.Core.List.{List, [], _∷_, _++_}
 use lib.ListN.{length}
 use lib.Dec.{eqb}
-use Rattle.picoella.specs.Language.{leaves}
-use Rattle.records.specs.Trees.{typeAt}
 use Rattle.answers.specs.Answers.{packed, whenDone, Check, check, when, firstApplying}
 use Rattle.answers.specs.declared.Answer.{Answer}
 use Rattle.answers.specs.declared.Answer.the-variants.{Done}
-use Rattle.verdict.specs.Verdict.{sheetChecks, outputType}
+use Rattle.verdict.specs.Verdict.{sheetChecks}
 use Rattle.stimulus.specs.OneCycle.{oneCycleChecks}
 use Rattle.behaviour.specs.Cycle.{output}
-
--- the bytes of one cycle's outputs
-abbrev pub outputLeaves : (sheet : List ℕ) → ℕ
-outputLeaves s = leaves (typeAt s (outputType s))
+use Rattle.behaviour.specs.Run.{outputLeaves}
 
 -- the checks after those of the sheet: 8 and 9 for one cycle, and 10 for its outputs
 abbrev pub shownChecks : (sheet stimulus out : List ℕ) → List Check

@@ -13,9 +13,9 @@ use Rattle.answers.specs.declared.Answer.the-variants.{Done, Refused}
 use Rattle.verdict.specs.Verdict.{outputType}
 use Rattle.stimulus.specs.Stimulus.{inputLeaves}
 use Rattle.stimulus.specs.OneCycleCalls.{FormedOneCycle}
-use Rattle.behaviour.specs.Run.{answer, finalOut}
+use Rattle.behaviour.specs.Run.{outputLeaves, answer, finalOut}
 use Rattle.behaviour.specs.Bench.{toggle}
-use Rattle.preview.specs.Preview.{outputLeaves, previewChecks, previewAnswer, finalPreview}
+use Rattle.preview.specs.Preview.{previewChecks, previewAnswer, finalPreview}
 
 -- What every call promises (`StandardLaws` of `answers`).
 abbrev pub PreviewLaws : Type 0

@@ -17,6 +17,13 @@ toldText (suc c) p t w outputs = refusedLine (suc c) p
 abbrev pub noFileLine : (place : ℕ) → List ℕ
 noFileLine place = refusedLine 12 place
 
+-- that place: 1 for the sheet's, which "is tried first", 2 for the stimulus's, and 3 for the
+-- record's, where a program reads one
+abbrev pub unopenedFile : (sheetOpened stimulusOpened : Bool) → ℕ
+unopenedFile false b = 1
+unopenedFile true false = 2
+unopenedFile true true = 3
+
 -- the lines from cycle k on, of outputs of w leaves each, and the last line
 abbrev pub textFrom : (w k : ℕ) (outputs : List ℕ) → List ℕ
 textFrom w k outputs =

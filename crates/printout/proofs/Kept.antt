@@ -5,11 +5,12 @@ use lib.ListN.{take}
 use Rattle.printing.specs.Pieces.{toldText}
 use Rattle.printing.proofs.Pieces.{laid-end-to-end}
 use Rattle.printout.specs.Promises.{PrintoutPromises}
+use Rattle.printout.proofs.Telling.{told-printed}
 use Rattle.printout.proofs.Witness.{toggle-listed}
 
 pub kept : PrintoutPromises
 kept = record {
   pieces-are-printed = λ s stim c p t w many out′ next′ text told pieces.
-      laid-end-to-end w (take many out′) (toldText c p t w (take many out′)) text pieces ∙ told .text;
+      laid-end-to-end w (take many out′) (toldText c p t w (take many out′)) text pieces ∙ told-printed told;
   toggle-listed = toggle-listed;
 }

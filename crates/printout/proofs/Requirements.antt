@@ -6,7 +6,7 @@ use native.Mathlib.Omega.{arith}
 use lib.Dec.{lit≤}
 use lib.ListN.{length, replicate, length-replicate}
 use Rattle.behaviour.specs.Bench.{toggle}
-use Rattle.printout.specs.Lengths.{mostOutput}
+use Rattle.rooms.specs.Rooms.{mostOutput}
 
 outputs-length : 1 ≤ 64
 outputs-length = lit≤ tt

@@ -23,21 +23,14 @@ use Rattle.answers.specs.declared.Verdict.the-variants.{Accepted}
 use Rattle.accepted.proofs.Laws.{verdict-first, first-accepted}
 use Rattle.accepted.proofs.Small.{accepted-few}
 use Rattle.stimulus.specs.Stimulus.{inputType, wrongStimulus, stimulusChecks, cycleCount}
-use Rattle.behaviour.specs.Run.{outputNeeded, bySlices, answer, finalOut, finalNext}
+use Rattle.behaviour.specs.Run.{outputNeeded, answer, finalOut, finalNext}
 use Rattle.behaviour.specs.Afterwards.{WellFormed}
-use Rattle.behaviour.proofs.Answers.{run-laws, refused-by-verdict, stimulus-refused}
+use Rattle.behaviour.proofs.Answers.{run-laws, answer-by-lengths, refused-by-verdict, stimulus-refused}
 use Rattle.simulator.specs.Running.{Measured}
 use Rattle.simulator.specs.Calls.{Ran}
-use Rattle.listing.specs.Lines.{refusedLine}
 use Rattle.printing.specs.Pieces.{toldText}
 use Rattle.printout.specs.Printout.{outputRecord, runAnswer, runOutputs, runSheet, printed, RunTold}
 use Rattle.printout.specs.Lengths.{OutputsMeasured}
-
--- an answer depends on the slices' lengths alone
-answer-by-lengths : (s stim out out₂ next next₂ : List ℕ) → length out ≡ length out₂ → length next ≡ length next₂
-    → answer s stim out next ≡ answer s stim out₂ next₂
-unfolding answer bySlices
-answer-by-lengths s stim out out₂ next next₂ e f = rw (e, f) refl
 
 over-long : (s stim : List ℕ) → 65535 < length stim → wrongStimulus s stim ≡ true
 unfolding wrongStimulus
@@ -48,10 +41,6 @@ over-refused s stim h = rw (over-long s stim h) refl
 
 refused-code : (s stim out next : List ℕ) (c p : ℕ) → answer s stim out next ≡ Refused c p → 0 < c
 refused-code s stim out next c p e = run-laws s stim out next .refusal-coded c p e
-
-refusal-text : (c p t w : ℕ) (outputs : List ℕ) → 0 < c → toldText c p t w outputs ≡ refusedLine c p
-refusal-text zero p t w outputs h = absurd (omega arith)
-refusal-text (suc c) p t w outputs h = refl
 
 module _ (s stim : List ℕ) (i o t many : ℕ) (m : Measured s i o t) (q : OutputsMeasured i o (length stim) many) (lo ln : List ℕ) (eo : length lo ≡ many) (en : length ln ≡ length s) where
   -- by the verdict and the stimulus' length
@@ -127,43 +116,42 @@ module _ (s stim : List ℕ) (i o t many : ℕ) (m : Measured s i o t) (q : Outp
           let few = accepted-few s a in
           ew .2 (omega arith) (omega arith) ∙ l ∙ rw a refl
 
-      done-text : printed s stim ≡ toldText c p t w ro
-      unfolding printed
-      done-text =
-          let z : c ≡ 0 = apart .0 ∙ ap code e in
-          rw (z, ← same-answer, e, done-record, done-width, done-outputs) refl
-
-    refused-text : (k q : ℕ) → answer s stim lo ln ≡ Refused k q → printed s stim ≡ toldText c p t w ro
-    unfolding printed
-    refused-text k q e =
-        let z : c ≡ k = apart .0 ∙ ap code e in
-        let y : p ≡ q = apart .1 ∙ ap place e in
-        let some = refused-code s stim lo ln k q e in
-        rw (← same-answer, e, z, y)
-        (refusal-text k q (outputRecord s) (leaves (typeAt s (outputRecord s))) (runOutputs s stim) some ∙ sym (refusal-text k q t w ro some))
+    -- code 0 is given where the run is done
+    done-where : c ≡ 0 → (n : ℕ) × (answer s stim lo ln ≡ Done n)
+    done-where z = go (answer s stim lo ln) refl
+      where
+        go : (a : Answer) → answer s stim lo ln ≡ a → (n : ℕ) × (a ≡ Done n)
+        go (Done n) e = (n, refl)
+        go (Refused k q) e =
+            let h = refused-code s stim lo ln k q e in
+            let y : c ≡ k = apart .0 ∙ ap code e in
+            absurd (omega arith)
 
     pub run-told : (out′ next′ : List ℕ) → take many out′ ≡ ro → many ≤ length out′ → take (length s) next′ ≡ rn
         → RunTold s stim c p t w many out′ next′
     run-told out′ next′ eo′ inside en′ =
         record {
           coded = apart .0 ∙ ap code same-answer;
-          text = rw eo′ (sym (go (answer s stim lo ln) refl));
+          placed = apart .1 ∙ ap place same-answer;
+          typed = λ z. let d = done-where z in done-record (d .0) (d .1);
+          wide = λ z. let d = done-where z in done-width (d .0) (d .1);
+          outputs = λ z. let d = done-where z in eo′ ∙ done-outputs (d .0) (d .1);
           inside = inside;
           some = ew .0;
           few = ew .1;
-          next = λ z. en′ ∙ after (answer s stim lo ln) refl z;
+          next = λ z. let d = done-where z in en′ ∙ done-sheet (d .0) (d .1);
         }
-      where
-        go : (a : Answer) → answer s stim lo ln ≡ a → printed s stim ≡ toldText c p t w ro
-        go (Done n) e = done-text n e
-        go (Refused k q) e = refused-text k q e
 
-        after : (a : Answer) → answer s stim lo ln ≡ a → c ≡ 0 → rn ≡ runSheet s stim
-        after (Done n) e z = done-sheet n e
-        after (Refused k q) e z =
-            let h = refused-code s stim lo ln k q e in
-            let y : c ≡ k = apart .0 ∙ ap code e in
-            absurd (omega arith)
+-- so what is told gives the text
+pub told-printed : {s stim : List ℕ} {c p t w many : ℕ} {out′ next′ : List ℕ} → RunTold s stim c p t w many out′ next′
+    → toldText c p t w (take many out′) ≡ printed s stim
+unfolding printed
+told-printed {s} {stim} {c} {p} {t} {w} {many} {out′} told = rw (← told .coded, ← told .placed) (go c refl)
+  where
+    go : (k : ℕ) → c ≡ k
+        → toldText k p t w (take many out′) ≡ toldText k p (outputRecord s) (leaves (typeAt s (outputRecord s))) (runOutputs s stim)
+    go zero e = rw (told .typed e, told .wide e, told .outputs e) refl
+    go (suc k) e = refl
 
 -- the same of the front parts of the rooms lent
 module _ (s stim : List ℕ) (i o t many : ℕ) (m : Measured s i o t) (q : OutputsMeasured i o (length stim) many) (out next : List ℕ)

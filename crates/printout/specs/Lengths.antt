@@ -2,14 +2,7 @@
 use Prim.Native.Nat.{ℕ, _/_, _*_, _≤_, _<_}
 use mathlib.Core.Path.{_≡_}
 use Rattle.stimulus.specs.Tests.{stimulusBytes}
-
--- the outputs of 65,535 cycles of 64 leaves
-abbrev pub mostOutput : ℕ
-mostOutput = 4194240
-
--- the longest sheet and a byte more
-abbrev pub sheetRoom : ℕ
-sheetRoom = 49153
+use Rattle.rooms.specs.Rooms.{mostOutput}
 
 -- the length of outputs, from the leaves of input and output and the length of a stimulus
 pub record OutputsMeasured (input output all many : ℕ) : Type 0 where

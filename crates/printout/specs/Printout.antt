@@ -1,8 +1,7 @@
 -- What the program prints and writes (docs/SHEETS.md, "Listing"), for the answer of the run with slices of the right lengths: the
--- listing of its outputs, or the one line of a refusal; and the place of a file that cannot be opened.
+-- listing of its outputs, or the one line of a refusal.
 use Prim.Native.Nat.{ℕ, _≤_, _<_}
 use mathlib.Core.Path.{_≡_}
-use mathlib.Core.Bool.{Bool, true, false}
 use mathlib.Core.List.{List}
 use lib.ListN.{length, take, replicate}
 use Rattle.picoella.specs.Language.{leaves}
@@ -37,16 +36,15 @@ printed s stim =
     toldText (code (runAnswer s stim)) (place (runAnswer s stim)) (outputRecord s) (leaves (typeAt s (outputRecord s)))
     (runOutputs s stim)
 
--- the place of a file that cannot be opened: 1 for the sheet's, which "is tried first", and 2 for the stimulus's
-abbrev pub unopenedFile : (sheetOpened : Bool) → ℕ
-unopenedFile false = 1
-unopenedFile true = 2
-
--- what is told of a sheet and a stimulus: the text to print by these numbers and the first so many bytes of the outputs' room, and
--- where nothing is refused the sheet for next.bin
+-- what is told of a sheet and a stimulus: the code and the place of the run's answer, and where
+-- nothing is refused the output type's record, its leaves, the outputs in the first so many bytes
+-- of their room, and the sheet for next.bin
 pub record RunTold (s stim : List ℕ) (c p t w many : ℕ) (out′ next′ : List ℕ) : Type 0 where
   pub coded : c ≡ code (runAnswer s stim)
-  pub text : toldText c p t w (take many out′) ≡ printed s stim
+  pub placed : p ≡ place (runAnswer s stim)
+  pub typed : c ≡ 0 → t ≡ outputRecord s
+  pub wide : c ≡ 0 → w ≡ leaves (typeAt s (outputRecord s))
+  pub outputs : c ≡ 0 → take many out′ ≡ runOutputs s stim
   pub inside : many ≤ length out′
   pub some : 0 < w
   pub few : w ≤ 64

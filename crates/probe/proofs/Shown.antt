@@ -25,7 +25,8 @@ use Rattle.meaning.proofs.Order.{within-length}
 use Rattle.stimulus.specs.Stimulus.{inputType, inputLeaves, wrongStimulus, wrongByte}
 use Rattle.stimulus.specs.OneCycle.{notOneCycle}
 use Rattle.stimulus.proofs.OneCycleCalls.{one-cycle-done}
-use Rattle.preview.specs.Preview.{outputLeaves, previewAnswer, finalPreview}
+use Rattle.behaviour.specs.Run.{outputLeaves}
+use Rattle.preview.specs.Preview.{previewAnswer, finalPreview}
 use Rattle.probe.specs.OutputLeaf.{leafFor}
 
 pub within-at : {ns vs : List ℕ} → Within ns vs → (j : ℕ) → getD vs j 0 ≤ getD ns j 0

@@ -1,32 +1,28 @@
 -- The call: what the check's answer and the stimulus' say of it, and what each way out gives.
 -- Assumes nothing.
-use Prim.Native.Nat.{ℕ, _+_, _*_, _/_, _≤_, _<_}
-use mathlib.Core.Bool.{false}
+use Prim.Native.Nat.{ℕ, _+_, _*_, _/_}
 use mathlib.Core.List.{List, _++_}
-use mathlib.Core.Option.{none}
-use mathlib.Core.Path.{_≡_, refl, sym, ap, subst, _∙_}
+use mathlib.Core.Path.{_≡_, refl, sym, ap, _∙_}
 use native.Mathlib.Omega.{arith}
-use native.Mathlib.Nat.{mul-le-mul-left}
 use mir.Syntax.{w8}
 use mir.Val.{Fits}
 use lib.ListN.{length, getD, drop}
 use Rattle.records.specs.Words.{word}
-use Rattle.answers.specs.Answers.{code, place, inOne, packed, firstApplying, SaysOf, lowest, verdictAnswer}
+use Rattle.answers.specs.Answers.{inOne, packed, firstApplying, verdictAnswer}
 use Rattle.answers.specs.declared.Answer.{Answer}
 use Rattle.answers.specs.declared.Answer.the-variants.{Done, Refused}
-use Rattle.answers.proofs.First.{when-none, first-says}
 use Rattle.verdict.specs.Verdict.{verdict}
-use Rattle.verdict.specs.Widths.{Widths}
 use Rattle.verdict.specs.CheckedTable.{Checked}
 use Rattle.answers.specs.declared.Verdict.{Verdict}
 use Rattle.answers.specs.declared.Verdict.the-variants as Verdicts
 use Rattle.accepted.specs.Accepting.{Accepting}
 use Rattle.accepted.proofs.Laws.{Refusing, refusing-answer}
-use Rattle.accepted.proofs.Small.{output-typed, accepted-sized, accepted-few}
-use Rattle.stimulus.specs.Stimulus.{cycleCount, wrongStimulus, wrongByte, stimulusChecks}
+use Rattle.accepted.proofs.Small.{output-typed, accepted-sized}
+use Rattle.stimulus.specs.Stimulus.{cycleCount, stimulusChecks}
 use Rattle.stimulus.specs.Holding.{Held}
 use Rattle.stimulus.proofs.Holding as Holding
-use Rattle.behaviour.specs.Run.{outputNeeded, answer, RunGiven}
+use Rattle.stepper.proofs.CallCycles as Cycles
+use Rattle.behaviour.specs.Run.{outputNeeded, RunGiven}
 use Rattle.behaviour.specs.Afterwards.{WellFormed}
 use Rattle.behaviour.proofs.Answers.{
   gives-refusal,
@@ -46,16 +42,6 @@ module _ {s : List ℕ} {n : ℕ} {W : List ℕ} {t : ℕ} (g : RunningAccepted 
   pub call-accepting : Accepting s n W
   call-accepting = record { sized = g .sized; type = t; accepted = g .accepted; table = g .table }
 
-  pub output-there : t < 4096
-  output-there =
-      let c = g .sized .counted in
-      let f = g .sized .few in
-      let h = output-typed (g .accepted) .there in
-      omega arith
-
-  pub output-few : getD W t 0 ≤ 64
-  output-few = let f = accepted-few s (g .accepted) in let e = g .table .types t (output-typed (g .accepted)) in omega arith
-
   module _ {stim : List ℕ} {a : Answer} (h : Held s stim a) where
     -- 8 and 9
     pub refused-stimulus : {out next : List ℕ} {c p : ℕ} → a ≡ Refused c p → {result : ℕ} → result ≡ packed a → RunGiven s stim out next result out next
@@ -63,70 +49,47 @@ module _ {s : List ℕ} {n : ℕ} {W : List ℕ} {t : ℕ} (g : RunningAccepted 
         rw (q, e) (gives-refusal (stimulus-refused s stim out next (g .accepted) (sym (h .answered) ∙ e)))
 
     module _ {count : ℕ} (e : a ≡ Done count) where
-      says : SaysOf (stimulusChecks s stim) (cycleCount s stim) (Done count)
-      says =
-          subst (λ (b : Answer). SaysOf (stimulusChecks s stim) (cycleCount s stim) b) (sym (h .answered) ∙ e)
-          (first-says (stimulusChecks s stim) (cycleCount s stim))
+      needs : count * getD W t 0 ≡ outputNeeded s t stim
+      needs = Cycles.needed call-accepting (g .accepted) h e
 
-      counted : count ≡ cycleCount s stim
-      counted = says .1
-
-      whole : wrongStimulus s stim ≡ false
-      whole = when-none (wrongStimulus s stim) 0 (says .0 .0)
-
-      fitting : lowest (wrongByte s stim) (length stim) ≡ none
-      fitting = says .0 .1 .0
-
-      stimulus-done : firstApplying (stimulusChecks s stim) (Done (cycleCount s stim)) ≡ Done (cycleCount s stim)
-      stimulus-done = sym (h .answered) ∙ e ∙ ap Done counted
-
-      pub count-few : count ≤ 65535
-      count-few = let f = h .small in let z = ap place e in omega arith
-
-      pub needed-few : count * getD W t 0 ≤ 4194240
-      needed-few =
-          let m : count * getD W t 0 ≤ count * 64 = mul-le-mul-left count output-few in let l = count-few in omega arith
-
-      needed : count * getD W t 0 ≡ outputNeeded s t stim
-      needed = rw (counted, g .table .types t (output-typed (g .accepted))) refl
+      done : firstApplying (stimulusChecks s stim) (Done (cycleCount s stim)) ≡ Done (cycleCount s stim)
+      done = Cycles.stimulus-done call-accepting (g .accepted) h e
 
       -- 10 and 11
       pub refused-output : {out next : List ℕ} → (length out ≡ count * getD W t 0 → ⊥) → {result : ℕ} → result ≡ inOne 10 (count * getD W t 0)
           → RunGiven s stim out next result out next
       refused-output {out} {next} d q =
-          rw (q, needed)
-          (gives-refusal (output-refused s stim out next (g .accepted) stimulus-done (λ y. d (y ∙ sym needed))))
+          rw (q, needs)
+          (gives-refusal (output-refused s stim out next (g .accepted) done (λ y. d (y ∙ sym needs))))
 
       module _ {out : List ℕ} (y : length out ≡ count * getD W t 0) where
         pub refused-next : {next : List ℕ} → (length next ≡ length s → ⊥) → {result : ℕ} → result ≡ inOne 11 (length s) → RunGiven s stim out next result out next
         refused-next {next} d q =
             rw q
-            (gives-refusal (next-refused s stim out next (g .accepted) stimulus-done (y ∙ needed) d))
+            (gives-refusal (next-refused s stim out next (g .accepted) done (y ∙ needs) d))
 
         module _ (next : List ℕ) (x : length next ≡ length s) where
           well-formed : WellFormed s stim out next t
           well-formed =
-              record { accepted = g .accepted; whole = whole; fitting = fitting; room = y ∙ needed; long = x }
+              record {
+                accepted = g .accepted;
+                whole = Cycles.held-stimulus call-accepting (g .accepted) h e;
+                fitting = Cycles.held-bytes call-accepting (g .accepted) h e;
+                room = y ∙ needs;
+                long = x;
+              }
 
           pub call-running : {b : ℕ} → b ≡ word s 0 2 → {next₁ : List ℕ} → next₁ ≡ s ++ drop (length s) next
               → RunningCycles s n W stim (getD W b 0) (getD W t 0) count next₁ out
           call-running eb {next₁} c =
               record {
-                sized = g .sized;
-                type = t;
-                accepted = g .accepted;
-                table = g .table;
-                whole = whole;
-                fitting = fitting;
-                takes = Holding.takes call-accepting eb;
-                gives = g .table .types t (output-typed (g .accepted));
-                counted = counted;
+                over = Cycles.whole-cycles call-accepting (g .accepted) h e eb;
                 room = y;
                 start = put-whole s next next₁ (sym x) c;
               }
 
           pub call-done : {next₂ out₂ : List ℕ} → RanCycles s stim next₂ out₂ → RunGiven s stim out next count out₂ next₂
-          call-done r = rw (counted, r .outputs, r .next) (gives-done well-formed)
+          call-done r = rw (Cycles.cycles-done call-accepting (g .accepted) h e, r .outputs, r .next) (gives-done well-formed)
 
 pub call-runs : {s stim out next : List ℕ} {result : ℕ} {out′ next′ : List ℕ} → ((i : ℕ) → Fits w8 (getD s i 0))
     → RunGiven s stim out next result out′ next′ → Ran s stim out next result out′ next′
@@ -179,5 +142,5 @@ measured-accepted {s} {n} {W} {t} g {a} ea =
           (Holding.takes (call-accepting g) ea, g .table .types t (output-typed (g .accepted)) ∙ rw eu refl);
       typed = λ u v. let same : Verdicts.Accepted t ≡ Verdicts.Accepted u = sym (g .accepted) ∙ v in cc;
       few-input = Holding.input-few (call-accepting g) ea;
-      few-output = output-few g;
+      few-output = Cycles.output-few (call-accepting g) (g .accepted);
     }

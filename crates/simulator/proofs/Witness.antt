@@ -53,7 +53,7 @@ use Rattle.evaluator.proofs.Feedbacks.{feedback-settling}
 use Rattle.stepper.specs.Cycling.{Copying, Cycling}
 use Rattle.stepper.proofs.Cycling.{root-evaluating, copying}
 use Rattle.simulator.specs.Running.{Lending, RunningCycles, RunningAccepted}
-use Rattle.simulator.proofs.Running.{before-first, lending}
+use Rattle.simulator.proofs.Running.{before-all, lending}
 use Rattle.accepted.proofs.Small.{accepted-passes, accepted-records}
 
 abbrev names : List ℕ
@@ -73,15 +73,17 @@ module _ {s stim out next : List ℕ} {t : ℕ} (h : WellFormed s stim out next 
   running : RunningCycles s (count s) table stim (inputLeaves s) (leaves (typeAt s t)) (cycleCount s stim) s out
   running =
       record {
-        sized = Requirements.sized passes full;
-        type = t;
-        accepted = h .accepted;
-        table = widths passes full .1;
-        whole = h .whole;
-        fitting = h .fitting;
-        takes = refl;
-        gives = refl;
-        counted = refl;
+        over = record {
+          sized = Requirements.sized passes full;
+          type = t;
+          accepted = h .accepted;
+          table = widths passes full .1;
+          whole = h .whole;
+          fitting = h .fitting;
+          takes = refl;
+          gives = refl;
+          counted = refl;
+        };
         room = h .room;
         start = refl;
       }
@@ -100,7 +102,7 @@ module _ {s stim out next : List ℕ} {t : ℕ} (h : WellFormed s stim out next 
 
   first-lending : Lending s (count s) table names names stim 0 (inputLeaves s) s out 0 (leaves (typeAt s t))
   first-lending =
-      lending running (before-first running (zeros-long 4096) (zeros-long 4096)) some-cycle
+      lending running (before-all running (zeros-long 4096) (zeros-long 4096)) some-cycle
 
   abbrev input : List ℕ
   input = take (inputLeaves s) stim

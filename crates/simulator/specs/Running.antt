@@ -2,24 +2,22 @@
 -- What the call itself gives stands in `Calls`. And the leaves that the program asks for.
 use Prim.Native.Nat.{ℕ, _+_, _*_, _≤_}
 use mathlib.Core.Path.{_≡_}
-use mathlib.Core.Bool.{false}
 use mathlib.Core.List.{List, _++_}
-use mathlib.Core.Option.{none}
 use lib.ListN.{length, take, drop}
 use Rattle.records.specs.Limits.{mostRecords, mostLeaves, environmentBytes}
 use Rattle.stimulus.specs.Tests.{stimulusBytes}
 use Rattle.picoella.specs.Language.{leaves}
 use Rattle.records.specs.Sized.{Sized}
 use Rattle.records.specs.Trees.{typeAt}
-use Rattle.answers.specs.Answers.{lowest}
 use Rattle.verdict.specs.Verdict.{verdict}
 use Rattle.verdict.specs.Widths.{Widths}
 use Rattle.answers.specs.declared.Verdict.the-variants.{Accepted}
 use Rattle.meaning.specs.Undecided.{undecidedRule}
 use Rattle.behaviour.specs.Cycle.{output, sheetAfterCycle}
-use Rattle.stimulus.specs.Stimulus.{inputLeaves, cycleCount, endToEnd, cycles, wrongStimulus, wrongByte}
+use Rattle.stimulus.specs.Stimulus.{inputLeaves, endToEnd, cycles}
 use Rattle.behaviour.specs.Run.{outputsBy, sheetAfter}
 use Rattle.stepper.specs.Cycling.{Cycling}
+use Rattle.stepper.specs.CycleByCycle.{WholeCycles}
 
 -- one cycle is lent its parts of the stimulus, from `from`, and of the output, from `at`
 pub record Lending
@@ -46,15 +44,7 @@ pub record Lent (stim : List ℕ) (from wi : ℕ) (current out : List ℕ) (at w
 
 -- all cycles are run, into slices of the right lengths; `current` begins as the sheet
 pub record RunningCycles (s : List ℕ) (n : ℕ) (widths stim : List ℕ) (wi wo count : ℕ) (current out : List ℕ) : Type 0 where
-  pub sized : Sized s n
-  pub type : ℕ
-  pub accepted : verdict s ≡ Accepted type
-  pub table : Widths s widths
-  pub whole : wrongStimulus s stim ≡ false
-  pub fitting : lowest (wrongByte s stim) (length stim) ≡ none
-  pub takes : wi ≡ inputLeaves s
-  pub gives : wo ≡ leaves (typeAt s type)
-  pub counted : count ≡ cycleCount s stim
+  pub over : WholeCycles s n widths stim wi wo count
   pub room : length out ≡ count * wo
   pub start : current ≡ s
 

@@ -2,3 +2,5 @@
 pub mod Copies
 pub mod WidthsAgain
 pub mod Cycling
+pub mod BeforeCycle
+pub mod CallCycles

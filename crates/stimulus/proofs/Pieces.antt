@@ -52,6 +52,11 @@ joined-at w (v ∷ vs) h (suc k) b =
     let e : suc k * w ≡ length v + k * w = let f = h .0 in omega arith in
     rw (e, drop-append-add v (endToEnd vs) (k * w)) (joined-at w vs (h .1) k (omega arith))
 
+pub wide-at : (w : ℕ) (vs : List (List ℕ)) → Wide w vs → (k : ℕ) → k < length vs → length (getD vs k []) ≡ w
+wide-at w [] h k b = absurd (omega arith)
+wide-at w (v ∷ vs) h zero b = h .0
+wide-at w (v ∷ vs) h (suc k) b = wide-at w vs (h .1) k (omega arith)
+
 -- values of one type have its width
 pub typed-wide : {τ : Ty} {vs : List (List ℕ)} → AllOf τ vs → Wide (leaves τ) vs
 typed-wide all-none = tt

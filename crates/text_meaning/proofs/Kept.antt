@@ -4,8 +4,7 @@ use Prim.Native.Nat.{ℕ, zero, suc}
 use mathlib.Core.Path.{_≡_, refl, ap, ap₂, sym, subst, _∙_}
 use mathlib.Core.List.{List, [], _∷_, _++_, map}
 use mathlib.Core.Option.{Option, some}
-use lib.ListN.{length, take, drop}
-use lib.Seq.{take-at, drop-at}
+use lib.ListN.{length}
 use Rattle.picoella.specs.Language.{Ty, leaves, Expr, Typed}
 use Rattle.records.specs.Trees.{typeAt, Declared}
 use Rattle.records.specs.Decoding.{decode}
@@ -20,13 +19,11 @@ use Rattle.accepted.proofs.Laws.{exact}
 use Rattle.meaning.specs.Undecided.{undecidedConstant}
 use Rattle.meaning.specs.Constants.{ConstantTree, ConstantOf, of-none, of-more, AllConstantsOf, of-all-none, of-all-more, flatten}
 use Rattle.meaning.specs.Rules.{ReducesSeq, s-end, s-cycle}
-use Rattle.meaning.proofs.Order.{value-length}
-use Rattle.meaning.proofs.FlattenOneToOne.{flatten-typed}
 use Rattle.stimulus.specs.Stimulus.{inputType, cycleCount, cycles, pieces, endToEnd}
 use Rattle.answers.specs.Answers.{packed}
 use Rattle.behaviour.specs.Run.{answer, finalOut, finalNext, RunGiven, RunsByRules}
 use Rattle.behaviour.specs.Afterwards.{WellFormed}
-use Rattle.behaviour.proofs.ByRules.{call-by-rules}
+use Rattle.behaviour.proofs.ByRules.{pieces-back, call-by-rules}
 use Rattle.translation.specs.Layout.{sheetOfText}
 use Rattle.translation.specs.Distances.{byDistances, expressionMeant, unplaced}
 use Rattle.translation.proofs.ConstructorTables.{pass-both}
@@ -51,14 +48,6 @@ all-values : (ds : List Declaration) {τ : Ty} {cs : List ConstantTree} → AllC
     → map (valueOf ds τ) (map flatten cs) ≡ map (nameTree ds) cs
 all-values ds of-all-none = refl
 all-values ds (of-all-more h hs) = ap₂ (λ v vs. v ∷ vs) (value-of ds h) (all-values ds hs)
-
--- constants laid end to end, taken in pieces
-pieces-back : {τ : Ty} {cs : List ConstantTree} → AllConstantsOf τ cs → pieces (leaves τ) (length cs) (endToEnd (map flatten cs)) ≡ map flatten cs
-pieces-back of-all-none = refl
-pieces-back {τ} (of-all-more {c = c} {cs = cs} h hs) =
-    let l = value-length τ (flatten-typed h) in
-    ap₂ (λ v vs. v ∷ vs) (take-at (flatten c) (endToEnd (map flatten cs)) (leaves τ) l)
-    (ap (pieces (leaves τ) (length cs)) (drop-at (flatten c) (endToEnd (map flatten cs)) (leaves τ) l) ∙ pieces-back hs)
 
 -- bytes that are constants laid end to end, read as values
 in-pieces : (ds : List Declaration) {τ : Ty} {cs : List ConstantTree} (n : ℕ) (bytes : List ℕ) → AllConstantsOf τ cs → length cs ≡ n

@@ -1,6 +1,7 @@
 -- Assumes nothing.
 use native.Mathlib.Omega.{arith}
-use Rattle.firing.proofs.Telling.{fired-output-there, fired-output-few, told-looking, told-words}
+use Rattle.stepper.proofs.CallCycles.{output-there, output-few}
+use Rattle.firing.proofs.Telling.{told-looking, told-words}
 use borrow.Author.Needs.{needs}
 use Rattle.firing.proofs.tell_fired.Statement.{statement}
 use Rattle.firing.proofs.tell_fired.Tie as tie
@@ -18,10 +19,10 @@ no-output-requires : tie.Need-no-output-requires
 no-output-requires c κs = search needs
 
 element-copy-out-wo : tie.Need-element-copy-out-wo
-element-copy-out-wo c = fired-output-there (c .before .before .before .before .before .before .before .pre)
+element-copy-out-wo c = output-there (c .before .before .before .before .before .before .before .pre .accepting) (c .before .before .before .before .before .before .before .pre .accepted)
 
 cast-wo : tie.Need-cast-wo
-cast-wo c = let f = fired-output-few (c .before .before .before .before .before .before .before .before .pre) in omega arith
+cast-wo c = let f = output-few (c .before .before .before .before .before .before .before .before .pre .accepting) (c .before .before .before .before .before .before .before .before .pre .accepted) in omega arith
 
 sub-look : tie.Need-sub-look
 sub-look c = search needs
@@ -39,7 +40,7 @@ part-out-start : tie.Need-part-out-start
 part-out-start c = search needs
 
 part-out-end : tie.Need-part-out-end
-part-out-end c = let f = fired-output-few (c .before .before .before .before .before .before .before .before .before .before .before .pre) in let l = c .before .before .before .before .no-output .ensures in omega arith
+part-out-end c = let f = output-few (c .before .before .before .before .before .before .before .before .before .before .before .pre .accepting) (c .before .before .before .before .before .before .before .before .before .before .before .pre .accepted) in let l = c .before .before .before .before .no-output .ensures in omega arith
 
 look-requires : tie.Need-look-requires
 look-requires c κs = told-looking (c .before .before .before .before .before .before .before .before .before .before .before .before .pre) (c .before .before .before .before .before .before .before .before .no-names .result) (c .before .before .before .before .before .before .before .no-next-values .result) (c .before .before .before .before .before .no-output .result) (c .before .before .before .before .before .before .before .before .no-names .ensures) (c .before .before .before .before .before .before .before .no-next-values .ensures) (c .before .before .before .before .before .no-output .ensures)

@@ -1,7 +1,7 @@
 -- Assumes nothing.
 use native.Mathlib.Omega.{arith}
 use Rattle.stimulus.proofs.Holding.{input-typed, input-there, input-few, input-takes, counts-fit, counts-long, counts-inside}
-use Rattle.preview.proofs.Showing.{output-type-there, output-few}
+use Rattle.stepper.proofs.CallCycles.{output-there, output-few}
 use Rattle.probe.proofs.Rooms.{counts-front}
 use Rattle.press.proofs.Calls.{press-refused-input, press-refused-leaf, pressing-all, press-done}
 use mathlib.Core.Path.{_≡_, refl, _∙_}
@@ -28,7 +28,7 @@ returns : tie.Need-returns
 returns c = let u = c .untold .ensures in press-refused-input (c .before .before .before .before .before .before .before .pre .0) (c .before .before .before .before .before .before .before .pre .1) (c .before .before .before .before .check-one-cycle .ensures) _ _ _ (c .before .before .enum-told .given .1) _ _ _ _ (u .0 ∙ c .before .packed .ensures) (u .1) (u .2) (u .3)
 
 element-copy-out-wo : tie.Need-element-copy-out-wo
-element-copy-out-wo c = output-type-there (c .before .before .before .before .before .before .pre .0) (c .before .before .before .before .before .before .pre .1)
+element-copy-out-wo c = output-there (c .before .before .before .before .before .before .pre .0) (c .before .before .before .before .before .before .pre .1)
 
 cast-wo : tie.Need-cast-wo
 cast-wo c = let f = output-few (c .before .before .before .before .before .before .before .pre .0) (c .before .before .before .before .before .before .before .pre .1) in omega arith

@@ -1,5 +1,6 @@
 -- Assumes nothing.
-use Rattle.preview.proofs.Showing.{output-type-there, output-few, preview-refused-input, preview-refused-output, showing, preview-done}
+use Rattle.preview.proofs.Showing.{preview-refused-input, preview-refused-output, showing, preview-done}
+use Rattle.stepper.proofs.CallCycles.{output-there, output-few}
 use native.Mathlib.Omega.{arith}
 use denote.Ref.{now}
 use borrow.Author.Needs.{needs}
@@ -22,7 +23,7 @@ returns : tie.Need-returns
 returns c = preview-refused-input (c .before .before .before .before .before .before .before .pre .0) (c .before .before .before .before .before .before .before .pre .1) (now (c .before .before .before .before .before .before .before .args .stim)) (now (c .before .before .before .before .before .before .before .args .out)) _ (c .before .before .before .check-one-cycle .ensures) _ _ (c .before .enum-told .given .1) _ (c .packed .ensures)
 
 element-copy-out-needed : tie.Need-element-copy-out-needed
-element-copy-out-needed c = output-type-there (c .before .before .before .before .before .before .before .pre .0) (c .before .before .before .before .before .before .before .pre .1)
+element-copy-out-needed c = output-there (c .before .before .before .before .before .before .before .pre .0) (c .before .before .before .before .before .before .before .pre .1)
 
 cast-needed : tie.Need-cast-needed
 cast-needed c = let f = output-few (c .before .before .before .before .before .before .before .before .pre .0) (c .before .before .before .before .before .before .before .before .pre .1) in omega arith

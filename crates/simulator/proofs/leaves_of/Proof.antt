@@ -1,8 +1,8 @@
 -- Assumes nothing.
-use Rattle.simulator.proofs.Calls.{accepted-call, call-accepting, output-there, output-few, measured-refused, measured-accepted}
+use Rattle.simulator.proofs.Calls.{accepted-call, call-accepting, measured-refused, measured-accepted}
+use Rattle.stepper.proofs.CallCycles.{output-there, output-few}
 use Rattle.stimulus.proofs.Holding.{input-there, input-few}
 use native.Mathlib.Omega.{arith}
-use denote.Ref.{now}
 use borrow.Author.Needs.{needs}
 use Rattle.simulator.proofs.leaves_of.Statement.{statement}
 use Rattle.simulator.proofs.leaves_of.Tie as tie
@@ -32,10 +32,10 @@ cast-t7 : tie.Need-cast-t7
 cast-t7 c = let f = input-few (call-accepting (accepted-call _ _ (c .before .before .before .before .before .before .before .records-in .ensures) _ _ _ _ (c .before .before .before .before .check-into .ensures) (c .before .before .verdict .given .1))) (c .word .ensures .0) in omega arith
 
 array-read-t15 : tie.Need-array-read-t15
-array-read-t15 c = output-there (accepted-call _ _ (c .before .before .before .before .before .before .before .records-in .ensures) _ _ _ _ (c .before .before .before .before .check-into .ensures) (c .before .before .verdict .given .1))
+array-read-t15 c = let g = accepted-call _ _ (c .before .before .before .before .before .before .before .records-in .ensures) _ _ _ _ (c .before .before .before .before .check-into .ensures) (c .before .before .verdict .given .1) in output-there (call-accepting g) (g .accepted)
 
 cast-t16 : tie.Need-cast-t16
-cast-t16 c = let f = output-few (accepted-call _ _ (c .before .before .before .before .before .before .before .records-in .ensures) _ _ _ _ (c .before .before .before .before .check-into .ensures) (c .before .before .verdict .given .1)) in omega arith
+cast-t16 c = let g = accepted-call _ _ (c .before .before .before .before .before .before .before .records-in .ensures) _ _ _ _ (c .before .before .before .before .check-into .ensures) (c .before .before .verdict .given .1) in let f = output-few (call-accepting g) (g .accepted) in omega arith
 
 returns-2 : tie.Need-returns-2
 returns-2 c = measured-accepted (accepted-call _ _ (c .before .before .before .before .before .before .before .records-in .ensures) _ _ _ _ (c .before .before .before .before .check-into .ensures) (c .before .before .verdict .given .1)) (c .word .ensures .0)

@@ -1,5 +1,6 @@
 -- Assumes nothing.
-use Rattle.simulator.proofs.Calls.{call-accepting, output-there, output-few, refused-stimulus, count-few, needed-few, refused-output, refused-next, call-running, call-done}
+use Rattle.simulator.proofs.Calls.{call-accepting, refused-stimulus, refused-output, refused-next, call-running, call-done}
+use Rattle.stepper.proofs.CallCycles.{output-there, output-few, needed-few}
 use Rattle.stimulus.proofs.Holding.{input-there, input-few}
 use native.Mathlib.Omega.{arith}
 use denote.Ref.{now}
@@ -32,16 +33,16 @@ cast-wi : tie.Need-cast-wi
 cast-wi c = let f = input-few (call-accepting (c .before .before .before .before .before .before .before .before .before .before .pre)) (c .before .word .ensures .0) in omega arith
 
 element-copy-out-wo : tie.Need-element-copy-out-wo
-element-copy-out-wo c = output-there (c .before .before .before .before .before .before .before .before .before .before .pre)
+element-copy-out-wo c = output-there (call-accepting (c .before .before .before .before .before .before .before .before .before .before .pre)) (c .before .before .before .before .before .before .before .before .before .before .pre .accepted)
 
 cast-wo : tie.Need-cast-wo
-cast-wo c = let f = output-few (c .before .before .before .before .before .before .before .before .before .before .before .pre) in omega arith
+cast-wo c = let f = output-few (call-accepting (c .before .before .before .before .before .before .before .before .before .before .before .pre)) (c .before .before .before .before .before .before .before .before .before .before .before .pre .accepted) in omega arith
 
 mul-needed : tie.Need-mul-needed
-mul-needed c = let f = needed-few (c .before .before .before .before .before .before .before .before .before .before .before .pre) (c .before .before .before .before .before .before .check-stimulus .ensures) (c .before .before .before .before .answer .given .1) in omega arith
+mul-needed c = let f = needed-few (call-accepting (c .before .before .before .before .before .before .before .before .before .before .before .pre)) (c .before .before .before .before .before .before .before .before .before .before .before .pre .accepted) (c .before .before .before .before .before .before .check-stimulus .ensures) (c .before .before .before .before .answer .given .1) in omega arith
 
 in-one-requires : tie.Need-in-one-requires
-in-one-requires c κs = let f = needed-few (c .before .before .before .before .before .before .before .before .before .before .before .before .pre) (c .before .before .before .before .before .before .before .check-stimulus .ensures) (c .before .before .before .before .before .answer .given .1) in (omega arith, omega arith)
+in-one-requires c κs = let f = needed-few (call-accepting (c .before .before .before .before .before .before .before .before .before .before .before .before .pre)) (c .before .before .before .before .before .before .before .before .before .before .before .before .pre .accepted) (c .before .before .before .before .before .before .before .check-stimulus .ensures) (c .before .before .before .before .before .answer .given .1) in (omega arith, omega arith)
 
 returns-2 : tie.Need-returns-2
 returns-2 c = refused-output (c .before .before .before .before .before .before .before .before .before .before .before .before .before .pre) (c .before .before .before .before .before .before .before .before .check-stimulus .ensures) (c .before .before .before .before .before .before .answer .given .1) (c .before .if1 .taken) (c .in-one .ensures)
