@@ -2,10 +2,10 @@
 //! change of one often alters them: to undefined and from it, and by few of
 //! many constructors.
 
+use super::labels::label;
+use super::patterns::{full, share};
+use super::types::split;
 use crate::draft::Draft;
-use crate::generate::labels::label;
-use crate::generate::patterns::{full, share};
-use crate::generate::types::split;
 use crate::random::Random;
 
 /// A circuit of IFs on parts of the input, some deep.
