@@ -33,6 +33,9 @@ pub const WRONG_WORDS: u8 = 16;
 pub const NEW_SHEET_REFUSED: u8 = 18;
 pub const LABEL_TWICE: u8 = 19;
 
+/// There is no such output leaf.
+pub const NO_OUTPUT_LEAF: u8 = 21;
+
 #[derive(Clone, Copy, PartialEq, Eq, Debug)]
 pub struct Answer {
     pub code: u8,

@@ -2,6 +2,7 @@
 
 pub mod boundary;
 pub mod circuits;
+pub mod decisions;
 pub mod delays;
 pub mod expressions;
 pub mod labels;

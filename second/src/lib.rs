@@ -43,6 +43,7 @@ pub mod survey;
 pub mod calls;
 pub mod frame;
 pub mod one_cycle;
+pub mod one_leaf;
 
 #[cfg(test)]
 mod generate_tests;

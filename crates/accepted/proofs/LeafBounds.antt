@@ -25,39 +25,49 @@ use Rattle.typing.specs.Judging.{Ground}
 use Rattle.verdict.proofs.Exact.{exact}
 use Rattle.accepted.specs.Accepting.{Accepting}
 
--- each number of a list is a byte
-abbrev pub AllBytes : List ℕ → Type 0
-AllBytes ns = (n : ℕ) → List·Memᴰ n ns → n ≤ 255
+-- each number of a list is a byte, and not 0
+abbrev AllCounts : List ℕ → Type 0
+AllCounts ns = (n : ℕ) → List·Memᴰ n ns → (0 < n) × (n ≤ 255)
 
-bytes-both : (ns ms : List ℕ) → AllBytes ns → AllBytes ms → AllBytes (ns ++ ms)
-bytes-both ns ms a b n m = go (List·Memᴰ·append-cases ns m)
+counts-both : (ns ms : List ℕ) → AllCounts ns → AllCounts ms → AllCounts (ns ++ ms)
+counts-both ns ms a b n m = go (List·Memᴰ·append-cases ns m)
   where
-    go : List·Memᴰ n ns ⊎ List·Memᴰ n ms → n ≤ 255
+    go : List·Memᴰ n ns ⊎ List·Memᴰ n ms → (0 < n) × (n ≤ 255)
     go (inl k) = a n k
     go (inr k) = b n k
 
--- the counts of a type's leaves are bytes
-pub bounds-small : {s : List ℕ} → Written s → (t : ℕ) → TypeRecord s t → AllBytes (bounds (typeAt s t))
-bounds-small {s} w t u = go (suc t) t (omega arith) u
+-- the counts of a type's leaves are bytes, and each leaf has a constructor
+bounds-counts : {s : List ℕ} → Written s → (t : ℕ) → TypeRecord s t → AllCounts (bounds (typeAt s t))
+bounds-counts {s} w t u = go (suc t) t (omega arith) u
   where
-    go : (n t : ℕ) → t < n → TypeRecord s t → AllBytes (bounds (typeAt s t))
+    go : (n t : ℕ) → t < n → TypeRecord s t → AllCounts (bounds (typeAt s t))
     go zero t h u = absurd (omega arith)
     go (suc n) t h u = let k = kind-of-sort types (kindAt s t) (u .sort) in by-kind (k .0) (k .1) (go n)
       where
         by-kind : (k : TypeKind) → kindAt s t ≡ Kinds.typeOf k
-            → ((a : ℕ) → a < n → TypeRecord s a → AllBytes (bounds (typeAt s a))) → AllBytes (bounds (typeAt s t))
+            → ((a : ℕ) → a < n → TypeRecord s a → AllCounts (bounds (typeAt s a))) → AllCounts (bounds (typeAt s t))
         by-kind flat k lower =
             let f : (0 < wordA s t) × (wordA s t ≤ 255) = unfold askOfKind in as-kind-asks w t _ (u .there) k 2 refl in
-            rw (flat-type s t k) (λ n m. let e = List·Memᴰ·eq-of-singleton m in omega arith)
+            rw (flat-type s t k) (λ n m. let e = List·Memᴰ·eq-of-singleton m in (omega arith, omega arith))
         by-kind pair k lower =
             let p = pair-parts w t (u .there) k in
             rw (pair-type w t (u .there) k)
-            (bytes-both (bounds (typeAt s (wordA s t))) (bounds (typeAt s (wordB s t)))
+            (counts-both (bounds (typeAt s (wordA s t))) (bounds (typeAt s (wordB s t)))
             (lower (wordA s t) (omega arith) (first-part w t (u .there) k))
             (lower (wordB s t) (omega arith) (second-part w t (u .there) k)))
 
+-- each number of a list is a byte
+abbrev pub AllBytes : List ℕ → Type 0
+AllBytes ns = (n : ℕ) → List·Memᴰ n ns → n ≤ 255
+
+pub bounds-small : {s : List ℕ} → Written s → (t : ℕ) → TypeRecord s t → AllBytes (bounds (typeAt s t))
+bounds-small w t u n m = bounds-counts w t u n m .1
+
+pub bounds-positive : {s : List ℕ} → Written s → (t : ℕ) → TypeRecord s t → (n : ℕ) → List·Memᴰ n (bounds (typeAt s t)) → 0 < n
+bounds-positive w t u n m = bounds-counts w t u n m .0
+
 -- a leaf of a list of bytes
-listed-small : (ns : List ℕ) → ((n : ℕ) → List·Memᴰ n ns → n ≤ 255) → (i : ℕ) → getD ns i 0 ≤ 255
+pub listed-small : (ns : List ℕ) → AllBytes ns → (i : ℕ) → getD ns i 0 ≤ 255
 listed-small [] f i = omega arith
 listed-small (n ∷ ns) f zero = f n (List·Memᴰ·head refl)
 listed-small (n ∷ ns) f (suc i) = listed-small ns (λ m k. f m (List·Memᴰ·tail k)) i

@@ -7,11 +7,11 @@ use mathlib.Core.Logic.{_↔_, _≢_}
 use mathlib.Core.Bool.{Bool, true, false, _&&_}
 use mathlib.Core.List.{List, [], _∷_, _++_}
 use mathlib.Core.Option.{Option, none, some}
-use mathlib.Core.Path.{_≡_, refl, sym, subst, _∙_}
+use mathlib.Core.Path.{_≡_, refl, sym, ap, subst, _∙_}
 use native.Mathlib.Omega.{arith}
 use lib.Dec.{ltb}
 use borrow.Author.Tests.{ltb-true}
-use Rattle.answers.specs.Answers.{code, place, Check, orRefused, firstApplying, NoneApplies, Refuses, SaysOf}
+use Rattle.answers.specs.Answers.{code, place, packed, Check, orRefused, firstApplying, NoneApplies, Refuses, SaysOf}
 use Rattle.answers.specs.StandardLaws.{LentSlice, AllUnaltered, SaysOfCall, StandardLaws}
 use Rattle.answers.specs.GivenSlices.{codesAbove, SmallPlaces, GivenSlices, no-slice, one-slice}
 use Rattle.answers.specs.declared.Answer.{Answer}
@@ -72,3 +72,12 @@ standard-laws {ks} {Formed} {done} {a} {slices} formed above is small given =
       place-small = small;
       unaltered = all-unaltered given;
     }
+
+-- a result of 0 is that of a call that is done
+pub zero-done : {ks : List Check} {Formed : Type 0} {done : ℕ} {a : Answer} {slices : List LentSlice}
+    → StandardLaws ks Formed done a slices → 0 ≡ packed a → a ≡ Done 0
+zero-done {a} laws e = go a refl e
+  where
+    go : (b : Answer) → a ≡ b → 0 ≡ packed b → b ≡ Done 0
+    go (Done p) q z = let y : p ≡ 0 = omega arith in ap Done y
+    go (Refused c p) q z = let h = laws .refusal-coded c p q in absurd (omega arith)

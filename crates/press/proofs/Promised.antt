@@ -11,17 +11,17 @@ use mathlib.Core.Option.{Option, none, some}
 use native.Mathlib.Omega.{arith}
 use native.Mathlib.Decide.{ℕ-discrete, decLt}
 use lib.Dec.{eqb, leb}
-use lib.ListN.{length, getD, set}
+use lib.ListN.{getD, set}
 use borrow.Author.Tests.{eq-eqb, leb-false, lt-leb, ne-eqb}
-use Rattle.picoella.specs.Language.{bounds, OfType}
-use Rattle.answers.specs.Answers.{code, packed, lowest, NoneApplies, isSome}
+use Rattle.picoella.specs.Language.{bounds}
+use Rattle.answers.specs.Answers.{code, lowest, NoneApplies, isSome}
 use Rattle.answers.specs.GivenSlices.{no-slice}
 use Rattle.answers.specs.declared.Answer.{Answer}
 use Rattle.answers.specs.declared.Answer.the-variants.{Done, Refused}
 use Rattle.answers.proofs.First.{none-split, when-none, when-some}
+use Rattle.answers.proofs.StandardLaws.{zero-done}
 use Rattle.answers.proofs.Lowest.{lowest-is, lowest-none, lowest-none-fails, lowest-some-passes}
-use Rattle.verdict.specs.Verdict.{sheetChecks, outputType, verdict}
-use Rattle.answers.specs.declared.Verdict.the-variants.{Accepted}
+use Rattle.verdict.specs.Verdict.{sheetChecks, outputType}
 use Rattle.accepted.proofs.Calls.{none-of-call, call-laws, accepted-output}
 use Rattle.accepted.proofs.Laws.{first-accepted}
 use Rattle.accepted.proofs.Small.{accepted-few}
@@ -30,10 +30,9 @@ use Rattle.stimulus.specs.OneCycle.{notOneCycle}
 use Rattle.stimulus.proofs.OneCycle.{one-cycle-typed}
 use Rattle.stimulus.proofs.OneCycleCalls.{after-cycle-small}
 use Rattle.behaviour.specs.Run.{outputLeaves}
-use Rattle.preview.specs.Preview.{Previewed}
 use Rattle.probe.specs.OutputLeaf.{leafFor, leafCheck}
 use Rattle.probe.proofs.Inputs.{set-within}
-use Rattle.probe.proofs.Shown.{shown-good, shown-leaf}
+use Rattle.probe.proofs.Shown.{shown-at}
 use Rattle.press.specs.Press.{altersTo, constructorFor, leafFound, changeTo, changeAt, onePress, ownPressChecks, pressChecks, pressAnswer, pressDone, finalPress, pressFound, pressLeaf, pressConstructor}
 use Rattle.press.specs.declared.Press.{Press}
 use Rattle.press.specs.declared.Press.the-variants.{Change, NoChange}
@@ -217,18 +216,6 @@ pub press-refused-untold : PressRefusedUntold
 unfolding finalPress
 press-refused-untold s stim l f = untold (pressAnswer s stim l) (onePress s stim l) f
 
--- what a preview shows of an input that is of its type
-shown-at : (s : List ℕ) (l : ℕ) → verdict s ≡ Accepted (outputType s) → (i : List ℕ) → OfType (inputType s) i
-    → (shown : List ℕ) (result : ℕ) (out : List ℕ) → length shown ≡ outputLeaves s → Previewed s i shown result out
-    → (result ≡ 0) × (getD out l 0 ≡ leafFor s l i)
-shown-at s l v i typed shown result out e p =
-    (p .result-is ∙ rw (shown-good s v i typed shown e) refl, ap (λ (o : List ℕ). getD o l 0) (p .out-is) ∙ shown-leaf s v i typed shown e l)
-
--- a result of 0 is that of a call that is done
-done-answer : (s stim : List ℕ) (l : ℕ) (a : Answer) → pressAnswer s stim l ≡ a → 0 ≡ packed a → a ≡ Done 0
-done-answer s stim l (Done p) e q = let z : p ≡ 0 = omega arith in ap Done z
-done-answer s stim l (Refused c p) e q = let h = press-laws s stim l .refusal-coded c p e in absurd (omega arith)
-
 -- what is told, as numbers
 told-change : (p : Press) (found j c : ℕ) → found ≡ pressFound p → j ≡ pressLeaf p → c ≡ pressConstructor p → found ≡ 1 → p ≡ Change j c
 told-change (Change i d) found j c f x y e = rw (x, y) refl
@@ -250,22 +237,22 @@ same-leaf s stim l i d never h o b n = go (ℕ-discrete (leafFor s l (set stim i
 pub press-as-shown : PressAsShown
 unfolding finalPress
 press-as-shown s stim l found j c g shown result out e p =
-    let a = done-answer s stim l (pressAnswer s stim l) refl (g .result-is) in
+    let a = zero-done (press-laws s stim l) (g .result-is) in
     let f = press-laws s stim l .lowest-first (Done 0) .0 a .0 in
     let v = f .accepted in
     let typed = one-cycle-typed s stim (rw (f .one-cycle) refl, (f .fitting, tt)) in
-    let here = shown-at s l v stim typed shown result out e p in
+    let here = shown-at s v stim typed l shown result out e p in
     let final : finalPress s stim l ≡ onePress s stim l = rw a refl in (
       here .0,
       record {
         told = λ q shown′ result′ other e′ p′.
             let t : onePress s stim l ≡ Change j c = sym final ∙ told-change (finalPress s stim l) found j c (g .found-is) (g .input-is) (g .constructor-is) q in
             let m = press-told s stim l j c .0 t .alters in
-            let there = shown-at s l v (set stim j c) (set-within typed j c (m .constructor)) shown′ result′ other e′ p′ in
+            let there = shown-at s v (set stim j c) (set-within typed j c (m .constructor)) l shown′ result′ other e′ p′ in
             (there .0, λ z. m .altered (sym (there .1) ∙ z ∙ here .1));
         untold = λ q i d h o b n shown′ result′ other e′ p′.
             let t : onePress s stim l ≡ NoChange = sym final ∙ told-none (finalPress s stim l) found (g .found-is) q in
-            let there = shown-at s l v (set stim i d) (set-within typed i d b) shown′ result′ other e′ p′ in
+            let there = shown-at s v (set stim i d) (set-within typed i d b) l shown′ result′ other e′ p′ in
             (there .0, there .1 ∙ same-leaf s stim l i d (press-none-told s stim l .0 t) h o b n ∙ sym (here .1));
       },
     )

@@ -26,7 +26,7 @@ use Rattle.stimulus.specs.Stimulus.{inputType, inputLeaves, wrongStimulus, wron
 use Rattle.stimulus.specs.OneCycle.{notOneCycle}
 use Rattle.stimulus.proofs.OneCycleCalls.{one-cycle-done}
 use Rattle.behaviour.specs.Run.{outputLeaves}
-use Rattle.preview.specs.Preview.{previewAnswer, finalPreview}
+use Rattle.preview.specs.Preview.{previewAnswer, finalPreview, Previewed}
 use Rattle.probe.specs.OutputLeaf.{leafFor}
 
 pub within-at : {ns vs : List ℕ} → Within ns vs → (j : ℕ) → getD vs j 0 ≤ getD ns j 0
@@ -67,3 +67,9 @@ module _ (s : List ℕ) {t : ℕ} (v : verdict s ≡ Accepted t) (i : List ℕ) 
   pub shown-leaf : (shown : List ℕ) → length shown ≡ outputLeaves s → (l : ℕ) → getD (finalPreview s i shown) l 0 ≡ leafFor s l i
   unfolding finalPreview leafFor
   shown-leaf shown e l = rw (shown-good shown e) refl
+
+  -- whatever the call gave by its contract
+  pub shown-at : (l : ℕ) (shown : List ℕ) (result : ℕ) (out : List ℕ) → length shown ≡ outputLeaves s → Previewed s i shown result out
+      → (result ≡ 0) × (getD out l 0 ≡ leafFor s l i)
+  shown-at l shown result out e p =
+      (p .result-is ∙ rw (shown-good shown e) refl, ap (λ (o : List ℕ). getD o l 0) (p .out-is) ∙ shown-leaf shown e l)

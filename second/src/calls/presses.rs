@@ -6,7 +6,6 @@ mod case;
 mod cases;
 mod compare;
 mod comparison;
-mod decisions;
 mod faults;
 mod jobs;
 pub mod mistakes;

@@ -7,16 +7,20 @@ use super::types::doubling;
 use crate::draft::Draft;
 use crate::random::Random;
 
-/// One leaf of a name of such a type.
+/// One leaf of a name of a type.
 pub fn leaf_of(draft: &mut Draft, name: u16, of: usize, leaf: usize) -> usize {
     let mut node = draft.name(name, of);
-    let mut of = of;
-    let mut within = draft.width(of) as usize;
+    let (mut of, mut leaf) = (of, leaf);
     while let Some((first, second)) = draft.parts(of) {
-        within /= 2;
-        let in_first = (leaf / within).is_multiple_of(2);
-        of = if in_first { first } else { second };
-        node = if in_first { draft.first(node, of) } else { draft.second(node, of) };
+        let before = draft.width(first) as usize;
+        if leaf < before {
+            of = first;
+            node = draft.first(node, of);
+        } else {
+            of = second;
+            node = draft.second(node, of);
+            leaf -= before;
+        }
     }
     node
 }

@@ -4,8 +4,8 @@ use super::case::Case;
 use crate::accepted::Circuit;
 use crate::evaluator::Right;
 use crate::one_cycle::cases::Ground;
+use crate::one_leaf::effort::most_evaluations;
 use crate::random::Random;
-use crate::records::{expression_parts, A, B, FEEDBACK, KIND};
 use crate::rule::IN_FORCE;
 use crate::stepper::Stepper;
 use crate::watch::Watch;
@@ -29,7 +29,7 @@ impl Plain {
     /// At most so many records are evaluated for all changes of an input.
     pub fn effort(&self) -> usize {
         let changes: usize = self.ground.counts.iter().map(|count| usize::from(*count)).sum();
-        changes.saturating_mul(most_evaluations(&self.circuit, self.circuit.root()))
+        changes.saturating_mul(most_evaluations(&self.circuit))
     }
 
     /// A call that keeps every rule, on any output leaf.
@@ -64,16 +64,4 @@ impl Plain {
         }
         case
     }
-}
-
-/// How many records an evaluation of an expression evaluates at most: the
-/// defining part of a feedback once for each leaf, and once more.
-fn most_evaluations(circuit: &Circuit, number: usize) -> usize {
-    let record = circuit.records[number];
-    let times = |word: usize| match record[KIND] {
-        FEEDBACK if word == B => circuit.width(usize::from(record[A])) + 1,
-        _ => 1,
-    };
-    let part = |(word, part)| most_evaluations(circuit, part).saturating_mul(times(word));
-    expression_parts(&record).map(part).fold(1, usize::saturating_add)
 }

@@ -2,14 +2,13 @@
 
 use super::case::Case;
 use super::cases::Plain;
-use super::press::NO_OUTPUT_LEAF;
-use super::tally;
-use crate::answers::{ILL_TYPED, WRONG_STIMULUS};
+use crate::answers::{ILL_TYPED, NO_OUTPUT_LEAF, WRONG_STIMULUS};
 use crate::calls::runs::faults::break_sheet;
 use crate::faults::category::Category;
 use crate::generate::mixed::for_faults;
 use crate::layout::sheet;
 use crate::one_cycle::faults::{other_cycles, raise_bytes};
+use crate::one_leaf::faults::other_leaf;
 use crate::random::Random;
 
 /// A call with faults of some codes; the ways in which those from 8 on were
@@ -35,24 +34,15 @@ pub fn broken(
                 case.stimulus = stimulus;
                 way
             }
-            NO_OUTPUT_LEAF => break_leaf(&mut case, plain.ground.items, random)?,
+            NO_OUTPUT_LEAF => {
+                let (way, leaf) = other_leaf(plain.ground.items, random)?;
+                case.leaf = leaf;
+                way
+            }
             _ => raise_bytes(&mut case.stimulus, &plain.ground, random)?,
         };
         case.source = format!("{}; {way}", case.source);
         ways.push(way);
     }
     Some((case, ways))
-}
-
-/// Code 21: a number that is not below that of the output leaves.
-fn break_leaf(case: &mut Case, leaves: usize, random: &mut Random) -> Option<&'static str> {
-    let way = random.pick(tally::ways(NO_OUTPUT_LEAF))?;
-    case.leaf = match way {
-        tally::AT_COUNT => leaves,
-        tally::SOME_MORE => leaves + random.range(1, 300),
-        tally::TWO_TO_32 => 1 << 32,
-        tally::LOW_HALF => (random.range(1, u32::MAX as usize) << 32) + random.below(leaves),
-        _ => usize::MAX,
-    };
-    Some(way)
 }

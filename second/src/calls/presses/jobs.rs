@@ -3,7 +3,6 @@
 
 use super::cases::Plain;
 use super::compare::Presses;
-use super::decisions::decisions;
 use super::faults::broken;
 use super::tally::{self, codes, two_codes, QUOTAS};
 use crate::answers::ILL_TYPED;
@@ -11,6 +10,7 @@ use crate::frame::comparison::{self, Ended, SHARDS, TRIES};
 use crate::frame::tally::{laid_out, least, of_codes};
 use crate::fuzz;
 use crate::generate::circuits::circuit_of_records;
+use crate::generate::decisions::decisions;
 use crate::generate::mixed::{for_faults, with_limits};
 use crate::generate::small::small;
 use crate::layout::{layout, layout_in, sheet, Order, ORDERS};

@@ -2,11 +2,11 @@
 //! They alter what the press is handed or what it gives, or replace a rule.
 
 use super::press::{
-    lowest_first, no_output_leaf, press as right, press_by, Call, Change, Outcome, Rules,
-    NO_OUTPUT_LEAF, RULES,
+    lowest_first, press as right, press_by, Call, Change, Outcome, Rules, RULES,
 };
 use crate::accepted::Circuit;
-use crate::answers::{Answer, ACCEPTED, WRONG_INPUT, WRONG_STIMULUS};
+use crate::answers::{Answer, ACCEPTED, NO_OUTPUT_LEAF, WRONG_INPUT, WRONG_STIMULUS};
+use crate::one_leaf::judging::no_output_leaf;
 use crate::simulator::{self, run};
 use crate::stimulus;
 use crate::values::undefined;
@@ -183,10 +183,10 @@ fn wrong_around(call: &Call, mistake: PressMistake) -> Outcome {
             stimulus::wrong_input(&circuit, call.stimulus).map(refused)
         }
         PressMistake::LeafBeforeEight if [WRONG_STIMULUS, WRONG_INPUT].contains(&code) => {
-            no_output_leaf(&circuit, call).map(refused)
+            no_output_leaf(&circuit, call.leaf).map(refused)
         }
         PressMistake::LeafBeforeNine if code == WRONG_INPUT => {
-            no_output_leaf(&circuit, call).map(refused)
+            no_output_leaf(&circuit, call.leaf).map(refused)
         }
         PressMistake::PlaceIsLeaf if code == NO_OUTPUT_LEAF => {
             Some(refused(Answer { code, place: call.leaf as u32 }))

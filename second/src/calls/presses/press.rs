@@ -4,13 +4,11 @@
 use crate::accepted::Circuit;
 use crate::answers::Answer;
 use crate::evaluator::Right;
+use crate::one_leaf::judging::no_output_leaf;
 use crate::rule::IN_FORCE;
 use crate::stepper::Stepper;
 use crate::stimulus;
 use crate::watch::Watch;
-
-/// There is no such output leaf.
-pub const NO_OUTPUT_LEAF: u8 = 21;
 
 /// What a press is handed: two slices to read, and the number of an output leaf.
 #[derive(Clone, Copy)]
@@ -93,15 +91,9 @@ fn judge(call: &Call) -> Result<Circuit, Answer> {
     let faults = [
         stimulus::not_one_cycle(&circuit, call.stimulus),
         stimulus::wrong_input(&circuit, call.stimulus),
-        no_output_leaf(&circuit, call),
+        no_output_leaf(&circuit, call.leaf),
     ];
     faults.into_iter().flatten().next().map_or(Ok(circuit), Err)
-}
-
-/// Code 21: the number is not below that of the output leaves.
-pub fn no_output_leaf(circuit: &Circuit, call: &Call) -> Option<Answer> {
-    let leaves = circuit.width(circuit.root());
-    (call.leaf >= leaves).then_some(Answer { code: NO_OUTPUT_LEAF, place: leaves as u32 })
 }
 
 /// The first change that alters the output leaf, while each delay holds what

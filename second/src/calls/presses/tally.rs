@@ -1,9 +1,9 @@
 //! What was compared, and the quotas it has to meet.
 
 use super::case::Case;
-use super::press::{Change, NO_OUTPUT_LEAF};
+use super::press::Change;
 use crate::accepted::Circuit;
-use crate::answers::{WRONG_INPUT, WRONG_LENGTH, WRONG_STIMULUS};
+use crate::answers::{NO_OUTPUT_LEAF, WRONG_INPUT, WRONG_LENGTH, WRONG_STIMULUS};
 use crate::evaluator::Right;
 use crate::frame::memory::PLACEMENTS;
 use crate::frame::tally::{laid_out, of_codes, Quota};
@@ -12,6 +12,7 @@ use crate::one_cycle::tally::{
     ways as ways_of_stimulus, ABOVE, BENCH, EMPTY, FUZZED, LONGEST, MORE, NOT_WHOLE, OVER, PART,
     SHAPES, SOME_ABOVE, TWO,
 };
+use crate::one_leaf::faults::{AT_COUNT, LOW_HALF, MOST, SOME_MORE, TWO_TO_32, WAYS};
 use crate::records::{FEEDBACK, KIND};
 use crate::rule::IN_FORCE;
 use crate::stepper::Stepper;
@@ -43,11 +44,6 @@ const DELAYS_MOVE: &str = "a delay whose held value differs from the next one";
 const FEEDBACKS: &str = "found on a sheet with a feedback";
 const WIDE_INPUT: &str = "64 input leaves";
 const WIDE_OUTPUT: &str = "64 output leaves";
-pub const AT_COUNT: &str = "21: the number of output leaves";
-pub const SOME_MORE: &str = "21: some more than the number of output leaves";
-pub const TWO_TO_32: &str = "21: 2^32";
-pub const LOW_HALF: &str = "21: above 2^32, its low half an output leaf";
-pub const MOST: &str = "21: 2^64-1";
 
 /// The quotas of the named counts.
 pub const QUOTAS: [(&str, u64); 36] = [
@@ -92,7 +88,7 @@ pub const QUOTAS: [(&str, u64); 36] = [
 /// The named ways to break the rule of a code from 8 on.
 pub fn ways(code: u8) -> &'static [&'static str] {
     match code {
-        NO_OUTPUT_LEAF => &[AT_COUNT, SOME_MORE, TWO_TO_32, LOW_HALF, MOST],
+        NO_OUTPUT_LEAF => &WAYS,
         _ => ways_of_stimulus(code),
     }
 }

@@ -2,10 +2,10 @@
 //! change of one often alters them: to undefined and from it, and by few of
 //! many constructors.
 
+use super::labels::label;
+use super::patterns::{full, share};
+use super::types::split;
 use crate::draft::Draft;
-use crate::generate::labels::label;
-use crate::generate::patterns::{full, share};
-use crate::generate::types::split;
 use crate::random::Random;
 
 /// A circuit of IFs on parts of the input, some deep.
@@ -19,13 +19,18 @@ pub fn decisions(random: &mut Random) -> Draft {
         draft.flat(count as u16);
     }
     let input = split(&mut draft, random.range(1, 6), random);
-    let output = split(&mut draft, random.range(1, 3), random);
     draft.set_input(input);
-    let root = Decider { draft: &mut draft, input, random }.of_type(output);
-    draft.set_root(root);
-    share(&mut draft, random);
-    label(&mut draft, random);
+    decide(&mut draft, random);
     draft
+}
+
+/// Gives a draft with an input such a circuit of one to three output leaves.
+pub fn decide(draft: &mut Draft, random: &mut Random) {
+    let (input, output) = (draft.input(), split(draft, random.range(1, 3), random));
+    let root = Decider { draft, input, random }.of_type(output);
+    draft.set_root(root);
+    share(draft, random);
+    label(draft, random);
 }
 
 struct Decider<'a> {
