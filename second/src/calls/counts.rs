@@ -16,8 +16,14 @@
 //! `products` makes input types of a given product, `given_inputs` and `folds`
 //! random circuits on them, some on many leaves, and `circuits` those that are
 //! timed.
+//!
+//! `bench-count` times the archive's count and a plain loop in turn: the second
+//! simulator evaluates every input of a circuit that was read before. It fails
+//! where either gives other counters than those worked out by hand, or where the
+//! ratio of the medians is over the row's limit. It is no part of the gate.
 
 mod archive;
+mod bench;
 mod case;
 mod cases;
 mod circuits;
@@ -35,9 +41,10 @@ mod tally;
 #[cfg(test)]
 mod tests;
 
+use crate::frame::command::Command;
 use crate::frame::entry::{Call, Entry};
 
 pub const CALL: Call = Call {
     comparisons: &[Entry::of::<compare::Counts>()],
-    commands: &[],
+    commands: &[Command { name: "bench-count", parameters: "", run: bench::command }],
 };

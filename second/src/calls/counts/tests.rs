@@ -10,6 +10,7 @@ use crate::layout::sheet;
 use crate::random::Random;
 use crate::records::{bytes, read, A};
 use crate::samples::{self, from_words};
+use crate::simulator::{self, run};
 
 /// The code, the place and the counters.
 fn counted(sheet: &[u8], leaf: usize) -> (u8, u32, Counters) {
@@ -213,11 +214,9 @@ fn of_timed_circuits() {
     }
 }
 
-/// The second of the two bits that a multiplexer chooses from: with the last
-/// bit hi the first bit shows, else the third.
+/// With the last bit hi the first bit shows, else the third.
 #[test]
 fn multiplexers_choose() {
-    use crate::simulator::{self, run};
     let sheet = multiplexer(2, [3, 0, 2]);
     let shown = |stimulus: &[u8]| {
         let call = simulator::Call {
