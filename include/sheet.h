@@ -13,6 +13,8 @@
  *         What would it put out for one cycle, without taking it?
  *     struct sheet_pressed sheet_press(sheet, sheet_length, stim, stim_length, leaf)
  *         Which change of one input leaf alters this output leaf in one cycle?
+ *     struct sheet_counts sheet_count(sheet, sheet_length, leaf)
+ *         How many inputs of one cycle give each value of this output leaf?
  *     uint64_t sheet_translate(text, text_length, sheet, sheet_length)
  *         What is the sheet of a circuit typed with names?
  *
@@ -44,7 +46,7 @@
  *     cc -Iinclude host.c target/staticlib/libsheets.a
  *
  * examples/check.c, examples/run.c, examples/carry.c, examples/fired.c, examples/preview.c,
- * examples/press.c and examples/translate.c are whole hosts.
+ * examples/press.c, examples/count.c and examples/translate.c are whole hosts.
  */
 #ifndef SHEET_H
 #define SHEET_H
@@ -61,11 +63,11 @@ extern "C" {
  * be, the second where a call or a code is added, the third where neither is so.
  */
 #define SHEET_VERSION_MAJOR 1
-#define SHEET_VERSION_MINOR 6
+#define SHEET_VERSION_MINOR 7
 #define SHEET_VERSION_PATCH 0
 
 /* The same as text, and as one number to compare: 1.2.3 is 10203. */
-#define SHEET_VERSION "1.6.0"
+#define SHEET_VERSION "1.7.0"
 #define SHEET_VERSION_NUMBER (SHEET_VERSION_MAJOR * 10000 + SHEET_VERSION_MINOR * 100 + SHEET_VERSION_PATCH)
 
 /* The most records that a sheet may have. */
@@ -82,6 +84,9 @@ extern "C" {
 
 /* The most bytes that a run puts out: 65,535 cycles of 64 leaves. */
 #define SHEET_LONGEST_OUTPUT 4194240
+
+/* The most fully defined inputs of one cycle that are counted. */
+#define SHEET_MOST_INPUTS 65536
 
 /* The most bytes that a text may have. */
 #define SHEET_LONGEST_TEXT 65535
@@ -141,9 +146,9 @@ enum sheet_code {
     /* The lowest delay whose label a lower-numbered delay of the same sheet bears; the old sheet is searched first. */
     SHEET_LABEL_TWICE = 19,
 
-    /* Place 0. Kept for a call that goes through all inputs of a sheet: no call gives it yet. */
+    /* Of sheet_count: place 0. */
     SHEET_TOO_MANY_INPUTS = 20,
-    /* Of sheet_press: the number of output leaves. */
+    /* Of sheet_press and sheet_count: the number of output leaves. */
     SHEET_NO_OUTPUT_LEAF = 21
 };
 
@@ -359,6 +364,55 @@ struct sheet_pressed {
  */
 struct sheet_pressed sheet_press(const uint8_t *sheet, size_t sheet_length, const uint8_t *stim,
                                  size_t stim_length, size_t leaf);
+
+/*
+ * The stack need of the count, the struct that it returns among it, measured as the check's and
+ * bounded as the run's: besides, at most 16 leaves of an input have two constructors or more.
+ */
+#define SHEET_COUNT_STACK 131072
+
+/*
+ * What sheet_count returns, 1,032 bytes: the result, and a counter for each byte that a leaf can
+ * be, 0 to 255. On a refusal every counter is 0.
+ */
+struct sheet_counts {
+    uint64_t result;
+    uint32_t counters[256];
+};
+
+/*
+ * The count: how many fully defined inputs lead an output leaf to each value in one cycle. It
+ * begins with the check. Codes 0 to 7, 20 and 21, and 0 at place 0.
+ *
+ * `leaf` is the number of an output leaf, counted from 0. An input is fully defined if each of its
+ * leaves is a constructor of its type, 1 up to their number; none is 0. There are as many such
+ * inputs as the constructor counts of the input's leaves give, multiplied. Over SHEET_MOST_INPUTS
+ * of them are refused by 20, whether or not the output leaf depends on every input leaf. Any `leaf`
+ * is a good call: a number that no output leaf has is refused by 21, after 20, and its place is the
+ * number of output leaves.
+ *
+ * On success counters[c] is the number of fully defined inputs for which sheet_preview shows c at
+ * the output leaf. counters[0] is the number of those that leave it undefined, which a constant, a
+ * delay or a feedback may do. Each such input is counted once, so that the counters add up to the
+ * number of inputs; those above the constructor count of the output leaf are 0. The sheet is only
+ * read, and delays hold what they hold in the sheet.
+ *
+ * A call may take long. Where the output leaf is defined before all input leaves are, one evaluation
+ * of the cycle counts all inputs that go on from there; where it is not, each input is evaluated by
+ * itself. There are at most 83,309 evaluations, and each may be as long as a preview. That is long
+ * where feedbacks lie in each other: with three of 64 leaves, 1,539 records in all, a preview took
+ * 0.8 seconds of processor time, and the count of the two inputs of that sheet 1.6. docs/SHEETS.md,
+ * Counting inputs, has the commands.
+ *
+ *     struct sheet_counts counts = sheet_count(sheet, length, 0);
+ *     if (sheet_code_of(counts.result) != SHEET_DONE)
+ *         printf("%s\n", sheet_sentence(sheet_code_of(counts.result)));
+ *     else
+ *         for (unsigned value = 0; value < 256; value++)
+ *             if (counts.counters[value] != 0)
+ *                 printf("%u: %u inputs\n", value, (unsigned)counts.counters[value]);
+ */
+struct sheet_counts sheet_count(const uint8_t *sheet, size_t sheet_length, size_t leaf);
 
 /*
  * The translation's stack need, measured as the check's, by host/text_stack.c on the deepest and the widest texts. It is far more than

@@ -18,6 +18,7 @@ calls! {
     pub mod previews;
     pub mod firings;
     pub mod presses;
+    pub mod counts;
     pub mod carries;
     pub mod texts;
 }

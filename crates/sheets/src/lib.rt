@@ -7,8 +7,11 @@ ghost use Rattle.carry.specs.Carry.{CarryGiven};
 ghost use Rattle.firing.specs.Telling.{ToldFired};
 ghost use Rattle.preview.specs.Preview.{Previewed};
 ghost use Rattle.press.specs.Press.{PressGiven};
+ghost use Rattle.counting.specs.Counting.{CountGiven};
 ghost use Rattle.translator.specs.Translated.{TranslatedInOne};
 use carry::carry;
+use counting::Counts;
+use counting::count_inputs;
 use firing::fired_of;
 use press::Pressed;
 use press::press_of;
@@ -63,6 +66,15 @@ pub extern "C" fn sheet_press(sheet: &[u8], stim: &[u8], leaf: usize) -> Pressed
     ensures { λ r. ⌜ PressGiven (now (sheet .entry)) (now (stim .entry)) leaf (r .result) (r .found) (r .leaf) (r .constructor) ⌝ }
 {
     press_of(sheet, stim, leaf)
+}
+
+// How many fully defined inputs of one cycle give each value of an output leaf: the answer's code times 2^32, plus its place; and the
+// counters.
+#[no_mangle]
+pub extern "C" fn sheet_count(sheet: &[u8], leaf: usize) -> Counts
+    ensures { λ r. ⌜ CountGiven (now (sheet .entry)) leaf (r .result) (r .counters) ⌝ }
+{
+    count_inputs(sheet, leaf)
 }
 
 // The translation of a text into a sheet: the code times 2^32, plus the place.
