@@ -9,6 +9,7 @@ pub mod lender;
 pub mod memory;
 pub mod options;
 pub mod plan;
+pub mod program;
 pub mod report;
 pub mod tally;
 #[cfg(test)]

@@ -2,9 +2,9 @@
 //! with the program `sheetrun`, and times both.
 
 pub mod archive;
-mod bench;
-mod case;
-mod cases;
+pub mod bench;
+pub mod case;
+pub mod cases;
 mod comparison;
 pub mod faults;
 mod good_calls;
@@ -12,14 +12,15 @@ mod jobs;
 mod late;
 pub mod mistakes;
 mod ordered;
-mod program;
+pub mod program;
 mod relabelled;
 mod rules;
-mod tally;
+pub mod tally;
 mod wrong_steps;
 
 use crate::frame::command::Command;
 use crate::frame::entry::{Call, Entry};
+use crate::frame::program::Programs;
 
 pub const CALL: Call = Call {
     comparisons: &[
@@ -27,7 +28,7 @@ pub const CALL: Call = Call {
         Entry::of::<ordered::Ordered<late::Late>>(),
         Entry::of::<ordered::Ordered<rules::Rules>>(),
         Entry::of::<ordered::Ordered<relabelled::Relabelled>>(),
-        Entry::of::<program::Program>(),
+        Entry::of::<Programs<program::Sheetrun>>(),
     ],
     commands: &[Command { name: "bench-run", parameters: "[PROGRAM FOLDER]", run: bench::command }],
 };

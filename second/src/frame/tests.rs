@@ -1,7 +1,10 @@
-//! The frame, on a comparison of numbers that calls no archive.
+//! The frame, on comparisons of numbers and of a script that call no archive.
+
+use std::collections::BTreeMap;
 
 use super::comparison::{Comparer, Comparison, Ended, Halt};
 use super::plan::{self, ALIKE, DIFFERENCE, NOT_SEEN, UNMET};
+use super::program::{Done, Folder, Program, Programs};
 use super::tally::{Quota, Tally};
 use crate::random::Random;
 
@@ -159,4 +162,90 @@ fn quotas_ask_for_a_number_and_for_hits() {
     let mut twice = tally.clone();
     twice.merge(&tally);
     assert_eq!((twice.got("aimed"), twice.got("never counted")), (16, 0));
+}
+
+/// What is wrong with a program that prints its sheet.
+#[derive(Clone, Copy)]
+enum Misprint {
+    /// It prints something else.
+    Other,
+    /// It writes a file.
+    Writes,
+}
+
+/// A program that prints its sheet and writes nothing.
+struct Prints;
+
+impl Program for Prints {
+    type Mistake = Misprint;
+
+    const NAME: &'static str = "prints";
+    const FILES: &'static [&'static str] = &["sheet.bin", "next.bin"];
+    const MISTAKES: &'static [(&'static str, Misprint)] =
+        &[("other", Misprint::Other), ("writes", Misprint::Writes)];
+
+    fn folders(random: &mut Random) -> Vec<Folder> {
+        let folder = |k: usize| {
+            let mut files = BTreeMap::from([("sheet.bin", k.to_string().into_bytes())]);
+            files.extend(random.one_in(2).then(|| ("next.bin", b"old".to_vec())));
+            Folder { source: k.to_string(), files }
+        };
+        (0..1000).map(folder).collect()
+    }
+
+    fn done(folder: &Folder, mistake: Option<Misprint>) -> Done {
+        let sheet = folder.file("sheet.bin").unwrap_or_default();
+        let mut printed = String::from_utf8_lossy(sheet).into_owned();
+        if matches!(mistake, Some(Misprint::Other)) {
+            printed.push(' ');
+        }
+        let writes = matches!(mistake, Some(Misprint::Writes));
+        let written = writes.then(|| ("next.bin", b"new".to_vec()));
+        Done { printed, written, counts: Vec::new() }
+    }
+
+    fn quotas() -> Vec<Quota> {
+        Vec::new()
+    }
+}
+
+/// A program is to print what is expected and to leave the files that are, and
+/// no others.
+#[cfg(unix)]
+#[test]
+fn programs_in_a_folder() {
+    use std::os::unix::fs::PermissionsExt;
+    let work = std::env::temp_dir().join(format!("second-{}", std::process::id()));
+    let compared = |name: &str, script: &str, mistake: &[&str]| {
+        let (program, folder) = (work.join(name), work.join("in"));
+        let written = std::fs::create_dir_all(&work)
+            .and_then(|()| std::fs::write(&program, format!("#!/bin/sh\n{script}\n")))
+            .and_then(|()| {
+                std::fs::set_permissions(&program, std::fs::Permissions::from_mode(0o755))
+            });
+        assert!(written.is_ok());
+        let [program, folder] = [program, folder].map(|path| path.display().to_string());
+        let words = [&[program.as_str(), folder.as_str(), "--sheets", "20"], mistake].concat();
+        let status = plan::run::<Programs<Prints>>(&words);
+        let removed = std::fs::remove_dir_all(&work);
+        assert!(removed.is_ok());
+        status
+    };
+    let right = "cat sheet.bin";
+    assert_eq!(compared("right", right, &[]), Some(ALIKE));
+    assert_eq!(compared("other", right, &["--mistake", "other"]), Some(DIFFERENCE));
+    assert_eq!(compared("writes", right, &["--mistake", "writes"]), Some(DIFFERENCE));
+    let wrong = [
+        "printf 0",
+        "cat sheet.bin; : >stray",
+        "cat sheet.bin; echo >next.bin",
+        "cat sheet.bin; rm sheet.bin",
+        "cat sheet.bin; echo >&2",
+        "cat sheet.bin; exit 1",
+    ];
+    for (k, script) in wrong.into_iter().enumerate() {
+        assert_eq!(compared(&format!("wrong-{k}"), script, &[]), Some(DIFFERENCE), "{script}");
+    }
+    // There is no such program.
+    assert_eq!(plan::run::<Programs<Prints>>(&["no-program", "no-folder"]), Some(NOT_SEEN));
 }

@@ -22,7 +22,7 @@ const TIME: Duration = Duration::from_millis(1500);
 
 /// The sheets, the cycles they are timed on, and whether the program is timed
 /// on them too.
-const SHEETS: [(&str, usize, bool); 7] = [
+pub const SHEETS: [(&str, usize, bool); 7] = [
     ("T", LONGEST_STIMULUS, true),
     ("T-64-times", LONGEST_STIMULUS / 64, true),
     ("random-4000", 200, true),
@@ -33,7 +33,7 @@ const SHEETS: [(&str, usize, bool); 7] = [
 ];
 
 /// A sheet with a stimulus of so many cycles.
-fn case_of(name: &str, cycles: usize) -> Option<Case> {
+pub fn case_of(name: &str, cycles: usize) -> Option<Case> {
     let sheet = shapes::named(name)?;
     let frame = Frame::of(&sheet)?;
     Some(good(name, sheet, &frame, cycles, &mut Random::new(4)))

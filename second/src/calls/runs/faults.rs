@@ -1,16 +1,52 @@
 //! Calls with faults: in the sheet, the stimulus or a slice's length.
 
 use super::case::Case;
-use super::cases::Frame;
+use super::cases::{few_cycles, good, Frame};
 use super::tally;
-use crate::answers::{WRONG_INPUT, WRONG_LENGTH, WRONG_OUTPUT_LENGTH, WRONG_STIMULUS};
+use crate::answers::{
+    ILL_TYPED, WRONG_INPUT, WRONG_LENGTH, WRONG_NEXT_LENGTH, WRONG_OUTPUT_LENGTH, WRONG_STIMULUS,
+};
 use crate::draft::Draft;
 use crate::faults::category::{faulty, Category};
 use crate::fuzz;
+use crate::generate::mixed::for_faults;
 use crate::layout::sheet;
 use crate::random::Random;
 use crate::records::{MAX_RECORDS, RECORD_BYTES};
 use crate::stimulus::LONGEST_STIMULUS;
+
+/// A call of some cycles that keeps every rule, for faults to be put into.
+fn whole_call(draft: &Draft, random: &mut Random) -> Option<(Case, Frame)> {
+    let sheet = sheet(draft, random);
+    let frame = Frame::of(&sheet)?;
+    let cycles = few_cycles(random).max(1);
+    Some((good("one call", sheet, &frame, cycles, random), frame))
+}
+
+/// A call with faults of some codes; the ways in which those from 8 on were
+/// made. The faults of higher codes are made first.
+pub fn broken(
+    codes: &[u8],
+    categories: &[Category],
+    random: &mut Random,
+) -> Option<(Case, Vec<&'static str>)> {
+    let draft = for_faults(random);
+    let (mut case, frame) = whole_call(&draft, random)?;
+    for &code in codes.iter().filter(|&&code| code <= ILL_TYPED) {
+        let (name, sheet) = break_sheet(&draft, code, categories, random)?;
+        case.next_length = sheet.len();
+        case.sheet = sheet;
+        case.source = name;
+    }
+    let mut ways = Vec::new();
+    let about_call = [WRONG_INPUT, WRONG_STIMULUS, WRONG_OUTPUT_LENGTH, WRONG_NEXT_LENGTH];
+    for code in about_call.into_iter().filter(|code| codes.contains(code)) {
+        let way = break_call(&mut case, code, &frame, random)?;
+        case.source = format!("{}; {way}", case.source);
+        ways.push(way);
+    }
+    Some((case, ways))
+}
 
 /// A sheet of a circuit, broken in one way of a code from 1 to 7; none if the
 /// circuit has no place for it.

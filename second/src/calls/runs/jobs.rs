@@ -1,15 +1,12 @@
 //! The parts of the comparison. The fixed sheets come first, then shards of
 //! the random ones.
 
-use super::case::{Case, Runs};
+use super::case::Runs;
 use super::cases::{few_cycles, good, Frame};
-use super::faults::{break_call, break_sheet};
+use super::faults::broken;
 use super::good_calls::{compare_good, several};
 use super::tally::{self, two_codes, QUOTAS};
-use crate::answers::{
-    ILL_TYPED, WRONG_INPUT, WRONG_LENGTH, WRONG_NEXT_LENGTH, WRONG_OUTPUT_LENGTH, WRONG_STIMULUS,
-};
-use crate::draft::Draft;
+use crate::answers::{WRONG_LENGTH, WRONG_NEXT_LENGTH};
 use crate::faults::category::Category;
 use crate::frame::comparison::{self, Ended, SHARDS, TRIES};
 use crate::frame::tally::{laid_out, least, of_codes};
@@ -118,39 +115,6 @@ fn accepted(to: &mut Comparer, sheets: u64, random: &mut Random) -> Ended {
         made += u64::from(several(&case, &frame));
     }
     Ok(())
-}
-
-/// A call of some cycles that keeps every rule, for faults to be put into.
-fn whole_call(draft: &Draft, random: &mut Random) -> Option<(Case, Frame)> {
-    let sheet = sheet(draft, random);
-    let frame = Frame::of(&sheet)?;
-    let cycles = few_cycles(random).max(1);
-    Some((good("one call", sheet, &frame, cycles, random), frame))
-}
-
-/// A call with faults of some codes; the ways in which those from 8 on were
-/// made. The faults of higher codes are made first.
-pub fn broken(
-    codes: &[u8],
-    categories: &[Category],
-    random: &mut Random,
-) -> Option<(Case, Vec<&'static str>)> {
-    let draft = for_faults(random);
-    let (mut case, frame) = whole_call(&draft, random)?;
-    for &code in codes.iter().filter(|&&code| code <= ILL_TYPED) {
-        let (name, sheet) = break_sheet(&draft, code, categories, random)?;
-        case.next_length = sheet.len();
-        case.sheet = sheet;
-        case.source = name;
-    }
-    let mut ways = Vec::new();
-    let about_call = [WRONG_INPUT, WRONG_STIMULUS, WRONG_OUTPUT_LENGTH, WRONG_NEXT_LENGTH];
-    for code in about_call.into_iter().filter(|code| codes.contains(code)) {
-        let way = break_call(&mut case, code, &frame, random)?;
-        case.source = format!("{}; {way}", case.source);
-        ways.push(way);
-    }
-    Some((case, ways))
 }
 
 /// Each code in turn, until every way to break a rule has enough.

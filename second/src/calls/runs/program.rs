@@ -1,19 +1,14 @@
-//! Compares the program `sheetrun` with the second simulator: what it prints,
-//! and what becomes of `next.bin`.
+//! The program `sheetrun`: what it prints, and what becomes of `next.bin`.
 
-use std::io;
-use std::path::{Path, PathBuf};
-use std::process::{Command, Stdio};
+use std::collections::BTreeMap;
 
 use super::case::Case;
 use super::cases::{few_cycles, good, Frame};
-use super::jobs::broken;
+use super::faults::broken;
 use super::mistakes::{run, RunMistake};
 use crate::answers::{self, WRONG_INPUT, WRONG_LENGTH};
 use crate::faults::categories;
-use crate::faults::category::Category;
-use crate::frame::comparison::{Comparer, Comparison, Ended, Halt};
-use crate::frame::report::{self, hex};
+use crate::frame::program::{Done, Folder, Program};
 use crate::frame::tally::Quota;
 use crate::fuzz::random_bytes;
 use crate::generate::circuits::circuit;
@@ -33,57 +28,15 @@ const NO_CYCLES: &str = "accepted sheets with no cycles";
 /// The most bytes of an old next sheet, over those of any sheet.
 const LONGEST_OLD: usize = 60_000;
 
-/// The program, and the folder that it is run in.
-pub struct Program {
-    path: PathBuf,
-    folder: PathBuf,
-}
+pub const SHEET: &str = "sheet.bin";
+pub const STIMULUS: &str = "stim.bin";
+pub const NEXT: &str = "next.bin";
 
-impl Program {
-    /// What the program prints for a sheet and a stimulus, and what stands in
-    /// next.bin then, if there was something in it before or not.
-    fn run(&self, case: &Case, old: Option<&[u8]>) -> io::Result<(Vec<u8>, Option<Vec<u8>>)> {
-        let next = self.folder.join("next.bin");
-        let _ = std::fs::remove_file(&next);
-        std::fs::write(self.folder.join("sheet.bin"), &case.sheet)?;
-        std::fs::write(self.folder.join("stim.bin"), &case.stimulus)?;
-        if let Some(old) = old {
-            std::fs::write(&next, old)?;
-        }
-        let mut command = Command::new(&self.path);
-        let output = command.current_dir(&self.folder).stdin(Stdio::null()).output()?;
-        if !output.status.success() || !output.stderr.is_empty() {
-            return Err(io::Error::other(format!("{:?}", output)));
-        }
-        Ok((output.stdout, next.exists().then(|| std::fs::read(&next)).transpose()?))
-    }
-
-    /// Compares with the second simulator; the code, or what differs.
-    fn compare(
-        &self,
-        case: &Case,
-        old: Option<Vec<u8>>,
-        mistake: Option<RunMistake>,
-    ) -> Result<u8, String> {
-        let (code, text, next) =
-            match printout_of(|call| run(call, mistake), &case.sheet, &case.stimulus) {
-                Ok((text, next)) => (answers::ACCEPTED, text, Some(next)),
-                Err(answer) => (answer.code, refusal_line(answer), old.clone()),
-            };
-        let (printed, left) = self.run(case, old.as_deref()).map_err(|error| error.to_string())?;
-        if printed != text.as_bytes() {
-            let printed = String::from_utf8_lossy(&printed).into_owned();
-            return Err(format!("second prints:\n{text}the program prints:\n{printed}"));
-        }
-        if left != next {
-            return Err("next.bin is not as expected".to_string());
-        }
-        Ok(code)
-    }
-}
+/// The program that runs a sheet.
+pub struct Sheetrun;
 
 /// A call that is accepted: few cycles, seldom as many as there can be.
-fn accepted(random: &mut Random) -> Option<Case> {
+pub fn accepted(random: &mut Random) -> Option<Case> {
     let draft = match random.below(10) {
         0 => network(random),
         1..=4 => small(random),
@@ -97,33 +50,22 @@ fn accepted(random: &mut Random) -> Option<Case> {
     Some(good("accepted", sheet, &frame, cycles, random))
 }
 
-/// The calls, by how many there are of each code.
-fn cases(categories: &[Category], random: &mut Random) -> Vec<Case> {
-    let mut cases = Vec::new();
-    while (cases.len() as u64) < ACCEPTED {
-        cases.extend(accepted(random));
-    }
-    for code in WRONG_LENGTH..=WRONG_INPUT {
-        let least = cases.len() + PER_CODE as usize;
-        while cases.len() < least {
-            cases.extend(broken(&[code], categories, random).map(|(case, _)| case));
-        }
-    }
-    cases
+/// In one folder of two, what an earlier run left.
+pub fn old_next(random: &mut Random) -> Option<Vec<u8>> {
+    let length = random.below(LONGEST_OLD);
+    random.one_in(2).then(|| random_bytes(length, random))
 }
 
-impl Comparison for Program {
-    type Mistake = RunMistake;
-    /// All of it: the program runs in one folder.
-    type Job = ();
+/// The name of the count of sheets with a code.
+pub fn of_code(code: u8) -> String {
+    format!("sheets with code {code}")
+}
 
-    const COMMAND: &'static str = "sheetrun";
-    const PARAMETERS: &'static [&'static str] = &["PROGRAM", "FOLDER"];
-    const CALLS: &'static [&'static str] = &[];
-    const WHAT: &'static str = "sheets";
-    const CASES: &'static str = "--sheets";
-    const LEAST: u64 = 1_000;
-    const ROOMS: &'static [usize] = &[];
+impl Program for Sheetrun {
+    type Mistake = RunMistake;
+
+    const NAME: &'static str = "sheetrun";
+    const FILES: &'static [&'static str] = &[SHEET, STIMULUS, NEXT];
     const MISTAKES: &'static [(&'static str, RunMistake)] = &[
         ("undefined-everywhere", RunMistake::UndefinedEverywhere),
         ("copy-sheet", RunMistake::CopySheet),
@@ -131,46 +73,49 @@ impl Comparison for Program {
         ("empty-refused", RunMistake::EmptyRefused),
     ];
 
-    fn new(parameters: &[&str]) -> Result<Self, String> {
-        let [program, folder] = parameters else { unreachable!("two parameters") };
-        let path =
-            Path::new(program).canonicalize().map_err(|_| format!("no program {program}"))?;
-        std::fs::create_dir_all(folder).map_err(|error| format!("{folder}: {error}"))?;
-        Ok(Program { path, folder: folder.into() })
-    }
-
-    fn jobs(&self) -> Vec<()> {
-        vec![()]
-    }
-
-    fn work(&self, _: &(), to: &mut Comparer<Self>, _: &mut Random) -> Ended {
-        let mut random = Random::new(to.seed);
-        for case in cases(&categories(), &mut random) {
-            to.go_on()?;
-            let length = random.below(LONGEST_OLD);
-            let old = random.one_in(2).then(|| random_bytes(length, &mut random));
-            let code = self.compare(&case, old, to.mistake).map_err(|what| {
-                let Case { source, sheet, stimulus, .. } = &case;
-                let (found, sheet, stimulus) = (report::FOUND, hex(sheet), hex(stimulus));
-                Halt::Difference(format!(
-                    "{found}, in: {source}\nsheet: {sheet}\nstimulus: {stimulus}\n{what}\n"
-                ))
-            })?;
-            to.tally.compared += 1;
-            to.tally.add(&format!("sheets with code {code}"), 1);
-            let of_none = code == answers::ACCEPTED && case.stimulus.is_empty();
-            to.tally.add_if(NO_CYCLES, of_none);
+    /// By how many there are of each code.
+    fn folders(random: &mut Random) -> Vec<Folder> {
+        let categories = categories();
+        let mut cases = Vec::new();
+        while (cases.len() as u64) < ACCEPTED {
+            cases.extend(accepted(random));
         }
-        Ok(())
+        for code in WRONG_LENGTH..=WRONG_INPUT {
+            let least = cases.len() + PER_CODE as usize;
+            while cases.len() < least {
+                cases.extend(broken(&[code], &categories, random).map(|(case, _)| case));
+            }
+        }
+        let folder = |Case { source, sheet, stimulus, .. }| {
+            let mut files = BTreeMap::from([(SHEET, sheet), (STIMULUS, stimulus)]);
+            files.extend(old_next(random).map(|old| (NEXT, old)));
+            Folder { source, files }
+        };
+        cases.into_iter().map(folder).collect()
     }
 
-    fn quotas(&self) -> Vec<Quota> {
-        let of_code = |code: u8| {
+    fn done(folder: &Folder, mistake: Option<RunMistake>) -> Done {
+        let [sheet, stimulus] = [SHEET, STIMULUS].map(|name| folder.file(name).unwrap_or_default());
+        match printout_of(|call| run(call, mistake), sheet, stimulus) {
+            Ok((printed, next)) => {
+                let no_cycles = stimulus.is_empty().then(|| NO_CYCLES.to_string());
+                let counts = [of_code(answers::ACCEPTED)].into_iter().chain(no_cycles).collect();
+                Done { printed, written: Some((NEXT, next)), counts }
+            }
+            Err(answer) => {
+                let counts = vec![of_code(answer.code)];
+                Done { printed: refusal_line(answer), written: None, counts }
+            }
+        }
+    }
+
+    fn quotas() -> Vec<Quota> {
+        let quota = |code: u8| {
             // Some circuits have no place for a fault that shows.
             let least = if code == answers::ACCEPTED { ACCEPTED } else { PER_CODE * 2 / 3 };
-            Quota::new(format!("sheets with code {code}"), least)
+            Quota::new(of_code(code), least)
         };
-        let mut quotas: Vec<Quota> = (answers::ACCEPTED..=WRONG_INPUT).map(of_code).collect();
+        let mut quotas: Vec<Quota> = (answers::ACCEPTED..=WRONG_INPUT).map(quota).collect();
         quotas.push(Quota::new(NO_CYCLES, OF_NO_CYCLES));
         quotas
     }

@@ -4,7 +4,7 @@
 
 use super::case::Case;
 use super::cases::any;
-use super::jobs::broken;
+use super::faults::broken;
 use super::mistakes::RunMistake;
 use super::ordered::{Pair, Pairs};
 use crate::answers::{Answer, WRONG_NEXT_LENGTH, WRONG_RECORD};
