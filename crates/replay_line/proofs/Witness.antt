@@ -1,0 +1,22 @@
+-- The lines for the sheet T, by computation.
+-- Assumes nothing.
+use mathlib.Core.Path.{refl}
+use Rattle.records.specs.Words.{word, count}
+use Rattle.records.specs.Kinds.{rowOf, kindOf, askOf}
+use Rattle.records.specs.Says.{wellSaid, namings}
+use Rattle.records.specs.Trees.{typeWithin, typeAt, pairOf, chainWithin, chain, alternativesWithin, alternatives, treeWithin, treeAt, circuit}
+use Rattle.structure.specs.Rules.{ancestryWithin, ancestry, depth, nesting, wrongLength, wrongHeader, wrongRecord, wrongNaming, wrongType, tooDeep}
+use Rattle.meaning.specs.Undecided.{undecidedRule}
+use Rattle.meaning.specs.Evaluation.{eval, next}
+use Rattle.stimulus.specs.Stimulus.{cycles, wrongStimulus, wrongByte}
+use Rattle.behaviour.specs.Terms.{circuitTerm}
+use Rattle.behaviour.specs.Sheets.{write}
+use Rattle.behaviour.specs.Cycle.{outputBy, afterBy}
+use Rattle.listing.specs.Digits.{digits}
+use Rattle.replay.specs.Replay.{finding, replayAnswer}
+use Rattle.replay_line.specs.ReplayLine.{replayPrinted}
+use Rattle.replay_line.specs.Promises.{ToggleReplayed}
+
+pub toggle-replayed : ToggleReplayed
+unfolding replayPrinted digits replayAnswer finding cycles wrongLength wrongHeader wrongRecord wrongNaming wrongType tooDeep depth nesting ancestry ancestryWithin circuit treeAt treeWithin alternatives alternativesWithin chain chainWithin pairOf typeAt typeWithin namings wellSaid askOf kindOf rowOf word count wrongStimulus wrongByte eval next undecidedRule circuitTerm write outputBy afterBy
+toggle-replayed = (refl, refl, refl, refl, refl)
