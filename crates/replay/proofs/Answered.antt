@@ -1,12 +1,10 @@
--- The answer of a replay: that of a run whose output slice is as long as the record, with 17 where the run says 10. And what each way
--- out of the call gives.
+-- The answer of a replay: that of a run whose output slice is as long as the record, with 17 where
+-- the run says 10. And what each way out of the call gives.
 -- Assumes nothing.
-use Prim.Native.Nat.{ℕ, _*_, _≤_, _<_, _^_}
-use mathlib.Core.Bool.{Bool, true, false, not}
-use mathlib.Core.List.{List, [], _∷_, _++_, map}
+use Prim.Native.Nat.{ℕ, _*_, _<_, _^_}
+use mathlib.Core.List.{List, [], _∷_, map}
 use mathlib.Core.Option.{Option, none, some}
 use mathlib.Core.Path.{_≡_, refl, sym, ap, subst, _∙_}
-use mathlib.Core.Logic.{_≢_}
 use native.Mathlib.Omega.{arith}
 use lib.ListN.{length, getD}
 use lib.Dec.{eqb}
@@ -22,7 +20,6 @@ use Rattle.answers.specs.declared.Verdict.{Verdict}
 use Rattle.answers.specs.declared.Verdict.the-variants.{Accepted}
 use Rattle.answers.specs.declared.Verdict.the-variants as Verdicts
 use Rattle.accepted.specs.Accepting.{Accepting}
-use Rattle.accepted.proofs.Calls.{accepted-output}
 use Rattle.accepted.proofs.Laws.{Refusing, refusing-answer, first-accepted}
 use Rattle.meaning.specs.Undecided.{undecidedRule}
 use Rattle.stimulus.specs.Stimulus.{cycleCount, cycles, wrongStimulus, wrongByte, stimulusChecks}

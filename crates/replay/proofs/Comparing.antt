@@ -1,17 +1,18 @@
--- Values compared leaf by leaf, and what is found in more and more cycles: a cycle that differs is found, and then stays what is found.
+-- Values compared leaf by leaf, and what is found in more and more cycles: a cycle that differs is
+-- found, and then stays what is found.
 -- Assumes nothing.
-use Prim.Native.Nat.{ℕ, zero, suc, _+_, _≤_, _-_}
+use Prim.Native.Nat.{ℕ, zero, suc, _+_, _-_}
 use mathlib.Core.Bool.{true, false}
 use mathlib.Core.List.{List}
 use mathlib.Core.Option.{Option, none, some}
-use mathlib.Core.Path.{_≡_, refl, sym, ap, _∙_}
+use mathlib.Core.Path.{_≡_, refl}
 use native.Mathlib.Omega.{arith}
 use native.Mathlib.Nat.{zero-add, suc-add}
 use lib.ListN.{getD}
 use borrow.Author.Tests.{eq-eqb, ne-eqb}
 use Rattle.behaviour.specs.Run.{outputLeaves}
 use Rattle.replay.specs.declared.Finding.the-variants.{Agrees, Differs}
-use Rattle.replay.specs.Replay.{outputOf, recordedOf, leafDiffers, lowestDiffering, orCycle, foundIn}
+use Rattle.replay.specs.Replay.{outputOf, recordedOf, leafDiffers, lowestDiffering, foundIn}
 
 module _ (v u : List ℕ) (l : ℕ) where
   pub leaf-differing : (getD v l 0 ≡ getD u l 0 → ⊥) → leafDiffers v u l ≡ true

@@ -1,9 +1,8 @@
--- Cycle after cycle: before cycle k no cycle was found to differ; the cycle is ready to be run, and what it is compared by is its own
--- outputs and its own part of the record.
+-- Cycle after cycle: before cycle k no cycle was found to differ; the cycle is ready to be run, and
+-- what it is compared by is its own outputs and its own part of the record.
 -- Assumes nothing.
 use Prim.Native.Nat.{ℕ, suc, _+_, _-_, _*_, _≤_, _<_}
 use mathlib.Core.List.{List}
-use mathlib.Core.Option.{Option, none, some}
 use mathlib.Core.Path.{_≡_, refl, sym, ap, _∙_}
 use native.Mathlib.Omega.{arith}
 use native.Mathlib.Numerals.{add-one}
@@ -36,9 +35,8 @@ use Rattle.stepper.proofs.BeforeCycle.{
   sheet-long,
   last-sheet,
 }
-use Rattle.replay.specs.declared.Finding.{Finding}
 use Rattle.replay.specs.declared.Finding.the-variants.{Agrees, Differs}
-use Rattle.replay.specs.Replay.{outputOf, recordedOf, leafDiffers, lowestDiffering, foundIn, finding}
+use Rattle.replay.specs.Replay.{leafDiffers, lowestDiffering, foundIn, finding}
 use Rattle.replay.specs.Replaying.{ReplayingCycle, ReplayedCycle, ReplayingCycles, ReplayedCycles}
 use Rattle.replay.proofs.Comparing.{InCycle, cycle-agrees, cycle-differs, found-stays}
 

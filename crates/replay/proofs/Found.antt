@@ -1,20 +1,19 @@
--- What is found says of each cycle before it that it agrees, and of the one found that it differs at the leaf found and at none lower;
--- and nothing else does. Parts that agree are the outputs' own bytes, and all parts together the record.
+-- What is found says of each cycle before it that it agrees, and of the one found that it differs
+-- at the leaf found and at none lower; and nothing else does. Parts that agree are the outputs' own
+-- bytes, and all parts together the record.
 -- Assumes nothing.
-use Prim.Native.Nat.{ℕ, zero, suc, _+_, _-_, _*_, _/_, _%_, _≤_, _<_}
-use mathlib.Core.Bool.{Bool, true, false, not}
-use mathlib.Core.List.{List, [], _∷_}
+use Prim.Native.Nat.{ℕ, zero, suc, _-_, _*_, _≤_, _<_}
+use mathlib.Core.Bool.{false}
+use mathlib.Core.List.{List, []}
 use mathlib.Core.Option.{Option, none, some}
 use mathlib.Core.Path.{_≡_, refl, sym, ap, subst, _∙_}
-use mathlib.Core.Logic.{_≢_}
 use native.Mathlib.Omega.{arith}
-use native.Mathlib.Decide.{ℕ-discrete, decLt}
+use native.Mathlib.Decide.{decLt}
 use native.Mathlib.Nat.{mul-le-mul-right}
-use lib.ListN.{length, getD, take, drop, length-drop}
+use lib.ListN.{length, getD, drop, length-drop}
 use lib.Seq.{ext-getD, length-take-le}
 use borrow.Author.Tests.{eqb-true, eqb-false, not-true, not-false}
 use lib.Dec.{eqb}
-use Rattle.answers.specs.Answers.{lowest}
 use Rattle.answers.proofs.Lowest.{at-or-below, lowest-none-fails, lowest-some-passes, lowest-is, lowest-none}
 use Rattle.meaning.specs.Undecided.{undecidedRule}
 use Rattle.meaning.proofs.UndecidedRule.{rule-lawful}
@@ -25,7 +24,7 @@ use Rattle.behaviour.specs.Run.{outputsBy, outputLeaves}
 use Rattle.behaviour.proofs.Run.{outputs-counted, outputs-typed}
 use Rattle.replay.specs.declared.Finding.{Finding}
 use Rattle.replay.specs.declared.Finding.the-variants.{Agrees, Differs}
-use Rattle.replay.specs.Replay.{outputOf, recordedOf, leafDiffers, lowestDiffering, orCycle, foundIn, finding}
+use Rattle.replay.specs.Replay.{outputOf, recordedOf, leafDiffers, orCycle, foundIn, finding}
 use Rattle.replay.specs.Promises.{FormedReplay, AgreesExactly, OneRecordAgrees, FirstDifference, DiffersExactly}
 use Rattle.replay.proofs.Comparing.{leaf-differing, leaf-agrees, InCycle}
 

@@ -1,26 +1,24 @@
--- Two parts of a shift, one after the other: the cycles and the recorded parts of the whole are those
--- of the first part and then those of the rest, and the rest's outputs are those from the sheet after
--- the first. So each cycle of the whole is compared as it is in its part.
+-- Two parts of a shift, one after the other: the cycles and the recorded parts of the whole are
+-- those of the first part and then those of the rest, and the rest's outputs are those from the
+-- sheet after the first. So each cycle of the whole is compared as it is in its part.
 -- Assumes nothing.
 use Prim.Native.Nat.{ℕ, zero, suc, _+_, _-_, _*_, _/_, _%_, _≤_, _<_}
 use mathlib.Core.Bool.{false}
 use mathlib.Core.List.{List, [], _∷_, _++_}
-use mathlib.Core.Option.{Option, none, some}
+use mathlib.Core.Option.{Option, none}
 use mathlib.Core.Path.{_≡_, refl, sym, ap, subst, _∙_}
 use native.Mathlib.Omega.{arith}
 use native.Mathlib.Decide.{decLt}
-use native.Mathlib.Nat.{zero-add, suc-add, mul-add-div-right, add-mul-mod-self-right, mul-div-cancel, div-add-mod', mul-le-mul-left, mul-le-mul-right}
+use native.Mathlib.Nat.{zero-add, suc-add, mul-add-div-right, add-mul-mod-self-right, div-add-mod'}
 use lib.ListN.{length, getD, take, drop, length-append, length-drop}
 use lib.Seq.{take-append-le, drop-append-le, getD-append-add}
-use lib.Dec.{eqb, ltb}
 use borrow.Author.Tests.{le-ltb, eq-eqb}
-use Rattle.picoella.specs.Language.{Ty, bounds, leaves}
+use Rattle.picoella.specs.Language.{leaves}
 use Rattle.records.specs.Words.{wordA}
-use Rattle.records.specs.Trees.{typeAt}
 use Rattle.records.specs.Rewritten.{Rewritten}
 use Rattle.records.proofs.Rewritten.{same-type}
 use Rattle.records.proofs.Types.{some-leaves}
-use Rattle.answers.specs.Answers.{lowest, whenDone}
+use Rattle.answers.specs.Answers.{lowest}
 use Rattle.answers.specs.declared.Answer.the-variants.{Done}
 use Rattle.answers.proofs.Lowest.{lowest-none, lowest-none-fails}
 use Rattle.verdict.specs.Verdict.{outputType, verdict}
@@ -40,10 +38,10 @@ use Rattle.behaviour.proofs.AfterRun.{run-only-delays, run-accepted}
 use Rattle.behaviour.proofs.Sheets.{only-leaves, header-same, accepted-written}
 use Rattle.replay.specs.declared.Finding.{Finding}
 use Rattle.replay.specs.declared.Finding.the-variants.{Agrees, Differs}
-use Rattle.replay.specs.Replay.{outputOf, recordedOf, lowestDiffering, finding, replayAnswer, whenAgreed, finalReplay}
-use Rattle.replay.specs.Promises.{FormedReplay, FrontAgrees, InParts, ReplayInParts}
+use Rattle.replay.specs.Replay.{outputOf, recordedOf, finding, replayAnswer, whenAgreed, finalReplay}
+use Rattle.replay.specs.Promises.{FormedReplay, FrontAgrees, ReplayInParts}
 use Rattle.replay.proofs.Comparing.{InCycle}
-use Rattle.replay.proofs.Found.{FoundUpTo, found-is, found-says, agrees-says}
+use Rattle.replay.proofs.Found.{FoundUpTo, found-is, found-says}
 use Rattle.replay.proofs.Answered.{formed-answer, replay-laws}
 
 -- an element of the first of two lists

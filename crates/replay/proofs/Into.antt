@@ -1,16 +1,13 @@
--- A replay on a copy of the sheet: the copy begins as the sheet, and where no cycle differs it is copied to the next slice.
+-- A replay on a copy of the sheet: the copy begins as the sheet, and where no cycle differs it is
+-- copied to the next slice.
 -- Assumes nothing.
-use Prim.Native.Nat.{ℕ, _*_}
+use Prim.Native.Nat.{ℕ}
 use mathlib.Core.List.{List, _++_}
-use mathlib.Core.Path.{_≡_, refl, sym, ap, _∙_}
+use mathlib.Core.Path.{_≡_, refl, sym, _∙_}
 use lib.ListN.{length, drop}
-use Rattle.meaning.specs.Undecided.{undecidedRule}
-use Rattle.stimulus.specs.Stimulus.{cycles}
-use Rattle.behaviour.specs.Run.{sheetAfter}
 use Rattle.evaluator.proofs.Frames.{put-whole}
 use Rattle.replay.specs.declared.Finding.{Finding}
 use Rattle.replay.specs.declared.Finding.the-variants.{Agrees, Differs}
-use Rattle.replay.specs.Replay.{finding, whenAgreed}
 use Rattle.replay.specs.Replaying.{ReplayingCycles, ReplayedCycles, ReplayingInto, ReplayedInto}
 
 module _ {s : List ℕ} {n : ℕ} {W stim recorded : List ℕ} {wi wo count : ℕ} {next : List ℕ}

@@ -1,4 +1,5 @@
--- One term of each promise of the front page, `specs/Promises.antt`. A promise without a term is refused here.
+-- One term of each promise of the front page, `specs/Promises.antt`. A promise without a term is
+-- refused here.
 -- Assumes nothing.
 use Rattle.replay.specs.Promises.{ReplayPromises}
 use Rattle.replay.proofs.Answered as Answered

@@ -1,6 +1,7 @@
--- A run and a replay of what it gave: the outputs agree, and with one byte changed they differ in that byte's cycle and leaf.
+-- A run and a replay of what it gave: the outputs agree, and with one byte changed they differ in
+-- that byte's cycle and leaf.
 -- Assumes nothing.
-use Prim.Native.Nat.{ℕ, zero, suc, _+_, _-_, _*_, _/_, _%_, _≤_, _<_}
+use Prim.Native.Nat.{ℕ, suc, _+_, _-_, _*_, _/_, _%_, _≤_, _<_}
 use mathlib.Core.List.{List, []}
 use mathlib.Core.Path.{_≡_, refl, sym, ap, _∙_}
 use mathlib.Core.Logic.{_≢_}
@@ -8,17 +9,15 @@ use native.Mathlib.Omega.{arith}
 use native.Mathlib.Nat.{div-add-mod', mod-lt, div-lt-iff-lt-mul, mul-le-mul-right}
 use lib.ListN.{length, getD, set, take, drop, length-set}
 use lib.Seq.{getD-take, getD-drop, getD-set-same, getD-set-other, drop-set-add, take-set-le}
-use Rattle.picoella.specs.Language.{leaves}
 use Rattle.records.specs.Trees.{typeAt}
 use Rattle.records.proofs.Types.{some-leaves}
-use Rattle.answers.specs.declared.Answer.{Answer}
 use Rattle.answers.specs.declared.Answer.the-variants.{Done}
 use Rattle.verdict.specs.Verdict.{outputType}
 use Rattle.accepted.proofs.Calls.{accepted-output}
 use Rattle.meaning.specs.Undecided.{undecidedRule}
 use Rattle.stimulus.specs.Stimulus.{cycleCount, endToEnd, cycles}
 use Rattle.stimulus.proofs.Pieces.{joined-at}
-use Rattle.behaviour.specs.Run.{outputsBy, sheetAfter, outputLeaves, outputNeeded, answer, finalOut, finalNext, RunGiven}
+use Rattle.behaviour.specs.Run.{outputsBy, sheetAfter, outputLeaves, outputNeeded, answer, finalOut}
 use Rattle.behaviour.specs.Afterwards.{WellFormed}
 use Rattle.behaviour.proofs.Answers.{run-laws}
 use Rattle.behaviour.proofs.Afterwards as After

@@ -1,5 +1,5 @@
--- What is promised of a replay: each promise a named type, and at the end the list of them. One term
--- of each stands in `proofs/Kept.antt`; the list wants them all.
+-- What is promised of a replay: each promise a named type, and at the end the list of them. One
+-- term of each stands in `proofs/Kept.antt`; the list wants them all.
 use Prim.Native.Nat.{ℕ, _+_, _/_, _%_, _<_}
 use mathlib.Core.Path.{_≡_}
 use mathlib.Core.Logic.{_↔_, _≢_}
@@ -64,14 +64,14 @@ AgreesExactly =
     → (n : ℕ) → finding s stim recorded ≡ Agrees n
     ↔ ((recorded ≡ endToEnd (outputsBy undecidedRule s (cycles s stim))) × (n ≡ cycleCount s stim))
 
--- So no two records of one shift agree.
+-- So no two different records of one shift agree.
 abbrev pub OneRecordAgrees : Type 0
 OneRecordAgrees =
     (s stim recorded other next : List ℕ) → FormedReplay s stim recorded next → FormedReplay s stim other next
     → (n m : ℕ) → finding s stim recorded ≡ Agrees n → finding s stim other ≡ Agrees m → recorded ≡ other
 
--- Such a record is a run of 000's rules, whose next sheet is the one that is left; and what is such a
--- run agrees.
+-- Such a record is a run of 000's rules, whose next sheet is the one that is left; and what is such
+-- a run agrees.
 abbrev pub AgreesByRules : Type 0
 AgreesByRules =
     (s stim recorded next : List ℕ) → FormedReplay s stim recorded next
@@ -101,7 +101,8 @@ NextAsRun =
     → (finalReplay s stim recorded next ≡ finalNext s stim out next) × (recorded ≡ finalOut s stim out next)
 
 -- A run and a replay, by what both calls give. Of whatever outputs a run gave, a replay with a next
--- slice of the right length says that they agree, in as many cycles, and leaves the run's next sheet;
+-- slice of the right length says that they agree, in as many cycles, and leaves the run's next
+-- sheet;
 abbrev pub OwnOutputsAgree : Type 0
 OwnOutputsAgree =
     (s stim out next : List ℕ) (n ran : ℕ) (out′ next′ : List ℕ) → RunGiven s stim out next ran out′ next′

@@ -1,6 +1,8 @@
--- Replaying a record (docs/SHEETS.md, "Replaying a record"): whether recorded outputs are those that the sheet makes for the stimulus,
--- and if not, "the first cycle whose outputs differ and its lowest differing leaf". The checks are those of a run, where 17, for recorded
--- outputs of another length, stands in the place of 10. Where nothing refuses, the answer is 0 at place 0, with what is found beside it.
+-- Replaying a record (docs/SHEETS.md, "Replaying a record"): whether recorded outputs are those
+-- that the sheet makes for the stimulus, and if not, "the first cycle whose outputs differ and its
+-- lowest differing leaf". The checks are those of a run, where 17, for recorded outputs of another
+-- length, stands in the place of 10. Where nothing refuses, the answer is 0 at place 0, with what
+-- is found beside it.
 use Prim.Native.Nat.{ℕ, zero, suc}
 use mathlib.Core.Path.{_≡_}
 use mathlib.Core.Bool.{Bool, not}
@@ -51,7 +53,8 @@ foundIn s stim recorded (suc k) =
 unfoldable pub finding : (sheet stimulus recorded : List ℕ) → Finding
 finding s stim recorded = foundIn s stim recorded (cycleCount s stim)
 
--- the checks after those of the sheet: 8 and 9, then 17 "recorded outputs not cycles × output leaves", then 11
+-- the checks after those of the sheet: 8 and 9, then 17 "recorded outputs not cycles × output
+-- leaves", then 11
 abbrev pub recordChecks : (sheet stimulus recorded next : List ℕ) → List Check
 recordChecks s stim recorded next =
     stimulusChecks s stim
@@ -66,8 +69,8 @@ replayChecks s stim recorded next = sheetChecks s ++ recordChecks s stim recorde
 unfoldable pub replayAnswer : (sheet stimulus recorded next : List ℕ) → Answer
 replayAnswer s stim recorded next = firstApplying (replayChecks s stim recorded next) (Done 0)
 
--- the numbers beside the answer: whether the record differs, the first differing cycle or else the cycles done, and its lowest
--- differing leaf; all 0 on a refusal
+-- the numbers beside the answer: whether the record differs, the first differing cycle or else the
+-- cycles done, and its lowest differing leaf; all 0 on a refusal
 abbrev pub differsGiven : Answer → Finding → ℕ
 differsGiven (Refused c p) f = 0
 differsGiven (Done p) (Agrees n) = 0
@@ -83,7 +86,8 @@ leafGiven (Refused c p) f = 0
 leafGiven (Done p) (Agrees n) = 0
 leafGiven (Done p) (Differs k l) = l
 
--- "An agreeing record leaves the same next sheet as a run; a differing one leaves the next slice unaltered"
+-- "An agreeing record leaves the same next sheet as a run; a differing one leaves the next slice
+-- unaltered"
 abbrev pub whenAgreed : Finding → (computed entry : List ℕ) → List ℕ
 whenAgreed (Agrees n) new old = new
 whenAgreed (Differs k l) new old = old
@@ -94,7 +98,8 @@ finalReplay s stim recorded next =
     whenDone (replayAnswer s stim recorded next)
     (whenAgreed (finding s stim recorded) (sheetAfter undecidedRule s (cycles s stim)) next) next
 
--- what a call gives, for every content and length of the four slices: the numbers returned and the final bytes
+-- what a call gives, for every content and length of the four slices: the numbers returned and the
+-- final bytes
 pub record ReplayGiven (sheet stimulus recorded next : List ℕ) (result differs cycle leaf : ℕ) (next′ : List ℕ) : Type 0 where
   pub result-is : result ≡ packed (replayAnswer sheet stimulus recorded next)
   pub differs-is : differs ≡ differsGiven (replayAnswer sheet stimulus recorded next) (finding sheet stimulus recorded)

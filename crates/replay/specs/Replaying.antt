@@ -1,5 +1,5 @@
--- What the functions of a replay ask and give: one cycle lent its parts of the stimulus and of the record, all cycles, and those of a
--- copy of the sheet.
+-- What the functions of a replay ask and give: one cycle lent its parts of the stimulus and of the
+-- record, all cycles, and those of a copy of the sheet.
 use Prim.Native.Nat.{ℕ, _+_, _*_, _≤_}
 use mathlib.Core.Path.{_≡_}
 use mathlib.Core.List.{List}
@@ -8,7 +8,6 @@ use Rattle.records.specs.Limits.{mostRecords, mostLeaves, environmentBytes}
 use Rattle.stimulus.specs.Tests.{stimulusBytes}
 use Rattle.answers.specs.Searches.{found}
 use Rattle.answers.specs.declared.Found.{Found}
-use Rattle.verdict.specs.Verdict.{outputType}
 use Rattle.meaning.specs.Undecided.{undecidedRule}
 use Rattle.behaviour.specs.Cycle.{output, sheetAfterCycle}
 use Rattle.stimulus.specs.Stimulus.{cycles}

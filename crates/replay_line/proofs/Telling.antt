@@ -1,4 +1,5 @@
--- What a replay gives, as a line: the number returned is not 0 exactly where it is a refusal, and then its code and place are read back.
+-- What a replay gives, as a line: the number returned is not 0 exactly where it is a refusal, and
+-- then its code and place are read back.
 -- Assumes nothing.
 use Prim.Native.Nat.{ℕ}
 use mathlib.Core.List.{List}

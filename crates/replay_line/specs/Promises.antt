@@ -1,7 +1,6 @@
 -- What is promised of what `sheetreplay` prints; one term of each stands in `proofs/Kept.antt`.
-use Prim.Native.Nat.{ℕ}
 use mathlib.Core.Path.{_≡_}
-use mathlib.Core.List.{List, [], _∷_}
+use mathlib.Core.List.{[], _∷_}
 use Rattle.behaviour.specs.Bench.{toggle}
 use Rattle.listing.specs.Lines.{ascii}
 use Rattle.replay_line.specs.ReplayLine.{replayPrinted}

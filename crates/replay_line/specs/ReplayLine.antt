@@ -1,5 +1,6 @@
--- What `sheetreplay` prints (docs/SHEETS.md, "Replaying a record"), for the answer of the replay with a next slice of the right length:
--- `agrees N`, the cycles done, or `cycle C leaf L`, from 0; or the one line of a refusal, as `sheetrun` does.
+-- What `sheetreplay` prints (docs/SHEETS.md, "Replaying a record"), for the answer of the replay
+-- with a next slice of the right length: `agrees N`, the cycles done, or `cycle C leaf L`, from 0;
+-- or the one line of a refusal, as `sheetrun` does.
 use Prim.Native.Nat.{ℕ, _≤_}
 use mathlib.Core.Path.{_≡_}
 use mathlib.Core.List.{List}

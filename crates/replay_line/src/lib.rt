@@ -1,6 +1,5 @@
-// What sheetreplay prints, told of a sheet, a stimulus and recorded outputs by their replay.
+// What sheetreplay prints of a sheet, a stimulus and recorded outputs, from their replay.
 ghost use Prim.Native.Nat.{_≤_};
-ghost use mathlib.Core.Path.{_≡_};
 ghost use lib.ListN.{length};
 ghost use Rattle.listing.specs.Wrote.{lineBytes};
 ghost use Rattle.replay_line.specs.ReplayLine.{LineTold};

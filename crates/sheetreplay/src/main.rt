@@ -1,5 +1,5 @@
-// Replays record.bin, the recorded outputs of sheet.bin on stim.bin, and says whether they agree or where they first differ, or prints only
-// the refusal (docs/SHEETS.md, "Replaying a record").
+// Replays record.bin, the recorded outputs of sheet.bin on stim.bin, and says whether they agree or
+// where they first differ, or prints only the refusal (docs/SHEETS.md, "Replaying a record").
 ghost use Prim.Native.Nat.{_≤_};
 ghost use mathlib.Core.Path.{_≡_};
 ghost use lib.ListN.{length};
