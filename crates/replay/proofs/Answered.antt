@@ -235,6 +235,18 @@ replay-laws s stim recorded next =
     go (Done n) h = omega arith
     go (Refused c p) h = h
 
+-- a result of 0 is that of a call that is done
+pub replay-done : {s stim recorded next : List ℕ} {result differs cycle leaf : ℕ} {next′ : List ℕ}
+    → ReplayGiven s stim recorded next result differs cycle leaf next′ → result ≡ 0 → replayAnswer s stim recorded next ≡ Done 0
+replay-done {s} {stim} {recorded} {next} {result} r z = go (replayAnswer s stim recorded next) refl
+  where
+    go : (a : Answer) → replayAnswer s stim recorded next ≡ a → a ≡ Done 0
+    go (Done q) e = ap Done (replay-laws s stim recorded next .lowest-first (Done q) .0 e .1)
+    go (Refused k q) e =
+        let some = replay-laws s stim recorded next .refusal-coded k q e in
+        let x : result ≡ packed (Refused k q) = r .result-is ∙ ap packed e in
+        absurd (omega arith)
+
 pub differing-unaltered : DifferingUnaltered
 unfolding finalReplay
 differing-unaltered s stim recorded next k l e = rw e (go (replayAnswer s stim recorded next))

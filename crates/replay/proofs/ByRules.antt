@@ -3,9 +3,11 @@
 use Prim.Native.Nat.{ℕ}
 use mathlib.Core.List.{List, map}
 use mathlib.Core.Path.{_≡_, refl, sym, ap, _∙_}
+use native.Mathlib.Omega.{arith}
 use lib.ListN.{length}
 use Rattle.picoella.specs.Language.{leaves}
 use Rattle.answers.specs.Answers.{packed}
+use Rattle.answers.specs.declared.Answer.the-variants.{Done}
 use Rattle.verdict.specs.Verdict.{outputType}
 use Rattle.meaning.specs.Constants.{flatten}
 use Rattle.meaning.specs.Undecided.{undecidedRule}
@@ -13,10 +15,11 @@ use Rattle.stimulus.specs.Stimulus.{inputType, cycleCount, pieces, endToEnd, cy
 use Rattle.behaviour.specs.Run.{outputsBy, answer, RunGiven, RunsByRules}
 use Rattle.behaviour.proofs.Reduces.{run-reduces}
 use Rattle.behaviour.proofs.ByRules.{pieces-back, call-by-rules}
-use Rattle.replay.specs.declared.Finding.the-variants.{Agrees}
-use Rattle.replay.specs.Replay.{finding, finalReplay}
+use Rattle.replay.specs.declared.Finding.{Finding}
+use Rattle.replay.specs.declared.Finding.the-variants.{Agrees, Differs}
+use Rattle.replay.specs.Replay.{finding, differsGiven, finalReplay}
 use Rattle.replay.specs.Promises.{FormedReplay, AgreesByRules}
-use Rattle.replay.proofs.Answered.{formed-run, formed-answer}
+use Rattle.replay.proofs.Answered.{formed-run, formed-answer, replay-laws, replay-done}
 use Rattle.replay.proofs.Found.{says-agrees}
 use Rattle.replay.proofs.OfRuns.{next-as-run}
 
@@ -36,5 +39,17 @@ module _ (s stim recorded next : List ℕ) (h : FormedReplay s stim recorded nex
       let outs = run-reduces s (outputType s) (h .accepted) (r .expression) (r .expression-after) (r .decoded) (r .inputs) (r .outputs) (r .inputs-typed) .0 (r .reduces) .1 in
       says-agrees h (r .out-is ∙ ap endToEnd (outs ∙ ap (outputsBy undecidedRule s) (sym cut)))
 
+-- a finding by whose number nothing differs
+none-differs : (f : Finding) → 0 ≡ differsGiven (Done 0) f → (n : ℕ) × (f ≡ Agrees n)
+none-differs (Agrees n) e = (n, refl)
+none-differs (Differs k l) e = absurd (omega arith)
+
 pub agrees-by-rules : AgreesByRules
-agrees-by-rules s stim recorded next h = (rules-hold s stim recorded next h, λ next′ r. agrees-so s stim recorded next h r)
+agrees-by-rules s stim recorded next result differs cycle leaf next′ r z =
+    let a = replay-done r z in
+    let h = replay-laws s stim recorded next .lowest-first (Done 0) .0 a .0 in
+    let e : differs ≡ differsGiven (Done 0) (finding s stim recorded) = r .differs-is ∙ rw a refl in (
+      λ d. let f = none-differs (finding s stim recorded) (sym d ∙ e) in
+          rw (r .next-is) (rules-hold s stim recorded next h (f .0) (f .1)),
+      λ after q. e ∙ rw (agrees-so s stim recorded next h q) refl,
+    )

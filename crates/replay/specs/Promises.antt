@@ -70,13 +70,15 @@ OneRecordAgrees =
     (s stim recorded other next : List ℕ) → FormedReplay s stim recorded next → FormedReplay s stim other next
     → (n m : ℕ) → finding s stim recorded ≡ Agrees n → finding s stim other ≡ Agrees m → recorded ≡ other
 
--- Such a record is a run of 000's rules, whose next sheet is the one that is left; and what is such
--- a run agrees.
+-- By what a call gives that refuses nothing: where no difference is found, the call's bytes are a
+-- run of 000's rules, with the record for its outputs and the bytes left in the next slice for its
+-- next sheet; and where the record is the outputs of such a run, no difference is found.
 abbrev pub AgreesByRules : Type 0
 AgreesByRules =
-    (s stim recorded next : List ℕ) → FormedReplay s stim recorded next
-    → ((n : ℕ) → finding s stim recorded ≡ Agrees n → RunsByRules s stim (outputType s) recorded (finalReplay s stim recorded next))
-    × ((next′ : List ℕ) → RunsByRules s stim (outputType s) recorded next′ → finding s stim recorded ≡ Agrees (cycleCount s stim))
+    (s stim recorded next : List ℕ) (result differs cycle leaf : ℕ) (next′ : List ℕ)
+    → ReplayGiven s stim recorded next result differs cycle leaf next′ → result ≡ 0
+    → (differs ≡ 0 → RunsByRules s stim (outputType s) recorded next′)
+    × ((after : List ℕ) → RunsByRules s stim (outputType s) recorded after → differs ≡ 0)
 
 -- cycle k is the first whose outputs differ, and l its lowest differing leaf
 pub record FirstDifference (s stim recorded : List ℕ) (k l : ℕ) : Type 0 where

@@ -16,7 +16,7 @@ use Rattle.listing.proofs.Written.{text-front}
 use Rattle.replay.specs.declared.Finding.{Finding}
 use Rattle.replay.specs.declared.Finding.the-variants.{Agrees, Differs}
 use Rattle.replay.specs.Replay.{finding, replayAnswer, differsGiven, cycleGiven, leafGiven, ReplayGiven}
-use Rattle.replay.proofs.Answered.{replay-laws}
+use Rattle.replay.proofs.Answered.{replay-laws, replay-done}
 use Rattle.replay_line.specs.ReplayLine.{findingLine, replayLine, replayPrinted, LineTold}
 
 -- the answer depends on the next slice's length alone
@@ -51,26 +51,16 @@ module _ {s stim recorded next : List ℕ} {result differs cycle leaf : ℕ} {ne
             let eq : p ≡ q = ep ∙ ap placeOfResult (r .result-is ∙ ap packed e) ∙ apart .1 in
             rw (ek, eq) refl
 
-    done-where : result ≡ 0 → replayAnswer s stim recorded next ≡ Done 0
-    done-where z = go (replayAnswer s stim recorded next) refl
-      where
-        go : (a : Answer) → replayAnswer s stim recorded next ≡ a → a ≡ Done 0
-        go (Done q) e = ap Done (replay-laws s stim recorded next .lowest-first (Done q) .0 e .1)
-        go (Refused k q) e =
-            let some = replay-laws s stim recorded next .refusal-coded k q e in
-            let x : result ≡ packed (Refused k q) = r .result-is ∙ ap packed e in
-            absurd (omega arith)
-
     module _ (z : result ≡ 0) where
       beside : (differs ≡ differsGiven (Done 0) (finding s stim recorded))
           × (cycle ≡ cycleGiven (Done 0) (finding s stim recorded)) × (leaf ≡ leafGiven (Done 0) (finding s stim recorded))
       beside =
-          let e = done-where z in
+          let e = replay-done r z in
           (r .differs-is ∙ rw e refl, r .cycle-is ∙ rw e refl, r .leaf-is ∙ rw e refl)
 
       pub difference-told : (differs ≡ 0 → ⊥) → {buffer after : List ℕ} {end : ℕ}
           → TextPut buffer 0 (numbersLine (ascii "cycle ") cycle (ascii " leaf ") leaf) after end → LineTold s stim recorded after end
-      difference-told f t = told t (rw (done-where z) (go (finding s stim recorded) (beside .0) (beside .1) (beside .2)))
+      difference-told f t = told t (rw (replay-done r z) (go (finding s stim recorded) (beside .0) (beside .1) (beside .2)))
         where
           go : (g : Finding) → differs ≡ differsGiven (Done 0) g → cycle ≡ cycleGiven (Done 0) g → leaf ≡ leafGiven (Done 0) g
               → numbersLine (ascii "cycle ") cycle (ascii " leaf ") leaf ≡ findingLine g
@@ -79,7 +69,7 @@ module _ {s stim recorded next : List ℕ} {result differs cycle leaf : ℕ} {ne
 
       pub agreement-told : differs ≡ 0 → {buffer after : List ℕ} {end : ℕ}
           → TextPut buffer 0 (wordLine (ascii "agrees ") cycle) after end → LineTold s stim recorded after end
-      agreement-told f t = told t (rw (done-where z) (go (finding s stim recorded) (beside .0) (beside .1)))
+      agreement-told f t = told t (rw (replay-done r z) (go (finding s stim recorded) (beside .0) (beside .1)))
         where
           go : (g : Finding) → differs ≡ differsGiven (Done 0) g → cycle ≡ cycleGiven (Done 0) g → wordLine (ascii "agrees ") cycle ≡ findingLine g
           go (Agrees n) a b = rw b refl
