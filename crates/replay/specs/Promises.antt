@@ -36,7 +36,7 @@ ReplayLaws =
     → StandardLaws (replayChecks s stim recorded next) (FormedReplay s stim recorded next) 0 (replayAnswer s stim recorded next)
     (lentSlice next (finalReplay s stim recorded next) ∷ [])
 
--- "17 .. stands where 10 stood": the answer is that of a run whose output slice is as long as the
+-- 17 stands where 10 stands in a run: the answer is that of a run whose output slice is as long as the
 -- record, with 17 for 10, and where that run is done 0 at place 0.
 abbrev pub codeFor10 : Bool → ℕ → ℕ
 codeFor10 true c = 17

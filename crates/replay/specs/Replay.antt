@@ -53,8 +53,8 @@ foundIn s stim recorded (suc k) =
 unfoldable pub finding : (sheet stimulus recorded : List ℕ) → Finding
 finding s stim recorded = foundIn s stim recorded (cycleCount s stim)
 
--- the checks after those of the sheet: 8 and 9, then 17 "recorded outputs not cycles × output
--- leaves", then 11
+-- the checks after those of the sheet: 8 and 9, then 17, where the record is not as long as the
+-- outputs of all cycles, then 11
 abbrev pub recordChecks : (sheet stimulus recorded next : List ℕ) → List Check
 recordChecks s stim recorded next =
     stimulusChecks s stim
@@ -86,8 +86,8 @@ leafGiven (Refused c p) f = 0
 leafGiven (Done p) (Agrees n) = 0
 leafGiven (Done p) (Differs k l) = l
 
--- "An agreeing record leaves the same next sheet as a run; a differing one leaves the next slice
--- unaltered"
+-- an agreeing record leaves the same next sheet as a run; a differing one leaves the next slice
+-- unaltered
 abbrev pub whenAgreed : Finding → (computed entry : List ℕ) → List ℕ
 whenAgreed (Agrees n) new old = new
 whenAgreed (Differs k l) new old = old
