@@ -15,6 +15,9 @@
  *         Which change of one input leaf alters this output leaf in one cycle?
  *     struct sheet_counts sheet_count(sheet, sheet_length, leaf)
  *         How many inputs of one cycle give each value of this output leaf?
+ *     struct sheet_replayed sheet_replay(sheet, sheet_length, stim, stim_length, recorded,
+ *                                        recorded_length, next, next_length)
+ *         Are these the outputs of a run, and if not, where do they first differ?
  *     uint64_t sheet_translate(text, text_length, sheet, sheet_length)
  *         What is the sheet of a circuit typed with names?
  *
@@ -46,7 +49,7 @@
  *     cc -Iinclude host.c target/staticlib/libsheets.a
  *
  * examples/check.c, examples/run.c, examples/carry.c, examples/fired.c, examples/preview.c,
- * examples/press.c, examples/count.c and examples/translate.c are whole hosts.
+ * examples/press.c, examples/count.c, examples/replay.c and examples/translate.c are whole hosts.
  */
 #ifndef SHEET_H
 #define SHEET_H
@@ -63,11 +66,11 @@ extern "C" {
  * be, the second where a call or a code is added, the third where neither is so.
  */
 #define SHEET_VERSION_MAJOR 1
-#define SHEET_VERSION_MINOR 7
+#define SHEET_VERSION_MINOR 8
 #define SHEET_VERSION_PATCH 0
 
 /* The same as text, and as one number to compare: 1.2.3 is 10203. */
-#define SHEET_VERSION "1.7.0"
+#define SHEET_VERSION "1.8.0"
 #define SHEET_VERSION_NUMBER (SHEET_VERSION_MAJOR * 10000 + SHEET_VERSION_MINOR * 100 + SHEET_VERSION_PATCH)
 
 /* The most records that a sheet may have. */
@@ -117,16 +120,16 @@ enum sheet_code {
     /* The first record that breaks a type rule, parts before the whole. */
     SHEET_ILL_TYPED = 7,
 
-    /* The sheet is accepted, and the run or a call on one cycle is refused. */
+    /* The sheet is accepted, and the run, the replay or a call on one cycle is refused. */
     /* Place 0. */
     SHEET_WRONG_STIMULUS = 8,
     /* The first byte of the stimulus that is above the constructor count of its leaf, counted from 0. */
     SHEET_WRONG_INPUT = 9,
-    /* Codes 10 and 11: the length that is needed, in bytes. Carrying gives 11 too. */
+    /* Codes 10 and 11: the length that is needed, in bytes. Carrying and the replay give 11 too. */
     SHEET_WRONG_OUTPUT_LENGTH = 10,
     SHEET_WRONG_NEXT_LENGTH = 11,
 
-    /* Of programs, not of calls: 1 is the sheet's file, 2 the stimulus's. */
+    /* Of programs, not of calls: 1 is the sheet's file, 2 the stimulus's, 3 the record's. */
     SHEET_NO_FILE = 12,
 
     /* A text is not translated. Its bytes are counted from 0. */
@@ -139,6 +142,8 @@ enum sheet_code {
 
     /* Of sheet_fired: the number of words that is needed. */
     SHEET_WRONG_WORDS = 16,
+    /* Of sheet_replay: the length that is needed, in bytes. */
+    SHEET_WRONG_RECORDED_LENGTH = 17,
 
     /* The old sheet is accepted and carrying is refused. */
     /* The code, 1 to 7, by which the check refuses the new sheet. */
@@ -188,6 +193,8 @@ static inline const char *sheet_sentence(uint32_t code)
     switch (code) {
     case SHEET_WRONG_WORDS:
         return "The slice has another length than one word for each record.";
+    case SHEET_WRONG_RECORDED_LENGTH:
+        return "The recorded outputs have another length than the cycles times the output's leaves.";
     case SHEET_NEW_SHEET_REFUSED:
         return "The new sheet is refused by the check.";
     case SHEET_LABEL_TWICE:
@@ -413,6 +420,51 @@ struct sheet_counts {
  *                 printf("%u: %u inputs\n", value, (unsigned)counts.counters[value]);
  */
 struct sheet_counts sheet_count(const uint8_t *sheet, size_t sheet_length, size_t leaf);
+
+/*
+ * The stack need of the replay, measured as the check's and bounded as the run's. A copy of the
+ * sheet, 48 KiB of it, lies on the stack, since `next` is written only where the record agrees.
+ */
+#define SHEET_REPLAY_STACK 180224
+
+/*
+ * What sheet_replay returns, 32 bytes: the result; 0 if the record agrees and 1 if it differs; the
+ * number of cycles done if it agrees, else the first cycle whose outputs differ, counted from 0;
+ * and 0 if it agrees, else the lowest differing leaf of that cycle, counted from 0. On a refusal
+ * the last three are 0.
+ */
+struct sheet_replayed {
+    uint64_t result, differs, cycle, leaf;
+};
+
+/*
+ * The replay: whether recorded outputs are those that the sheet makes for a stimulus. It begins
+ * with the check. Codes 0 to 9, 17 and 11, in this order, and 0 at place 0.
+ *
+ * The sheet, the stimulus and `next` are those of sheet_run. `recorded` has, as the output of a run
+ * has, the output's leaves of each cycle after those of the cycle before. It is to be as long as
+ * the cycles times the output's leaves: any other length is refused by 17, whose place is the
+ * length needed. Lent with length 0, a good replay of some cycles is refused in this way. Code 17
+ * goes before 11, and 11 is asked before anything is compared.
+ *
+ * The record agrees if every byte of it is the one that sheet_run puts out, in all cycles; `next`
+ * then holds the sheet after the last cycle, as after the run. Else it differs, which is no
+ * refusal, and `next` is left as it was. A byte is compared as it is: one above the constructor
+ * count of its leaf differs, and so does 0 where the run puts out a constructor. An empty stimulus
+ * is a run of no cycles, with which a record of length 0 agrees.
+ *
+ *     struct sheet_replayed replayed = sheet_replay(sheet, length, stim, stim_length, recorded,
+ *                                                   recorded_length, next, length);
+ *     if (sheet_code_of(replayed.result) != SHEET_DONE)
+ *         printf("%s\n", sheet_sentence(sheet_code_of(replayed.result)));
+ *     else if (replayed.differs)
+ *         printf("cycle %u leaf %u\n", (unsigned)replayed.cycle, (unsigned)replayed.leaf);
+ *     else
+ *         printf("%u cycles agree\n", (unsigned)replayed.cycle);
+ */
+struct sheet_replayed sheet_replay(const uint8_t *sheet, size_t sheet_length, const uint8_t *stim,
+                                   size_t stim_length, const uint8_t *recorded,
+                                   size_t recorded_length, uint8_t *next, size_t next_length);
 
 /*
  * The translation's stack need, measured as the check's, by host/text_stack.c on the deepest and the widest texts. It is far more than

@@ -19,6 +19,7 @@ calls! {
     pub mod firings;
     pub mod presses;
     pub mod counts;
+    pub mod replays;
     pub mod carries;
     pub mod texts;
 }

@@ -8,6 +8,7 @@ ghost use Rattle.firing.specs.Telling.{ToldFired};
 ghost use Rattle.preview.specs.Preview.{Previewed};
 ghost use Rattle.press.specs.Press.{PressGiven};
 ghost use Rattle.counting.specs.Counting.{CountGiven};
+ghost use Rattle.replay.specs.Replay.{ReplayGiven};
 ghost use Rattle.translator.specs.Translated.{TranslatedInOne};
 use carry::carry;
 use counting::Counts;
@@ -16,6 +17,8 @@ use firing::fired_of;
 use press::Pressed;
 use press::press_of;
 use preview::preview;
+use replay::Replayed;
+use replay::replay;
 use simulator::run;
 use translator::translate;
 use verdict::check_sheet;
@@ -75,6 +78,19 @@ pub extern "C" fn sheet_count(sheet: &[u8], leaf: usize) -> Counts
     ensures { λ r. ⌜ CountGiven (now (sheet .entry)) leaf (r .result) (r .counters) ⌝ }
 {
     count_inputs(sheet, leaf)
+}
+
+// The replay of a record: the answer's code times 2^32, plus its place; and what is found.
+#[no_mangle]
+pub extern "C" fn sheet_replay(
+    sheet: &[u8],
+    stim: &[u8],
+    recorded: &[u8],
+    next: &mut [u8],
+) -> Replayed
+    ensures { λ r. ⌜ ReplayGiven (now (sheet .entry)) (now (stim .entry)) (now (recorded .entry)) (now (next .entry)) (r .result) (r .differs) (r .cycle) (r .leaf) (now (next .exit)) ⌝ }
+{
+    replay(sheet, stim, recorded, next)
 }
 
 // The translation of a text into a sheet: the code times 2^32, plus the place.
