@@ -20,6 +20,7 @@ calls! {
     pub mod presses;
     pub mod counts;
     pub mod replays;
+    pub mod reports;
     pub mod carries;
     pub mod texts;
 }

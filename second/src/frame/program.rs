@@ -53,6 +53,12 @@ pub trait Program: Sync {
     /// What it does by the second implementation, or with a mistake.
     fn done(folder: &Folder, mistake: Option<Self::Mistake>) -> Done;
 
+    /// What is wrong with what the program prints, whatever the second
+    /// implementation gives.
+    fn wrong(_printed: &str) -> Option<String> {
+        None
+    }
+
     fn quotas() -> Vec<Quota>;
 }
 
@@ -103,9 +109,11 @@ impl<P: Program> Programs<P> {
         let mut files = self.held()?;
         files.extend(done.written.clone().map(|(name, bytes)| (name.into(), bytes)));
         let (program, printed) = (self.run()?, &done.printed);
-        if program != printed.as_bytes() {
-            let program = String::from_utf8_lossy(&program).into_owned();
-            return Ok(Some(format!("second prints:\n{printed}the program prints:\n{program}")));
+        let shown = String::from_utf8_lossy(&program);
+        let wrong = P::wrong(&shown);
+        if program != printed.as_bytes() || wrong.is_some() {
+            let prints = format!("second prints:\n{printed}the program prints:\n{shown}");
+            return Ok(Some(prints + &wrong.unwrap_or_default()));
         }
         let left = self.held()?;
         let other =

@@ -1,0 +1,4 @@
+-- The laws of what sheetreport prints, and the promises kept.
+pub mod Telling
+pub mod Witness
+pub mod Kept
