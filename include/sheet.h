@@ -263,7 +263,7 @@ uint64_t sheet_run(const uint8_t *sheet, size_t sheet_length, const uint8_t *sti
                    size_t out_length, uint8_t *next, size_t next_length);
 
 /* Carrying's stack need, measured as the check's. A table of 65,536 labels, 128 KiB of it, is held while no check runs. */
-#define SHEET_CARRY_STACK 245760
+#define SHEET_CARRY_STACK 163840
 
 /*
  * Carrying: the new sheet with the values that the delays of the old, running one hold. Codes 0 to 7, 18, 19 and 11, in this order.

@@ -28,7 +28,7 @@ use Rattle.answers.proofs.First.{first-both, first-then}
 use Rattle.carry.specs.Labels.{labelTwice}
 use Rattle.carry.specs.Bearers.{AllLabelled}
 use Rattle.carry.specs.Carried.{takenBelow, carried}
-use Rattle.carry.specs.Carrying.{SheetAccepted, Carrying, CarryingAll}
+use Rattle.carry.specs.Carrying.{SheetAccepted, Carrying, ValuesCarried}
 use Rattle.carry.specs.Carry.{newChecks, carryAnswer, finalCarried, CarryGiven}
 use Rattle.carry.proofs.Delays.{is-written}
 
@@ -147,15 +147,6 @@ module _ {old new : List ℕ} {n m : ℕ} (g : SheetAccepted old n) (k : SheetAc
       old-once : lowest (labelTwice old) (count old) ≡ none
       old-once = at-count g o e none (ap found q)
 
-      pub carrying-all : (next : List ℕ) {next′ : List ℕ} → length next ≡ length new → next′ ≡ new ++ drop (length new) next → CarryingAll old n new m next′
-      carrying-all next {next′} l p =
-          record {
-            before = g;
-            after = k;
-            once = sym e ∙ ap found q;
-            long = ap length (put-over new next next′ l p);
-          }
-
       module _ {p : Found} (f : found p ≡ lowest (labelTwice new) m) where
         pub new-twice : {next : List ℕ} {r result : ℕ} → p ≡ At r → result ≡ inOne 19 r → CarryGiven old new next result next
         new-twice {next} {r} {result} y er =
@@ -173,21 +164,28 @@ module _ {old new : List ℕ} {n m : ℕ} (g : SheetAccepted old n) (k : SheetAc
               from-labels next ∙ rw (k .accepted, old-once, new-once, ne-eqb (length next) (length new) d) refl in
               rw er (gives-refused old new next 11 (length new) a)
 
-          pub carried-done : {next next′ next″ : List ℕ} → length next ≡ length new → next′ ≡ new ++ drop (length new) next
-              → next″ ≡ putAll putWord (takenBelow old new m) next′ → CarryGiven old new next 0 next″
+          pub carried-done : {next next′ next″ : List ℕ} {u : Found} → length next ≡ length new → next′ ≡ new ++ drop (length new) next
+              → ValuesCarried old n new m next′ u next″ → CarryGiven old new next 0 next″
           unfolding carried
-          carried-done {next} {next′} {next″} l z t =
+          carried-done {next} {next′} {next″} l z values =
               let a : carryAnswer old new next ≡ Done 0 =
               from-labels next ∙ rw (k .accepted, old-once, new-once, eq-eqb (length next) (length new) l) refl in
               let whole = put-over new next next′ l z in
+              let t = values .taken (values .answered ∙ sym e ∙ ap found q) (ap length whole) in
               let c = k .sized .counted in
               rw (t, whole, c) (gives-carried old new next a)
 
--- the table of the old sheet's labels is whole
-module _ {old new next : List ℕ} {n m : ℕ} (g : CarryingAll old n new m next) where
-  pub values-written : Written old
-  values-written = is-written (g .before .accepted)
+-- the table of the old sheet's labels is whole where none stands twice
+pub values-carrying : {old new next : List ℕ} {n m : ℕ} {o : Found} {table : List ℕ} → SheetAccepted old n → SheetAccepted new m
+    → AllLabelled old n o table → found o ≡ none → length next ≡ length new → Carrying old n new m table next
+values-carrying g k l e long = record { before = g; after = k; labels = l .entered e; long = long }
 
-  pub values-carrying : {o : Found} {table : List ℕ} → AllLabelled old n o table → Carrying old n new m table next
-  values-carrying l =
-      record { before = g .before; after = g .after; labels = l .entered (l .answered ∙ g .once); long = g .long }
+module _ {old new before after : List ℕ} {n m : ℕ} {o : Found} {table : List ℕ} (l : AllLabelled old n o table) where
+  pub values-twice : {r : ℕ} → o ≡ At r → ValuesCarried old n new m before (At r) after
+  values-twice q = record { answered = sym (ap found q) ∙ l .answered; taken = λ e. absurd (let no : _≡_ {A = ℕ} 0 1 = cc in omega arith) }
+
+  pub values-kept : (length before ≡ length new → ⊥) → ValuesCarried old n new m before o after
+  values-kept f = record { answered = l .answered; taken = λ e h. absurd (f h) }
+
+  pub values-taken : after ≡ putAll putWord (takenBelow old new m) before → ValuesCarried old n new m before o after
+  values-taken t = record { answered = l .answered; taken = λ e h. t }

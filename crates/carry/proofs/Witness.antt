@@ -26,7 +26,7 @@ use Rattle.answers.specs.declared.Verdict.the-variants.{Accepted}
 use Rattle.accepted.proofs.Small.{accepted-sized}
 use Rattle.carry.specs.Labels.{label, labelTwice}
 use Rattle.carry.specs.Bearers.{Bearers, Labelling, Labelled}
-use Rattle.carry.specs.Carrying.{Comparing, Taking, SheetAccepted, Carrying, CarryingAll}
+use Rattle.carry.specs.Carrying.{Comparing, Taking, SheetAccepted, Carrying}
 use Rattle.carry.specs.Cases.{labelledToggle}
 use Rattle.carry.proofs.Bearing.{no-bearer, unlabelled-noted, twice-noted, newly-noted}
 use Rattle.carry.proofs.Delays.{is-written, delay-type, delay-leaves}
@@ -55,10 +55,6 @@ running-is = record { sized = accepted-sized accepted-running; type = 1; accepte
 running-labelling : Labelling running 17 0 (replicate {A = ℕ} 65536 0)
 running-labelling =
     record { sized = running-is .sized; written = is-written accepted-running; there = omega arith; below = no-bearer running }
-
-carrying-all : CarryingAll running 17 began 17 began
-unfolding labelTwice kindOf rowOf word
-carrying-all = record { before = running-is; after = began-is; once = refl; long = refl }
 
 delay-began : kindAt began 3 ≡ expression delay
 unfolding kindOf rowOf word

@@ -13,8 +13,12 @@ use Rattle.records.specs.Trees.{TypeRecord, chain}
 use Rattle.verdict.specs.Verdict.{verdict}
 use Rattle.answers.specs.declared.Verdict.the-variants.{Accepted}
 use Rattle.answers.specs.Answers.{lowest}
+use Rattle.answers.specs.Searches.{found}
+use Rattle.answers.specs.declared.Found.{Found}
+use Rattle.behaviour.specs.Entries.{putAll, putWord}
 use Rattle.carry.specs.Labels.{labelTwice}
 use Rattle.carry.specs.Bearers.{Bearers}
+use Rattle.carry.specs.Carried.{takenBelow}
 
 -- record t is a type of the sheet
 pub record OfTypes (s : List ℕ) (n t : ℕ) : Type 0 where
@@ -54,9 +58,8 @@ pub record Carrying (old : List ℕ) (n : ℕ) (new : List ℕ) (m : ℕ) (table
   pub labels : Bearers old n table
   pub long : length next ≡ length new
 
--- the same, with the table to be filled: no label stands twice in the old sheet
-pub record CarryingAll (old : List ℕ) (n : ℕ) (new : List ℕ) (m : ℕ) (next : List ℕ) : Type 0 where
-  pub before : SheetAccepted old n
-  pub after : SheetAccepted new m
-  pub once : lowest (labelTwice old) n ≡ none
-  pub long : length next ≡ length new
+-- the lowest delay of the old sheet whose label a lower one bears; where there is none and the
+-- slice is as long as the new sheet, the delays there take those of the old one
+pub record ValuesCarried (old : List ℕ) (n : ℕ) (new : List ℕ) (m : ℕ) (before : List ℕ) (twice : Found) (after : List ℕ) : Type 0 where
+  pub answered : found twice ≡ lowest (labelTwice old) n
+  pub taken : found twice ≡ none → length before ≡ length new → after ≡ putAll putWord (takenBelow old new m) before

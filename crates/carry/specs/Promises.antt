@@ -10,7 +10,7 @@ use Rattle.records.specs.Words.{count}
 use Rattle.records.specs.Kinds.{expression, delay}
 use Rattle.records.specs.Says.{kindAt}
 use Rattle.records.specs.OnlyLabels.{OnlyLabels}
-use Rattle.answers.specs.Answers.{lowest}
+use Rattle.answers.specs.Answers.{lowest, inOne}
 use Rattle.answers.specs.StandardLaws.{lentSlice, StandardLaws}
 use Rattle.answers.specs.declared.Answer.the-variants.{Done}
 use Rattle.verdict.specs.Verdict.{verdict}
@@ -20,9 +20,10 @@ use Rattle.meaning.specs.RuleLaws.{Lawful}
 use Rattle.stimulus.specs.Stimulus.{inputType}
 use Rattle.behaviour.specs.Afterwards.{OnlyDelays}
 use Rattle.behaviour.specs.Run.{outputsBy, sheetAfter, answer, finalOut, finalNext}
+use Rattle.behaviour.specs.SheetOrder.{FormedCall}
 use Rattle.carry.specs.Labels.{label, labelTwice, delayType, sameShape}
 use Rattle.carry.specs.Carried.{heldAt, carried}
-use Rattle.carry.specs.Carry.{carryChecks, carryAnswer, finalCarried}
+use Rattle.carry.specs.Carry.{carryChecks, carryAnswer, finalCarried, CarryGiven}
 
 -- a call that nothing refuses: both sheets are accepted, no label stands twice in either, and the next slice is as long as the new one
 pub record CarryFormed (old new next : List ℕ) : Type 0 where
@@ -89,6 +90,17 @@ CarriedAfterRun =
     → (carryAnswer (sheetAfter undecided s inputs) s next ≡ Done 0)
     × (finalCarried (sheetAfter undecided s inputs) s next ≡ sheetAfter undecided s inputs)
 
+-- And of two calls, the run and then carrying, whatever they gave by their contracts: the running
+-- sheet is what a well-formed call of the run left in its next slice, over any number of cycles,
+-- none included; carrying answers 0 at place 0 and leaves it in the next slice again, byte for
+-- byte, whatever that slice held.
+abbrev pub CarriedBackByCalls : Type 0
+CarriedBackByCalls =
+    (s stimulus outputs running : List ℕ) → FormedCall s stimulus outputs running → AllLabels s
+    → (lent : List ℕ) → length lent ≡ length s
+    → (result : ℕ) (next : List ℕ) → CarryGiven running s lent result next
+    → (result ≡ inOne 0 0) × (next ≡ running)
+
 -- Nothing else depends on labels: two sheets that differ in the delays' words d alone have the same verdict; run over any inputs, under
 -- any rule, they give the same outputs and sheets that differ in those words alone; and so does each call of the run.
 pub record LabelsIgnored (s s′ : List ℕ) : Type 0 where
@@ -117,5 +129,6 @@ pub record CarryPromises : Type 0 where
   pub carried-over : CarriedOver
   pub carried-back : CarriedBack
   pub carried-after-run : CarriedAfterRun
+  pub carried-back-by-calls : CarriedBackByCalls
   pub labels-alone : LabelsAlone
   pub labels-kept : LabelsKept

@@ -14,7 +14,7 @@ ghost use Rattle.verdict.specs.Verdict.{verdict};
 ghost use Rattle.behaviour.specs.Entries.{assigned, putAll, putWord};
 ghost use Rattle.carry.specs.Labels.{label, labelTwice, sameShape};
 ghost use Rattle.carry.specs.Bearers.{Bearers, Labelling, Labelled, AllLabelled};
-ghost use Rattle.carry.specs.Carrying.{Comparing, Taking, SheetAccepted, Carrying, CarryingAll};
+ghost use Rattle.carry.specs.Carrying.{Comparing, Taking, SheetAccepted, Carrying, ValuesCarried};
 ghost use Rattle.carry.specs.Carried.{giver, takenFrom, takenBelow};
 ghost use Rattle.carry.specs.Carry.{CarryGiven};
 ghost use Rattle.records.specs.Limits.{wordBound};
@@ -93,15 +93,6 @@ fn note_bearers(sheet: &[u8], n: usize, table: &mut LabelTable) -> Found
         rec += 1;
     }
     Found::Nothing
-}
-
-// The lowest delay whose label a lower one bears: code 19.
-fn first_repeated(sheet: &[u8], n: usize) -> Found
-    requires { ⌜ Sized (now sheet) n × Written (now sheet) ⌝ }
-    ensures { λ r. ⌜ found r ≡ lowest (labelTwice (now (sheet .entry))) n ⌝ }
-{
-    let mut table = no_bearers();
-    note_bearers(sheet, n, &mut table)
 }
 
 // Whether the types t of the old sheet and u of the new one have the same shape.
@@ -197,14 +188,33 @@ fn take_all(old: &[u8], n: usize, new: &[u8], m: usize, table: &LabelTable, next
     }
 }
 
-// The delays of the new sheet, whose bytes stand in `next`, take those of the old one.
-fn carry_values(old: &[u8], n: usize, new: &[u8], m: usize, next: &mut [u8])
-    requires { ⌜ CarryingAll (now old) n (now new) m (now next) ⌝ }
-    ensures { λ _. ⌜ now (next .exit) ≡ putAll putWord (takenBelow (now (old .entry)) (now (new .entry)) m) (now (next .entry)) ⌝ }
+// The lowest delay of the old sheet whose label a lower one bears. Where there is none and `next`
+// is as long as the new sheet, whose bytes stand in it, the delays there take those of the old
+// one. The table of labels is made here and nowhere else: the three calls of this function keep it
+// out of the frame in which the checks run.
+fn carry_values(old: &[u8], n: usize, new: &[u8], m: usize, next: &mut [u8]) -> Found
+    requires { ⌜ SheetAccepted (now old) n × SheetAccepted (now new) m ⌝ }
+    ensures { λ r. ⌜ ValuesCarried (now (old .entry)) n (now (new .entry)) m (now (next .entry)) r (now (next .exit)) ⌝ }
 {
     let mut table = no_bearers();
-    note_bearers(old, n, &mut table);
-    take_all(old, n, new, m, &table, next);
+    let twice = note_bearers(old, n, &mut table);
+    if let Found::At(r) = twice {
+        return Found::At(r);
+    }
+    if next.len() == new.len() {
+        take_all(old, n, new, m, &table, next);
+    }
+    twice
+}
+
+// The lowest delay whose label a lower one bears: code 19. The slice lent is too short for a sheet,
+// so nothing is taken.
+fn first_repeated(sheet: &[u8], n: usize) -> Found
+    requires { ⌜ SheetAccepted (now sheet) n ⌝ }
+    ensures { λ r. ⌜ found r ≡ lowest (labelTwice (now (sheet .entry))) n ⌝ }
+{
+    let mut short = [0; 1];
+    carry_values(sheet, n, sheet, n, &mut short)
 }
 
 // An accepted sheet carried into another: codes 19 and 11, and then the values.

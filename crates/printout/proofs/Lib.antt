@@ -2,4 +2,5 @@
 pub mod Requirements
 pub mod Telling
 pub mod Witness
+pub mod EmptyListed
 pub mod Kept

@@ -16,6 +16,7 @@ use Rattle.verdict.proofs.Exact.{exact}
 use Rattle.verdict.proofs.IllTypedExactly.{ill-typed-exactly}
 use Rattle.verdict.proofs.OneScope.{every-scoped}
 use Rattle.verdict.proofs.TableFixed.{table-fixed}
+use Rattle.verdict.proofs.NamedOnce.{every-named-once, named-once-exactly}
 
 check-laws : CheckLaws
 check-laws s =
@@ -37,4 +38,6 @@ kept = record {
   ill-typed-exactly = ill-typed-exactly;
   every-scoped = every-scoped;
   table-fixed = table-fixed;
+  every-named-once = every-named-once;
+  named-once-exactly = named-once-exactly;
 }

@@ -6,6 +6,7 @@ pub mod FirstIllTyped
 pub mod IllTypedExactly
 pub mod Kept
 pub mod Lending
+pub mod NamedOnce
 pub mod Noted
 pub mod OneScope
 pub mod OneWay

@@ -1,15 +1,15 @@
 -- What is promised of the check: each promise a named type, and at the end the list of them. One term of each stands in
 -- `proofs/Kept.antt`; the list wants them all.
 use Prim.Native.Nat.{ℕ, _<_}
-use mathlib.Core.Logic.{_↔_}
+use mathlib.Core.Logic.{_↔_, _⊎_}
 use mathlib.Core.Path.{_≡_}
 use mathlib.Core.Bool.{true, false}
 use mathlib.Core.List.{List, [], _∷_, _++_, List·Memᴰ}
 use mathlib.Core.Option.{none, some}
 use Rattle.picoella.specs.Language.{Expr, Typed}
 use Rattle.records.specs.Words.{count, wordA}
-use Rattle.records.specs.Kinds.{expressions}
-use Rattle.records.specs.Says.{sortAt}
+use Rattle.records.specs.Kinds.{expression, expressions, ifMatches, parts, pattern, patterns}
+use Rattle.records.specs.Says.{kindAt, sortAt, Naming, namings}
 use Rattle.records.specs.Trees.{typeAt, TypeRecord, Declared, circuit}
 use Rattle.records.specs.Decoding.{decode}
 use Rattle.answers.specs.Answers.{lowest, place, verdictAnswer}
@@ -122,6 +122,36 @@ EveryScoped = (s : List ℕ) → Passes s → (r : ℕ) → r < count s → sort
 abbrev pub TableFixed : Type 0
 TableFixed = (s : List ℕ) → Passes s → (table other : List ℕ) → Widths s table → Widths s other → table ≡ other
 
+-- Record r is named, and every naming of it is the word d of an IF.
+pub record NamedByIfs (s : List ℕ) (r : ℕ) : Type 0 where
+  pub some : (n : Naming) × List·Memᴰ n (namings s r)
+  pub by-if : (n : Naming) → List·Memᴰ n (namings s r) → kindAt s (n .by) ≡ expression ifMatches
+  pub at-d : (n : Naming) → List·Memᴰ n (namings s r) → n .at ≡ 5
+
+-- It has exactly one naming, or is a pattern that is named so.
+abbrev pub OnceOrShared : List ℕ → ℕ → Type 0
+OnceOrShared s r = ((n : Naming) × (namings s r ≡ n ∷ [])) ⊎ ((sortAt s r ≡ patterns) × NamedByIfs s r)
+
+-- That holds of every record but 0; and what a `next`, word 1, or a pair pattern names has no
+-- other naming.
+pub record NamedOnce (s : List ℕ) : Type 0 where
+  pub once-or-shared : (r : ℕ) → 0 < r → r < count s → OnceOrShared s r
+  pub by-next : (r : ℕ) → 0 < r → (n : Naming) → List·Memᴰ n (namings s r) → n .at ≡ 1 → namings s r ≡ n ∷ []
+  pub by-pair-pattern : (r : ℕ) → 0 < r → (n : Naming) → List·Memᴰ n (namings s r) → kindAt s (n .by) ≡ pattern parts
+      → namings s r ≡ n ∷ []
+
+-- So it is in each sheet to which none of the codes 1 to 6 applies, and by `Exact` in each that is
+-- accepted.
+abbrev pub EveryNamedOnce : Type 0
+EveryNamedOnce = (s : List ℕ) → Passes s → NamedOnce s
+
+-- And code 4 refuses no more: where none of the codes 1 to 3 applies, it does not apply to a record
+-- exactly where that is named so.
+abbrev pub NamedOnceExactly : Type 0
+NamedOnceExactly =
+    (s : List ℕ) → wrongLength s ≡ false → wrongHeader s ≡ false → lowest (wrongRecord s) (count s) ≡ none
+    → (r : ℕ) → 0 < r → r < count s → wrongNaming s r ≡ false ↔ OnceOrShared s r
+
 -- all of them
 pub record CheckPromises : Type 0 where
   pub places : Places
@@ -132,3 +162,5 @@ pub record CheckPromises : Type 0 where
   pub ill-typed-exactly : IllTypedExactly
   pub every-scoped : EveryScoped
   pub table-fixed : TableFixed
+  pub every-named-once : EveryNamedOnce
+  pub named-once-exactly : NamedOnceExactly

@@ -1,21 +1,18 @@
 -- Each way out, by the check that takes it. Assumes nothing.
 use borrow.Author.Needs.{needs}
-use denote.Ref.{now}
 use native.Mathlib.Omega.{arith}
 use Rattle.carry.proofs.Calls.{
-  searching,
   twice-place,
   old-twice,
   new-twice,
   wrong-next,
-  carrying-all,
   carried-done,
 }
 use Rattle.carry.proofs.carry_accepted.Statement.{statement}
 use Rattle.carry.proofs.carry_accepted.Tie as tie
 
 first-repeated-requires : tie.Need-first-repeated-requires
-first-repeated-requires c κs = searching (c .before .before .before .pre .0)
+first-repeated-requires c κs = c .before .before .before .pre .0
 
 enum-known-before : tie.Need-enum-known-before
 enum-known-before c = search needs
@@ -30,7 +27,7 @@ enum-told : tie.Need-enum-told
 enum-told c = search needs
 
 first-repeated-requires-2 : tie.Need-first-repeated-requires-2
-first-repeated-requires-2 c κs = searching (c .before .before .before .before .before .before .pre .1)
+first-repeated-requires-2 c κs = c .before .before .before .before .before .before .pre .1
 
 enum-known-after : tie.Need-enum-known-after
 enum-known-after c = search needs
@@ -54,7 +51,7 @@ put-requires : tie.Need-put-requires
 put-requires c κs = search needs
 
 carry-values-requires : tie.Need-carry-values-requires
-carry-values-requires c κs = carrying-all (c .before .before .before .before .before .before .before .before .before .before .before .before .before .before .before .pre .0) (c .before .before .before .before .before .before .before .before .before .before .before .before .before .before .before .pre .1) (c .before .before .before .before .before .before .before .before .before .before .before .first-repeated .ensures) (c .before .before .before .before .before .before .before .before .before .enum-told .given .1) (now (c .before .before .before .before .before .before .before .before .before .before .before .before .before .before .before .args .next)) (c .before .before .before .before .before .if1 .left) (c .before .before .before .put .ensures)
+carry-values-requires c κs = c .before .before .before .before .before .before .before .before .before .before .before .before .before .before .before .pre
 
 same-length : tie.Need-same-length
 same-length c = search needs
