@@ -1,0 +1,84 @@
+-- The tests on declarations and the check on the sheets of texts, by computation; what each is to
+-- be was found by hand.
+-- Assumes nothing.
+use Prim.Native.Nat.{ℕ}
+use mathlib.Core.Path.{_≡_, refl}
+use mathlib.Core.Bool.{true, false}
+use mathlib.Core.List.{List, [], _∷_, _++_, map}
+use mathlib.Core.Option.{none, some}
+use lib.ListN.{replicate}
+use Rattle.records.specs.Words.{word, count}
+use Rattle.records.specs.Kinds.{rowOf, kindOf, askOf}
+use Rattle.records.specs.Says.{wellSaid, namings}
+use Rattle.records.specs.Trees.{typeWithin, typeAt, pairOf, chainWithin, chain, alternativesWithin, alternatives, treeWithin, treeAt, circuit}
+use Rattle.structure.specs.Rules.{ancestryWithin, ancestry, depth, nesting, wrongLength, wrongHeader, wrongRecord, wrongNaming, wrongType, tooDeep}
+use Rattle.answers.specs.Answers.{lowest}
+use Rattle.answers.specs.declared.Verdict.the-variants.{Accepted, WrongRecord, WrongType}
+use Rattle.verdict.specs.Verdict.{byTypes, byRecords, verdict}
+use Rattle.grammar.specs.Source.{Identifier, identifier, Declaration, Constructors, PairOf, Text, text, NameUse}
+use Rattle.translation.specs.Layout.{sheetOfText}
+use Rattle.text_passes.specs.RefusedTypes.{overCounted, refusedPair}
+
+-- names of one letter, and `input`
+abbrev letter : ℕ → Identifier
+letter c = identifier (c ∷ []) 0
+
+abbrev theInputName : Identifier
+theInputName = identifier (105 ∷ 110 ∷ 112 ∷ 117 ∷ 116 ∷ []) 0
+
+-- TYPE b = h | l IN
+abbrev bit : Declaration
+bit = Constructors (letter 98) (letter 104) (letter 108 ∷ [])
+
+-- TYPE c = (b, b) IN, TYPE d = (b, c) IN, TYPE e = (c, b) IN, TYPE f = (b, c) IN: the last has the
+-- parts of the second
+abbrev repeating : List Declaration
+repeating =
+    PairOf (letter 99) (letter 98) (letter 98)
+    ∷ PairOf (letter 100) (letter 98) (letter 99)
+    ∷ PairOf (letter 101) (letter 99) (letter 98)
+    ∷ PairOf (letter 102) (letter 98) (letter 99)
+    ∷ []
+
+repeating-found : map (refusedPair (bit ∷ repeating)) (0 ∷ 1 ∷ 2 ∷ 3 ∷ 4 ∷ 5 ∷ 6 ∷ []) ≡ false ∷ false ∷ false ∷ false ∷ false ∷ true ∷ false ∷ []
+unfolding refusedPair
+repeating-found = refl
+
+-- TYPE c = (b, b) IN, TYPE d = (c, c) IN and so on: 2, 4, 8, 16, 32, 64 leaves
+abbrev doubling : List Declaration
+doubling =
+    PairOf (letter 99) (letter 98) (letter 98)
+    ∷ PairOf (letter 100) (letter 99) (letter 99)
+    ∷ PairOf (letter 101) (letter 100) (letter 100)
+    ∷ PairOf (letter 102) (letter 101) (letter 101)
+    ∷ PairOf (letter 103) (letter 102) (letter 102)
+    ∷ PairOf (letter 105) (letter 103) (letter 103)
+    ∷ []
+
+-- TYPE j = (i, b) IN: 65 leaves
+abbrev sixtyFive : List Declaration
+sixtyFive = doubling ++ (PairOf (letter 106) (letter 105) (letter 98) ∷ [])
+
+large-found : (lowest (refusedPair (bit ∷ doubling)) 8 ≡ none) × (lowest (refusedPair (bit ∷ sixtyFive)) 9 ≡ some 8)
+unfolding refusedPair
+large-found = (refl, refl)
+
+-- a type of n constructors more than the first
+abbrev flatOf : ℕ → Declaration
+flatOf n = Constructors (letter 99) (letter 100) (replicate n (letter 101))
+
+many-found : (overCounted (bit ∷ flatOf 254 ∷ []) 2 ≡ false) × (lowest (overCounted (bit ∷ flatOf 255 ∷ flatOf 300 ∷ [])) 4 ≡ some 2)
+unfolding overCounted
+many-found = (refl, refl)
+
+-- the check on the sheets of texts with these declarations, INPUT b input
+abbrev asText : List Declaration → Text
+asText ds = text bit ds (letter 98) (NameUse theInputName)
+
+verdicts : (verdict (sheetOfText (asText repeating)) ≡ WrongType 5)
+    × (verdict (sheetOfText (asText doubling)) ≡ Accepted 1)
+    × (verdict (sheetOfText (asText sixtyFive)) ≡ WrongType 8)
+    × (verdict (sheetOfText (asText (flatOf 254 ∷ []))) ≡ Accepted 1)
+    × (verdict (sheetOfText (asText (flatOf 255 ∷ []))) ≡ WrongRecord 2)
+unfolding sheetOfText verdict byRecords byTypes wrongLength wrongHeader wrongRecord wrongNaming wrongType tooDeep depth nesting ancestry ancestryWithin circuit treeAt treeWithin alternatives alternativesWithin chain chainWithin pairOf typeAt typeWithin namings wellSaid askOf kindOf rowOf word count
+verdicts = (refl, refl, refl, refl, refl)

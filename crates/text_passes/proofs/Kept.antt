@@ -1,0 +1,14 @@
+-- One term of each promise.
+-- Assumes nothing.
+use Rattle.text_passes.specs.Promises.{PassPromises}
+use Rattle.text_passes.proofs.NamedOnce.{named-once}
+use Rattle.text_passes.proofs.Verdicts.{never-answered, answered-three, answered-five}
+
+pub kept : PassPromises
+kept =
+    record {
+      never-answered = never-answered;
+      answered-three = answered-three;
+      answered-five = answered-five;
+      named-once = named-once;
+    }

@@ -1,0 +1,65 @@
+-- What is promised of the sheet of a text before the check: for every text that is read, whose
+-- names and constants are good and whose sheet has at most 4,096 records. One term of each promise
+-- stands in `proofs/Kept.antt`.
+use Prim.Native.Nat.{ℕ, suc, _≤_, _<_}
+use mathlib.Core.Path.{_≡_}
+use mathlib.Core.Logic.{_≢_, _↔_}
+use mathlib.Core.Bool.{false}
+use mathlib.Core.List.{List}
+use lib.ListN.{length}
+use Rattle.records.specs.Words.{count}
+use Rattle.records.specs.Says.{namings}
+use Rattle.answers.specs.Answers.{code, verdictAnswer}
+use Rattle.answers.specs.Promises.{LowestBreaking}
+use Rattle.answers.specs.declared.Verdict.the-variants.{WrongRecord, WrongType}
+use Rattle.verdict.specs.Verdict.{verdict}
+use Rattle.grammar.specs.Tokens.{Token}
+use Rattle.grammar.specs.Source.{Text}
+use Rattle.grammar.specs.Grammar.{ReadsText}
+use Rattle.naming.specs.Checks.{AllPass}
+use Rattle.naming.specs.Names.{textChecks}
+use Rattle.naming.specs.RecordsNeeded.{recordsNeeded}
+use Rattle.translation.specs.Layout.{sheetOfText}
+use Rattle.text_meaning.specs.Promises.{declarations}
+use Rattle.text_passes.specs.RefusedTypes.{overCounted, refusedPair}
+
+-- a text that is read, with good names and constants, whose sheet fits
+pub record FittingText (ts : List Token) (t : Text) : Type 0 where
+  pub read : ReadsText ts t
+  pub good : AllPass (textChecks t)
+  pub few : recordsNeeded t ≤ 4096
+
+-- 1. The check never answers 1, 2 or 4.
+abbrev pub NeverAnswered : Type 0
+NeverAnswered =
+    (ts : List Token) (t : Text) → FittingText ts t
+    → (code (verdictAnswer (verdict (sheetOfText t))) ≢ 1)
+    × (code (verdictAnswer (verdict (sheetOfText t))) ≢ 2)
+    × (code (verdictAnswer (verdict (sheetOfText t))) ≢ 4)
+
+-- 2. It answers 3 exactly where a flat type has more than 255 constructors, at the record of the
+-- first such type.
+abbrev pub AnsweredThree : Type 0
+AnsweredThree =
+    (ts : List Token) (t : Text) → FittingText ts t → (r : ℕ)
+    → verdict (sheetOfText t) ≡ WrongRecord r ↔ LowestBreaking (overCounted (declarations t)) (suc (length (declarations t))) r
+
+-- 3. It answers 5 exactly where no flat type has more, and a pair type has the parts of a lower one
+-- or more than 64 leaves, at the record of the first such type.
+abbrev pub AnsweredFive : Type 0
+AnsweredFive =
+    (ts : List Token) (t : Text) → FittingText ts t → (r : ℕ)
+    → verdict (sheetOfText t) ≡ WrongType r
+    ↔ (((i : ℕ) → overCounted (declarations t) i ≡ false) × LowestBreaking (refusedPair (declarations t)) (suc (length (declarations t))) r)
+
+-- 4. Each record but the header is named by exactly one word.
+abbrev pub NamedOnce : Type 0
+NamedOnce =
+    (ts : List Token) (t : Text) → ReadsText ts t → AllPass (textChecks t)
+    → (r : ℕ) → 0 < r → r < count (sheetOfText t) → length (namings (sheetOfText t) r) ≡ 1
+
+pub record PassPromises : Type 0 where
+  pub never-answered : NeverAnswered
+  pub answered-three : AnsweredThree
+  pub answered-five : AnsweredFive
+  pub named-once : NamedOnce
