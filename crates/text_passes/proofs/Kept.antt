@@ -2,7 +2,7 @@
 -- Assumes nothing.
 use Rattle.text_passes.specs.Promises.{PassPromises}
 use Rattle.text_passes.proofs.NamedOnce.{named-once}
-use Rattle.text_passes.proofs.Verdicts.{never-answered, answered-three, answered-five}
+use Rattle.text_passes.proofs.Verdicts.{never-answered, answered-three, answered-five, output-declared}
 
 pub kept : PassPromises
 kept =
@@ -11,4 +11,5 @@ kept =
       answered-three = answered-three;
       answered-five = answered-five;
       named-once = named-once;
+      output-declared = output-declared;
     }

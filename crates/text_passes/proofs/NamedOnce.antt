@@ -285,7 +285,7 @@ named-once ts (text d ds (identifier w p) e) rd good x past within =
     let h : length (namingsBelow s x (count s)) ≡ length (namingsBelow s x (0 + recordsNeeded t)) = ap (λ q. length (namingsBelow s x q)) (c ∙ sym f) in
     h ∙ g ∙ omega (arith, n)
 
-sheet-long : (rs : List Record) → length (sheetOf rs) ≡ 12 * length rs
+pub sheet-long : (rs : List Record) → length (sheetOf rs) ≡ 12 * length rs
 sheet-long [] = refl
 sheet-long (words kind next a b c d ∷ rs) = let e = sheet-long rs in omega arith
 

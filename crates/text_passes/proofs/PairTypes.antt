@@ -30,6 +30,7 @@ use Rattle.translation.proofs.ConstructorTables.{pass-both, passes, pass-rest}
 use Rattle.translation.proofs.Tables.{isNamed, Known, no-type, after-known}
 use Rattle.text_meaning.proofs.TakenNames.{AllTaken, after-taken, later-number, first-entry}
 use Rattle.text_passes.specs.RefusedTypes.{declarationAt, whereDeclared, isRefusedPair, refusedPair}
+use Rattle.text_passes.specs.Promises.{typeNameOf}
 use Rattle.text_passes.proofs.TypesReady.{NumbersBelow, no-numbers, ranged-number, after-ranged, named-all}
 
 -- the numbers of entries fall
@@ -260,3 +261,26 @@ module _ {s : List ℕ} (all : List Declaration) (good : AllPass (declarationsCh
       let e : 0 + k ≡ suc k - 1 = omega arith in
       each all start st 0 (omega arith) (omega arith) k h
       ∙ ap (λ m. whereDeclared (isRefusedPair all (take m all)) (declarationAt all (suc k))) e
+
+  -- the name of each declaration has its number
+  each-named : {i : ℕ} {D : List DeclaredName} {T : List TypeEntry} (es : List Declaration) → Far U i D T es → (k : ℕ) → k < length es
+      → (d : Declaration) × (declarationAt es (suc k) ≡ some d) × (typeNumber U (typeNameOf d) ≡ i + k)
+  each-named [] f k h = let no : ⊥ = omega arith in elim no [ ]
+  each-named {i} {D} {T} (Constructors (identifier t p) c cs ∷ es) f zero h =
+      let d = Constructors (identifier t p) c cs in
+      let entry = first-entry i T t (Flat i (length (c ∷ cs))) in
+      let own : typeNumber (afterEntry i T d) t ≡ i = rw (equal-same t t refl) in
+      (d, refl, in-all es (further d es f) t (entry .1) .1 ∙ own ∙ (let z : i ≡ i + 0 = omega arith in z))
+  each-named {i} {D} {T} (PairOf (identifier t p) a b ∷ es) f zero h =
+      let d = PairOf (identifier t p) a b in
+      let entry = first-entry i T t (TyTuple (typeMeant T (letters a)) (typeMeant T (letters b))) in
+      let own : typeNumber (afterEntry i T d) t ≡ i = rw (equal-same t t refl) in
+      (d, refl, in-all es (further d es f) t (entry .1) .1 ∙ own ∙ (let z : i ≡ i + 0 = omega arith in z))
+  each-named {i} (d ∷ es) f (suc k) h =
+      let r = each-named es (further d es f) k (omega arith) in
+      (r .0, r .1, r .2 ∙ (let z : suc i + k ≡ i + suc k = omega arith in z))
+
+  pub declared-named : (k : ℕ) → k < length all
+      → (d : Declaration) × (declarationAt all (suc k) ≡ some d) × (typeNumber U (typeNameOf d) ≡ suc k)
+  declared-named k h =
+      let r = each-named all start k h in (r .0, r .1, r .2 ∙ (let z : 1 + k ≡ suc k = omega arith in z))

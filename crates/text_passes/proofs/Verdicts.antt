@@ -1,18 +1,18 @@
 -- The verdict on the sheet of a text: 3 and 5 by the declarations alone, and never 1, 2 or 4.
 -- Assumes nothing.
-use Prim.Native.Nat.{ℕ, zero, suc, _+_, _≤_, _<_}
+use Prim.Native.Nat.{ℕ, zero, suc, _+_, _%_, _≤_, _<_}
 use mathlib.Core.Path.{_≡_, refl, ap, sym, subst, _∙_}
 use mathlib.Core.Logic.{_≢_, _↔_}
-use mathlib.Core.Bool.{Bool, true, false, not, _&&_, and-false}
+use mathlib.Core.Bool.{Bool, true, false, not, _&&_, _||_, and-false}
 use mathlib.Core.List.{List, [], _∷_}
 use mathlib.Core.Option.{Option, none, some}
 use native.Mathlib.Omega.{arith}
 use borrow.Author.Tests.{lt-ltb, ltb-true, ltb-false}
-use lib.Dec.{ltb}
+use lib.Dec.{eqb, ltb}
 use lib.ListN.{length}
 use Rattle.records.specs.Words.{count}
 use Rattle.records.specs.Kinds.{Kind, header, typeOf, flat, pair, expression, pattern, leaf, unknown, types, sortOf, sameSort, isPair, rowOf, kindOf}
-use Rattle.records.specs.Says.{kindAt, Naming, namings, wellNamed}
+use Rattle.records.specs.Says.{kindAt, sortAt, Naming, namings, wellNamed}
 use Rattle.records.specs.SheetOf.{sheetOf}
 use Rattle.answers.specs.Answers.{code, verdictAnswer, lowest}
 use Rattle.answers.specs.Promises.{LowestBreaking}
@@ -30,11 +30,16 @@ use Rattle.answers.specs.declared.Verdict.the-variants.{
 }
 use Rattle.structure.specs.Rules.{wrongLength, wrongHeader, wrongRecord, wrongNaming, wrongType, tooDeep}
 use Rattle.typing.specs.Judgements.{judgements, firstFailing}
-use Rattle.records.specs.Trees.{circuit}
+use Rattle.records.specs.Trees.{circuit, typeAt}
+use Rattle.records.proofs.Tests.{neither-left, neither-right}
+use Rattle.accepted.proofs.Laws.{exact}
 use Rattle.verdict.specs.Scopes.{inputs}
 use Rattle.verdict.specs.Verdict.{refusing, outputType, byTypes, byRecords, verdict}
 use Rattle.grammar.specs.Tokens.{Token}
-use Rattle.grammar.specs.Source.{identifier, Declaration, Expression, Text, text}
+use Rattle.grammar.specs.Source.{Identifier, identifier, Declaration, Expression, Text, text}
+use Rattle.grammar.specs.Grammar.{ReadsText}
+use Rattle.naming.specs.Checks.{AllPass}
+use Rattle.naming.specs.Names.{textChecks}
 use Rattle.naming.specs.RecordsNeeded.{recordsNeeded}
 use Rattle.translation.specs.Layout.{typesLaid, roomOf, laid, textRecords, sheetOfText}
 use Rattle.translation.proofs.Standing.{RecordIs, Stands, one-stands, sheet-stands, stands-append, sheet-count}
@@ -42,12 +47,12 @@ use Rattle.translation.proofs.Kept as Translation
 use Rattle.translation.proofs.Kept.{names-good}
 use Rattle.text_meaning.specs.Promises.{declarations}
 use Rattle.text_passes.specs.RefusedTypes.{declarationAt, whereDeclared, hasManyConstructors, overCounted, refusedPair}
-use Rattle.text_passes.specs.Promises.{FittingText, NeverAnswered, AnsweredThree, AnsweredFive}
+use Rattle.text_passes.specs.Promises.{FittingText, NeverAnswered, AnsweredThree, AnsweredFive, typeNameOf, TypeDeclared, OutputDeclared}
 use Rattle.text_passes.proofs.TypesReady.{FewConstructors, few-constructors}
-use Rattle.text_passes.proofs.NamedOnce.{length-passes, named-once}
+use Rattle.text_passes.proofs.NamedOnce.{sheet-long, length-passes, named-once}
 use Rattle.text_passes.proofs.RecordsSaid.{Said}
 use Rattle.text_passes.proofs.SheetSaid.{AllSaid, TextSaid, text-is-said}
-use Rattle.text_passes.proofs.PairTypes.{types-refused}
+use Rattle.text_passes.proofs.PairTypes.{types-refused, declared-named}
 
 -- a search that comes to nothing past a bound
 module _ (p q : ℕ → Bool) (n m : ℕ) (fewer : n ≤ m) (same : (r : ℕ) → r < n → p r ≡ q r)
@@ -211,6 +216,16 @@ none-at-zero : (d : Declaration) (ds : List Declaration) → (overCounted (d ∷
 unfolding overCounted refusedPair
 none-at-zero d ds = (refl, refl)
 
+-- the types as they stand
+types-stand : (d : Declaration) (ds : List Declaration) (w : List ℕ) (p : ℕ) (e : Expression)
+    → Stands (sheetOfText (text d ds (identifier w p) e)) 1 (typesLaid 1 [] (d ∷ ds))
+unfolding sheetOfText
+types-stand d ds w p e = go (sheet-stands (textRecords (text d ds (identifier w p) e)))
+  where
+    go : Stands (sheetOf (textRecords (text d ds (identifier w p) e))) 0 (textRecords (text d ds (identifier w p) e))
+        → Stands (sheetOf (textRecords (text d ds (identifier w p) e))) 1 (typesLaid 1 [] (d ∷ ds))
+    go (one-stands x st) = stands-append 1 (typesLaid 1 [] (d ∷ ds)) (laid (d ∷ ds) [] (suc (length (d ∷ ds))) e) st .0
+
 -- the searches find what the declarations say
 module _ (ts : List Token) (d : Declaration) (ds : List Declaration) (w : List ℕ) (p : ℕ) (e : Expression)
     (fitting : FittingText ts (text d ds (identifier w p) e)) where
@@ -226,14 +241,6 @@ module _ (ts : List Token) (d : Declaration) (ds : List Declaration) (w : List �
       let c = sheet-count (textRecords source) in
       let n = Translation.kept .as-many-records ts source (fitting .read) (fitting .good) in
       c ∙ n ∙ omega arith
-
-  -- the types as they stand
-  types-stand : Stands sheet 1 (typesLaid 1 [] (d ∷ ds))
-  unfolding sheetOfText
-  types-stand = go (sheet-stands (textRecords source))
-    where
-      go : Stands (sheetOf (textRecords source)) 0 (textRecords source) → Stands (sheetOf (textRecords source)) 1 (typesLaid 1 [] (d ∷ ds))
-      go (one-stands x st) = stands-append 1 (typesLaid 1 [] (d ∷ ds)) (laid (d ∷ ds) [] (suc (length (d ∷ ds))) e) st .0
 
   header-fits : wrongType sheet 0 ≡ false
   unfolding sheetOfText
@@ -277,7 +284,7 @@ module _ (ts : List Token) (d : Declaration) (ds : List Declaration) (w : List �
       types-as (suc k) h =
           let f : suc k ≡ 1 + k = omega arith in
           ap (wrongType sheet) f
-          ∙ types-refused (d ∷ ds) (names-good d ds w p e (fitting .good) .0) types-stand
+          ∙ types-refused (d ∷ ds) (names-good d ds w p e (fitting .good) .0) (types-stand d ds w p e)
           (Translation.kept .types-as-declared source (fitting .good)) k (omega (arith, h))
 
 pub never-answered : NeverAnswered
@@ -288,3 +295,53 @@ answered-three ts (text d ds (identifier w p) e) f r = three (searched ts d ds w
 
 pub answered-five : AnsweredFive
 answered-five ts (text d ds (identifier w p) e) f r = five (searched ts d ds w p e f) r
+
+-- an accepted sheet fits, and its output's type is a declaration's record
+accepted-few : (ts : List Token) (d : Declaration) (ds : List Declaration) (n : Identifier) (e : Expression)
+    → ReadsText ts (text d ds n e) → AllPass (textChecks (text d ds n e)) → wrongLength (sheetOfText (text d ds n e)) ≡ false
+    → recordsNeeded (text d ds n e) ≤ 4096
+unfolding sheetOfText wrongLength
+accepted-few ts d ds n e rd good h =
+    let t = text d ds n e in
+    let s = sheetOf (textRecords t) in
+    let l = sheet-long (textRecords t) in
+    let c = Translation.kept .as-many-records ts t rd good in
+    let both = neither-right (ltb (length s) 12) (ltb 49152 (length s) || not (eqb (length s % 12) 0)) h in
+    let few = ltb-false 49152 (length s) (neither-left (ltb 49152 (length s)) (not (eqb (length s % 12) 0)) both) in
+    omega (arith, l, c, few)
+
+no-type-record : {s : List ℕ} {r : ℕ} → Said s r → sortAt s r ≡ types → ⊥
+no-type-record {s} {r} x e = let f : true ≡ false = rw e at (x .no-type) in let no : _≡_ {A = ℕ} 0 1 = cc in omega arith
+
+pub output-declared : OutputDeclared
+output-declared ts (text d ds (identifier w p) e) rd good τ accepted =
+    let t = text d ds (identifier w p) e in
+    let s = sheetOfText t in
+    let all = exact s τ .0 accepted in
+    let passes = all .0 in
+    let there = all .1 .0 in
+    let f : FittingText ts t =
+    record { read = rd; good = good; few = accepted-few ts d ds (identifier w p) e rd good (passes .length) } in
+    let found = searched ts d ds w p e f in
+    let counts = sym (found .recorded) ∙ passes .records in
+    let said = text-is-said ts d ds w p e rd good .expression (few-constructors (d ∷ ds) (λ k. all-counted (d ∷ ds) counts (suc k))) in
+    let c = counted ts d ds w p e f in
+    let within = there .there in
+    go τ (there .past) (ltb τ (suc (length (d ∷ ds)))) refl
+    (λ low. no-type-record (said .each τ low (omega (arith, c, within))) (there .sort))
+  where
+    go : (τ : ℕ) → 0 < τ → (b : Bool) → ltb τ (suc (length (d ∷ ds))) ≡ b → (suc (length (d ∷ ds)) ≤ τ → ⊥)
+        → TypeDeclared (text d ds (identifier w p) e) τ
+    go zero past b h past-all = absurd (omega arith)
+    go (suc k) past false h past-all = absurd (past-all (ltb-false (suc k) (suc (length (d ∷ ds))) h))
+    go (suc k) past true h past-all =
+        let t = text d ds (identifier w p) e in
+        let l = ltb-true (suc k) (suc (length (d ∷ ds))) h in
+        let meant = Translation.kept .types-as-declared t good in
+        let r = declared-named (d ∷ ds) (names-good d ds w p e good .0) (types-stand d ds w p e) meant k (omega (arith, l)) in
+        record {
+          declared = r .0;
+          at = r .1;
+          number = r .2;
+          type = ap (typeAt (sheetOfText t)) (sym (r .2)) ∙ meant (typeNameOf (r .0));
+        }

@@ -6,22 +6,27 @@ use mathlib.Core.Path.{_≡_}
 use mathlib.Core.Logic.{_≢_, _↔_}
 use mathlib.Core.Bool.{false}
 use mathlib.Core.List.{List}
+use mathlib.Core.Option.{some}
 use lib.ListN.{length}
 use Rattle.records.specs.Words.{count}
 use Rattle.records.specs.Says.{namings}
+use Rattle.records.specs.Trees.{typeAt}
 use Rattle.answers.specs.Answers.{code, verdictAnswer}
 use Rattle.answers.specs.Promises.{LowestBreaking}
-use Rattle.answers.specs.declared.Verdict.the-variants.{WrongRecord, WrongType}
+use Rattle.answers.specs.declared.Verdict.the-variants.{Accepted, WrongRecord, WrongType}
 use Rattle.verdict.specs.Verdict.{verdict}
 use Rattle.grammar.specs.Tokens.{Token}
-use Rattle.grammar.specs.Source.{Text}
+use Rattle.grammar.specs.Source.{Declaration, Constructors, PairOf, Text}
 use Rattle.grammar.specs.Grammar.{ReadsText}
 use Rattle.naming.specs.Checks.{AllPass}
+use Rattle.naming.specs.Constants.{letters}
 use Rattle.naming.specs.Names.{textChecks}
 use Rattle.naming.specs.RecordsNeeded.{recordsNeeded}
+use Rattle.translation.specs.Resolved.{typeMeant, typeNumber}
 use Rattle.translation.specs.Layout.{sheetOfText}
+use Rattle.translation.specs.Promises.{typesOf}
 use Rattle.text_meaning.specs.Promises.{declarations}
-use Rattle.text_passes.specs.RefusedTypes.{overCounted, refusedPair}
+use Rattle.text_passes.specs.RefusedTypes.{declarationAt, overCounted, refusedPair}
 
 -- a text that is read, with good names and constants, whose sheet fits
 pub record FittingText (ts : List Token) (t : Text) : Type 0 where
@@ -58,8 +63,28 @@ NamedOnce =
     (ts : List Token) (t : Text) → ReadsText ts t → AllPass (textChecks t)
     → (r : ℕ) → 0 < r → r < count (sheetOfText t) → length (namings (sheetOfText t) r) ≡ 1
 
+-- the name of the type that a declaration declares
+abbrev pub typeNameOf : Declaration → List ℕ
+typeNameOf (Constructors t c cs) = letters t
+typeNameOf (PairOf t a b) = letters t
+
+-- record τ is that of a declared type: it has the number of the declaration, and the name that is
+-- declared stands for its type
+pub record TypeDeclared (t : Text) (τ : ℕ) : Type 0 where
+  pub declared : Declaration
+  pub at : declarationAt (declarations t) τ ≡ some declared
+  pub number : typeNumber (typesOf t) (typeNameOf declared) ≡ τ
+  pub type : typeAt (sheetOfText t) τ ≡ typeMeant (typesOf t) (typeNameOf declared)
+
+-- 5. Where the sheet is accepted, the outputs have a type that the text declares.
+abbrev pub OutputDeclared : Type 0
+OutputDeclared =
+    (ts : List Token) (t : Text) → ReadsText ts t → AllPass (textChecks t)
+    → (τ : ℕ) → verdict (sheetOfText t) ≡ Accepted τ → TypeDeclared t τ
+
 pub record PassPromises : Type 0 where
   pub never-answered : NeverAnswered
   pub answered-three : AnsweredThree
   pub answered-five : AnsweredFive
   pub named-once : NamedOnce
+  pub output-declared : OutputDeclared
