@@ -1,4 +1,5 @@
 -- The theorems, and instances of what the functions on texts ask.
+pub mod Fourteen
 pub mod Kept
 pub mod TextTables
 pub mod WitnessNames

@@ -2,6 +2,7 @@
 -- Assumes nothing.
 use Rattle.text_passes.specs.Promises.{PassPromises}
 use Rattle.text_passes.proofs.NamedOnce.{named-once}
+use Rattle.text_passes.proofs.BadPlaces.{bad-place-exactly, no-bad-place, names-first, only-pairs-fail}
 use Rattle.text_passes.proofs.Verdicts.{never-answered, answered-three, answered-five, output-declared}
 
 pub kept : PassPromises
@@ -12,4 +13,8 @@ kept =
       answered-five = answered-five;
       named-once = named-once;
       output-declared = output-declared;
+      bad-place-exactly = bad-place-exactly;
+      no-bad-place = no-bad-place;
+      names-first = names-first;
+      only-pairs-fail = only-pairs-fail;
     }

@@ -6,5 +6,6 @@ pub mod TypesReady
 pub mod SheetSaid
 pub mod PairTypes
 pub mod Verdicts
+pub mod BadPlaces
 pub mod Kept
 pub mod Examples

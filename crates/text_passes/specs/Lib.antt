@@ -1,4 +1,5 @@
--- The sheet of a text before the check: which declared types it refuses.
+-- The sheet of a text before the check, which declared types it refuses, and what code 14 tells.
 -- To believe:
 pub mod RefusedTypes
+pub mod DelayConstants
 pub mod Promises

@@ -3,10 +3,10 @@
 -- stands in `proofs/Kept.antt`.
 use Prim.Native.Nat.{ℕ, suc, _≤_, _<_}
 use mathlib.Core.Path.{_≡_}
-use mathlib.Core.Logic.{_≢_, _↔_}
+use mathlib.Core.Logic.{_≢_, _⊎_, _↔_}
 use mathlib.Core.Bool.{false}
 use mathlib.Core.List.{List}
-use mathlib.Core.Option.{some}
+use mathlib.Core.Option.{none, some}
 use lib.ListN.{length}
 use Rattle.records.specs.Words.{count}
 use Rattle.records.specs.Says.{namings}
@@ -18,15 +18,16 @@ use Rattle.verdict.specs.Verdict.{verdict}
 use Rattle.grammar.specs.Tokens.{Token}
 use Rattle.grammar.specs.Source.{Declaration, Constructors, PairOf, Text}
 use Rattle.grammar.specs.Grammar.{ReadsText}
-use Rattle.naming.specs.Checks.{AllPass}
-use Rattle.naming.specs.Constants.{letters}
-use Rattle.naming.specs.Names.{textChecks}
+use Rattle.naming.specs.Checks.{PlacedCheck, AllPass, FirstFails, firstBadPlace}
+use Rattle.naming.specs.Constants.{letters, constantsOfText}
+use Rattle.naming.specs.Names.{nameChecks, textChecks}
 use Rattle.naming.specs.RecordsNeeded.{recordsNeeded}
 use Rattle.translation.specs.Resolved.{typeMeant, typeNumber}
 use Rattle.translation.specs.Layout.{sheetOfText}
 use Rattle.translation.specs.Promises.{typesOf}
 use Rattle.text_meaning.specs.Promises.{declarations}
 use Rattle.text_passes.specs.RefusedTypes.{declarationAt, overCounted, refusedPair}
+use Rattle.text_passes.specs.DelayConstants.{UntypedPair}
 
 -- a text that is read, with good names and constants, whose sheet fits
 pub record FittingText (ts : List Token) (t : Text) : Type 0 where
@@ -82,9 +83,34 @@ OutputDeclared =
     (ts : List Token) (t : Text) → ReadsText ts t → AllPass (textChecks t)
     → (τ : ℕ) → verdict (sheetOfText t) ≡ Accepted τ → TypeDeclared t τ
 
+-- 6. Code 14: the place that the search finds is that of the first check that fails, all before it
+-- holding; it finds none exactly where all hold.
+abbrev pub BadPlaceExactly : Type 0
+BadPlaceExactly = (cs : List PlacedCheck) (p : ℕ) → firstBadPlace cs ≡ some p ↔ FirstFails cs p
+
+abbrev pub NoBadPlace : Type 0
+NoBadPlace = (cs : List PlacedCheck) → firstBadPlace cs ≡ none ↔ AllPass cs
+
+-- 7. Names before constants: the first check of a text that fails is the first of its names', or, where
+-- those all hold, the first of its constants'.
+abbrev pub NamesFirst : Type 0
+NamesFirst =
+    (t : Text) (p : ℕ)
+    → FirstFails (textChecks t) p ↔ (FirstFails (nameChecks t) p ⊎ (AllPass (nameChecks t) × FirstFails (constantsOfText t) p))
+
+-- 8. Where all names are good only a pair of a constant can fail, and its place is its opening bracket.
+abbrev pub OnlyPairsFail : Type 0
+OnlyPairsFail =
+    (ts : List Token) (t : Text) → ReadsText ts t → AllPass (nameChecks t)
+    → (p : ℕ) → FirstFails (constantsOfText t) p → UntypedPair ts t p
+
 pub record PassPromises : Type 0 where
   pub never-answered : NeverAnswered
   pub answered-three : AnsweredThree
   pub answered-five : AnsweredFive
   pub named-once : NamedOnce
   pub output-declared : OutputDeclared
+  pub bad-place-exactly : BadPlaceExactly
+  pub no-bad-place : NoBadPlace
+  pub names-first : NamesFirst
+  pub only-pairs-fail : OnlyPairsFail
