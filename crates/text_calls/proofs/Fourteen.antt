@@ -1,4 +1,5 @@
--- A call answers 14 exactly where a check of the text that is read fails, at the place of the first.
+-- A call answers 14 exactly where a check of the text that is read fails, at the place of the
+-- first.
 -- Assumes nothing.
 use Prim.Native.Nat.{ℕ}
 use mathlib.Core.Path.{_≡_, refl, ap, sym, subst, _∙_}

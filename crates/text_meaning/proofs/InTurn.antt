@@ -1,5 +1,5 @@
--- Calls of the run in turn are one run of 000's rules: each next sheet decodes to the expression that
--- the rules leave, with the types of the sheet before.
+-- Calls of the run in turn are one run of 000's rules: each next sheet decodes to the expression
+-- that the rules leave, with the types of the sheet before.
 -- Assumes nothing.
 use Prim.Native.Nat.{ℕ, suc, _+_, _*_}
 use mathlib.Core.Path.{_≡_, refl, ap, ap₂, sym, subst, _∙_}

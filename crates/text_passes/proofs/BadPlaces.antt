@@ -1,5 +1,6 @@
--- The place of code 14 is that of the first check that fails, names before constants; and where all names are
--- good a constant that fails is a pair, since a name has the type of its constructor and `?` its own.
+-- The place of code 14 is that of the first check that fails, names before constants; and where all
+-- names are good a constant that fails is a pair, since a name has the type of its constructor and
+-- `?` its own.
 -- Assumes nothing.
 use Prim.Native.Nat.{ℕ, suc}
 use mathlib.Core.Path.{_≡_, refl, sym, subst, _∙_}

@@ -13,7 +13,8 @@ use lib.ListN.{length, length-append}
 use Rattle.records.specs.Words.{word, count, kindWord, nextWord, wordA, wordB, wordC, wordD}
 use Rattle.records.specs.Kinds.{rowOf, askOf}
 use Rattle.records.specs.Says.{askAt, Naming, names, namesAt, ifNamed, namings, namingsIn, namingsBelow}
-use Rattle.translation.proofs.Standing.{RecordIs}
+use Rattle.text_passes.specs.RecordWalk.{walkOrder, namedBy}
+use Rattle.text_passes.proofs.Nested.{Nested, nested, AllNested, none-nested, zero-nested, part-nested}
 
 -- 1 where x is a, 1 where x is below h
 unfoldable pub oneAt : ℕ → ℕ → ℕ
@@ -101,102 +102,48 @@ words-counted s x q =
       named-length (namesAt s x q 5) q 5,
     )
 
-module _ {s : List ℕ} (x : ℕ) {q : ℕ} where
-  pub header-names : {n a b c : ℕ} → RecordIs s q 1 n a b c 0 → timesIn s x q ≡ oneAt n x + (oneAt b x + (0))
-  unfolding askOf rowOf oneAt
-  header-names h = words-counted s x q ∙ rw (h .kind-is, h .next-is, h .b-is) (omega arith)
+-- the words of a record, in the order of the walk
+abbrev pub timesAmong : ℕ → List ℕ → ℕ
+timesAmong x [] = 0
+timesAmong x (w ∷ ws) = oneAt w x + timesAmong x ws
 
-  pub flat-names : {n a : ℕ} → RecordIs s q 16 n a 0 0 0 → timesIn s x q ≡ oneAt n x + (0)
-  unfolding askOf rowOf oneAt
-  flat-names h = words-counted s x q ∙ rw (h .kind-is, h .next-is) (omega arith)
+one-more-named : (x w : ℕ) (b : Bool) (ws : List ℕ) → timesAmong x (cond b (w ∷ ws) ws) ≡ cond (b && eqb w x) 1 0 + timesAmong x ws
+unfolding oneAt
+one-more-named x w true ws = refl
+one-more-named x w false ws = omega arith
 
-  pub pair-type-names : {n a b : ℕ} → RecordIs s q 17 n a b 0 0 → timesIn s x q ≡ oneAt n x + (0)
-  unfolding askOf rowOf oneAt
-  pair-type-names h = words-counted s x q ∙ rw (h .kind-is, h .next-is) (omega arith)
+named-counted : (s : List ℕ) (x q : ℕ) (ks : List ℕ) (k : ℕ) → timesAmong x (namedBy s q (k ∷ ks)) ≡ byWord s x q k + timesAmong x (namedBy s q ks)
+named-counted s x q ks k = one-more-named x (word s q k) (names (askAt s q k)) (namedBy s q ks)
 
-  pub constant-names : {a b : ℕ} → RecordIs s q 32 0 a b 0 0 → timesIn s x q ≡ oneAt b x + (0)
-  unfolding askOf rowOf oneAt
-  constant-names h = words-counted s x q ∙ rw (h .kind-is, h .b-is) (omega arith)
+pub by-named : (s : List ℕ) (x q : ℕ) → timesIn s x q ≡ timesAmong x (namedBy s q walkOrder)
+by-named s x q =
+    let w = words-counted s x q in
+    let a = named-counted s x q (3 ∷ 4 ∷ 5 ∷ 1 ∷ []) 2 in
+    let b = named-counted s x q (4 ∷ 5 ∷ 1 ∷ []) 3 in
+    let c = named-counted s x q (5 ∷ 1 ∷ []) 4 in
+    let d = named-counted s x q (1 ∷ []) 5 in
+    let e = named-counted s x q [] 1 in
+    omega (arith, w, a, b, c, d, e)
 
-  pub name-names : {a : ℕ} → RecordIs s q 33 0 a 0 0 0 → timesIn s x q ≡ 0
-  unfolding askOf rowOf oneAt
-  name-names h = words-counted s x q ∙ rw (h .kind-is)
+-- nested records name each of themselves but the first once, and no other
+module _ {s : List ℕ} (x : ℕ) (past : 0 < x) where
+  mutual
+    pub nested-counted : {r n : ℕ} → Nested s r n → oneBelow (suc r) x + timesFrom s x r n ≡ oneBelow (r + n) x
+    nested-counted {r} (nested {m = m} {ws = ws} named parts) =
+        let h = all-counted parts in
+        let t : timesIn s x r ≡ timesAmong x ws = by-named s x r ∙ ap (timesAmong x) named in
+        let f : suc r + m ≡ r + suc m = omega arith in
+        let b : oneBelow (suc r + m) x ≡ oneBelow (r + suc m) x = ap (λ l. oneBelow l x) f in
+        omega (arith, h, t, b)
 
-  pub tuple-names : {a b : ℕ} → RecordIs s q 34 0 a b 0 0 → timesIn s x q ≡ oneAt a x + (oneAt b x + (0))
-  unfolding askOf rowOf oneAt
-  tuple-names h = words-counted s x q ∙ rw (h .kind-is, h .a-is, h .b-is) (omega arith)
-
-  pub first-names : {a : ℕ} → RecordIs s q 35 0 a 0 0 0 → timesIn s x q ≡ oneAt a x + (0)
-  unfolding askOf rowOf oneAt
-  first-names h = words-counted s x q ∙ rw (h .kind-is, h .a-is) (omega arith)
-
-  pub second-names : {a : ℕ} → RecordIs s q 36 0 a 0 0 0 → timesIn s x q ≡ oneAt a x + (0)
-  unfolding askOf rowOf oneAt
-  second-names h = words-counted s x q ∙ rw (h .kind-is, h .a-is) (omega arith)
-
-  pub let-names : {a b : ℕ} → RecordIs s q 37 0 a b 0 0 → timesIn s x q ≡ oneAt a x + (oneAt b x + (0))
-  unfolding askOf rowOf oneAt
-  let-names h = words-counted s x q ∙ rw (h .kind-is, h .a-is, h .b-is) (omega arith)
-
-  pub feedback-names : {a b c : ℕ} → RecordIs s q 38 0 a b c 0 → timesIn s x q ≡ oneAt b x + (oneAt c x + (0))
-  unfolding askOf rowOf oneAt
-  feedback-names h = words-counted s x q ∙ rw (h .kind-is, h .b-is, h .c-is) (omega arith)
-
-  pub if-names : {a b c d : ℕ} → RecordIs s q 39 0 a b c d → timesIn s x q ≡ oneAt a x + (oneAt b x + (oneAt c x + (oneAt d x + (0))))
-  unfolding askOf rowOf oneAt
-  if-names h = words-counted s x q ∙ rw (h .kind-is, h .a-is, h .b-is, h .c-is, h .d-is) (omega arith)
-
-  pub delay-names : {a b c : ℕ} → RecordIs s q 40 0 a b c 0 → timesIn s x q ≡ oneAt b x + (oneAt c x + (0))
-  unfolding askOf rowOf oneAt
-  delay-names h = words-counted s x q ∙ rw (h .kind-is, h .b-is, h .c-is) (omega arith)
-
-  pub whole-pattern-names : {n a : ℕ} → RecordIs s q 48 n a 0 0 0 → timesIn s x q ≡ oneAt n x + (0)
-  unfolding askOf rowOf oneAt
-  whole-pattern-names h = words-counted s x q ∙ rw (h .kind-is, h .next-is) (omega arith)
-
-  pub constructor-pattern-names : {n a b : ℕ} → RecordIs s q 49 n a b 0 0 → timesIn s x q ≡ oneAt n x + (0)
-  unfolding askOf rowOf oneAt
-  constructor-pattern-names h = words-counted s x q ∙ rw (h .kind-is, h .next-is) (omega arith)
-
-  pub parts-pattern-names : {n a b : ℕ} → RecordIs s q 50 n a b 0 0 → timesIn s x q ≡ oneAt n x + (oneAt a x + (oneAt b x + (0)))
-  unfolding askOf rowOf oneAt
-  parts-pattern-names h = words-counted s x q ∙ rw (h .kind-is, h .next-is, h .a-is, h .b-is) (omega arith)
-
-  pub leaf-names : {n a : ℕ} → RecordIs s q 64 n a 0 0 0 → timesIn s x q ≡ oneAt n x + (0)
-  unfolding askOf rowOf oneAt
-  leaf-names h = words-counted s x q ∙ rw (h .kind-is, h .next-is) (omega arith)
-
--- n records from r on name each record after r and before r + n once, and no other but for `extra`
-pub record Covers (s : List ℕ) (x r n extra : ℕ) : Type 0 where
-  pub sum : oneBelow (suc r) x + timesFrom s x r n ≡ oneBelow (r + n) x + extra
-
--- parts one after the other from p on, m records in all, whose first records are x so many times
-pub data PartsCovered (s : List ℕ) (x : ℕ) : ℕ → ℕ → ℕ → Type 0 where
-  no-part : {p : ℕ} → PartsCovered s x p 0 0
-  a-part : {p n m k : ℕ} → Covers s x p n 0 → PartsCovered s x (p + n) m k → PartsCovered s x p (n + m) (oneAt p x + k)
-
-parts-sum : {s : List ℕ} {x p m k : ℕ} → PartsCovered s x p m k → oneBelow p x + (k + timesFrom s x p m) ≡ oneBelow (p + m) x
-parts-sum {x = x} {p = p} no-part = let e : p + 0 ≡ p = omega arith in rw e (omega arith)
-parts-sum {s} {x} {p} (a-part {n = n} {m = m} {k = k} c more) =
-    let e : p + n + m ≡ p + (n + m) = omega arith in
-    let h = parts-sum more in
-    let f = below-step p x in
-    let g = c .sum in
-    let t = times-append s x p n m in
-    let b : oneBelow (p + n + m) x ≡ oneBelow (p + (n + m)) x = ap (λ l. oneBelow l x) e in
-    omega (arith, h, f, g, t, b)
-
--- a record whose words name its parts, and one whose next names another
-pub covers-parts : {s : List ℕ} {x r m k : ℕ} (n : ℕ) → n ≡ suc m → PartsCovered s x (suc r) m k → timesIn s x r ≡ k → Covers s x r n 0
-covers-parts {s} {x} {r} {m} {k} n e p t =
-    let h = parts-sum p in
-    let f : suc r + m ≡ r + suc m = omega arith in
-    let b : oneBelow (suc r + m) x ≡ oneBelow (r + suc m) x = ap (λ l. oneBelow l x) f in
-    rw e (record { sum = omega (arith, h, t, b) })
-
-pub covers-chained : {s : List ℕ} {x r m k : ℕ} (n extra : ℕ) → n ≡ suc m → PartsCovered s x (suc r) m k → timesIn s x r ≡ extra + k → Covers s x r n extra
-covers-chained {s} {x} {r} {m} {k} n extra e p t =
-    let h = parts-sum p in
-    let f : suc r + m ≡ r + suc m = omega arith in
-    let b : oneBelow (suc r + m) x ≡ oneBelow (r + suc m) x = ap (λ l. oneBelow l x) f in
-    rw e (record { sum = omega (arith, h, t, b) })
+    all-counted : {p m : ℕ} {ws : List ℕ} → AllNested s p m ws → oneBelow p x + (timesAmong x ws + timesFrom s x p m) ≡ oneBelow (p + m) x
+    all-counted {p} none-nested = let e : p + 0 ≡ p = omega arith in rw e (omega arith)
+    all-counted (zero-nested more) = let h = all-counted more in let z = not-at x past in omega (arith, h, z)
+    all-counted {p} (part-nested {w = w} {n = n} {m = m} {k = k} {ws = ws} here size c more) =
+        let e : p + n + m ≡ p + (n + m) = omega arith in
+        let h = all-counted more in
+        let f = below-step p x in
+        let g = nested-counted c in
+        let t = times-append s x p n m in
+        let b : oneBelow (p + n + m) x ≡ oneBelow (p + (n + m)) x = ap (λ l. oneBelow l x) e in
+        rw (here, size) (omega (arith, h, f, g, t, b))

@@ -15,9 +15,13 @@ use Rattle.structure.specs.Rules.{ancestryWithin, ancestry, depth, nesting, wro
 use Rattle.answers.specs.Answers.{lowest}
 use Rattle.answers.specs.declared.Verdict.the-variants.{Accepted, WrongRecord, WrongType}
 use Rattle.verdict.specs.Verdict.{byTypes, byRecords, verdict}
-use Rattle.grammar.specs.Source.{Identifier, identifier, Declaration, Constructors, PairOf, Text, text, NameUse}
+use Rattle.grammar.specs.Source.{Identifier, identifier, Declaration, Constructors, PairOf, Text, text}
+use Rattle.grammar.specs.Source.{OfConstructor, Undefined, ConstantPair, Alone, PatternPair, Either}
+use Rattle.grammar.specs.Source.{NameUse, PairExpression, FirstOf, SecondOf, LetExpression, LetRecExpression, IfExpression, DelayExpression}
 use Rattle.translation.specs.Layout.{sheetOfText}
+use Rattle.records.specs.SheetOf.{words, sheetOf}
 use Rattle.text_passes.specs.RefusedTypes.{overCounted, refusedPair}
+use Rattle.text_passes.specs.RecordWalk.{walkWithin, recordWalk}
 
 -- names of one letter, and `input`
 abbrev letter : ℕ → Identifier
@@ -82,3 +86,52 @@ verdicts : (verdict (sheetOfText (asText repeating)) ≡ WrongType 5)
     × (verdict (sheetOfText (asText (flatOf 255 ∷ []))) ≡ WrongRecord 2)
 unfolding sheetOfText verdict byRecords byTypes wrongLength wrongHeader wrongRecord wrongNaming wrongType tooDeep depth nesting ancestry ancestryWithin circuit treeAt treeWithin alternatives alternativesWithin chain chainWithin pairOf typeAt typeWithin namings wellSaid askOf kindOf rowOf word count
 verdicts = (refl, refl, refl, refl, refl)
+
+abbrev sheetT : List ℕ
+sheetT =
+    sheetOf
+    (words 1 1 1 2 17 0
+    ∷ words 16 0 2 0 0 0
+    ∷ words 38 0 1 3 16 0
+    ∷ words 40 0 1 4 5 0
+    ∷ words 64 0 2 0 0 0
+    ∷ words 39 0 6 8 15 7
+    ∷ words 33 0 1 0 0 0
+    ∷ words 49 0 1 1 0 0
+    ∷ words 39 0 9 11 13 10
+    ∷ words 33 0 0 0 0 0
+    ∷ words 49 0 1 2 0 0
+    ∷ words 32 0 1 12 0 0
+    ∷ words 64 0 1 0 0 0
+    ∷ words 32 0 1 14 0 0
+    ∷ words 64 0 2 0 0 0
+    ∷ words 33 0 0 0 0 0
+    ∷ words 33 0 0 0 0 0
+    ∷ [])
+
+-- TYPE b = h | l IN TYPE c = (b, b) IN INPUT b
+-- (LET x = (DELAY ((h, ?b), (input, input)))
+--  IN (IF x MATCHES (h | l, b) | c THEN x[1] ELSE (LET INIT ?b REC y = x[2] IN y)))
+abbrev eachForm : Text
+eachForm =
+    text bit (PairOf (letter 99) (letter 98) (letter 98) ∷ []) (letter 98)
+    (LetExpression (letter 120)
+    (DelayExpression (ConstantPair 0 (OfConstructor (letter 104)) (Undefined (letter 98))) (PairExpression (NameUse theInputName) (NameUse theInputName)))
+    (IfExpression (NameUse (letter 120))
+    (Either (PatternPair (Either (Alone (letter 104)) (Alone (letter 108))) (Alone (letter 98))) (Alone (letter 99)))
+    (FirstOf (NameUse (letter 120)))
+    (LetRecExpression (letter 98) (letter 121) (SecondOf (NameUse (letter 120))) (NameUse (letter 121)))))
+
+-- the types are records 1 and 2; the expression has 20: LET, DELAY, two leaves, the pair and two
+-- names, IF, a name, a first part and its name, the feedback, its part of two and its body, and
+-- five of the pattern
+walked : (recordWalk (sheetOfText eachForm) 1 ≡ 1 ∷ 2 ∷ [])
+    × (recordWalk (sheetOfText eachForm) 3 ≡ 3 ∷ 4 ∷ 5 ∷ 6 ∷ 7 ∷ 8 ∷ 9 ∷ 10 ∷ 11 ∷ 12 ∷ 13 ∷ 14 ∷ 15 ∷ 16 ∷ 17 ∷ 18 ∷ 19 ∷ 20 ∷ 21 ∷ 22 ∷ [])
+unfolding sheetOfText recordWalk walkWithin askOf rowOf word count
+walked = (refl, refl)
+
+-- the sheet T of docs/SHEETS.md has its patterns before the branches: this walk does not visit it
+-- in order
+walk-of-t : recordWalk sheetT 2 ≡ 2 ∷ 3 ∷ 4 ∷ 5 ∷ 6 ∷ 8 ∷ 9 ∷ 11 ∷ 12 ∷ 13 ∷ 14 ∷ 10 ∷ 15 ∷ 7 ∷ 16 ∷ []
+unfolding recordWalk walkWithin askOf rowOf word count
+walk-of-t = refl

@@ -3,6 +3,7 @@
 use Rattle.text_passes.specs.Promises.{PassPromises}
 use Rattle.text_passes.proofs.NamedOnce.{named-once}
 use Rattle.text_passes.proofs.BadPlaces.{bad-place-exactly, no-bad-place, names-first, only-pairs-fail}
+use Rattle.text_passes.proofs.Walked.{records-in-order}
 use Rattle.text_passes.proofs.Verdicts.{never-answered, answered-three, answered-five, output-declared}
 
 pub kept : PassPromises
@@ -17,4 +18,5 @@ kept =
       no-bad-place = no-bad-place;
       names-first = names-first;
       only-pairs-fail = only-pairs-fail;
+      records-in-order = records-in-order;
     }

@@ -1,6 +1,8 @@
 -- The theorems, and examples by computation.
+pub mod Nested
 pub mod Counting
 pub mod NamedOnce
+pub mod Walked
 pub mod RecordsSaid
 pub mod TypesReady
 pub mod SheetSaid

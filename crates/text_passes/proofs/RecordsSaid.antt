@@ -42,7 +42,8 @@ over-many a = go (leb a 255) refl
     go true e = let h = leb-true a 255 e in rw (le-ltb 255 a h)
     go false e = let h = leb-false a 255 e in rw (lt-ltb 255 a h)
 
-pub wrong-flat : {s : List ℕ} {r n a : ℕ} → 0 < r → RecordIs s r 16 n a 0 0 0 → meets s r (nextOf types) n ≡ true → 0 < a
+pub wrong-flat : {s : List ℕ} {r n a : ℕ} → 0 < r → RecordIs s r 16 n a 0 0 0 → meets s r (nextOf types) n ≡ true
+    → 0 < a
     → wrongRecord s r ≡ ltb 255 a
 unfolding wrongRecord wellSaid askOf rowOf kindOf
 wrong-flat {s} {r} {n} {a} past x hn some =
@@ -55,54 +56,129 @@ wrong-pair {s} {r} x hn ha hb =
     rw (x .kind-is, x .next-is, x .a-is, x .b-is, x .c-is, x .d-is, hn, ha, hb) (and-false (ltb 0 r))
 
 module _ {s : List ℕ} {r : ℕ} where
-  pub said-constant : {a b : ℕ} → RecordIs s r 32 0 a b 0 0 → (ltb a r && sameSort (sortAt s a) types) ≡ true → higher s r leafs b ≡ true → Said s r
+  pub said-constant : {a b : ℕ} → RecordIs s r 32 0 a b 0 0 → (ltb a r && sameSort (sortAt s a) types) ≡ true
+      → higher s r leafs b ≡ true → Said s r
   unfolding wellSaid askOf rowOf kindOf
-  said-constant x ha hb = record { other = rw (x .kind-is); no-type = rw (x .kind-is); said = rw (x .kind-is, x .next-is, x .a-is, x .b-is, x .c-is, x .d-is, ha, hb) }
+  said-constant x ha hb =
+      record {
+        other = rw (x .kind-is);
+        no-type = rw (x .kind-is);
+        said = rw (x .kind-is, x .next-is, x .a-is, x .b-is, x .c-is, x .d-is, ha, hb);
+      }
 
   pub said-name : {a : ℕ} → RecordIs s r 33 0 a 0 0 0 → Said s r
   unfolding wellSaid askOf rowOf kindOf
-  said-name x = record { other = rw (x .kind-is); no-type = rw (x .kind-is); said = rw (x .kind-is, x .next-is, x .b-is, x .c-is, x .d-is) }
+  said-name x =
+      record {
+        other = rw (x .kind-is);
+        no-type = rw (x .kind-is);
+        said = rw (x .kind-is, x .next-is, x .b-is, x .c-is, x .d-is);
+      }
 
-  pub said-tuple : {a b : ℕ} → RecordIs s r 34 0 a b 0 0 → higher s r expressions a ≡ true → higher s r expressions b ≡ true → Said s r
+  pub said-tuple : {a b : ℕ} → RecordIs s r 34 0 a b 0 0 → higher s r expressions a ≡ true
+      → higher s r expressions b ≡ true → Said s r
   unfolding wellSaid askOf rowOf kindOf
-  said-tuple x ha hb = record { other = rw (x .kind-is); no-type = rw (x .kind-is); said = rw (x .kind-is, x .next-is, x .a-is, x .b-is, x .c-is, x .d-is, ha, hb) }
+  said-tuple x ha hb =
+      record {
+        other = rw (x .kind-is);
+        no-type = rw (x .kind-is);
+        said = rw (x .kind-is, x .next-is, x .a-is, x .b-is, x .c-is, x .d-is, ha, hb);
+      }
 
   pub said-first : {a : ℕ} → RecordIs s r 35 0 a 0 0 0 → higher s r expressions a ≡ true → Said s r
   unfolding wellSaid askOf rowOf kindOf
-  said-first x ha = record { other = rw (x .kind-is); no-type = rw (x .kind-is); said = rw (x .kind-is, x .next-is, x .a-is, x .b-is, x .c-is, x .d-is, ha) }
+  said-first x ha =
+      record {
+        other = rw (x .kind-is);
+        no-type = rw (x .kind-is);
+        said = rw (x .kind-is, x .next-is, x .a-is, x .b-is, x .c-is, x .d-is, ha);
+      }
 
   pub said-second : {a : ℕ} → RecordIs s r 36 0 a 0 0 0 → higher s r expressions a ≡ true → Said s r
   unfolding wellSaid askOf rowOf kindOf
-  said-second x ha = record { other = rw (x .kind-is); no-type = rw (x .kind-is); said = rw (x .kind-is, x .next-is, x .a-is, x .b-is, x .c-is, x .d-is, ha) }
+  said-second x ha =
+      record {
+        other = rw (x .kind-is);
+        no-type = rw (x .kind-is);
+        said = rw (x .kind-is, x .next-is, x .a-is, x .b-is, x .c-is, x .d-is, ha);
+      }
 
-  pub said-let : {a b : ℕ} → RecordIs s r 37 0 a b 0 0 → higher s r expressions a ≡ true → higher s r expressions b ≡ true → Said s r
+  pub said-let : {a b : ℕ} → RecordIs s r 37 0 a b 0 0 → higher s r expressions a ≡ true
+      → higher s r expressions b ≡ true → Said s r
   unfolding wellSaid askOf rowOf kindOf
-  said-let x ha hb = record { other = rw (x .kind-is); no-type = rw (x .kind-is); said = rw (x .kind-is, x .next-is, x .a-is, x .b-is, x .c-is, x .d-is, ha, hb) }
+  said-let x ha hb =
+      record {
+        other = rw (x .kind-is);
+        no-type = rw (x .kind-is);
+        said = rw (x .kind-is, x .next-is, x .a-is, x .b-is, x .c-is, x .d-is, ha, hb);
+      }
 
-  pub said-feedback : {a b c : ℕ} → RecordIs s r 38 0 a b c 0 → (ltb a r && sameSort (sortAt s a) types) ≡ true → higher s r expressions b ≡ true → higher s r expressions c ≡ true → Said s r
+  pub said-feedback : {a b c : ℕ} → RecordIs s r 38 0 a b c 0 → (ltb a r && sameSort (sortAt s a) types) ≡ true
+      → higher s r expressions b ≡ true → higher s r expressions c ≡ true → Said s r
   unfolding wellSaid askOf rowOf kindOf
-  said-feedback x ha hb hc = record { other = rw (x .kind-is); no-type = rw (x .kind-is); said = rw (x .kind-is, x .next-is, x .a-is, x .b-is, x .c-is, x .d-is, ha, hb, hc) }
+  said-feedback x ha hb hc =
+      record {
+        other = rw (x .kind-is);
+        no-type = rw (x .kind-is);
+        said = rw (x .kind-is, x .next-is, x .a-is, x .b-is, x .c-is, x .d-is, ha, hb, hc);
+      }
 
-  pub said-if : {a b c d : ℕ} → RecordIs s r 39 0 a b c d → higher s r expressions a ≡ true → higher s r expressions b ≡ true → higher s r expressions c ≡ true → higher s r patterns d ≡ true → Said s r
+  pub said-if : {a b c d : ℕ} → RecordIs s r 39 0 a b c d → higher s r expressions a ≡ true
+      → higher s r expressions b ≡ true → higher s r expressions c ≡ true → higher s r patterns d ≡ true → Said s r
   unfolding wellSaid askOf rowOf kindOf
-  said-if x ha hb hc hd = record { other = rw (x .kind-is); no-type = rw (x .kind-is); said = rw (x .kind-is, x .next-is, x .a-is, x .b-is, x .c-is, x .d-is, ha, hb, hc, hd) }
+  said-if x ha hb hc hd =
+      record {
+        other = rw (x .kind-is);
+        no-type = rw (x .kind-is);
+        said = rw (x .kind-is, x .next-is, x .a-is, x .b-is, x .c-is, x .d-is, ha, hb, hc, hd);
+      }
 
-  pub said-delay : {a b c : ℕ} → RecordIs s r 40 0 a b c 0 → (ltb a r && sameSort (sortAt s a) types) ≡ true → higher s r leafs b ≡ true → higher s r expressions c ≡ true → Said s r
+  pub said-delay : {a b c : ℕ} → RecordIs s r 40 0 a b c 0 → (ltb a r && sameSort (sortAt s a) types) ≡ true
+      → higher s r leafs b ≡ true → higher s r expressions c ≡ true → Said s r
   unfolding wellSaid askOf rowOf kindOf
-  said-delay x ha hb hc = record { other = rw (x .kind-is); no-type = rw (x .kind-is); said = rw (x .kind-is, x .next-is, x .a-is, x .b-is, x .c-is, ha, hb, hc) }
+  said-delay x ha hb hc =
+      record {
+        other = rw (x .kind-is);
+        no-type = rw (x .kind-is);
+        said = rw (x .kind-is, x .next-is, x .a-is, x .b-is, x .c-is, ha, hb, hc);
+      }
 
-  pub said-whole : {n a : ℕ} → RecordIs s r 48 n a 0 0 0 → meets s r (nextOf patterns) n ≡ true → (ltb a r && sameSort (sortAt s a) types) ≡ true → Said s r
+  pub said-whole : {n a : ℕ} → RecordIs s r 48 n a 0 0 0 → meets s r (nextOf patterns) n ≡ true
+      → (ltb a r && sameSort (sortAt s a) types) ≡ true → Said s r
   unfolding wellSaid askOf rowOf kindOf
-  said-whole x hn ha = record { other = rw (x .kind-is); no-type = rw (x .kind-is); said = rw (x .kind-is, x .next-is, x .a-is, x .b-is, x .c-is, x .d-is, hn, ha) }
+  said-whole x hn ha =
+      record {
+        other = rw (x .kind-is);
+        no-type = rw (x .kind-is);
+        said = rw (x .kind-is, x .next-is, x .a-is, x .b-is, x .c-is, x .d-is, hn, ha);
+      }
 
-  pub said-constructor : {n a b : ℕ} → RecordIs s r 49 n a b 0 0 → meets s r (nextOf patterns) n ≡ true → (ltb a r && isFlat (kindAt s a)) ≡ true → (ltb 0 b && leb b (wordA s a)) ≡ true → Said s r
+  pub said-constructor : {n a b : ℕ} → RecordIs s r 49 n a b 0 0 → meets s r (nextOf patterns) n ≡ true
+      → (ltb a r && isFlat (kindAt s a)) ≡ true → (ltb 0 b && leb b (wordA s a)) ≡ true → Said s r
   unfolding wellSaid askOf rowOf kindOf
-  said-constructor x hn ha hb = record { other = rw (x .kind-is); no-type = rw (x .kind-is); said = rw (x .kind-is, x .next-is, x .a-is, x .b-is, x .c-is, x .d-is, hn, ha, hb) }
+  said-constructor x hn ha hb =
+      record {
+        other = rw (x .kind-is);
+        no-type = rw (x .kind-is);
+        said = rw (x .kind-is, x .next-is, x .a-is, x .b-is, x .c-is, x .d-is, hn, ha, hb);
+      }
 
-  pub said-parts : {n a b : ℕ} → RecordIs s r 50 n a b 0 0 → meets s r (nextOf patterns) n ≡ true → higher s r patterns a ≡ true → higher s r patterns b ≡ true → Said s r
+  pub said-parts : {n a b : ℕ} → RecordIs s r 50 n a b 0 0 → meets s r (nextOf patterns) n ≡ true
+      → higher s r patterns a ≡ true → higher s r patterns b ≡ true → Said s r
   unfolding wellSaid askOf rowOf kindOf
-  said-parts x hn ha hb = record { other = rw (x .kind-is); no-type = rw (x .kind-is); said = rw (x .kind-is, x .next-is, x .a-is, x .b-is, x .c-is, x .d-is, hn, ha, hb) }
+  said-parts x hn ha hb =
+      record {
+        other = rw (x .kind-is);
+        no-type = rw (x .kind-is);
+        said = rw (x .kind-is, x .next-is, x .a-is, x .b-is, x .c-is, x .d-is, hn, ha, hb);
+      }
 
-  pub said-leaf : {n a : ℕ} → RecordIs s r 64 n a 0 0 0 → meets s r (nextOf leafs) n ≡ true → leb a 255 ≡ true → Said s r
+  pub said-leaf : {n a : ℕ} → RecordIs s r 64 n a 0 0 0 → meets s r (nextOf leafs) n ≡ true → leb a 255 ≡ true
+      → Said s r
   unfolding wellSaid askOf rowOf kindOf
-  said-leaf x hn ha = record { other = rw (x .kind-is); no-type = rw (x .kind-is); said = rw (x .kind-is, x .next-is, x .a-is, x .b-is, x .c-is, x .d-is, hn, ha) }
+  said-leaf x hn ha =
+      record {
+        other = rw (x .kind-is);
+        no-type = rw (x .kind-is);
+        said = rw (x .kind-is, x .next-is, x .a-is, x .b-is, x .c-is, x .d-is, hn, ha);
+      }

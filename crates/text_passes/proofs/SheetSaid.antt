@@ -36,7 +36,8 @@ use Rattle.grammar.specs.Grammar.{ReadsText}
 use Rattle.naming.specs.Declared.{DeclaredName, isAmong, isDeclared, atFirst, typeRole, constructorRole}
 use Rattle.naming.specs.Checks.{AllPass}
 use Rattle.naming.specs.Constants.{letters, constantType, constantChecks, constantsOfText}
-use Rattle.naming.specs.Names.{isOne, afterDeclaration, afterAll, bind, declarationChecks, declarationsChecks, patternChecks, constantNames, expressionChecks, nameChecks, textChecks}
+use Rattle.naming.specs.Names.{isOne, afterDeclaration, afterAll, bind, declarationChecks, declarationsChecks}
+use Rattle.naming.specs.Names.{patternChecks, constantNames, expressionChecks, nameChecks, textChecks}
 use Rattle.naming.specs.RecordsNeeded.{leafCountOf, leafCounts, patternRecords, constantLeaves, recordsNeeded}
 use Rattle.translation.specs.Resolved.{TypeEntry, typeMeant, typeNumber, typeEntries, afterEntry, constructorMeant, constructorEntries, distance}
 use Rattle.translation.specs.Distances.{constantValues}
@@ -48,7 +49,7 @@ use Rattle.translation.proofs.Sizes.{types-length, leaves-length, pattern-lengt
 use Rattle.translation.proofs.Kept as Translation
 use Rattle.translation.proofs.Kept.{names-good, in-its-sheet}
 use Rattle.text_passes.specs.RefusedTypes.{overCounted}
-use Rattle.text_passes.proofs.NamedOnce.{leaves-some, values-some}
+use Rattle.text_passes.proofs.Nested.{leaves-some, values-some}
 use Rattle.text_passes.proofs.RecordsSaid.{
   Said,
   higher-true,
@@ -489,7 +490,8 @@ module _ (d : Declaration) (ds : List Declaration) (w : List ℕ) (p : ℕ) (e :
   input-good : AllPass (textChecks (text d ds (identifier w p) e)) → isDeclared typeRole w (afterAll atFirst (d ∷ ds)) ≡ true
   input-good good =
       let names = pass-both (nameChecks (text d ds (identifier w p) e)) (constantsOfText (text d ds (identifier w p) e)) good .0 in
-      passes (pass-both (declarationsChecks atFirst (d ∷ ds)) (isOne typeRole (afterAll atFirst (d ∷ ds)) (identifier w p) ∷ expressionChecks (afterAll atFirst (d ∷ ds)) [] e) names .1)
+      let D = afterAll atFirst (d ∷ ds) in
+      passes (pass-both (declarationsChecks atFirst (d ∷ ds)) (isOne typeRole D (identifier w p) ∷ expressionChecks D [] e) names .1)
 
   held-good : AllPass (textChecks (text d ds (identifier w p) e)) → AllPass (constantChecks (d ∷ ds) e)
   held-good good = pass-both (nameChecks (text d ds (identifier w p) e)) (constantsOfText (text d ds (identifier w p) e)) good .1

@@ -192,7 +192,8 @@ module _ {s : List ℕ} {ds : List Declaration} (x : Searched s ds) where
 
   three : (r : ℕ) → verdict s ≡ WrongRecord r ↔ LowestBreaking (overCounted ds) (suc (length ds)) r
   three r = (
-    λ e. Answers.kept .lowest-found (overCounted ds) (suc (length ds)) r .0 (three-of flats (pairs s) (depths s) (judged s) (outputType s) r (sym is-shape ∙ e)),
+    λ e. Answers.kept .lowest-found (overCounted ds) (suc (length ds)) r .0
+        (three-of flats (pairs s) (depths s) (judged s) (outputType s) r (sym is-shape ∙ e)),
     λ b. is-shape ∙ rw (Answers.kept .lowest-found (overCounted ds) (suc (length ds)) r .1 b),
   )
 

@@ -1,5 +1,6 @@
--- The constants of a text's DELAYs, in text order; and a pair among them without a type, whose place is
--- that of its opening bracket (docs/SHEETS.md, "Codes", 14: "the bracket of the first such pair").
+-- The constants of a text's DELAYs, in text order; and a pair among them without a type, whose
+-- place is that of its opening bracket (docs/SHEETS.md, "Codes", 14: "the bracket of the first such
+-- pair").
 use Prim.Native.Nat.{ℕ}
 use mathlib.Core.Path.{_≡_}
 use mathlib.Core.List.{List, [], _∷_, _++_, List·Memᴰ}

@@ -1,14 +1,14 @@
 -- What is promised of the sheet of a text before the check: for every text that is read, whose
 -- names and constants are good and whose sheet has at most 4,096 records. One term of each promise
 -- stands in `proofs/Kept.antt`.
-use Prim.Native.Nat.{ℕ, suc, _≤_, _<_}
+use Prim.Native.Nat.{ℕ, suc, _-_, _≤_, _<_}
 use mathlib.Core.Path.{_≡_}
 use mathlib.Core.Logic.{_≢_, _⊎_, _↔_}
 use mathlib.Core.Bool.{false}
 use mathlib.Core.List.{List}
 use mathlib.Core.Option.{none, some}
 use lib.ListN.{length}
-use Rattle.records.specs.Words.{count}
+use Rattle.records.specs.Words.{count, nextWord, wordB}
 use Rattle.records.specs.Says.{namings}
 use Rattle.records.specs.Trees.{typeAt}
 use Rattle.answers.specs.Answers.{code, verdictAnswer}
@@ -28,6 +28,7 @@ use Rattle.translation.specs.Promises.{typesOf}
 use Rattle.text_meaning.specs.Promises.{declarations}
 use Rattle.text_passes.specs.RefusedTypes.{declarationAt, overCounted, refusedPair}
 use Rattle.text_passes.specs.DelayConstants.{UntypedPair}
+use Rattle.text_passes.specs.RecordWalk.{recordWalk, numbersFrom}
 
 -- a text that is read, with good names and constants, whose sheet fits
 pub record FittingText (ts : List Token) (t : Text) : Type 0 where
@@ -91,18 +92,32 @@ BadPlaceExactly = (cs : List PlacedCheck) (p : ℕ) → firstBadPlace cs ≡ som
 abbrev pub NoBadPlace : Type 0
 NoBadPlace = (cs : List PlacedCheck) → firstBadPlace cs ≡ none ↔ AllPass cs
 
--- 7. Names before constants: the first check of a text that fails is the first of its names', or, where
--- those all hold, the first of its constants'.
+-- 7. Names before constants: the first check of a text that fails is the first of its names', or,
+-- where those all hold, the first of its constants'.
 abbrev pub NamesFirst : Type 0
 NamesFirst =
     (t : Text) (p : ℕ)
     → FirstFails (textChecks t) p ↔ (FirstFails (nameChecks t) p ⊎ (AllPass (nameChecks t) × FirstFails (constantsOfText t) p))
 
--- 8. Where all names are good only a pair of a constant can fail, and its place is its opening bracket.
+-- 8. Where all names are good only a pair of a constant can fail, and its place is its opening
+-- bracket.
 abbrev pub OnlyPairsFail : Type 0
 OnlyPairsFail =
     (ts : List Token) (t : Text) → ReadsText ts t → AllPass (nameChecks t)
     → (p : ℕ) → FirstFails (constantsOfText t) p → UntypedPair ts t p
+
+-- 9. The order of the records: the types stand first, and the walk from the first of them visits 1,
+-- 2 and so on up to the last; the root is the record after it, and the walk from there visits it
+-- and all records after it, in the order of their numbers.
+pub record InOrder (t : Text) : Type 0 where
+  pub first-type : nextWord (sheetOfText t) 0 ≡ 1
+  pub types : recordWalk (sheetOfText t) 1 ≡ numbersFrom 1 (length (declarations t))
+  pub root : wordB (sheetOfText t) 0 ≡ suc (length (declarations t))
+  pub expression : recordWalk (sheetOfText t) (wordB (sheetOfText t) 0)
+      ≡ numbersFrom (wordB (sheetOfText t) 0) (count (sheetOfText t) - wordB (sheetOfText t) 0)
+
+abbrev pub RecordsInOrder : Type 0
+RecordsInOrder = (ts : List Token) (t : Text) → ReadsText ts t → AllPass (textChecks t) → InOrder t
 
 pub record PassPromises : Type 0 where
   pub never-answered : NeverAnswered
@@ -114,3 +129,4 @@ pub record PassPromises : Type 0 where
   pub no-bad-place : NoBadPlace
   pub names-first : NamesFirst
   pub only-pairs-fail : OnlyPairsFail
+  pub records-in-order : RecordsInOrder
