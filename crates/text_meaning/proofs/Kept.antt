@@ -1,43 +1,40 @@
 -- One term of each promise.
 -- Assumes nothing.
-use Prim.Native.Nat.{ℕ, zero, suc, _<_}
+use Prim.Native.Nat.{ℕ, _<_}
 use mathlib.Core.Path.{_≡_, refl, ap, ap₂, sym, subst, _∙_}
-use mathlib.Core.List.{List, [], _∷_, _++_, map}
+use mathlib.Core.List.{List, [], _∷_, map}
 use mathlib.Core.Option.{Option, some}
 use native.Mathlib.Omega.{arith}
 use native.Mathlib.Nat.{zero-div, div-eq-of-eq-mul-left}
-use lib.ListN.{length, take, drop}
-use lib.Seq.{take-at, drop-at}
+use lib.ListN.{length}
 use Rattle.picoella.specs.Language.{Ty, Flat, TyTuple, leaves, Expr, Typed}
 use Rattle.records.specs.Trees.{typeAt, Declared}
 use Rattle.records.specs.Decoding.{decode}
 use Rattle.grammar.specs.Tokens.{Token}
-use Rattle.grammar.specs.Source.{Identifier, identifier, Declaration, Expression, Text, text}
+use Rattle.grammar.specs.Source.{Identifier, identifier, Declaration, Expression, text}
 use Rattle.grammar.specs.Grammar.{ReadsText}
 use Rattle.naming.specs.Declared.{atFirst}
 use Rattle.naming.specs.Checks.{AllPass}
 use Rattle.naming.specs.Constants.{constantsOfText, constantChecks}
-use Rattle.naming.specs.Names.{afterAll, nameChecks, textChecks, declarationsChecks, expressionChecks}
+use Rattle.naming.specs.Names.{afterAll, nameChecks, textChecks}
 use Rattle.accepted.proofs.Laws.{exact}
 use Rattle.meaning.specs.Undecided.{undecidedConstant}
-use Rattle.meaning.specs.Constants.{ConstantTree, ConstantOf, of-none, of-more, AllConstantsOf, of-all-none, of-all-more, flatten}
+use Rattle.meaning.specs.Constants.{ConstantTree, of-none, of-more, AllConstantsOf, of-all-none, of-all-more, flatten}
 use Rattle.meaning.specs.Rules.{ReducesSeq, s-end, s-cycle}
-use Rattle.meaning.proofs.Order.{value-length}
-use Rattle.meaning.proofs.FlattenOneToOne.{flatten-typed, flatten-onto}
+use Rattle.meaning.proofs.FlattenOneToOne.{flatten-onto}
 use Rattle.stimulus.specs.Stimulus.{inputType, cycleCount, cycles, pieces, endToEnd}
 use Rattle.answers.specs.Answers.{packed}
 use Rattle.answers.specs.declared.Verdict.the-variants.{Accepted}
 use Rattle.verdict.specs.Verdict.{verdict}
-use Rattle.behaviour.specs.Run.{answer, finalOut, finalNext, RunGiven, RunsByRules}
-use Rattle.behaviour.specs.Afterwards.{WellFormed}
+use Rattle.behaviour.specs.Run.{answer, finalOut, finalNext}
 use Rattle.behaviour.proofs.ByRules.{pieces-back, call-by-rules}
 use Rattle.translation.specs.Resolved.{typeMeant, typeEntries}
 use Rattle.translation.specs.Layout.{sheetOfText}
-use Rattle.translation.specs.Distances.{byDistances, expressionMeant, unplaced}
+use Rattle.translation.specs.Distances.{unplaced}
 use Rattle.translation.proofs.ConstructorTables.{pass-both}
 use Rattle.translation.proofs.Kept as Translation
 use Rattle.translation.proofs.Kept.{names-good}
-use Rattle.text_meaning.specs.NamedValues.{NamedValue, valueOf}
+use Rattle.text_meaning.specs.NamedValues.{valueOf}
 use Rattle.text_meaning.specs.Circuits.{NamedCircuit, circuitOf}
 use Rattle.text_meaning.specs.NamedRules.{GivesSeq, no-cycle, one-cycle}
 use Rattle.text_meaning.specs.Promises.{
