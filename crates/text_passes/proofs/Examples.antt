@@ -1,7 +1,7 @@
 -- The tests on declarations and the check on the sheets of texts, by computation; what each is to
 -- be was found by hand.
 -- Assumes nothing.
-use Prim.Native.Nat.{ℕ}
+use Prim.Native.Nat.{ℕ, zero, suc}
 use mathlib.Core.Path.{_≡_, refl}
 use mathlib.Core.Bool.{true, false}
 use mathlib.Core.List.{List, [], _∷_, _++_, map}
@@ -13,15 +13,16 @@ use Rattle.records.specs.Says.{wellSaid, namings}
 use Rattle.records.specs.Trees.{typeWithin, typeAt, pairOf, chainWithin, chain, alternativesWithin, alternatives, treeWithin, treeAt, circuit}
 use Rattle.structure.specs.Rules.{ancestryWithin, ancestry, depth, nesting, wrongLength, wrongHeader, wrongRecord, wrongNaming, wrongType, tooDeep}
 use Rattle.answers.specs.Answers.{lowest}
-use Rattle.answers.specs.declared.Verdict.the-variants.{Accepted, WrongRecord, WrongType}
+use Rattle.answers.specs.declared.Verdict.the-variants.{Accepted, WrongRecord, WrongType, TooDeep}
 use Rattle.verdict.specs.Verdict.{byTypes, byRecords, verdict}
 use Rattle.grammar.specs.Source.{Identifier, identifier, Declaration, Constructors, PairOf, Text, text}
 use Rattle.grammar.specs.Source.{OfConstructor, Undefined, ConstantPair, Alone, PatternPair, Either}
-use Rattle.grammar.specs.Source.{NameUse, PairExpression, FirstOf, SecondOf, LetExpression, LetRecExpression, IfExpression, DelayExpression}
+use Rattle.grammar.specs.Source.{Expression, NameUse, PairExpression, FirstOf, SecondOf, LetExpression, LetRecExpression, IfExpression, DelayExpression}
 use Rattle.translation.specs.Layout.{sheetOfText}
 use Rattle.records.specs.SheetOf.{words, sheetOf}
 use Rattle.text_passes.specs.RefusedTypes.{overCounted, refusedPair}
 use Rattle.text_passes.specs.RecordWalk.{walkWithin, recordWalk}
+use Rattle.text_passes.specs.TextDepths.{textExpressions, firstTooDeep}
 
 -- names of one letter, and `input`
 abbrev letter : ℕ → Identifier
@@ -135,3 +136,29 @@ walked = (refl, refl)
 walk-of-t : recordWalk sheetT 2 ≡ 2 ∷ 3 ∷ 4 ∷ 5 ∷ 6 ∷ 8 ∷ 9 ∷ 11 ∷ 12 ∷ 13 ∷ 14 ∷ 10 ∷ 15 ∷ 7 ∷ 16 ∷ []
 unfolding recordWalk walkWithin askOf rowOf word count
 walk-of-t = refl
+
+-- so many feedbacks in each other's defining parts, (LET INIT ?b REC x = .. IN x), and x in the
+-- innermost
+abbrev inFeedbacks : ℕ → Expression
+inFeedbacks zero = NameUse (letter 120)
+inFeedbacks (suc n) = LetRecExpression (letter 98) (letter 120) (inFeedbacks n) (NameUse (letter 120))
+
+-- so many first parts of each other, input[1][1]..
+abbrev ofFirstParts : ℕ → Expression
+ofFirstParts zero = NameUse theInputName
+ofFirstParts (suc n) = FirstOf (ofFirstParts n)
+
+-- INPUT b, with one declared type: the root is record 2, and the n-th below it record n + 2
+abbrev ofExpression : Expression → Text
+ofExpression e = text bit [] (letter 98) e
+
+depths-found : (firstTooDeep (textExpressions (ofExpression (inFeedbacks 3))) ≡ none)
+    × (firstTooDeep (textExpressions (ofExpression (inFeedbacks 4))) ≡ some 6)
+    × (firstTooDeep (textExpressions (ofExpression (ofFirstParts 63))) ≡ none)
+    × (firstTooDeep (textExpressions (ofExpression (ofFirstParts 64))) ≡ some 66)
+depths-found = (refl, refl, refl, refl)
+
+deep-verdicts : (verdict (sheetOfText (ofExpression (inFeedbacks 3))) ≡ Accepted 1)
+    × (verdict (sheetOfText (ofExpression (inFeedbacks 4))) ≡ TooDeep 6)
+unfolding sheetOfText verdict byRecords byTypes wrongLength wrongHeader wrongRecord wrongNaming wrongType tooDeep depth nesting ancestry ancestryWithin circuit treeAt treeWithin alternatives alternativesWithin chain chainWithin pairOf typeAt typeWithin namings wellSaid askOf kindOf rowOf word count
+deep-verdicts = (refl, refl)

@@ -7,6 +7,8 @@ pub mod RecordsSaid
 pub mod TypesReady
 pub mod SheetSaid
 pub mod PairTypes
+pub mod Depths
+pub mod TextDeep
 pub mod Verdicts
 pub mod BadPlaces
 pub mod Kept

@@ -128,7 +128,7 @@ module _ (ds : List Declaration) where
   name-some false true = omega arith
   name-some false false = omega arith
 
-  room-some : (bound : List (List ℕ)) (e : Expression) → 1 ≤ roomOf ds bound e
+  pub room-some : (bound : List (List ℕ)) (e : Expression) → 1 ≤ roomOf ds bound e
   room-some bound (NameUse n) = name-some (isAmong (letters n) bound) (isDeclared constructorRole (letters n) (afterAll atFirst ds))
   room-some bound (UndefinedOf t) = omega arith
   room-some bound (PairExpression e f) = omega arith
@@ -158,7 +158,7 @@ pattern-sort s ds next r (Either m n) st =
     pattern-sort s ds (r + patternRecords m) r m
     (stands-append r (patternLaid ds (r + patternRecords m) r m) (patternLaid ds next (r + patternRecords m) n) st .0)
 
-expression-sort : (s : List ℕ) (ds : List Declaration) (bound : List (List ℕ)) (r : ℕ) (e : Expression) → Stands s r (laid ds bound r e)
+pub expression-sort : (s : List ℕ) (ds : List Declaration) (bound : List (List ℕ)) (r : ℕ) (e : Expression) → Stands s r (laid ds bound r e)
     → sortAt s r ≡ expressions
 unfolding kindOf rowOf
 expression-sort s ds bound r (NameUse n) st = go (isAmong (letters n) bound) (isDeclared constructorRole (letters n) (afterAll atFirst ds)) _ _ _ st

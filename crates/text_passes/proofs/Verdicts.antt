@@ -1,6 +1,6 @@
 -- The verdict on the sheet of a text: 3 and 5 by the declarations alone, and never 1, 2 or 4.
 -- Assumes nothing.
-use Prim.Native.Nat.{ℕ, zero, suc, _+_, _%_, _≤_, _<_}
+use Prim.Native.Nat.{ℕ, zero, suc, _+_, _-_, _%_, _≤_, _<_}
 use mathlib.Core.Path.{_≡_, refl, ap, sym, subst, _∙_}
 use mathlib.Core.Logic.{_≢_, _↔_}
 use mathlib.Core.Bool.{Bool, true, false, not, _&&_, _||_, and-false}
@@ -9,7 +9,7 @@ use mathlib.Core.Option.{Option, none, some}
 use native.Mathlib.Omega.{arith}
 use borrow.Author.Tests.{lt-ltb, ltb-true, ltb-false}
 use lib.Dec.{eqb, ltb}
-use lib.ListN.{length}
+use lib.ListN.{length, take}
 use Rattle.records.specs.Words.{count}
 use Rattle.records.specs.Kinds.{Kind, header, typeOf, flat, pair, expression, pattern, leaf, unknown, types, sortOf, sameSort, isPair, rowOf, kindOf}
 use Rattle.records.specs.Says.{kindAt, sortAt, Naming, namings, wellNamed}
@@ -46,12 +46,14 @@ use Rattle.translation.proofs.Standing.{RecordIs, Stands, one-stands, sheet-sta
 use Rattle.translation.proofs.Kept as Translation
 use Rattle.translation.proofs.Kept.{names-good}
 use Rattle.text_meaning.specs.Promises.{declarations}
-use Rattle.text_passes.specs.RefusedTypes.{declarationAt, whereDeclared, hasManyConstructors, overCounted, refusedPair}
-use Rattle.text_passes.specs.Promises.{FittingText, NeverAnswered, AnsweredThree, AnsweredFive, typeNameOf, TypeDeclared, OutputDeclared}
+use Rattle.text_passes.specs.RefusedTypes.{declarationAt, whereDeclared, hasManyConstructors, overCounted, isRefusedPair, refusedPair}
+use Rattle.text_passes.specs.Promises.{FittingText, NeverAnswered, AnsweredThree, AnsweredFive, AnsweredSix, typeNameOf, TypeDeclared, OutputDeclared}
 use Rattle.text_passes.proofs.TypesReady.{FewConstructors, few-constructors}
 use Rattle.text_passes.proofs.NamedOnce.{sheet-long, length-passes, named-once}
 use Rattle.text_passes.proofs.RecordsSaid.{Said}
 use Rattle.text_passes.proofs.SheetSaid.{AllSaid, TextSaid, text-is-said}
+use Rattle.text_passes.specs.TextDepths.{textExpressions, firstTooDeep}
+use Rattle.text_passes.proofs.TextDeep.{deep-as}
 use Rattle.text_passes.proofs.PairTypes.{types-refused, declared-named}
 
 -- a search that comes to nothing past a bound
@@ -88,6 +90,15 @@ all-counted ds e i = go i (ltb i (suc (length ds))) refl
   where
     go : (i : ℕ) (b : Bool) → ltb i (suc (length ds)) ≡ b → whereDeclared hasManyConstructors (declarationAt ds i) ≡ false
     go i true f = Answers.kept .lowest-none (overCounted ds) (suc (length ds)) .0 e i (ltb-true i (suc (length ds)) f)
+    go zero false f = rw (none-before ds)
+    go (suc i) false f = let h = ltb-false (suc i) (suc (length ds)) f in rw (none-after ds i (omega (arith, h)))
+
+all-fit : (ds : List Declaration) → lowest (refusedPair ds) (suc (length ds)) ≡ none → (i : ℕ) → refusedPair ds i ≡ false
+unfolding refusedPair
+all-fit ds e i = go i (ltb i (suc (length ds))) refl
+  where
+    go : (i : ℕ) (b : Bool) → ltb i (suc (length ds)) ≡ b → whereDeclared (isRefusedPair ds (take (i - 1) ds)) (declarationAt ds i) ≡ false
+    go i true f = Answers.kept .lowest-none (refusedPair ds) (suc (length ds)) .0 e i (ltb-true i (suc (length ds)) f)
     go zero false f = rw (none-before ds)
     go (suc i) false f = let h = ltb-false (suc i) (suc (length ds)) f in rw (none-after ds i (omega (arith, h)))
 
@@ -160,6 +171,13 @@ depths s = lowest (tooDeep s) (count s)
 abbrev judged : List ℕ → Option ℕ
 judged s = firstFailing s (judgements s (inputs s) (circuit s))
 
+six-of : (o p q r : Option ℕ) (a k : ℕ) → shape o p q r a ≡ TooDeep k → (o ≡ none) × (p ≡ none) × (q ≡ some k)
+six-of (some i) p q r a k e = absurd (let no : _≡_ {A = ℕ} 0 1 = cc in omega arith)
+six-of none (some i) q r a k e = absurd (let no : _≡_ {A = ℕ} 0 1 = cc in omega arith)
+six-of none none (some i) r a k e = (refl, refl, cc)
+six-of none none none (some i) a k e = absurd (let no : _≡_ {A = ℕ} 0 1 = cc in omega arith)
+six-of none none none none a k e = absurd (let no : _≡_ {A = ℕ} 0 1 = cc in omega arith)
+
 shaped : (s : List ℕ) → wrongLength s ≡ false → wrongHeader s ≡ false → lowest (wrongNaming s) (count s) ≡ none
     → verdict s
     ≡ shape (lowest (wrongRecord s) (count s)) (pairs s) (depths s) (judged s) (outputType s)
@@ -207,6 +225,20 @@ module _ {s : List ℕ} {ds : List Declaration} (x : Searched s ds) where
     λ b. let no = Answers.kept .lowest-none (overCounted ds) (suc (length ds)) .1 (λ i h. b .0 i) in
         let at = x .typed no ∙ Answers.kept .lowest-found (refusedPair ds) (suc (length ds)) r .1 (b .1) in
         is-shape ∙ rw (no, at),
+  )
+
+  six : (deep : Option ℕ) → depths s ≡ deep → (r : ℕ) → verdict s ≡ TooDeep r
+      ↔ (((i : ℕ) → overCounted ds i ≡ false) × ((i : ℕ) → refusedPair ds i ≡ false) × (deep ≡ some r))
+  six deep same r = (
+    λ e. let f = six-of flats (pairs s) (depths s) (judged s) (outputType s) r (sym is-shape ∙ e) in (
+      all-counted ds (f .0),
+      all-fit ds (sym (x .typed (f .0)) ∙ f .1),
+      sym same ∙ f .2,
+    ),
+    λ b. let no = Answers.kept .lowest-none (overCounted ds) (suc (length ds)) .1 (λ i h. b .0 i) in
+        let at = x .typed no ∙ Answers.kept .lowest-none (refusedPair ds) (suc (length ds)) .1 (λ i h. b .1 i) in
+        let it = same ∙ b .2 in
+        is-shape ∙ rw (no, at, it),
   )
 
 header-type : {s : List ℕ} {n a b c : ℕ} → RecordIs s 0 1 n a b c 0 → wrongType s 0 ≡ false
@@ -296,6 +328,10 @@ answered-three ts (text d ds (identifier w p) e) f r = three (searched ts d ds w
 
 pub answered-five : AnsweredFive
 answered-five ts (text d ds (identifier w p) e) f r = five (searched ts d ds w p e f) r
+
+pub answered-six : AnsweredSix
+answered-six ts (text d ds (identifier w p) e) f r =
+    six (searched ts d ds w p e f) (firstTooDeep (textExpressions (text d ds (identifier w p) e))) (deep-as ts d ds w p e (f .read) (f .good)) r
 
 -- an accepted sheet fits, and its output's type is a declaration's record
 accepted-few : (ts : List Token) (d : Declaration) (ds : List Declaration) (n : Identifier) (e : Expression)

@@ -13,7 +13,7 @@ use Rattle.records.specs.Says.{namings}
 use Rattle.records.specs.Trees.{typeAt}
 use Rattle.answers.specs.Answers.{code, verdictAnswer}
 use Rattle.answers.specs.Promises.{LowestBreaking}
-use Rattle.answers.specs.declared.Verdict.the-variants.{Accepted, WrongRecord, WrongType}
+use Rattle.answers.specs.declared.Verdict.the-variants.{Accepted, WrongRecord, WrongType, TooDeep}
 use Rattle.verdict.specs.Verdict.{verdict}
 use Rattle.grammar.specs.Tokens.{Token}
 use Rattle.grammar.specs.Source.{Declaration, Constructors, PairOf, Text}
@@ -29,6 +29,7 @@ use Rattle.text_meaning.specs.Promises.{declarations}
 use Rattle.text_passes.specs.RefusedTypes.{declarationAt, overCounted, refusedPair}
 use Rattle.text_passes.specs.DelayConstants.{UntypedPair}
 use Rattle.text_passes.specs.RecordWalk.{recordWalk, numbersFrom}
+use Rattle.text_passes.specs.TextDepths.{textExpressions, firstTooDeep}
 
 -- a text that is read, with good names and constants, whose sheet fits
 pub record FittingText (ts : List Token) (t : Text) : Type 0 where
@@ -59,7 +60,17 @@ AnsweredFive =
     → verdict (sheetOfText t) ≡ WrongType r
     ↔ (((i : ℕ) → overCounted (declarations t) i ≡ false) × LowestBreaking (refusedPair (declarations t)) (suc (length (declarations t))) r)
 
--- 4. Each record but the header is named by exactly one word.
+-- 4. It answers 6 exactly where neither holds, and an expression lies deeper than 64 or in more
+-- than three feedbacks' defining parts, at the record of the first such expression.
+abbrev pub AnsweredSix : Type 0
+AnsweredSix =
+    (ts : List Token) (t : Text) → FittingText ts t → (r : ℕ)
+    → verdict (sheetOfText t) ≡ TooDeep r
+    ↔ (((i : ℕ) → overCounted (declarations t) i ≡ false)
+    × ((i : ℕ) → refusedPair (declarations t) i ≡ false)
+    × (firstTooDeep (textExpressions t) ≡ some r))
+
+-- 5. Each record but the header is named by exactly one word.
 abbrev pub NamedOnce : Type 0
 NamedOnce =
     (ts : List Token) (t : Text) → ReadsText ts t → AllPass (textChecks t)
@@ -78,13 +89,13 @@ pub record TypeDeclared (t : Text) (τ : ℕ) : Type 0 where
   pub number : typeNumber (typesOf t) (typeNameOf declared) ≡ τ
   pub type : typeAt (sheetOfText t) τ ≡ typeMeant (typesOf t) (typeNameOf declared)
 
--- 5. Where the sheet is accepted, the outputs have a type that the text declares.
+-- 6. Where the sheet is accepted, the outputs have a type that the text declares.
 abbrev pub OutputDeclared : Type 0
 OutputDeclared =
     (ts : List Token) (t : Text) → ReadsText ts t → AllPass (textChecks t)
     → (τ : ℕ) → verdict (sheetOfText t) ≡ Accepted τ → TypeDeclared t τ
 
--- 6. Code 14: the place that the search finds is that of the first check that fails, all before it
+-- 7. Code 14: the place that the search finds is that of the first check that fails, all before it
 -- holding; it finds none exactly where all hold.
 abbrev pub BadPlaceExactly : Type 0
 BadPlaceExactly = (cs : List PlacedCheck) (p : ℕ) → firstBadPlace cs ≡ some p ↔ FirstFails cs p
@@ -92,22 +103,22 @@ BadPlaceExactly = (cs : List PlacedCheck) (p : ℕ) → firstBadPlace cs ≡ som
 abbrev pub NoBadPlace : Type 0
 NoBadPlace = (cs : List PlacedCheck) → firstBadPlace cs ≡ none ↔ AllPass cs
 
--- 7. Names before constants: the first check of a text that fails is the first of its names', or,
+-- 8. Names before constants: the first check of a text that fails is the first of its names', or,
 -- where those all hold, the first of its constants'.
 abbrev pub NamesFirst : Type 0
 NamesFirst =
     (t : Text) (p : ℕ)
     → FirstFails (textChecks t) p ↔ (FirstFails (nameChecks t) p ⊎ (AllPass (nameChecks t) × FirstFails (constantsOfText t) p))
 
--- 8. Where all names are good only a pair of a constant can fail, and its place is its opening
+-- 9. Where all names are good only a pair of a constant can fail, and its place is its opening
 -- bracket.
 abbrev pub OnlyPairsFail : Type 0
 OnlyPairsFail =
     (ts : List Token) (t : Text) → ReadsText ts t → AllPass (nameChecks t)
     → (p : ℕ) → FirstFails (constantsOfText t) p → UntypedPair ts t p
 
--- 9. The order of the records: the types stand first, and the walk from the first of them visits 1,
--- 2 and so on up to the last; the root is the record after it, and the walk from there visits it
+-- 10. The order of the records: the types stand first, and the walk from the first of them visits
+-- 1, 2 and so on up to the last; the root is the record after it, and the walk from there visits it
 -- and all records after it, in the order of their numbers.
 pub record InOrder (t : Text) : Type 0 where
   pub first-type : nextWord (sheetOfText t) 0 ≡ 1
@@ -123,6 +134,7 @@ pub record PassPromises : Type 0 where
   pub never-answered : NeverAnswered
   pub answered-three : AnsweredThree
   pub answered-five : AnsweredFive
+  pub answered-six : AnsweredSix
   pub named-once : NamedOnce
   pub output-declared : OutputDeclared
   pub bad-place-exactly : BadPlaceExactly
