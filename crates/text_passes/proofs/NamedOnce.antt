@@ -19,7 +19,7 @@ use Rattle.naming.specs.RecordsNeeded.{recordsNeeded}
 use Rattle.translation.specs.Layout.{roomOf, textRecords, sheetOfText}
 use Rattle.translation.proofs.Standing.{sheet-count}
 use Rattle.translation.proofs.Kept as Translation
-use Rattle.text_passes.specs.Promises.{FittingText, NamedOnce}
+use Rattle.text_passes.specs.Promises.{FittingText, EachNamedOnce}
 use Rattle.text_passes.proofs.Nested.{TextNested, text-nested}
 use Rattle.text_passes.proofs.Counting.{
   timesIn,
@@ -59,7 +59,7 @@ text-counted {s} {m} {n} h x past within =
     let z : timesFrom s x 0 1 ≡ timesIn s x 0 = omega arith in
     omega (arith, a, b, c, one, two, none, all, t, u, v, y, z)
 
-pub named-once : NamedOnce
+pub named-once : EachNamedOnce
 unfolding namings
 named-once ts (text d ds (identifier w p) e) rd good x past within =
     let t = text d ds (identifier w p) e in

@@ -71,8 +71,8 @@ AnsweredSix =
     × (firstTooDeep (textExpressions t) ≡ some r))
 
 -- 5. Each record but the header is named by exactly one word.
-abbrev pub NamedOnce : Type 0
-NamedOnce =
+abbrev pub EachNamedOnce : Type 0
+EachNamedOnce =
     (ts : List Token) (t : Text) → ReadsText ts t → AllPass (textChecks t)
     → (r : ℕ) → 0 < r → r < count (sheetOfText t) → length (namings (sheetOfText t) r) ≡ 1
 
@@ -135,7 +135,7 @@ pub record PassPromises : Type 0 where
   pub answered-three : AnsweredThree
   pub answered-five : AnsweredFive
   pub answered-six : AnsweredSix
-  pub named-once : NamedOnce
+  pub named-once : EachNamedOnce
   pub output-declared : OutputDeclared
   pub bad-place-exactly : BadPlaceExactly
   pub no-bad-place : NoBadPlace
