@@ -3,6 +3,7 @@
 use Prim.Native.Nat.{ℕ}
 use mathlib.Core.Path.{_≡_, refl, sym, subst}
 use mathlib.Core.List.{List}
+use native.Mathlib.Omega.{arith}
 use lib.ListN.{take}
 use Rattle.records.specs.Words.{word, count}
 use Rattle.records.specs.Kinds.{rowOf, kindOf, askOf}
@@ -15,16 +16,18 @@ use Rattle.meaning.specs.Evaluation.{eval, next}
 use Rattle.behaviour.specs.Terms.{circuitTerm}
 use Rattle.behaviour.specs.Sheets.{write}
 use Rattle.behaviour.specs.Cycle.{outputBy, afterBy}
-use Rattle.stimulus.specs.Stimulus.{cycles, wrongStimulus, wrongByte}
+use Rattle.stimulus.specs.Stimulus.{cycles, wrongStimulus, wrongByte, endToEnd}
 use Rattle.behaviour.specs.Run.{bySlices, answer, finalOut, finalNext, RunGiven}
 use Rattle.behaviour.specs.Afterwards.{WellFormed}
 use Rattle.translation.specs.Layout.{sheetOfText}
 use Rattle.translator.specs.Promises.{WroteSheet}
 use Rattle.translator.proofs.Kept as Translator
+use Rattle.text_meaning.specs.Promises.{CallsInTurn}
 use Rattle.text_meaning.proofs.Kept as Meaning
 use Rattle.text_table.proofs.Kept as Table
 use Rattle.text_calls.specs.RunRows.{TextsRun}
-use Rattle.text_calls.specs.Promises.{RanAsMeant, TranslatedRunMeans, TextCallPromises}
+use Rattle.text_calls.specs.Promises.{RanAsMeant, TranslatedRunMeans, TranslatedCallsMean, TranslatedFits, TextCallPromises}
+use Rattle.text_calls.proofs.Fourteen.{answered-fourteen}
 
 run-means : TranslatedRunMeans
 run-means bytes entry n exit h stim out next τ result out′ next′ w g =
@@ -41,6 +44,34 @@ run-means bytes entry n exit h stim out next τ result out′ next′ w g =
     } in
     subst (λ s. RanAsMeant bytes s stim τ out′) (sym e) on-text
 
+calls-mean : TranslatedCallsMean
+calls-mean bytes entry n exit h τ stims outs calls =
+    let o = Translator.kept .writes-sheet bytes entry n exit h in
+    let e = o .sheet in
+    let on-text : RanAsMeant bytes (sheetOfText (o .source)) (endToEnd stims) τ (endToEnd outs) =
+    record {
+      tokens = o .tokens;
+      source = o .source;
+      reading = o .reading;
+      meant =
+          Meaning.kept .calls-give-meaning (o .tokens) (o .source) (o .reading .parsed) (o .good) τ stims outs
+          (subst (λ s. CallsInTurn τ s stims outs) e calls);
+    } in
+    subst (λ s. RanAsMeant bytes s (endToEnd stims) τ (endToEnd outs)) (sym e) on-text
+
+fits : TranslatedFits
+fits bytes entry n exit h =
+    let o = Translator.kept .writes-sheet bytes entry n exit h in
+    let needed = o .needed in
+    let few = o .few in
+    record {
+      tokens = o .tokens;
+      source = o .source;
+      reading = o .reading;
+      fitting = record { read = o .reading .parsed; good = o .good; few = omega (arith, needed, few) };
+      sheet-is = o .sheet;
+    }
+
 -- the runs, by computation
 texts-run : TextsRun
 unfolding verdict byRecords byTypes wrongLength wrongHeader wrongRecord wrongNaming wrongType tooDeep depth nesting ancestry ancestryWithin circuit treeAt treeWithin alternatives alternativesWithin chain chainWithin pairOf typeAt typeWithin namings wellSaid askOf kindOf rowOf word count eval next undecidedRule circuitTerm write outputBy afterBy cycles wrongStimulus wrongByte bySlices answer finalOut finalNext
@@ -49,4 +80,11 @@ texts-run =
     ((rows .0, refl, refl, refl), ((rows .0, refl, refl, refl), ((rows .1 .0, refl, refl, refl), tt)))
 
 pub kept : TextCallPromises
-kept = record { translated-run-means = run-means; texts-run = texts-run }
+kept =
+    record {
+      translated-run-means = run-means;
+      translated-calls-mean = calls-mean;
+      translated-fits = fits;
+      answered-fourteen = answered-fourteen;
+      texts-run = texts-run;
+    }

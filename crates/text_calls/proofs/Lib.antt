@@ -1,5 +1,7 @@
 -- The theorems, and instances of what the functions on texts ask.
+pub mod Fourteen
 pub mod Kept
+pub mod InTurnExample
 pub mod TextTables
 pub mod WitnessNames
 pub mod WitnessWalk

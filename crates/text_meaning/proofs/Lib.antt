@@ -9,4 +9,5 @@ pub mod NamesStand
 pub mod TakenNames
 pub mod ConstantsStand
 pub mod Begins
+pub mod InTurn
 pub mod Kept

@@ -18,6 +18,7 @@ use Rattle.translation.specs.Resolved.{
   TypeEntry,
   typeEntry,
   typeMeant,
+  typeNumber,
   afterEntry,
   typeEntriesFrom,
   Meant,
@@ -90,6 +91,21 @@ later-same w i D T (d ∷ ds) h n good =
     let both = pass-both (declarationChecks D d) (declarationsChecks (afterDeclaration D d) ds) good in
     let e = entry-same w i T d (new-name w (letters (declaredType d)) D (h .taken w n) (declared-new D d (both .0))) in
     later-same w (suc i) (afterDeclaration D d) (afterEntry i T d) ds (after-taken D T i d h) (e .1 ∙ n) (both .1) ∙ e .0
+
+-- and its number
+entry-number : (w : List ℕ) (i : ℕ) (T : List TypeEntry) (d : Declaration) → sameName w (letters (declaredType d)) ≡ false
+    → typeNumber (afterEntry i T d) w ≡ typeNumber T w
+entry-number w i T (Constructors t c cs) e = rw e
+entry-number w i T (PairOf t a b) e = rw e
+
+pub later-number : (w : List ℕ) (i : ℕ) (D : List DeclaredName) (T : List TypeEntry) (ds : List Declaration) → AllTaken D T
+    → isNamed w T ≡ true → AllPass (declarationsChecks D ds) → typeNumber (typeEntriesFrom i T ds) w ≡ typeNumber T w
+later-number w i D T [] h n good = refl
+later-number w i D T (d ∷ ds) h n good =
+    let both = pass-both (declarationChecks D d) (declarationsChecks (afterDeclaration D d) ds) good in
+    let new = new-name w (letters (declaredType d)) D (h .taken w n) (declared-new D d (both .0)) in
+    later-number w (suc i) (afterDeclaration D d) (afterEntry i T d) ds (after-taken D T i d h) (entry-same w i T d new .1 ∙ n) (both .1)
+    ∙ entry-number w i T d new
 
 -- what a declaration says is in the table
 pub first-entry : (i : ℕ) (T : List TypeEntry) (v : List ℕ) (τ : Ty)
