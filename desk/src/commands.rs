@@ -1,0 +1,31 @@
+//! The commands, each in a module of its own, and those that need a call that
+//! the archive does not have.
+
+mod check;
+mod completion;
+mod records;
+mod translate;
+
+use crate::archive;
+use crate::program::Command;
+
+pub const COMMANDS: &[Command] =
+    &[check::COMMAND, translate::COMMAND, records::COMMAND, completion::COMMAND];
+
+/// Each command that needs a call beyond the check, and the call.
+const NEEDS: [(&str, &str); 9] = [
+    ("run", "sheet_run"),
+    ("show", "sheet_preview"),
+    ("wave", "sheet_run"),
+    ("page", "sheet_run"),
+    ("carry", "sheet_carry"),
+    ("press", "sheet_press"),
+    ("count", "sheet_count"),
+    ("replay", "sheet_replay"),
+    ("possible", "sheet_possible"),
+];
+
+/// The commands that the archive has no call for.
+pub fn absent() -> impl Iterator<Item = (&'static str, &'static str)> {
+    NEEDS.into_iter().filter(|(_, call)| !archive::CALLS.split(' ').any(|found| found == *call))
+}

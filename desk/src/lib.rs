@@ -1,0 +1,20 @@
+//! The desk's tool over the proved calls: texts and sheets checked with messages
+//! for people, run by names, shown as waves and drawings.
+
+// The calls, and what is read from files.
+pub mod archive;
+pub mod circuit;
+pub mod layout;
+pub mod places;
+pub mod source;
+pub mod types;
+
+// Messages.
+pub mod explain;
+pub mod message;
+
+// The program.
+pub mod arguments;
+pub mod commands;
+pub mod desk;
+pub mod program;

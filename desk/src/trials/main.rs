@@ -1,0 +1,3 @@
+//! What tools/test-desk runs beside the program itself.
+
+fn main() {}
