@@ -2,15 +2,29 @@
 //! the archive does not have.
 
 mod check;
+#[cfg(call_run)]
+mod common;
 mod completion;
 mod records;
+#[cfg(call_run)]
+mod run;
+#[cfg(call_run)]
+mod show;
 mod translate;
 
 use crate::archive;
 use crate::program::Command;
 
-pub const COMMANDS: &[Command] =
-    &[check::COMMAND, translate::COMMAND, records::COMMAND, completion::COMMAND];
+pub const COMMANDS: &[Command] = &[
+    check::COMMAND,
+    #[cfg(call_run)]
+    run::COMMAND,
+    #[cfg(call_run)]
+    show::COMMAND,
+    translate::COMMAND,
+    records::COMMAND,
+    completion::COMMAND,
+];
 
 /// Each command that needs a call beyond the check, and the call.
 const NEEDS: [(&str, &str); 9] = [

@@ -9,6 +9,13 @@ pub mod places;
 pub mod source;
 pub mod types;
 
+// Values and runs.
+#[cfg(call_run)]
+pub mod signals;
+pub mod state;
+pub mod stimulus;
+pub mod values;
+
 // Messages.
 pub mod explain;
 pub mod message;

@@ -14,11 +14,13 @@ fn main() -> ExitCode {
     let work = || {
         let words: Vec<String> =
             std::env::args_os().skip(1).map(|word| word.to_string_lossy().into_owned()).collect();
-        let terminal = io::stderr().is_terminal();
+        let on_terminal = io::stderr().is_terminal();
+        // The outputs themselves are progress enough.
+        let terminal = on_terminal && !io::stdout().is_terminal();
         let plain = std::env::var_os("NO_COLOR").is_some_and(|value| !value.is_empty());
         let mut out = BufWriter::new(io::stdout());
         let mut err = io::stderr();
-        let colours = terminal && !plain;
+        let colours = on_terminal && !plain;
         program::run(&mut Desk { out: &mut out, err: &mut err, colours, terminal }, &words)
     };
     let worker = thread::Builder::new().stack_size(STACK).spawn(work);

@@ -1,0 +1,67 @@
+//! What several commands take: a state to begin from, and numbers for names.
+
+use crate::arguments::Arguments;
+use crate::circuit::Accepted;
+use crate::desk::{Desk, Failure};
+use crate::message::{Message, Place};
+use crate::state::is_state_of;
+use crate::types::Types;
+use crate::values::{Notation, Reader};
+
+pub const NUMBERS: (&str, &str) = ("--numbers", "one number a leaf in place of names");
+pub const FROM: (&str, &str, &str) =
+    ("--from", "SHEET", "begins with what the delays hold in this sheet");
+
+pub fn notation(arguments: &Arguments) -> Notation {
+    if arguments.flag(NUMBERS.0) {
+        Notation::Numbers
+    } else {
+        Notation::Names
+    }
+}
+
+/// The sheet to begin with: the circuit's own, or that of `--from`.
+pub fn state(
+    desk: &mut Desk,
+    arguments: &Arguments,
+    accepted: &Accepted,
+) -> Result<Vec<u8>, Failure> {
+    let Some(file) = arguments.option(FROM.0) else { return Ok(accepted.circuit.sheet.clone()) };
+    let source = desk.source(file)?;
+    if is_state_of(&source.bytes, &accepted.circuit) {
+        return Ok(source.bytes);
+    }
+    let circuit = &accepted.circuit.source.name;
+    let sentence = format!("this is not {circuit} with other values in its delays");
+    desk.refuse(&source, &[Message::error(Place::File, sentence)])
+}
+
+/// The leaves of one cycle of input, given as a word of the command.
+pub fn input(
+    desk: &mut Desk,
+    arguments: &Arguments,
+    accepted: &Accepted,
+    at: usize,
+) -> Result<Vec<u8>, Failure> {
+    let reader = Reader { types: accepted.circuit.types(), notation: notation(arguments) };
+    let text = arguments.operand(at);
+    reader.read(text, accepted.input).or_else(|fault| {
+        let source =
+            crate::source::Source { name: "INPUT".to_string(), bytes: text.as_bytes().to_vec() };
+        desk.refuse(&source, &[Message::error(Place::of(fault.piece), fault.sentence)])
+    })
+}
+
+/// Leaves as numbers.
+pub fn number_list(leaves: &[u8]) -> String {
+    let numbers: Vec<String> = leaves.iter().map(u8::to_string).collect();
+    numbers.join(" ")
+}
+
+/// A value by names, or by numbers.
+pub fn shown(arguments: &Arguments, types: &Types, of: usize, leaves: &[u8]) -> String {
+    match notation(arguments) {
+        Notation::Names => types.value(of, leaves),
+        Notation::Numbers => number_list(leaves),
+    }
+}
