@@ -62,12 +62,13 @@ mod simulated {
     const MOST_LEAVES: usize = 64;
 
     /// What `sheet_press` returns.
+    #[cfg(call_press)]
     #[repr(C)]
-    pub struct Pressed {
-        pub result: u64,
-        pub found: u64,
-        pub leaf: u64,
-        pub constructor: u64,
+    struct Pressed {
+        result: u64,
+        found: u64,
+        leaf: u64,
+        constructor: u64,
     }
 
     extern "C" {
@@ -116,6 +117,43 @@ mod simulated {
             stimulus_length: usize,
             leaf: usize,
         ) -> Pressed;
+    }
+
+    /// What `sheet_count` returns.
+    #[cfg(call_count)]
+    #[repr(C)]
+    struct Counts {
+        result: u64,
+        counters: [u32; 256],
+    }
+
+    #[cfg(call_count)]
+    extern "C" {
+        fn sheet_count(sheet: *const u8, sheet_length: usize, leaf: usize) -> Counts;
+    }
+
+    /// What `sheet_replay` returns.
+    #[cfg(call_replay)]
+    #[repr(C)]
+    struct Replayed {
+        result: u64,
+        differs: u64,
+        cycle: u64,
+        leaf: u64,
+    }
+
+    #[cfg(call_replay)]
+    extern "C" {
+        fn sheet_replay(
+            sheet: *const u8,
+            sheet_length: usize,
+            stimulus: *const u8,
+            stimulus_length: usize,
+            recorded: *const u8,
+            recorded_length: usize,
+            next: *mut u8,
+            next_length: usize,
+        ) -> Replayed;
     }
 
     // Below, every slice is valid for its length, and none overlaps another.
@@ -227,6 +265,47 @@ mod simulated {
         match (answer.code, pressed.found) {
             (ACCEPTED, 0) => Ok(None),
             (ACCEPTED, _) => Ok(Some((pressed.leaf as usize, pressed.constructor as u8))),
+            _ => Err(answer),
+        }
+    }
+
+    /// How many defined inputs lead an output leaf to each value.
+    #[cfg(call_count)]
+    pub fn count(sheet: &[u8], leaf: usize) -> Result<[u32; 256], Answer> {
+        let counts = unsafe { sheet_count(sheet.as_ptr(), sheet.len(), leaf) };
+        let answer = Answer::unpacked(counts.result);
+        if answer.code == ACCEPTED {
+            Ok(counts.counters)
+        } else {
+            Err(answer)
+        }
+    }
+
+    /// Whether recorded outputs are those of a run: the sheet after it, or the
+    /// first cycle and leaf that differ.
+    #[cfg(call_replay)]
+    pub fn replay(
+        sheet: &[u8],
+        stimulus: &[u8],
+        recorded: &[u8],
+    ) -> Result<Result<Vec<u8>, (usize, usize)>, Answer> {
+        let mut next = vec![0; sheet.len()];
+        let replayed = unsafe {
+            sheet_replay(
+                sheet.as_ptr(),
+                sheet.len(),
+                stimulus.as_ptr(),
+                stimulus.len(),
+                recorded.as_ptr(),
+                recorded.len(),
+                next.as_mut_ptr(),
+                next.len(),
+            )
+        };
+        let answer = Answer::unpacked(replayed.result);
+        match (answer.code, replayed.differs) {
+            (ACCEPTED, 0) => Ok(Ok(next)),
+            (ACCEPTED, _) => Ok(Err((replayed.cycle as usize, replayed.leaf as usize))),
             _ => Err(answer),
         }
     }

@@ -84,6 +84,15 @@ impl Desk<'_> {
         }
     }
 
+    /// Where a command writes bit by bit: a file, or standard output.
+    pub fn sink<'s>(&'s mut self, file: Option<&str>) -> Result<Box<dyn Write + 's>, Failure> {
+        let Some(file) = file else { return Ok(Box::new(&mut *self.out)) };
+        match std::fs::File::create(file) {
+            Ok(created) => Ok(Box::new(io::BufWriter::new(created))),
+            Err(error) => wrong(format!("{file} cannot be written: {}", reason(&error))),
+        }
+    }
+
     pub fn source(&self, file: &str) -> Result<Source, Failure> {
         Ok(Source { name: file.to_string(), bytes: self.bytes(file)? })
     }

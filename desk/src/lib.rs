@@ -10,15 +10,28 @@ pub mod source;
 pub mod types;
 
 // Values and runs.
+pub mod patterns;
 #[cfg(call_run)]
 pub mod signals;
 pub mod state;
 pub mod stimulus;
 pub mod values;
 
+// Pictures.
+pub mod drawing;
+pub mod graph;
+#[cfg(call_run)]
+pub mod page;
+#[cfg(call_run)]
+pub mod vcd;
+#[cfg(call_run)]
+pub mod waves;
+pub mod xml;
+
 // Messages.
 pub mod explain;
 pub mod message;
+pub mod warnings;
 
 // The program.
 pub mod arguments;

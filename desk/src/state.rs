@@ -43,7 +43,7 @@ pub fn delays(circuit: &Circuit) -> Vec<Delay> {
         };
         let before = found.iter().filter(|delay| base(&delay.name) == around).count();
         let name = if before == 0 { around } else { format!("{around}#{}", before + 1) };
-        let leaves = leaves(&circuit.records, number);
+        let leaves = leaf_records(&circuit.records, number);
         found.push(Delay { record: number, of: usize::from(record[A]), leaves, name });
     }
     found
@@ -55,7 +55,7 @@ fn base(name: &str) -> &str {
 }
 
 /// The records of a delay's or a constant's leaves.
-fn leaves(records: &[Record], number: usize) -> Vec<usize> {
+pub fn leaf_records(records: &[Record], number: usize) -> Vec<usize> {
     let first = usize::from(records[number][B]);
     std::iter::successors(Some(first), |leaf| {
         Some(usize::from(records[*leaf][NEXT])).filter(|next| *next != 0)

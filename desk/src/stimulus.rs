@@ -6,6 +6,7 @@ use crate::desk::{Desk, Failure};
 use crate::explain::grouped;
 use crate::message::{Message, Place};
 use crate::source::{Piece, Source};
+use crate::types::Types;
 use crate::values::{Fault, Notation, Reader};
 
 pub struct Stimulus {
@@ -38,14 +39,45 @@ pub fn read(
     accepted: &Accepted,
     notation: Notation,
 ) -> Result<Stimulus, Failure> {
+    let values = Values { of: accepted.input, numbered: false };
+    read_values(desk, file, accepted, notation, values)
+}
+
+/// The outputs of a file, with the numbers of their cycles before them or
+/// without.
+pub fn read_outputs(
+    desk: &mut Desk,
+    file: &str,
+    accepted: &Accepted,
+    notation: Notation,
+) -> Result<Stimulus, Failure> {
+    let values = Values { of: accepted.output, numbered: true };
+    read_values(desk, file, accepted, notation, values)
+}
+
+/// What the values of a file are.
+#[derive(Clone, Copy)]
+struct Values {
+    of: usize,
+    /// Whether a number and a colon may stand before a value.
+    numbered: bool,
+}
+
+fn read_values(
+    desk: &mut Desk,
+    file: &str,
+    accepted: &Accepted,
+    notation: Notation,
+    values: Values,
+) -> Result<Stimulus, Failure> {
     let source = desk.source(file)?;
     let types = accepted.circuit.types();
-    let width = types.leaves(accepted.input).len();
+    let width = types.leaves(values.of).len();
     let mut stimulus = Stimulus { source, leaves: Vec::new(), times: Vec::new(), width };
     let read = if file.ends_with(".bin") {
-        stimulus.read_bytes(accepted)
+        stimulus.read_bytes(types, values.of)
     } else {
-        stimulus.read_lines(&Reader { types, notation }, accepted.input)
+        stimulus.read_lines(&Reader { types, notation }, values)
     };
     match read {
         Ok(()) => Ok(stimulus),
@@ -54,9 +86,9 @@ pub fn read(
 }
 
 impl Stimulus {
-    fn read_bytes(&mut self, accepted: &Accepted) -> Result<(), Message> {
-        let (types, bytes) = (accepted.circuit.types(), &self.source.bytes);
-        let asked = types.leaves(accepted.input);
+    fn read_bytes(&mut self, types: Types, of: usize) -> Result<(), Message> {
+        let bytes = &self.source.bytes;
+        let asked = types.leaves(of);
         if bytes.len() % self.width != 0 {
             let (bytes, width) = (grouped(bytes.len()), self.width);
             let sentence = format!("it has {bytes} bytes, which are no whole cycles of {width}");
@@ -76,14 +108,14 @@ impl Stimulus {
         Ok(())
     }
 
-    fn read_lines(&mut self, reader: &Reader, of: usize) -> Result<(), Message> {
+    fn read_lines(&mut self, reader: &Reader, values: Values) -> Result<(), Message> {
         let mut start = 0;
         for line in self.source.bytes.split(|byte| *byte == b'\n') {
             let at = |fault: Fault| {
                 let piece = Piece::new(start + fault.piece.place, start + fault.piece.end);
                 Message::error(Place::of(piece), fault.sentence)
             };
-            let (leaves, times) = read_line(line, reader, of).map_err(at)?;
+            let (leaves, times) = read_line(line, reader, values).map_err(at)?;
             if times > 0 {
                 self.leaves.extend(leaves);
                 self.times.push(times);
@@ -96,7 +128,7 @@ impl Stimulus {
 
 /// The leaves of a line, and how often they are taken; never for a line that
 /// holds no value.
-fn read_line(line: &[u8], reader: &Reader, of: usize) -> Result<(Vec<u8>, u64), Fault> {
+fn read_line(line: &[u8], reader: &Reader, values: Values) -> Result<(Vec<u8>, u64), Fault> {
     let end = line.iter().position(|byte| *byte == b'#').unwrap_or(line.len());
     let text = std::str::from_utf8(&line[..end]).map_err(|error| {
         let place = error.valid_up_to();
@@ -110,7 +142,13 @@ fn read_line(line: &[u8], reader: &Reader, of: usize) -> Result<(Vec<u8>, u64), 
     if value.trim().is_empty() && times.is_none() {
         return Ok((Vec::new(), 0));
     }
-    let leaves = reader.read(value.trim_end(), of)?;
+    let number = |(number, _): &(&str, &str)| number.trim().bytes().all(|b| b.is_ascii_digit());
+    let before = value.split_once(':').filter(number).filter(|_| values.numbered);
+    let skipped = before.map_or(0, |(number, _)| number.len() + 1);
+    let leaves = reader.read(value[skipped..].trim_end(), values.of).map_err(|fault| {
+        let piece = Piece::new(fault.piece.place + skipped, fault.piece.end + skipped);
+        Fault { piece, ..fault }
+    })?;
     let Some(times) = times else { return Ok((leaves, 1)) };
     let from = value.len() + 1;
     match times.trim().parse() {

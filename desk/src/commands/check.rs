@@ -4,6 +4,7 @@ use crate::arguments::{Arguments, Usage};
 use crate::desk::{Desk, Done, GOOD};
 use crate::explain::grouped;
 use crate::program::Command;
+use crate::warnings::warnings;
 
 pub const COMMAND: Command = Command {
     name: "check",
@@ -11,13 +12,16 @@ pub const COMMAND: Command = Command {
     help: "A text is translated and then checked. A message has the form FILE:LINE:COLUMN: error: ..,\n\
            followed by the line of the text and a caret. Columns count bytes, from 1. For a sheet,\n\
            and where no place in the text is certain, a message has the number of a record.",
-    usage: Usage { operands: &["FILE"], flags: &[], options: &[] },
+    usage: Usage { operands: &["FILE"], flags: &[("-W", "warns of what is likely not meant")], options: &[] },
     run,
 };
 
 fn run(desk: &mut Desk, arguments: &Arguments) -> Done {
     let file = arguments.operand(0);
     let accepted = desk.accepted(file)?;
+    if arguments.flag("-W") {
+        desk.tell(&accepted.circuit.source, &warnings(&accepted))?;
+    }
     let types = accepted.circuit.types();
     let (input, output) = (types.label(accepted.input), types.label(accepted.output));
     let records = grouped(accepted.circuit.records.len());

@@ -2,7 +2,7 @@
 
 use crate::arguments::Arguments;
 use crate::circuit::Accepted;
-use crate::desk::{Desk, Failure};
+use crate::desk::{wrong, Desk, Failure};
 use crate::message::{Message, Place};
 use crate::state::is_state_of;
 use crate::types::Types;
@@ -63,5 +63,39 @@ pub fn shown(arguments: &Arguments, types: &Types, of: usize, leaves: &[u8]) -> 
     match notation(arguments) {
         Notation::Names => types.value(of, leaves),
         Notation::Numbers => number_list(leaves),
+    }
+}
+
+/// The number of an output leaf, given by its number or as `output[1]`; the
+/// first one where nothing is given and there is no other.
+pub fn output_leaf(
+    arguments: &Arguments,
+    accepted: &Accepted,
+    at: usize,
+) -> Result<usize, Failure> {
+    let paths = accepted.circuit.types().paths(accepted.output);
+    let given = arguments.operand(at);
+    let path: String = given.strip_prefix("output").unwrap_or(given).replace(' ', "");
+    let found = match given {
+        "" if paths.len() == 1 => Some(0),
+        "" => None,
+        given => match given.parse() {
+            Ok(number) => Some(number).filter(|number| *number < paths.len()),
+            Err(_) => paths.iter().position(|other| *other == path),
+        },
+    };
+    match found {
+        Some(leaf) => Ok(leaf),
+        None => {
+            let first: Vec<String> =
+                paths.iter().take(4).map(|path| format!("output{path}")).collect();
+            let more = if paths.len() > 4 { ", .." } else { "" };
+            let what = if given.is_empty() {
+                "LEAF is missing".to_string()
+            } else {
+                format!("there is no output leaf {given}")
+            };
+            wrong(format!("{what}: {}{more}, or 0 to {}", first.join(", "), paths.len() - 1))
+        }
     }
 }

@@ -7,8 +7,8 @@ use super::common::{input, shown, state, FROM, NUMBERS};
 use crate::archive;
 use crate::arguments::{Arguments, Usage};
 use crate::desk::{wrong, Desk, Done, GOOD};
+use crate::patterns::alternative;
 use crate::program::Command;
-use crate::signals::alternative;
 
 pub const COMMAND: Command = Command {
     name: "show",
