@@ -28,6 +28,15 @@ pub fn grouped(number: usize) -> String {
     shown
 }
 
+/// What was found, as a message shows it.
+pub fn shown(found: &str) -> String {
+    match found.chars().next() {
+        Some('\u{fffd}') | None => "a byte that is no character".to_string(),
+        Some(c) if c.is_control() => format!("the byte {}", c as u32),
+        _ => format!("`{found}`"),
+    }
+}
+
 /// A text that is not translated: 13, 14 or 15.
 pub fn refused_text(source: &Source, answer: Answer) -> Vec<Message> {
     let place = answer.place as usize;

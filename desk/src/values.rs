@@ -1,6 +1,7 @@
 //! Values as people type them: `hi`, `?`, `(hi, lo)`; or the numbers of leaves.
 
 use crate::explain::near::nearest;
+use crate::explain::shown;
 use crate::source::Piece;
 use crate::types::Types;
 
@@ -82,8 +83,8 @@ impl Reader<'_> {
         match token.letters.parse::<usize>() {
             Ok(number) if number <= count => Ok(number as u8),
             _ => {
-                let (letters, of) = (token.letters, self.types.label(of));
-                let sentence = format!("`{letters}` is no leaf of {of}: 0 to {count}");
+                let (letters, of) = (shown(token.letters), self.types.label(of));
+                let sentence = format!("{letters} is no leaf of {of}: 0 to {count}");
                 Err(Fault { piece: token.piece, sentence })
             }
         }
@@ -136,7 +137,7 @@ impl Reader<'_> {
     }
 
     fn expected(&self, token: &Token, wanted: String) -> Fault {
-        let sentence = format!("expected {wanted}, found `{}`", token.letters);
+        let sentence = format!("expected {wanted}, found {}", shown(token.letters));
         Fault { piece: token.piece, sentence }
     }
 
@@ -156,7 +157,7 @@ impl Reader<'_> {
             None if names.len() <= 8 => format!(": `?`, {}", names.join(", ")),
             None => String::new(),
         };
-        let sentence = format!("`{}` is no constructor of {label}{rest}", token.letters);
+        let sentence = format!("{} is no constructor of {label}{rest}", shown(token.letters));
         Err(Fault { piece: token.piece, sentence })
     }
 }

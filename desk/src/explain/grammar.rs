@@ -5,9 +5,9 @@
 use second::answers::WRONG_TEXT;
 use second::text::tokens::{is_blank, LONGEST_NAME, LONGEST_TEXT};
 
-use super::grouped;
 use super::near::nearest;
 use super::tokens::{is_keyword, open, words, Bracket, Word};
+use super::{grouped, shown};
 use crate::archive::translation_answer;
 use crate::message::{Mark, Message, Place};
 use crate::source::{Piece, Source};
@@ -207,7 +207,10 @@ impl Fault<'_> {
     fn after_the_end(&self) -> String {
         match self.letters().as_str() {
             ")" => "the circuit ends before this `)`: no bracket is open".to_string(),
-            found => format!("the circuit ends before `{found}`: a text has one expression"),
+            found => {
+                let found = shown(found);
+                format!("the circuit ends before {found}: a text has one expression")
+            }
         }
     }
 
@@ -347,14 +350,5 @@ impl Fault<'_> {
         };
         let error = self.error(format!("{expected}{because}"));
         [Some(error), self.note()].into_iter().flatten().collect()
-    }
-}
-
-/// What was found, as a message shows it.
-fn shown(found: &str) -> String {
-    match found.chars().next() {
-        Some('\u{fffd}') | None => "a byte that is no character".to_string(),
-        Some(c) if c.is_control() => format!("the byte {}", c as u32),
-        _ => format!("`{found}`"),
     }
 }

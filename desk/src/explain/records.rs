@@ -99,42 +99,72 @@ fn record(circuit: &Circuit, number: usize) -> String {
 
 /// What is wrong with a word, by what it asks for.
 fn word(circuit: &Circuit, number: usize, asked: Word, value: u16) -> Option<String> {
-    let named = usize::from(value);
-    let found = circuit.records.get(named).and_then(|record| sort(record[KIND]));
-    let flat = circuit.records.get(named).is_some_and(|record| record[KIND] == FLAT);
     let is = |good: bool, fault: &str| (!good).then(|| fault.to_string());
-    let called = |sort: Sort| match sort {
-        Sort::Type => "type",
-        Sort::Expression => "expression",
-        Sort::Pattern => "pattern",
-        Sort::Leaf => "leaf",
-    };
-    let higher = |sort: Sort| {
-        let called = called(sort);
-        is(
-            named > number && found == Some(sort),
-            &format!("it names no {called} with a higher number"),
-        )
-    };
+    let names = Named { circuit, number, named: usize::from(value) };
     match asked {
         Word::Zero => is(value == 0, "this kind has 0 there"),
         Word::Number | Word::Label => None,
         Word::Count => is((1..=255).contains(&value), "a type has 1 to 255 constructors"),
         Word::LeafValue => is(value <= 255, "a leaf is 0 to 255"),
-        Word::Type => is(
-            (1..number).contains(&named) && found == Some(Sort::Type),
-            "it names no type with a lower number",
-        ),
-        Word::FlatType => {
-            is((1..number).contains(&named) && flat, "it names no flat type with a lower number")
-        }
+        Word::Type => names.before(false),
+        Word::FlatType => names.before(true),
         Word::Constructor => {
             let of = usize::from(circuit.records[number][A]);
             let count = circuit.records.get(of).map_or(0, |record| record[A]);
             is((1..=count).contains(&value), &format!("its type has the constructors 1 to {count}"))
         }
-        Word::Part(sort) => higher(sort),
-        Word::Next(sort) => (value != 0).then(|| higher(sort)).flatten(),
+        Word::Part(sort) => names.after(sort),
+        Word::Next(sort) => (value != 0).then(|| names.after(sort)).flatten(),
+    }
+}
+
+/// A record that a word of another names.
+struct Named<'a> {
+    circuit: &'a Circuit,
+    number: usize,
+    named: usize,
+}
+
+impl Named<'_> {
+    fn missing(&self) -> Option<String> {
+        let Named { circuit, named, .. } = self;
+        (*named >= circuit.records.len()).then(|| format!("there is no record {named}"))
+    }
+
+    fn is_no(&self, good: bool, what: &str) -> Option<String> {
+        (!good).then(|| format!("record {} is no {what}", self.named))
+    }
+
+    /// What is wrong with a type that stands before the word's record.
+    fn before(&self, flat: bool) -> Option<String> {
+        if let Some(fault) = self.missing() {
+            return Some(fault);
+        }
+        if self.named >= self.number {
+            return Some("a type before this record is asked for".to_string());
+        }
+        let kind = self.circuit.records[self.named][KIND];
+        match flat {
+            true => self.is_no(kind == FLAT, "flat type"),
+            false => self.is_no(sort(kind) == Some(Sort::Type), "type"),
+        }
+    }
+
+    /// What is wrong with a record of a sort that stands after the word's.
+    fn after(&self, asked: Sort) -> Option<String> {
+        if let Some(fault) = self.missing() {
+            return Some(fault);
+        }
+        if self.named <= self.number {
+            return Some("a record after this one is asked for".to_string());
+        }
+        let what = match asked {
+            Sort::Type => "type",
+            Sort::Expression => "expression",
+            Sort::Pattern => "pattern",
+            Sort::Leaf => "leaf",
+        };
+        self.is_no(sort(self.circuit.records[self.named][KIND]) == Some(asked), what)
     }
 }
 
