@@ -40,8 +40,11 @@ pub mod shapes;
 pub mod survey;
 
 // The calls, and what their comparisons have in common.
+#[cfg(feature = "archive")]
 pub mod calls;
+#[cfg(feature = "archive")]
 pub mod frame;
+#[cfg(feature = "archive")]
 pub mod one_cycle;
 pub mod one_leaf;
 

@@ -1,0 +1,242 @@
+//! The graph of a circuit as a picture, from left to right: each node stands in
+//! a column to the right of all that it uses.
+
+use std::collections::HashMap;
+use std::fmt::Write;
+
+use crate::graph::{Graph, Kind};
+use crate::xml::{escaped, STYLE};
+
+const LETTER: usize = 7;
+const LINE: usize = 14;
+const GAP: usize = 14;
+const BETWEEN: usize = 46;
+
+/// A node of the graph, or a bend of an edge that passes a column.
+struct Cell {
+    node: Option<usize>,
+    column: usize,
+    width: usize,
+    height: usize,
+    x: usize,
+    y: usize,
+}
+
+struct Layout<'a> {
+    graph: &'a Graph,
+    cells: Vec<Cell>,
+    /// The cells of each column, from the top.
+    columns: Vec<Vec<usize>>,
+    /// Each edge of the graph as the cells it goes through, from left to right.
+    routes: Vec<Vec<usize>>,
+}
+
+/// The drawing of a graph.
+pub fn svg(graph: &Graph) -> String {
+    let mut layout = Layout::new(graph);
+    layout.order();
+    let (width, height) = layout.place();
+    layout.draw(width, height)
+}
+
+/// The drawing as a file of its own, which brings its style.
+pub fn file(graph: &Graph) -> String {
+    let svg = svg(graph);
+    let style = format!("<style>{STYLE}</style>\n<title>");
+    format!("<?xml version=\"1.0\" encoding=\"UTF-8\"?>\n{}", svg.replacen("<title>", &style, 1))
+}
+
+/// The column of each node: one to the right of the last that it uses. Edges
+/// that lead back to a feedback do not count.
+fn columns(graph: &Graph) -> Vec<usize> {
+    let mut columns = vec![0; graph.nodes.len()];
+    // Nodes are made after what they use, but for the edges that lead back.
+    let mut uses: HashMap<usize, Vec<usize>> = HashMap::new();
+    for edge in graph.edges.iter().filter(|edge| !edge.back) {
+        uses.entry(edge.to).or_default().push(edge.from);
+    }
+    for node in 0..graph.nodes.len() {
+        let used = uses.get(&node).into_iter().flatten();
+        columns[node] = used.map(|from| columns[*from] + 1).max().unwrap_or(0);
+    }
+    columns
+}
+
+/// The lines that a node shows.
+fn lines(graph: &Graph, node: usize) -> Vec<String> {
+    let node = &graph.nodes[node];
+    let names = (!node.names.is_empty()).then(|| format!("{} =", node.names.join(" = ")));
+    names.into_iter().chain(node.lines.iter().cloned()).collect()
+}
+
+impl<'a> Layout<'a> {
+    fn new(graph: &'a Graph) -> Layout<'a> {
+        let at = columns(graph);
+        let mut columns = vec![Vec::new(); at.iter().max().map_or(0, |last| last + 1)];
+        let mut cells = Vec::new();
+        for node in 0..graph.nodes.len() {
+            let lines = lines(graph, node);
+            let letters = lines.iter().map(|line| line.chars().count()).max().unwrap_or(0);
+            let (width, height) = (LETTER * letters + 16, LINE * lines.len() + 10);
+            let column = at[node];
+            columns[column].push(cells.len());
+            cells.push(Cell { node: Some(node), column, width, height, x: 0, y: 0 });
+        }
+        let mut routes = Vec::new();
+        for edge in &graph.edges {
+            let (left, right) = match edge.back {
+                true => (edge.to, edge.from),
+                false => (edge.from, edge.to),
+            };
+            let mut route = vec![left];
+            for column in at[left] + 1..at[right] {
+                columns[column].push(cells.len());
+                route.push(cells.len());
+                cells.push(Cell { node: None, column, width: 0, height: 2, x: 0, y: 0 });
+            }
+            route.push(right);
+            routes.push(route);
+        }
+        Layout { graph, cells, columns, routes }
+    }
+
+    /// Puts each cell near the middle of those that it is joined with.
+    fn order(&mut self) {
+        let mut joined: Vec<Vec<usize>> = vec![Vec::new(); self.cells.len()];
+        for route in &self.routes {
+            for pair in route.windows(2) {
+                joined[pair[0]].push(pair[1]);
+                joined[pair[1]].push(pair[0]);
+            }
+        }
+        let mut rank = vec![0.0; self.cells.len()];
+        for column in &self.columns {
+            for (at, cell) in column.iter().enumerate() {
+                rank[*cell] = at as f64;
+            }
+        }
+        for round in 0..8 {
+            let count = self.columns.len();
+            for step in 0..count {
+                let at = if round % 2 == 0 { step } else { count - 1 - step };
+                let middle = |cell: usize| {
+                    let near = &joined[cell];
+                    let before = near.iter().filter(|other| {
+                        let other = self.cells[**other].column;
+                        if round % 2 == 0 {
+                            other < at
+                        } else {
+                            other > at
+                        }
+                    });
+                    let ranks: Vec<f64> = before.map(|other| rank[*other]).collect();
+                    match ranks.len() {
+                        0 => rank[cell],
+                        many => ranks.iter().sum::<f64>() / many as f64,
+                    }
+                };
+                let mut sorted: Vec<(f64, usize)> =
+                    self.columns[at].iter().map(|cell| (middle(*cell), *cell)).collect();
+                sorted.sort_by(|a, b| a.0.total_cmp(&b.0));
+                self.columns[at] = sorted.into_iter().map(|(_, cell)| cell).collect();
+                for (row, cell) in self.columns[at].iter().enumerate() {
+                    rank[*cell] = row as f64;
+                }
+            }
+        }
+    }
+
+    /// Gives every cell its place; the width and height of the whole.
+    fn place(&mut self) -> (usize, usize) {
+        let height = |layout: &Layout, column: &[usize]| -> usize {
+            column.iter().map(|cell| layout.cells[*cell].height + GAP).sum()
+        };
+        let tallest = self.columns.iter().map(|c| height(self, c)).max().unwrap_or(0) + GAP;
+        let mut x = 10;
+        for column in self.columns.clone() {
+            let mut y = (tallest - height(self, &column)) / 2;
+            let widest = column.iter().map(|cell| self.cells[*cell].width).max().unwrap_or(0);
+            for cell in column {
+                let cell = &mut self.cells[cell];
+                cell.x = x + (widest - cell.width) / 2;
+                cell.y = y;
+                if cell.node.is_none() {
+                    cell.x = x;
+                    cell.width = widest;
+                }
+                y += cell.height + GAP;
+            }
+            x += widest + BETWEEN;
+        }
+        (x.saturating_sub(BETWEEN) + 10, tallest.max(40))
+    }
+
+    fn draw(&self, width: usize, height: usize) -> String {
+        let mut svg = format!(
+            "<svg xmlns=\"http://www.w3.org/2000/svg\" class=\"drawing\" width=\"{width}\" \
+             height=\"{height}\" viewBox=\"0 0 {width} {height}\" role=\"img\">\n\
+             <title>The circuit</title>\n"
+        );
+        svg += "<defs><marker id=\"arrow\" viewBox=\"0 0 8 8\" refX=\"8\" refY=\"4\" \
+                markerWidth=\"7\" markerHeight=\"7\" orient=\"auto-start-reverse\">\
+                <path d=\"M0 0 L8 4 L0 8 Z\"/></marker></defs>\n";
+        for (edge, route) in self.graph.edges.iter().zip(&self.routes) {
+            self.edge(edge.back, edge.label, route, &mut svg);
+        }
+        for cell in &self.cells {
+            if let Some(node) = cell.node {
+                self.node(node, cell, &mut svg);
+            }
+        }
+        svg + "</svg>\n"
+    }
+
+    fn edge(&self, back: bool, label: &str, route: &[usize], svg: &mut String) {
+        let cells: Vec<&Cell> = route.iter().map(|cell| &self.cells[*cell]).collect();
+        let middle = |cell: &Cell| cell.y + cell.height / 2;
+        let mut path = String::new();
+        for pair in cells.windows(2) {
+            let (x, y) = (pair[0].x + pair[0].width, middle(pair[0]));
+            let (to_x, to_y) = (pair[1].x, middle(pair[1]));
+            let bend = (x + to_x) / 2;
+            let begin = if path.is_empty() { "M" } else { "L" };
+            let _ = write!(path, "{begin}{x} {y} C{bend} {y} {bend} {to_y} {to_x} {to_y} ");
+            if pair[1].node.is_none() {
+                let _ = write!(path, "H{} ", pair[1].x + pair[1].width);
+            }
+        }
+        let (class, end) = if back { ("back", "start") } else { ("edge", "end") };
+        let path = path.trim_end();
+        let _ =
+            writeln!(svg, "<path class=\"{class}\" marker-{end}=\"url(#arrow)\" d=\"{path}\"/>");
+        if let (false, Some(last)) = (label.is_empty(), cells.last()) {
+            let (x, y) = (last.x.saturating_sub(4), middle(last) - 4);
+            let _ = writeln!(svg, "<text class=\"role\" x=\"{x}\" y=\"{y}\">{label}</text>");
+        }
+    }
+
+    fn node(&self, node: usize, cell: &Cell, svg: &mut String) {
+        let Cell { x, y, width, height, .. } = *cell;
+        let (class, round) = match self.graph.nodes[node].kind {
+            Kind::Input | Kind::Output => ("port", 2),
+            Kind::Constant => ("constant", 2),
+            Kind::Part => ("part", 8),
+            Kind::Choice => ("choice", 0),
+            Kind::Delay => ("delay", 0),
+            Kind::Feedback => ("feedback", 12),
+        };
+        let place = escaped(&self.graph.nodes[node].place);
+        let _ = writeln!(svg, "<g><title>{place}</title>");
+        let _ = writeln!(
+            svg,
+            "<rect class=\"{class}\" x=\"{x}\" y=\"{y}\" width=\"{width}\" height=\"{height}\" \
+             rx=\"{round}\"/>"
+        );
+        for (at, line) in lines(self.graph, node).iter().enumerate() {
+            let (x, y) = (x + width / 2, y + LINE * (at + 1) + 1);
+            let line = escaped(line);
+            let _ = writeln!(svg, "<text class=\"value\" x=\"{x}\" y=\"{y}\">{line}</text>");
+        }
+        svg.push_str("</g>\n");
+    }
+}
