@@ -91,6 +91,14 @@ as_it_comes() {
     records '1 1 1 2 3' '16 0 255' '33' >sheet.bin
 }
 
+# The input, a bit, in 64 leaves: each LET's name is a pair of the name around it.
+leaves_64() {
+    records '1 1 1 8 31' '16 2 2' '17 3 1 1' '17 4 2 2' '17 5 3 3' '17 6 4 4' '17 7 5 5' \
+        '17 0 6 6' '37 0 9 12' '34 0 10 11' '33' '33' '37 0 13 16' '34 0 14 15' '33' '33' \
+        '37 0 17 20' '34 0 18 19' '33' '33' '37 0 21 24' '34 0 22 23' '33' '33' \
+        '37 0 25 28' '34 0 26 27' '33' '33' '34 0 29 30' '33' '33' >sheet.bin
+}
+
 # A sheet of 4,096 records, most of them types: the input as it comes.
 longest_sheet() {
     local k types=()
@@ -134,6 +142,15 @@ leaves() { # HELD
     now=$(held)
     [ "$now" = "$1" ] && tally "$name" 0 '' ||
         tally "$name" 1 "the folder changed: $(diff <(echo "$1") <(echo "$now") | tr '\n' '|')"
+}
+
+# What a program that writes no file prints, with no next.bin and beside an old one.
+prints_beside() { # TEXT [COMMAND..]
+    prints "$@"
+    printf 'old' >next.bin
+    touch -d '2001-01-01' next.bin
+    prints "$@"
+    rm next.bin
 }
 
 # The folder holds these files and no other.
@@ -347,4 +364,13 @@ system_calls() {
     echo "system calls for 65,535 cycles: $count, of them $(grep -c '^write' ../trace) to write" \
         "$(stat -c %s ../out) bytes"
     [ "$count" -le 200 ] && tally "$name" 0 '' || tally "$name" 1 "$count of them"
+}
+
+# By ../trace the program opened these files of the folder, in this order, and none to write.
+opened() { # FILE..
+    local names
+    names=$(sed -nE 's/^(open|openat|creat)\([^"]*"([^"\/]*)".*/\2/p' ../trace | xargs)
+    [ "$names" = "$*" ] && tally "$name" 0 '' || tally "$name" 1 "opened: $names"
+    ! grep -E 'O_WRONLY|O_RDWR|O_CREAT|^(creat|rename|unlink|mkdir|truncate)' ../trace &&
+        tally "$name" 0 '' || tally "$name" 1 'something was opened to be written'
 }
