@@ -49,7 +49,8 @@
  *     cc -Iinclude host.c target/staticlib/libsheets.a
  *
  * examples/check.c, examples/run.c, examples/carry.c, examples/fired.c, examples/preview.c,
- * examples/press.c, examples/count.c, examples/replay.c and examples/translate.c are whole hosts.
+ * examples/press.c, examples/count.c, examples/replay.c, examples/bound.c and examples/translate.c
+ * are whole hosts.
  */
 #ifndef SHEET_H
 #define SHEET_H
@@ -247,6 +248,11 @@ uint64_t sheet_check(const uint8_t *sheet, size_t length);
  * answer does not depend on `next`. Nothing is written, as on every refusal. That length divided by the number of cycles is the
  * number of output leaves. With an empty stimulus `out` needs length 0, so that this call is the run itself: it answers 0 at place
  * 0 and fills `next`, or 11 if `next` is not as long as the sheet, and says nothing of the output's leaves.
+ *
+ * A run may take long: what lies in a feedback of 64 leaves may be evaluated 65 times in each cycle,
+ * in three of them 274,625 times. A cycle of 3,532 records took 5 seconds of processor time. A host
+ * that must answer in time can tell such a sheet before it runs it: steps_of in examples/steps.h
+ * gives the most steps of a cycle, and docs/SHEETS.md, Time, how long a step took.
  *
  *     uint8_t none[1], *out = none;
  *     uint64_t result = sheet_run(sheet, length, stim, stim_length, none, 0, next, length);
