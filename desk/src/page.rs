@@ -3,10 +3,10 @@
 
 use crate::circuit::Accepted;
 use crate::drawing;
-use crate::explain::grouped;
 use crate::graph::graph;
 use crate::signals::Signals;
 use crate::waves;
+use crate::wording::grouped;
 use crate::xml::{escaped, STYLE};
 
 const PAGE_STYLE: &str = "

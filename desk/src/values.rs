@@ -1,9 +1,9 @@
 //! Values as people type them: `hi`, `?`, `(hi, lo)`; or the numbers of leaves.
 
-use crate::explain::near::nearest;
-use crate::explain::shown;
+use crate::near::nearest;
 use crate::source::Piece;
 use crate::types::Types;
+use crate::wording::shown;
 
 /// What is wrong with a value, and where in its bytes.
 #[derive(Clone, PartialEq, Eq, Debug)]

@@ -60,13 +60,13 @@ pub fn run(count: u64) -> bool {
     }
     println!("compared {done} changed tokens: {tally:?}");
     let roles = ["Expression", "UndefinedType", "InputType", "InitType", "Constant", "Alternative"];
-    let pairs = ["FirstOfPairType", "SecondOfPairType", "NoName"];
+    let pairs = ["FirstOfPairType", "SecondOfPairType", "NoName", "ConstantType"];
     roles.iter().chain(&pairs).all(|role| tally.get(*role).is_some_and(|n| *n >= 50))
 }
 
 /// A change of a random word that leaves the layout as it is.
 fn pick(sentence: &Sentence, laid: &Layout, random: &mut Random) -> Option<Change> {
-    let word = random.below(sentence.words.len());
+    let word = a_word(sentence, random);
     let letters = &sentence.words[word].letters;
     let constructor = laid.names.constructors.get(letters);
     let change = |letters: Option<String>, back: usize| {
@@ -85,11 +85,23 @@ fn pick(sentence: &Sentence, laid: &Layout, random: &mut Random) -> Option<Chang
         Role::Alternative if random.one_in(2) => change(any_constructor(laid, random), 0),
         Role::Alternative => change(any(laid.names.types.keys(), random), 0),
         Role::UndefinedType | Role::InputType => change(any(laid.names.types.keys(), random), 1),
+        // The type of a DELAY whose constant is undefined is that of its record.
+        Role::ConstantType if word >= 4 && sentence.words[word - 3].letters == "DELAY" => {
+            change(any(laid.names.types.keys(), random), 4)
+        }
         Role::InitType => change(any(laid.names.types.keys(), random), 4),
         Role::FirstOfPairType => change(any(laid.names.types.keys(), random), 3),
         Role::SecondOfPairType => change(any(laid.names.types.keys(), random), 5),
         _ => None,
     }
+}
+
+/// Any word; at times the type of an undefined constant, which is rare.
+fn a_word(sentence: &Sentence, random: &mut Random) -> usize {
+    let is_rare = |at: &usize| sentence.words[*at].role == Role::ConstantType;
+    let rare: Vec<usize> = (0..sentence.words.len()).filter(is_rare).collect();
+    let any = random.below(sentence.words.len());
+    random.pick(&rare).filter(|_| random.one_in(4)).unwrap_or(any)
 }
 
 fn any_constructor(laid: &Layout, random: &mut Random) -> Option<String> {
