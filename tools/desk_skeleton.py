@@ -37,19 +37,21 @@ def skeleton():
     written = "none/T.bin cannot be written: there is no such file or folder"
     gives(2, "", f"sheet: {written}\n", "translate", TEXTS / "T.txt", "none/T.bin")
     colours()
+    progress()
     completion()
 
 
-# What a command prints on a terminal.
-def on_terminal(around):
+# What a command prints on standard error where that is a terminal.
+def on_terminal(*words, **around):
     parent, child = pty.openpty()
-    (WORK / "bad.txt").write_text("TYPE\n")
-    words = [SHEET, "check", "bad.txt"]
-    ran = subprocess.Popen(words, cwd=WORK, env={**os.environ, **around}, stderr=child)
-    ran.wait()
+    environment = {**os.environ, **around}
+    words = [SHEET, *words]
+    none = subprocess.DEVNULL
+    ran = subprocess.Popen(words, cwd=WORK, env=environment, stdout=none, stderr=child)
     printed = b""
-    while select.select([parent], [], [], 0.2)[0]:
-        printed += os.read(parent, 65536)
+    while ran.poll() is None or select.select([parent], [], [], 0.2)[0]:
+        if select.select([parent], [], [], 0.05)[0]:
+            printed += os.read(parent, 65536)
     os.close(parent)
     os.close(child)
     return printed.decode()
@@ -57,9 +59,21 @@ def on_terminal(around):
 
 def colours():
     os.environ.pop("NO_COLOR", None)
-    tally("\x1b[1;31merror:\x1b[0m" in on_terminal({}), "no colours on a terminal")
-    tally("\x1b" not in on_terminal({"NO_COLOR": "1"}), "colours with NO_COLOR")
+    (WORK / "bad.txt").write_text("TYPE\n")
+    tally("\x1b[1;31merror:\x1b[0m" in on_terminal("check", "bad.txt"), "no colours on a terminal")
+    tally("\x1b" not in on_terminal("check", "bad.txt", NO_COLOR="1"), "colours with NO_COLOR")
     tally("\x1b" not in run("check", "bad.txt")[2], "colours in a file")
+
+
+# A run that takes longer than a second says how far it is, on a terminal and nowhere else.
+def progress():
+    (WORK / "long.stim").write_text("hi * 12000000\n")
+    words = ["run", TEXTS / "T.txt", "long.stim"]
+    printed = on_terminal(*words)
+    tally(re.search(r"\r[\d,]+ of 12,000,000 cycles", printed), f"no progress: {printed[:200]}")
+    (WORK / "short.stim").write_text("hi * 12\n")
+    printed = on_terminal(*words[:2], "short.stim")
+    tally(printed == "", f"progress of a short run: {printed[:200]}")
 
 
 # What bash completes after some words.

@@ -158,7 +158,8 @@ impl Fault<'_> {
         let after = text[self.place..].iter().take_while(|byte| part(byte)).count();
         let word = Piece::new(self.place - before, self.place + after);
         let letters = self.source.letters(word);
-        let a_word = letters.chars().filter(|c| c.is_alphabetic()).count() > 0;
+        let digits = self.expects("x") && letters.bytes().any(|byte| byte.is_ascii_digit());
+        let a_word = digits || letters.chars().any(char::is_alphabetic);
         (a_word && !letters.contains('\u{fffd}'))
             .then(|| (word, format!("a name has the letters a to z only: `{letters}` is none")))
     }
@@ -209,6 +210,9 @@ impl Fault<'_> {
                 let begins = "a feedback begins undefined";
                 Some(format!("INIT is followed by `?` and a type: {begins}"))
             }
+            ("LET", "REC") => {
+                Some("a feedback has its type before REC: `LET INIT ?.. REC`".to_string())
+            }
             (_, "IN") if self.back(2) == "INPUT" => {
                 Some("no `IN` follows INPUT and its type".to_string())
             }
@@ -227,6 +231,15 @@ impl Fault<'_> {
                 }
                 _ => ("brackets do not group: a pair has a comma and a second part", true),
             },
+            "[" if self.expects("(") && self.expects("x") => {
+                ("a pair stands in round brackets: `(.., ..)`", false)
+            }
+            "(" if self.back(1) == "INPUT" => {
+                ("INPUT is followed by the name of a type: a pair has a TYPE of its own", false)
+            }
+            "(" | "|" if !self.after_input() && !self.open.is_empty() => {
+                ("the parts of a pair type are names: each has a TYPE of its own", false)
+            }
             "," if self.expects(")") && self.after_input() => {
                 ("a pair has two parts: put three as `((.., ..), ..)`", true)
             }

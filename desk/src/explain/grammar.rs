@@ -84,6 +84,10 @@ fn bytes_outside(source: &Source, place: usize) -> Option<Message> {
         [b'\t', ..] => {
             at(0, "this is a tab: only spaces and line ends stand between words".to_string())
         }
+        [0xc2, 0xa0, ..] => {
+            let only = "only spaces and line ends stand between words";
+            at(0, format!("this is a no-break space: {only}"))
+        }
         [b'\r', b'\n', ..] => {
             at(0, "this line ends with CR LF: save the text with LF alone".to_string())
         }
