@@ -1,4 +1,5 @@
 """Tests of the desk's tool: states, stimuli, presses and the build over the check's archive."""
+from desk_messages import packed, words_of
 from desk_testing import CHECKER, TEXTS, WORK, gives, run, tally
 from repository import ROOT
 
@@ -47,6 +48,31 @@ def states():
     status, out, _ = run("run", TEXTS / "T.txt", "many.stim", "--next", "T.bin")
     lines = out.splitlines()
     tally(len(lines) == 200001 and lines[-2:] == ["199999: hi", "200000: lo"], "many cycles")
+
+
+# Sheets have numbers for names, and labels of their own.
+def of_sheets():
+    records = words_of((ROOT / "data/T.bin").read_bytes())
+    records[3][5] = 7
+    (WORK / "T.bin").write_bytes(packed(records))
+    (WORK / "T.stim").write_text("1\n2\n? # undefined\n")
+    # T flips its bit on 1; from an undefined input on it is undefined.
+    gives(0, "0: 2\n1: 1\n2: 1\n", "", "run", "T.bin", "T.stim", "--next", "after.bin")
+    gives(0, "output: ?\nrecord 5: IF: 1 at record 7 fired\nrecord 8: IF: no alternative fired\n",
+          "", "show", "T.bin", "1", "--from", "after.bin")
+    carried = "label7: carried, holds ?\n"
+    gives(0, carried, "", "carry", "after.bin", "T.bin", "--next", "carried.bin")
+    same = (WORK / "carried.bin").read_bytes() == (WORK / "after.bin").read_bytes()
+    tally(same, "a sheet carried into the one that it began as")
+    unlabelled = "record3: not carried, it has no label; holds 2\nlabel7: gone, held ?\n"
+    gives(0, unlabelled, "", "carry", "after.bin", ROOT / "data/T.bin")
+    status, dump, _ = run("wave", "T.bin", "T.stim")
+    tally(status == 0 and "$var string 1 ! input $end" in dump, "wave of a sheet")
+    status, page, _ = run("page", "T.bin", "T.stim")
+    tally(status == 0 and "Input type 1, output type 1, 17 records." in page, "page of a sheet")
+    says = "T.stim:1:1: error: `hi` is no leaf of type 1: 0 to 2\n    1 | hi\n      | ^~\n"
+    (WORK / "T.stim").write_text("hi\n")
+    gives(1, "", says, "run", "T.bin", "T.stim")
 
 
 def stimuli():

@@ -29,6 +29,13 @@ def long_texts():
     says = "many.txt: error: the sheet would have 5,009 records: at most 4,096\n"
     gives(1, "", says, "check", "many.txt")
     slow_texts()
+    # Of a very long line the part around the caret is shown.
+    line = "TYPE bit = hi | lo IN INPUT bit (IF input MATCHES hi" + "|hi" * 3000
+    (WORK / "line.txt").write_text(f"{line}|high{'|hi' * 3000} THEN hi ELSE lo)")
+    status, _, err = run("check", "line.txt")
+    shown = err.splitlines()[1:]
+    good = status == 1 and all(len(one) < 180 for one in shown) and "|hi|high|hi|" in shown[0]
+    tally(good and shown[1].index("^") == shown[0].index("high"), f"a long line: {err[:400]}")
     deep = "TYPE bit = hi | lo IN INPUT bit " + "(hi," * 9000 + "lo" + ")" * 9000
     (WORK / "deep.txt").write_text(deep)
     tally(run("check", "deep.txt")[0] == 1, "a text that nests 9,000 deep")
