@@ -70,10 +70,10 @@ impl Circuit {
     }
 
     /// The circuit, if the check accepts it; else its answer.
-    pub fn accepted(self) -> Result<Accepted, (Circuit, Answer)> {
+    pub fn accepted(self) -> Result<Accepted, Box<(Circuit, Answer)>> {
         let answer = self.check();
         if answer.code != ACCEPTED {
-            return Err((self, answer));
+            return Err(Box::new((self, answer)));
         }
         let (input, output) = (usize::from(self.records[0][A]), answer.place as usize);
         Ok(Accepted { circuit: self, input, output })

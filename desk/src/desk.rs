@@ -126,7 +126,8 @@ impl Desk<'_> {
     pub fn accepted(&mut self, file: &str) -> Result<Accepted, Failure> {
         match self.circuit(file)?.accepted() {
             Ok(accepted) => Ok(accepted),
-            Err((circuit, answer)) => {
+            Err(refused) => {
+                let (circuit, answer) = *refused;
                 let messages = refused_sheet(&circuit, answer);
                 self.refuse(&circuit.source, &messages)
             }
