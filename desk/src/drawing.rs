@@ -53,10 +53,10 @@ pub fn file(graph: &Graph) -> String {
     format!("<?xml version=\"1.0\" encoding=\"UTF-8\"?>\n{}", svg.replacen("<title>", &style, 1))
 }
 
-/// The column of each node: one to the right of the last that it uses. Edges
-/// that lead back to a feedback do not count.
+/// The column of each node: to the right of all that it uses, and to the left of
+/// all that uses it. Edges that lead back to a feedback do not count.
 fn columns(graph: &Graph) -> Vec<usize> {
-    let mut columns = vec![0; graph.nodes.len()];
+    let mut columns: Vec<usize> = vec![0; graph.nodes.len()];
     // Nodes are made after what they use, but for the edges that lead back.
     let mut uses: HashMap<usize, Vec<usize>> = HashMap::new();
     for edge in graph.edges.iter().filter(|edge| !edge.back) {
@@ -71,6 +71,18 @@ fn columns(graph: &Graph) -> Vec<usize> {
     for (node, column) in columns.iter_mut().enumerate() {
         if graph.nodes[node].kind == Kind::Output {
             *column = last.max(1);
+        }
+    }
+    // What is used moves to the right, up to its first use: edges become short.
+    let mut users: HashMap<usize, Vec<usize>> = HashMap::new();
+    for edge in graph.edges.iter().filter(|edge| !edge.back) {
+        users.entry(edge.from).or_default().push(edge.to);
+    }
+    for node in (0..graph.nodes.len()).rev() {
+        let stays = matches!(graph.nodes[node].kind, Kind::Input | Kind::Feedback | Kind::Output);
+        let first = users.get(&node).into_iter().flatten().map(|user| columns[*user]).min();
+        if let (false, Some(first)) = (stays, first) {
+            columns[node] = first.saturating_sub(1).max(columns[node]);
         }
     }
     columns
