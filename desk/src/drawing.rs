@@ -125,51 +125,50 @@ impl<'a> Layout<'a> {
         Layout { graph, cells, columns, routes, edges: Vec::new(), bottom: 0 }
     }
 
-    /// Puts each cell near the middle of those that it is joined with.
+    /// Puts each cell near the middle of those that it is joined with, to the
+    /// right and to the left in turn.
     fn order(&mut self) {
-        let mut joined: Vec<Vec<usize>> = vec![Vec::new(); self.cells.len()];
-        let forward = self.graph.edges.iter().zip(&self.routes).filter(|(edge, _)| !edge.back);
-        for (_, route) in forward {
-            for pair in route.windows(2) {
-                joined[pair[0]].push(pair[1]);
-                joined[pair[1]].push(pair[0]);
-            }
-        }
+        let joined = self.joined();
         let mut rank = vec![0.0; self.cells.len()];
         for column in &self.columns {
-            for (at, cell) in column.iter().enumerate() {
-                rank[*cell] = at as f64;
+            for (row, cell) in column.iter().enumerate() {
+                rank[*cell] = row as f64;
             }
         }
+        let count = self.columns.len();
         for round in 0..8 {
-            let count = self.columns.len();
             for step in 0..count {
                 let at = if round % 2 == 0 { step } else { count - 1 - step };
                 let middle = |cell: usize| {
-                    let near = &joined[cell];
-                    let before = near.iter().filter(|other| {
-                        let other = self.cells[**other].column;
-                        if round % 2 == 0 {
-                            other < at
-                        } else {
-                            other > at
-                        }
-                    });
-                    let ranks: Vec<f64> = before.map(|other| rank[*other]).collect();
-                    match ranks.len() {
+                    let side = &joined[cell][round % 2];
+                    let ranks = side.iter().map(|other| rank[*other]);
+                    match side.len() {
                         0 => rank[cell],
-                        many => ranks.iter().sum::<f64>() / many as f64,
+                        many => ranks.sum::<f64>() / many as f64,
                     }
                 };
+                let column = self.columns[at].iter();
                 let mut sorted: Vec<(f64, usize)> =
-                    self.columns[at].iter().map(|cell| (middle(*cell), *cell)).collect();
-                sorted.sort_by(|a, b| a.0.total_cmp(&b.0));
+                    column.map(|cell| (middle(*cell), *cell)).collect();
+                sorted.sort_by(|one, other| one.0.total_cmp(&other.0));
                 self.columns[at] = sorted.into_iter().map(|(_, cell)| cell).collect();
                 for (row, cell) in self.columns[at].iter().enumerate() {
                     rank[*cell] = row as f64;
                 }
             }
         }
+    }
+
+    /// The cells that each is joined with on its left, and on its right.
+    fn joined(&self) -> Vec<[Vec<usize>; 2]> {
+        let mut joined = vec![[Vec::new(), Vec::new()]; self.cells.len()];
+        for (edge, route) in self.graph.edges.iter().zip(&self.routes) {
+            for pair in route.windows(2).filter(|_| !edge.back) {
+                joined[pair[1]][0].push(pair[0]);
+                joined[pair[0]][1].push(pair[1]);
+            }
+        }
+        joined
     }
 
     /// Gives every cell its place; the width and height of the whole.

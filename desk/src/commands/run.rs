@@ -93,13 +93,18 @@ fn in_calls(
         };
         if desk.terminal && began.elapsed() > PATIENCE {
             shown = true;
-            let (done, all) = (grouped(done as usize), grouped(all as usize));
-            write!(desk.err, "\r{done} of {all} cycles")?;
-            desk.err.flush()?;
+            progress(desk, done, all)?;
         }
     }
     if shown {
         writeln!(desk.err)?;
     }
     Ok(sheet)
+}
+
+/// How far a run is, over what was said before.
+fn progress(desk: &mut Desk, done: u64, all: u64) -> Result<(), Failure> {
+    let (done, all) = (grouped(done as usize), grouped(all as usize));
+    write!(desk.err, "\r{done} of {all} cycles")?;
+    Ok(desk.err.flush()?)
 }

@@ -152,12 +152,9 @@ impl<'a> Walk<'a> {
                 let new = self.push(PAIR, node, record, word);
                 self.parts(new, &[(A, *first), (B, *second)]);
             }
-            Expression::First(part) => {
-                let new = self.push(FIRST, node, record, word);
-                self.parts(new, &[(A, *part)]);
-            }
-            Expression::Second(part) => {
-                let new = self.push(SECOND, node, record, word);
+            Expression::First(part) | Expression::Second(part) => {
+                let first = matches!(&syntax.expressions[number], Expression::First(_));
+                let new = self.push(if first { FIRST } else { SECOND }, node, record, word);
                 self.parts(new, &[(A, *part)]);
             }
             Expression::Let { defining, body, .. } => {
@@ -171,12 +168,8 @@ impl<'a> Walk<'a> {
             }
             Expression::If { tested, then, other, .. } => {
                 let new = self.push(IF, node, record, word);
-                self.open.push(Part::Chain {
-                    owner: Owner::If(number),
-                    from: 0,
-                    record: new,
-                    word: D,
-                });
+                let owner = Owner::If(number);
+                self.open.push(Part::Chain { owner, from: 0, record: new, word: D });
                 self.parts(new, &[(A, *tested), (B, *then), (C, *other)]);
             }
             Expression::Delay { constant, part } => {

@@ -3,8 +3,7 @@
 use std::collections::BTreeMap;
 
 use desk::archive;
-use desk::layout::layout;
-use desk::layout::Layout;
+use desk::layout::{layout, Layout};
 use second::random::Random;
 use second::records::{read, DELAY, KIND};
 use second::text::generate::sentence::{Role, Sentence};
@@ -40,20 +39,15 @@ pub fn run(count: u64) -> bool {
         }
         let wanted = places[change.word - change.back];
         let of_pair = matches!(word.role, Role::FirstOfPairType | Role::SecondOfPairType);
-        let mut seen = false;
-        for (record, (old, new)) in read(&sheet).iter().zip(&read(&after)).enumerate() {
-            // Another pair type can be the type of a DELAY's constant.
-            if old == new || (of_pair && old[KIND] == DELAY) {
-                continue;
-            }
-            seen = true;
-            let place = laid.piece(record).map(|piece| piece.place);
+        let changes: Vec<usize> = differing(&sheet, &after, of_pair);
+        for record in &changes {
+            let place = laid.piece(*record).map(|piece| piece.place);
             if place != Some(wanted) {
                 println!("byte {at} to {}: record {record}, {place:?}, {wanted}", change.letters);
                 return report("another record changed", &text);
             }
         }
-        if seen {
+        if !changes.is_empty() {
             *tally.entry(format!("{:?}", word.role)).or_default() += 1;
             done += 1;
         }
@@ -62,6 +56,14 @@ pub fn run(count: u64) -> bool {
     let roles = ["Expression", "UndefinedType", "InputType", "InitType", "Constant", "Alternative"];
     let pairs = ["FirstOfPairType", "SecondOfPairType", "NoName", "ConstantType"];
     roles.iter().chain(&pairs).all(|role| tally.get(*role).is_some_and(|n| *n >= 50))
+}
+
+/// The records in which two sheets differ. Another pair type can be the type of
+/// a DELAY's constant, so where one was changed DELAYs do not count.
+fn differing(old: &[u8], new: &[u8], of_pair: bool) -> Vec<usize> {
+    let (old, new) = (read(old), read(new));
+    let differs = |at: &usize| old[*at] != new[*at] && !(of_pair && old[*at][KIND] == DELAY);
+    (0..old.len()).filter(differs).collect()
 }
 
 /// A change of a random word that leaves the layout as it is.

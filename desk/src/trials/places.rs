@@ -3,7 +3,7 @@
 use desk::archive;
 use desk::circuit::Circuit;
 use desk::explain::refused_sheet;
-use desk::layout::layout;
+use desk::layout::{layout, Layout};
 use desk::message::Place;
 use desk::source::Source;
 use second::answers::{Answer, ACCEPTED};
@@ -28,13 +28,7 @@ pub fn run(count: u64) -> bool {
         if !layout.is(&sheet) {
             return report("other records than the archive's", &text);
         }
-        let inside = (0..layout.records.len()).all(|record| {
-            layout.piece(record).is_some_and(|piece| {
-                let token = text.get(piece.place).is_some_and(|byte| !byte.is_ascii_whitespace());
-                token && piece.place < piece.end && piece.end <= text.len()
-            })
-        });
-        if !inside {
+        if !(0..layout.records.len()).all(|record| from_token(&layout, record, &text)) {
             return report("a record comes from no token", &text);
         }
         compared += 1;
@@ -58,6 +52,14 @@ pub fn run(count: u64) -> bool {
     }
     println!("compared {compared} layouts of {records} records, {refused} refused: {codes:?}");
     codes[5] > 0 && codes[6] > 0 && codes[7] > 0
+}
+
+/// Whether a record comes from a token of the text.
+fn from_token(layout: &Layout, record: usize, text: &[u8]) -> bool {
+    layout.piece(record).is_some_and(|piece| {
+        let token = text.get(piece.place).is_some_and(|byte| !byte.is_ascii_whitespace());
+        token && piece.place < piece.end && piece.end <= text.len()
+    })
 }
 
 /// Whether a refusal is told by the number of its record where the layout is not
