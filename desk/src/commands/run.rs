@@ -17,8 +17,8 @@ pub const COMMAND: Command = Command {
     summary: "Runs a circuit over a stimulus, and prints its outputs.",
     help: "STIMULUS has the input of one cycle a line, as a text has it: hi, (hi, lo), and ? for\n\
            undefined. hi * 20 stands for twenty cycles; # begins a comment. A sheet has no names:\n\
-           there a constructor is its number. A stimulus whose name ends with .bin is bytes, one a\n\
-           leaf.\n\
+           there a constructor is its number. A stimulus whose name ends with .bin is bytes, one\n\
+           a leaf.\n\
            Each line of the output is the number of a cycle, from 0, and the value put out.",
     usage: Usage {
         operands: &["FILE", "STIMULUS"],

@@ -126,8 +126,7 @@ impl Trial<'_> {
             }
         }
         self.files(text, b"1\n? * 2\n(2, 1)\n");
-        let written = fs::write(self.folder.join("sheet.bin"), &sheet);
-        written.unwrap_or_else(|error| panic!("{}: {error}", self.folder.display()));
+        self.write("sheet.bin", &sheet);
         let command = match self.random.below(6) {
             0 => vec!["records", "sheet.bin"],
             1 => vec!["run", "sheet.bin", "stimulus"],
@@ -155,9 +154,16 @@ impl Trial<'_> {
     }
 
     fn files(&self, text: &[u8], stimulus: &[u8]) {
-        let written = fs::write(self.folder.join("text"), text)
-            .and_then(|()| fs::write(self.folder.join("stimulus"), stimulus));
-        written.unwrap_or_else(|error| panic!("{}: {error}", self.folder.display()));
+        self.write("text", text);
+        self.write("stimulus", stimulus);
+    }
+
+    /// Writes a file anew: to write over an old one takes long on some disks.
+    fn write(&self, name: &str, bytes: &[u8]) {
+        let file = self.folder.join(name);
+        let _ = fs::remove_file(&file);
+        let written = fs::write(&file, bytes);
+        written.unwrap_or_else(|error| panic!("{}: {error}", file.display()));
     }
 
     /// Runs a command whose files are in the folder, and looks at its end.
