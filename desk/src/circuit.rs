@@ -5,9 +5,8 @@ use second::answers::{Answer, ACCEPTED};
 use second::records::{read, Record, A};
 
 use crate::archive;
-use crate::explain;
 use crate::layout::{layout, Layout};
-use crate::message::{Message, Place};
+use crate::message::Place;
 use crate::source::{Piece, Source};
 use crate::types::Types;
 
@@ -27,8 +26,8 @@ pub struct Accepted {
 }
 
 impl Circuit {
-    /// Reads a text or a sheet; a text is translated.
-    pub fn read(source: Source) -> Result<Circuit, (Source, Vec<Message>)> {
+    /// Reads a text or a sheet; a text is translated, or refused by 13 to 15.
+    pub fn read(source: Source) -> Result<Circuit, (Source, Answer)> {
         if source.is_sheet() {
             let (sheet, records) = (source.bytes.clone(), read(&source.bytes));
             return Ok(Circuit { source, sheet, records, layout: None });
@@ -39,10 +38,7 @@ impl Circuit {
                 let layout = layout(&source.bytes).filter(|layout| layout.is(&sheet));
                 Ok(Circuit { source, sheet, records, layout })
             }
-            Err(answer) => {
-                let messages = explain::refused_text(&source, answer);
-                Err((source, messages))
-            }
+            Err(answer) => Err((source, answer)),
         }
     }
 
@@ -73,12 +69,11 @@ impl Circuit {
         }
     }
 
-    /// The circuit, if the check accepts it.
-    pub fn accepted(self) -> Result<Accepted, (Source, Vec<Message>)> {
+    /// The circuit, if the check accepts it; else its answer.
+    pub fn accepted(self) -> Result<Accepted, Box<(Circuit, Answer)>> {
         let answer = self.check();
         if answer.code != ACCEPTED {
-            let messages = explain::refused_sheet(&self, answer);
-            return Err((self.source, messages));
+            return Err(Box::new((self, answer)));
         }
         let (input, output) = (usize::from(self.records[0][A]), answer.place as usize);
         Ok(Accepted { circuit: self, input, output })

@@ -6,10 +6,10 @@ mod carry;
 mod check;
 #[cfg(call_run)]
 mod common;
-mod completion;
 #[cfg(call_count)]
 mod count;
 mod draw;
+mod options;
 #[cfg(call_run)]
 mod page;
 #[cfg(call_press)]
@@ -26,10 +26,7 @@ mod translate;
 mod wave;
 
 use crate::archive;
-use crate::program::Command;
-
-/// The option of commands that write one file.
-const OUTPUT: (&str, &str, &str) = ("-o", "FILE", "writes there, not to standard output");
+use crate::command::Command;
 
 pub const COMMANDS: &[Command] = &[
     check::COMMAND,
@@ -52,7 +49,6 @@ pub const COMMANDS: &[Command] = &[
     replay::COMMAND,
     translate::COMMAND,
     records::COMMAND,
-    completion::COMMAND,
 ];
 
 /// Each command that needs a call beyond the check, and the call.

@@ -4,6 +4,7 @@ use std::fmt::Display;
 use std::io::{self, ErrorKind, Read, Write};
 
 use crate::circuit::{Accepted, Circuit};
+use crate::explain::{refused_sheet, refused_text};
 use crate::message::Message;
 use crate::source::Source;
 
@@ -117,7 +118,7 @@ impl Desk<'_> {
         let source = self.source(file)?;
         match Circuit::read(source) {
             Ok(circuit) => Ok(circuit),
-            Err((source, messages)) => self.refuse(&source, &messages),
+            Err((source, answer)) => self.refuse(&source, &refused_text(&source, answer)),
         }
     }
 
@@ -125,7 +126,11 @@ impl Desk<'_> {
     pub fn accepted(&mut self, file: &str) -> Result<Accepted, Failure> {
         match self.circuit(file)?.accepted() {
             Ok(accepted) => Ok(accepted),
-            Err((source, messages)) => self.refuse(&source, &messages),
+            Err(refused) => {
+                let (circuit, answer) = *refused;
+                let messages = refused_sheet(&circuit, answer);
+                self.refuse(&circuit.source, &messages)
+            }
         }
     }
 }

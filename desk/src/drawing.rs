@@ -10,7 +10,10 @@ use crate::xml::{escaped, STYLE};
 const LETTER: usize = 7;
 const LINE: usize = 14;
 const GAP: usize = 14;
-const BETWEEN: usize = 46;
+const BETWEEN: usize = 56;
+/// The distance of edges that lead back, and how many stand side by side.
+const LANE: usize = 6;
+const LANES: usize = 5;
 
 /// A node of the graph, or a bend of an edge that passes a column.
 struct Cell {
@@ -27,8 +30,12 @@ struct Layout<'a> {
     cells: Vec<Cell>,
     /// The cells of each column, from the top.
     columns: Vec<Vec<usize>>,
-    /// Each edge of the graph as the cells it goes through, from left to right.
+    /// Each edge of the graph as the cells it goes through, from left to right;
+    /// one that leads back to a feedback has its two ends alone.
     routes: Vec<Vec<usize>>,
+    /// The left and right edge of each column, and the bottom of the last cell.
+    edges: Vec<(usize, usize)>,
+    bottom: usize,
 }
 
 /// The drawing of a graph.
@@ -46,10 +53,10 @@ pub fn file(graph: &Graph) -> String {
     format!("<?xml version=\"1.0\" encoding=\"UTF-8\"?>\n{}", svg.replacen("<title>", &style, 1))
 }
 
-/// The column of each node: one to the right of the last that it uses. Edges
-/// that lead back to a feedback do not count.
+/// The column of each node: to the right of all that it uses, and to the left of
+/// all that uses it. Edges that lead back to a feedback do not count.
 fn columns(graph: &Graph) -> Vec<usize> {
-    let mut columns = vec![0; graph.nodes.len()];
+    let mut columns: Vec<usize> = vec![0; graph.nodes.len()];
     // Nodes are made after what they use, but for the edges that lead back.
     let mut uses: HashMap<usize, Vec<usize>> = HashMap::new();
     for edge in graph.edges.iter().filter(|edge| !edge.back) {
@@ -58,6 +65,25 @@ fn columns(graph: &Graph) -> Vec<usize> {
     for node in 0..graph.nodes.len() {
         let used = uses.get(&node).into_iter().flatten();
         columns[node] = used.map(|from| columns[*from] + 1).max().unwrap_or(0);
+    }
+    // The output stands last.
+    let last = columns.iter().max().copied().unwrap_or(0);
+    for (node, column) in columns.iter_mut().enumerate() {
+        if graph.nodes[node].kind == Kind::Output {
+            *column = last.max(1);
+        }
+    }
+    // What is used moves to the right, up to its first use: edges become short.
+    let mut users: HashMap<usize, Vec<usize>> = HashMap::new();
+    for edge in graph.edges.iter().filter(|edge| !edge.back) {
+        users.entry(edge.from).or_default().push(edge.to);
+    }
+    for node in (0..graph.nodes.len()).rev() {
+        let stays = matches!(graph.nodes[node].kind, Kind::Input | Kind::Feedback | Kind::Output);
+        let first = users.get(&node).into_iter().flatten().map(|user| columns[*user]).min();
+        if let (false, Some(first)) = (stays, first) {
+            columns[node] = first.saturating_sub(1).max(columns[node]);
+        }
     }
     columns
 }
@@ -77,67 +103,54 @@ impl<'a> Layout<'a> {
         for node in 0..graph.nodes.len() {
             let lines = lines(graph, node);
             let letters = lines.iter().map(|line| line.chars().count()).max().unwrap_or(0);
-            let (width, height) = (LETTER * letters + 16, LINE * lines.len() + 10);
+            // Each value that a node uses has a line of its own.
+            let used = graph.edges.iter().filter(|edge| edge.to == node && !edge.back).count();
+            let height = (LINE * lines.len() + 10).max(LINE * used);
+            let width = LETTER * letters + 16;
             let column = at[node];
             columns[column].push(cells.len());
             cells.push(Cell { node: Some(node), column, width, height, x: 0, y: 0 });
         }
         let mut routes = Vec::new();
         for edge in &graph.edges {
-            let (left, right) = match edge.back {
-                true => (edge.to, edge.from),
-                false => (edge.from, edge.to),
-            };
-            let mut route = vec![left];
-            for column in at[left] + 1..at[right] {
+            let mut route = vec![edge.from];
+            for column in at[edge.from] + 1..at[edge.to] {
                 columns[column].push(cells.len());
                 route.push(cells.len());
                 cells.push(Cell { node: None, column, width: 0, height: 2, x: 0, y: 0 });
             }
-            route.push(right);
+            route.push(edge.to);
             routes.push(route);
         }
-        Layout { graph, cells, columns, routes }
+        Layout { graph, cells, columns, routes, edges: Vec::new(), bottom: 0 }
     }
 
-    /// Puts each cell near the middle of those that it is joined with.
+    /// Puts each cell near the middle of those that it is joined with, to the
+    /// right and to the left in turn.
     fn order(&mut self) {
-        let mut joined: Vec<Vec<usize>> = vec![Vec::new(); self.cells.len()];
-        for route in &self.routes {
-            for pair in route.windows(2) {
-                joined[pair[0]].push(pair[1]);
-                joined[pair[1]].push(pair[0]);
-            }
-        }
+        let joined = self.joined();
         let mut rank = vec![0.0; self.cells.len()];
         for column in &self.columns {
-            for (at, cell) in column.iter().enumerate() {
-                rank[*cell] = at as f64;
+            for (row, cell) in column.iter().enumerate() {
+                rank[*cell] = row as f64;
             }
         }
+        let count = self.columns.len();
         for round in 0..8 {
-            let count = self.columns.len();
             for step in 0..count {
                 let at = if round % 2 == 0 { step } else { count - 1 - step };
                 let middle = |cell: usize| {
-                    let near = &joined[cell];
-                    let before = near.iter().filter(|other| {
-                        let other = self.cells[**other].column;
-                        if round % 2 == 0 {
-                            other < at
-                        } else {
-                            other > at
-                        }
-                    });
-                    let ranks: Vec<f64> = before.map(|other| rank[*other]).collect();
-                    match ranks.len() {
+                    let side = &joined[cell][round % 2];
+                    let ranks = side.iter().map(|other| rank[*other]);
+                    match side.len() {
                         0 => rank[cell],
-                        many => ranks.iter().sum::<f64>() / many as f64,
+                        many => ranks.sum::<f64>() / many as f64,
                     }
                 };
+                let column = self.columns[at].iter();
                 let mut sorted: Vec<(f64, usize)> =
-                    self.columns[at].iter().map(|cell| (middle(*cell), *cell)).collect();
-                sorted.sort_by(|a, b| a.0.total_cmp(&b.0));
+                    column.map(|cell| (middle(*cell), *cell)).collect();
+                sorted.sort_by(|one, other| one.0.total_cmp(&other.0));
                 self.columns[at] = sorted.into_iter().map(|(_, cell)| cell).collect();
                 for (row, cell) in self.columns[at].iter().enumerate() {
                     rank[*cell] = row as f64;
@@ -146,13 +159,26 @@ impl<'a> Layout<'a> {
         }
     }
 
+    /// The cells that each is joined with on its left, and on its right.
+    fn joined(&self) -> Vec<[Vec<usize>; 2]> {
+        let mut joined = vec![[Vec::new(), Vec::new()]; self.cells.len()];
+        for (edge, route) in self.graph.edges.iter().zip(&self.routes) {
+            for pair in route.windows(2).filter(|_| !edge.back) {
+                joined[pair[1]][0].push(pair[0]);
+                joined[pair[0]][1].push(pair[1]);
+            }
+        }
+        joined
+    }
+
     /// Gives every cell its place; the width and height of the whole.
     fn place(&mut self) -> (usize, usize) {
         let height = |layout: &Layout, column: &[usize]| -> usize {
             column.iter().map(|cell| layout.cells[*cell].height + GAP).sum()
         };
         let tallest = self.columns.iter().map(|c| height(self, c)).max().unwrap_or(0) + GAP;
-        let mut x = 10;
+        let back = self.graph.edges.iter().filter(|edge| edge.back).count();
+        let mut x = if back == 0 { 10 } else { 10 + LANE * (back.min(LANES) + 1) };
         for column in self.columns.clone() {
             let mut y = (tallest - height(self, &column)) / 2;
             let widest = column.iter().map(|cell| self.cells[*cell].width).max().unwrap_or(0);
@@ -166,9 +192,12 @@ impl<'a> Layout<'a> {
                 }
                 y += cell.height + GAP;
             }
+            self.edges.push((x, x + widest));
             x += widest + BETWEEN;
         }
-        (x.saturating_sub(BETWEEN) + 10, tallest.max(40))
+        self.bottom = tallest.max(40);
+        let room = if back == 0 { 10 } else { LANE * (LANES + 2) };
+        (x.saturating_sub(BETWEEN) + room, self.bottom + LANE * (back + 1))
     }
 
     fn draw(&self, width: usize, height: usize) -> String {
@@ -180,8 +209,16 @@ impl<'a> Layout<'a> {
         svg += "<defs><marker id=\"arrow\" viewBox=\"0 0 8 8\" refX=\"8\" refY=\"4\" \
                 markerWidth=\"7\" markerHeight=\"7\" orient=\"auto-start-reverse\">\
                 <path d=\"M0 0 L8 4 L0 8 Z\"/></marker></defs>\n";
+        let mut used = vec![0; self.cells.len()];
+        let mut lane = 0;
         for (edge, route) in self.graph.edges.iter().zip(&self.routes) {
-            self.edge(edge.back, edge.label, route, &mut svg);
+            if edge.back {
+                lane += 1;
+                self.back(edge.from, edge.to, lane, &mut svg);
+            } else {
+                used[edge.to] += 1;
+                self.edge(edge.label, route, self.port(edge.to, used[edge.to]), &mut svg);
+            }
         }
         for cell in &self.cells {
             if let Some(node) = cell.node {
@@ -191,13 +228,22 @@ impl<'a> Layout<'a> {
         svg + "</svg>\n"
     }
 
-    fn edge(&self, back: bool, label: &str, route: &[usize], svg: &mut String) {
+    /// The height at which a node takes a value, the first one from 1.
+    fn port(&self, node: usize, number: usize) -> usize {
+        let all = self.graph.edges.iter().filter(|edge| edge.to == node && !edge.back).count();
+        let cell = &self.cells[node];
+        cell.y + cell.height * (2 * number - 1) / (2 * all.max(1))
+    }
+
+    /// An edge from left to right, which ends at a height.
+    fn edge(&self, label: &str, route: &[usize], end: usize, svg: &mut String) {
         let cells: Vec<&Cell> = route.iter().map(|cell| &self.cells[*cell]).collect();
         let middle = |cell: &Cell| cell.y + cell.height / 2;
         let mut path = String::new();
         for pair in cells.windows(2) {
             let (x, y) = (pair[0].x + pair[0].width, middle(pair[0]));
-            let (to_x, to_y) = (pair[1].x, middle(pair[1]));
+            let to_y = if pair[1].node.is_some() { end } else { middle(pair[1]) };
+            let to_x = pair[1].x;
             let bend = (x + to_x) / 2;
             let begin = if path.is_empty() { "M" } else { "L" };
             let _ = write!(path, "{begin}{x} {y} C{bend} {y} {bend} {to_y} {to_x} {to_y} ");
@@ -205,14 +251,25 @@ impl<'a> Layout<'a> {
                 let _ = write!(path, "H{} ", pair[1].x + pair[1].width);
             }
         }
-        let (class, end) = if back { ("back", "start") } else { ("edge", "end") };
         let path = path.trim_end();
-        let _ =
-            writeln!(svg, "<path class=\"{class}\" marker-{end}=\"url(#arrow)\" d=\"{path}\"/>");
+        let _ = writeln!(svg, "<path class=\"edge\" marker-end=\"url(#arrow)\" d=\"{path}\"/>");
         if let (false, Some(last)) = (label.is_empty(), cells.last()) {
-            let (x, y) = (last.x.saturating_sub(4), middle(last) - 4);
+            let (x, y) = (last.x.saturating_sub(9), end.saturating_sub(2));
             let _ = writeln!(svg, "<text class=\"role\" x=\"{x}\" y=\"{y}\">{label}</text>");
         }
+    }
+
+    /// An edge that leads back to a feedback, below all cells.
+    fn back(&self, from: usize, to: usize, lane: usize, svg: &mut String) {
+        let (start, end) = (&self.cells[from], &self.cells[to]);
+        let aside = LANE * (1 + (lane - 1) % LANES);
+        let (x, y) = (start.x + start.width, start.y + start.height / 2);
+        let right = self.edges[start.column].1 + aside;
+        let left = self.edges[end.column].0.saturating_sub(aside + LANE);
+        let (below, to_x, to_y) =
+            (self.bottom + LANE * lane - LANE / 2, end.x, end.y + end.height / 2);
+        let path = format!("M{x} {y} H{right} V{below} H{left} V{to_y} H{to_x}");
+        let _ = writeln!(svg, "<path class=\"back\" marker-end=\"url(#arrow)\" d=\"{path}\"/>");
     }
 
     fn node(&self, node: usize, cell: &Cell, svg: &mut String) {

@@ -1,8 +1,8 @@
 //! What a refusal is about, for people.
 
+mod fault;
 pub mod grammar;
 pub mod naming;
-pub mod near;
 pub mod records;
 pub mod scope;
 pub mod tokens;
@@ -14,28 +14,7 @@ use second::records::{MAX_RECORDS, RECORD_BYTES};
 use crate::circuit::Circuit;
 use crate::message::{Message, Place};
 use crate::source::Source;
-
-/// A number with commas between each three digits.
-pub fn grouped(number: usize) -> String {
-    let digits = number.to_string();
-    let mut shown = String::new();
-    for (at, digit) in digits.chars().enumerate() {
-        if at > 0 && (digits.len() - at) % 3 == 0 {
-            shown.push(',');
-        }
-        shown.push(digit);
-    }
-    shown
-}
-
-/// What was found, as a message shows it.
-pub fn shown(found: &str) -> String {
-    match found.chars().next() {
-        Some('\u{fffd}') | None => "a byte that is no character".to_string(),
-        Some(c) if c.is_control() => format!("the byte {}", c as u32),
-        _ => format!("`{found}`"),
-    }
-}
+use crate::wording::grouped;
 
 /// A text that is not translated: 13, 14 or 15.
 pub fn refused_text(source: &Source, answer: Answer) -> Vec<Message> {

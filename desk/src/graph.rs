@@ -136,24 +136,28 @@ impl Walk<'_> {
                 self.graph.nodes[defining].names.push(name);
                 self.value_within(defining, word(B))
             }
-            FEEDBACK => {
-                let name = self.bound(number);
-                let node = self.node(Kind::Feedback, vec![name], number);
-                let defining = self.value_within(node, word(B));
-                self.graph.edges.push(Edge { from: defining, to: node, label: "", back: true });
-                self.value_within(node, word(C))
-            }
+            FEEDBACK => self.feedback(number, word(B), word(C)),
             IF => self.choice(number, [word(A), word(B), word(C)]),
-            DELAY => {
-                let part = self.value(word(C));
-                let held = self.held.iter().find(|(delay, _)| *delay == number);
-                let held = held.map_or_else(String::new, |(_, value)| format!("holds {value}"));
-                let delay = self.node(Kind::Delay, vec!["DELAY".to_string(), held], number);
-                self.edge(part, delay, "");
-                delay
-            }
+            DELAY => self.delay(number, word(C)),
             kind => self.node(Kind::Part, vec![format!("kind {kind}")], number),
         }
+    }
+
+    fn feedback(&mut self, number: usize, defining: usize, body: usize) -> usize {
+        let name = self.bound(number);
+        let node = self.node(Kind::Feedback, vec![name], number);
+        let defining = self.value_within(node, defining);
+        self.graph.edges.push(Edge { from: defining, to: node, label: "", back: true });
+        self.value_within(node, body)
+    }
+
+    fn delay(&mut self, number: usize, part: usize) -> usize {
+        let part = self.value(part);
+        let held = self.held.iter().find(|(delay, _)| *delay == number);
+        let held = held.map_or_else(String::new, |(_, value)| format!("holds {value}"));
+        let delay = self.node(Kind::Delay, vec!["DELAY".to_string(), held], number);
+        self.edge(part, delay, "");
+        delay
     }
 
     fn constant(&mut self, number: usize, of: usize) -> usize {

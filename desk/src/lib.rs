@@ -31,10 +31,14 @@ pub mod xml;
 // Messages.
 pub mod explain;
 pub mod message;
+pub mod near;
 pub mod warnings;
+pub mod wording;
 
 // The program.
 pub mod arguments;
+pub mod command;
 pub mod commands;
+pub mod completion;
 pub mod desk;
 pub mod program;

@@ -3,10 +3,10 @@
 
 use crate::circuit::Accepted;
 use crate::drawing;
-use crate::explain::grouped;
 use crate::graph::graph;
 use crate::signals::Signals;
 use crate::waves;
+use crate::wording::grouped;
 use crate::xml::{escaped, STYLE};
 
 const PAGE_STYLE: &str = "
@@ -18,7 +18,7 @@ table { border-collapse: collapse; } td, th { padding: .1em .8em .1em 0; text-al
 .wide { overflow-x: auto; }
 @media print {
   body { margin: 0; font-size: 10pt; }
-  pre { white-space: pre-wrap; }
+  pre { white-space: pre-wrap; font-size: 7.5pt; }
   .wide { overflow: visible; } .wide svg { max-width: 100%; height: auto; }
   h2 { break-after: avoid; } svg { break-inside: avoid; }
 }

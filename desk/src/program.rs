@@ -4,17 +4,24 @@ use std::io::ErrorKind;
 
 use crate::archive;
 use crate::arguments::{Arguments, Usage};
+use crate::command::Command;
 use crate::commands::{self, COMMANDS};
+use crate::completion;
 use crate::desk::{wrong, Desk, Done, Failure, GOOD, REFUSED, WRONG};
-use crate::explain::near::nearest;
+use crate::near::nearest;
 
-pub struct Command {
-    pub name: &'static str,
-    /// What it does, in a line and in full.
-    pub summary: &'static str,
-    pub help: &'static str,
-    pub usage: Usage,
-    pub run: fn(&mut Desk, &Arguments) -> Done,
+/// The one command that has to know all others.
+const COMPLETION: Command = Command {
+    name: "completion",
+    summary: "Prints the completion for a shell: bash.",
+    help: "To have it in this shell: source <(sheet completion bash)",
+    usage: Usage { operands: &["SHELL"], flags: &[], options: &[] },
+    run: complete,
+};
+
+/// Every command.
+fn all() -> Vec<&'static Command> {
+    COMMANDS.iter().chain([&COMPLETION]).collect()
 }
 
 /// Does what some words ask for, and gives the status.
@@ -60,14 +67,14 @@ fn dispatch(desk: &mut Desk, words: &[String]) -> Done {
 
 /// The command of a name.
 fn find(name: &str) -> Result<&'static Command, Failure> {
-    if let Some(command) = COMMANDS.iter().find(|command| command.name == name) {
+    if let Some(command) = all().into_iter().find(|command| command.name == name) {
         return Ok(command);
     }
     if let Some((_, call)) = commands::absent().find(|(absent, _)| *absent == name) {
         let archive = archive::ARCHIVE;
         return wrong(format!("{name} needs {call}, which {archive} does not have"));
     }
-    let near = nearest(name, COMMANDS.iter().map(|command| command.name).chain(["help"]));
+    let near = nearest(name, all().iter().map(|command| command.name).chain(["help"]));
     let meant = near.map(|near| format!(", did you mean {near}?")).unwrap_or_default();
     wrong(format!("there is no command {name}{meant}; see: sheet help"))
 }
@@ -77,7 +84,7 @@ pub fn overview() -> String {
     let mut text =
         String::from("Circuits as texts and sheets: checked, run, drawn and carried.\n\n");
     text += "usage: sheet COMMAND ..\n\n";
-    for command in COMMANDS {
+    for command in all() {
         text += &format!("  {:<11} {}\n", command.name, command.summary);
     }
     text += "  help        this page, or that of a command: sheet help run\n";
@@ -123,5 +130,14 @@ fn version(desk: &mut Desk) -> Done {
     let header = archive::HEADER_VERSION;
     writeln!(desk.out, "sheet {}, sheet.h {header}", env!("CARGO_PKG_VERSION"))?;
     writeln!(desk.out, "{}: {}", archive::ARCHIVE, archive::CALLS)?;
+    Ok(GOOD)
+}
+
+fn complete(desk: &mut Desk, arguments: &Arguments) -> Done {
+    let shell = arguments.operand(0);
+    if shell != "bash" {
+        return wrong(format!("there is no completion for {shell}, only for bash"));
+    }
+    completion::bash(&mut *desk.out, &all())?;
     Ok(GOOD)
 }

@@ -3,11 +3,11 @@
 
 use crate::circuit::Accepted;
 use crate::desk::{Desk, Failure};
-use crate::explain::grouped;
 use crate::message::{Message, Place};
 use crate::source::{Piece, Source};
 use crate::types::Types;
 use crate::values::{Fault, Notation, Reader};
+use crate::wording::grouped;
 
 pub struct Stimulus {
     pub source: Source,

@@ -1,9 +1,9 @@
 //! Values as people type them: `hi`, `?`, `(hi, lo)`; or the numbers of leaves.
 
-use crate::explain::near::nearest;
-use crate::explain::shown;
+use crate::near::nearest;
 use crate::source::Piece;
 use crate::types::Types;
+use crate::wording::shown;
 
 /// What is wrong with a value, and where in its bytes.
 #[derive(Clone, PartialEq, Eq, Debug)]
@@ -31,6 +31,12 @@ pub struct Reader<'a> {
 struct Token<'a> {
     letters: &'a str,
     piece: Piece,
+}
+
+/// What is still to come of a value.
+enum Next {
+    Value(usize),
+    Sign(&'static str),
 }
 
 /// The tokens of a value: runs of letters and digits, and signs.
@@ -93,21 +99,12 @@ impl Reader<'_> {
     /// A value by names, with brackets around pairs. The types that are still
     /// to come stand on a stack, with the signs between them.
     fn value(&self, tokens: &[Token], of: usize, end: usize) -> Result<Vec<u8>, Fault> {
-        enum Next {
-            Value(usize),
-            Sign(&'static str),
-        }
         let mut leaves = Vec::new();
         let mut tokens = tokens.iter();
         let mut open = vec![Next::Value(of)];
         while let Some(next) = open.pop() {
             let Some(token) = tokens.next() else {
-                let wanted = match next {
-                    Next::Value(of) => format!("a value of {}", self.types.label(of)),
-                    Next::Sign(sign) => format!("`{sign}`"),
-                };
-                let sentence = format!("the value ends too soon: expected {wanted}");
-                return Err(Fault { piece: Piece::new(end, end), sentence });
+                return Err(self.ended(next, end));
             };
             match next {
                 Next::Sign(sign) if token.letters == sign => {}
@@ -134,6 +131,15 @@ impl Reader<'_> {
             None => Ok(leaves),
             Some(token) => Err(self.expected(token, "the end of the line or `*`".to_string())),
         }
+    }
+
+    fn ended(&self, next: Next, end: usize) -> Fault {
+        let wanted = match next {
+            Next::Value(of) => format!("a value of {}", self.types.label(of)),
+            Next::Sign(sign) => format!("`{sign}`"),
+        };
+        let sentence = format!("the value ends too soon: expected {wanted}");
+        Fault { piece: Piece::new(end, end), sentence }
     }
 
     fn expected(&self, token: &Token, wanted: String) -> Fault {

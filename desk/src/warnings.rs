@@ -8,12 +8,12 @@ use second::records::{
 use second::text::syntax::Expression;
 
 use crate::circuit::{Accepted, Circuit};
-use crate::explain::grouped;
 use crate::layout::Node;
 use crate::message::{Kind, Message, Place};
 use crate::patterns::alternative;
 use crate::source::Piece;
 use crate::types::Types;
+use crate::wording::grouped;
 
 /// From so many evaluations a cycle is called long.
 const LONG: u64 = 10_000_000;

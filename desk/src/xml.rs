@@ -22,7 +22,7 @@ pub const STYLE: &str = "
 text { font: 11px sans-serif; fill: #222; }
 text.value { text-anchor: middle; }
 text.role, text.cycle { font-size: 9px; fill: #777; }
-text.role { text-anchor: end; }
+text.role { text-anchor: end; font-size: 8px; }
 text.group { font-weight: bold; fill: #555; }
 text.name { font-family: monospace; }
 line.grid { stroke: #ddd; }

@@ -4,13 +4,14 @@ use std::collections::BTreeMap;
 
 use second::records::D;
 
-use super::common::{state, FROM};
+use super::common::state;
+use super::options::FROM;
 use crate::archive;
 use crate::arguments::{Arguments, Usage};
 use crate::circuit::Accepted;
+use crate::command::Command;
 use crate::desk::{wrong, Desk, Done, Failure, GOOD};
 use crate::message::{Message, Place};
-use crate::program::Command;
 use crate::state::{delays, Delay};
 use crate::types::Types;
 

@@ -1,16 +1,14 @@
 //! What several commands take: a state to begin from, and numbers for names.
 
+use super::options::{FROM, NUMBERS};
 use crate::arguments::Arguments;
 use crate::circuit::Accepted;
 use crate::desk::{wrong, Desk, Failure};
 use crate::message::{Message, Place};
+use crate::source::Source;
 use crate::state::is_state_of;
 use crate::types::Types;
 use crate::values::{Notation, Reader};
-
-pub const NUMBERS: (&str, &str) = ("--numbers", "one number a leaf in place of names");
-pub const FROM: (&str, &str, &str) =
-    ("--from", "SHEET", "begins with what the delays hold in this sheet");
 
 pub fn notation(arguments: &Arguments) -> Notation {
     if arguments.flag(NUMBERS.0) {
@@ -46,8 +44,7 @@ pub fn input(
     let reader = Reader { types: accepted.circuit.types(), notation: notation(arguments) };
     let text = arguments.operand(at);
     reader.read(text, accepted.input).or_else(|fault| {
-        let source =
-            crate::source::Source { name: "INPUT".to_string(), bytes: text.as_bytes().to_vec() };
+        let source = Source { name: "INPUT".to_string(), bytes: text.as_bytes().to_vec() };
         desk.refuse(&source, &[Message::error(Place::of(fault.piece), fault.sentence)])
     })
 }

@@ -1,11 +1,12 @@
 //! `sheet count`: how many inputs lead an output leaf to each constructor.
 
-use super::common::{output_leaf, state, FROM};
+use super::common::{output_leaf, state};
+use super::options::FROM;
 use crate::archive;
 use crate::arguments::{Arguments, Usage};
+use crate::command::Command;
 use crate::desk::{Desk, Done, GOOD};
 use crate::message::{Message, Place};
-use crate::program::Command;
 
 pub const COMMAND: Command = Command {
     name: "count",

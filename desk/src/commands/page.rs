@@ -1,11 +1,11 @@
 //! `sheet page`: a page about a run.
 
-use super::common::{notation, state, FROM, NUMBERS};
-use super::OUTPUT;
+use super::common::{notation, state};
+use super::options::{FROM, NUMBERS, OUTPUT};
 use crate::arguments::{Arguments, Usage};
+use crate::command::Command;
 use crate::desk::{wrong, Desk, Done, GOOD};
 use crate::page::page;
-use crate::program::Command;
 use crate::signals::Signals;
 use crate::stimulus;
 

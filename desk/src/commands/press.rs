@@ -1,10 +1,11 @@
 //! `sheet press`: which single change of the input alters an output.
 
-use super::common::{input, output_leaf, state, FROM, NUMBERS};
+use super::common::{input, output_leaf, state};
+use super::options::{FROM, NUMBERS};
 use crate::archive;
 use crate::arguments::{Arguments, Usage};
+use crate::command::Command;
 use crate::desk::{wrong, Desk, Done, GOOD};
-use crate::program::Command;
 
 pub const COMMAND: Command = Command {
     name: "press",

@@ -7,14 +7,14 @@ use second::records::{
 
 use crate::arguments::{Arguments, Usage};
 use crate::circuit::Circuit;
+use crate::command::Command;
 use crate::desk::{Desk, Done, GOOD};
-use crate::program::Command;
 
 pub const COMMAND: Command = Command {
     name: "records",
     summary: "The records of a circuit, one a line.",
-    help: "A line has the record's number, its six words and what they say; for a text also the line\n\
-           and column that the record comes from. A sheet need not be accepted.",
+    help: "A line has the record's number, its six words and what they say; for a text also the\n\
+           line and column that the record comes from. A sheet need not be accepted.",
     usage: Usage { operands: &["FILE"], flags: &[], options: &[] },
     run,
 };

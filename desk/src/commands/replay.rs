@@ -1,13 +1,14 @@
 //! `sheet replay`: is a record of outputs what a circuit puts out?
 
-use super::common::{notation, state, FROM, NUMBERS};
+use super::common::{notation, state};
+use super::options::{FROM, NUMBERS};
 use crate::archive;
 use crate::arguments::{Arguments, Usage};
+use crate::command::Command;
 use crate::desk::{wrong, Desk, Done, GOOD, REFUSED};
-use crate::explain::grouped;
 use crate::message::{Message, Place};
-use crate::program::Command;
 use crate::stimulus;
+use crate::wording::grouped;
 
 pub const COMMAND: Command = Command {
     name: "replay",

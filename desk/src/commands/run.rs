@@ -2,21 +2,23 @@
 
 use std::time::{Duration, Instant};
 
-use super::common::{notation, number_list, state, FROM, NUMBERS};
+use super::common::{notation, number_list, state};
+use super::options::{FROM, NUMBERS};
 use crate::archive;
 use crate::arguments::{Arguments, Usage};
 use crate::circuit::Accepted;
+use crate::command::Command;
 use crate::desk::{wrong, Desk, Done, Failure, GOOD};
-use crate::explain::grouped;
-use crate::program::Command;
 use crate::stimulus::{self, Stimulus};
+use crate::wording::grouped;
 
 pub const COMMAND: Command = Command {
     name: "run",
     summary: "Runs a circuit over a stimulus, and prints its outputs.",
-    help: "STIMULUS has the input of one cycle a line, as a text has it: hi, ? for undefined, (hi, lo).\n\
-           hi * 20 stands for twenty cycles; # begins a comment. A sheet has no names: there a\n\
-           constructor is its number. A stimulus whose name ends with .bin is bytes, one a leaf.\n\
+    help: "STIMULUS has the input of one cycle a line, as a text has it: hi, (hi, lo), and ? for\n\
+           undefined. hi * 20 stands for twenty cycles; # begins a comment. A sheet has no names:\n\
+           there a constructor is its number. A stimulus whose name ends with .bin is bytes, one\n\
+           a leaf.\n\
            Each line of the output is the number of a cycle, from 0, and the value put out.",
     usage: Usage {
         operands: &["FILE", "STIMULUS"],
@@ -91,13 +93,18 @@ fn in_calls(
         };
         if desk.terminal && began.elapsed() > PATIENCE {
             shown = true;
-            let (done, all) = (grouped(done as usize), grouped(all as usize));
-            write!(desk.err, "\r{done} of {all} cycles")?;
-            desk.err.flush()?;
+            progress(desk, done, all)?;
         }
     }
     if shown {
         writeln!(desk.err)?;
     }
     Ok(sheet)
+}
+
+/// How far a run is, over what was said before.
+fn progress(desk: &mut Desk, done: u64, all: u64) -> Result<(), Failure> {
+    let (done, all) = (grouped(done as usize), grouped(all as usize));
+    write!(desk.err, "\r{done} of {all} cycles")?;
+    Ok(desk.err.flush()?)
 }

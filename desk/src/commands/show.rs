@@ -3,12 +3,13 @@
 
 use second::records::{IF, KIND};
 
-use super::common::{input, shown, state, FROM, NUMBERS};
+use super::common::{input, shown, state};
+use super::options::{FROM, NUMBERS};
 use crate::archive;
 use crate::arguments::{Arguments, Usage};
+use crate::command::Command;
 use crate::desk::{wrong, Desk, Done, GOOD};
 use crate::patterns::alternative;
-use crate::program::Command;
 
 pub const COMMAND: Command = Command {
     name: "show",

@@ -1,8 +1,8 @@
 //! `sheet translate`: the sheet of a text.
 
 use crate::arguments::{Arguments, Usage};
+use crate::command::Command;
 use crate::desk::{wrong, Desk, Done, GOOD};
-use crate::program::Command;
 
 pub const COMMAND: Command = Command {
     name: "translate",

@@ -1,10 +1,10 @@
 //! `sheet wave`: a run for a viewer of waves.
 
-use super::common::{notation, state, FROM, NUMBERS};
-use super::OUTPUT;
+use super::common::{notation, state};
+use super::options::{FROM, NUMBERS, OUTPUT};
 use crate::arguments::{Arguments, Usage};
+use crate::command::Command;
 use crate::desk::{wrong, Desk, Done, GOOD};
-use crate::program::Command;
 use crate::signals::Signals;
 use crate::stimulus;
 use crate::vcd;

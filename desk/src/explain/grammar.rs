@@ -3,56 +3,17 @@
 //! text so far with the token behind it is legal up to its end.
 
 use second::answers::WRONG_TEXT;
-use second::text::tokens::{is_blank, LONGEST_NAME, LONGEST_TEXT};
+use second::text::tokens::{is_blank, LONGEST_TEXT};
 
-use super::near::nearest;
-use super::tokens::{is_keyword, open, words, Bracket, Word};
-use super::{grouped, shown};
+use super::fault::{Fault, TOKENS};
+use super::tokens::{open, words};
 use crate::archive::translation_answer;
 use crate::message::{Mark, Message, Place};
 use crate::source::{Piece, Source};
-
-/// The tokens, each as it is tried and as a message shows it.
-const TOKENS: [(&str, &[&str]); 22] = [
-    ("x", &["a name"]),
-    ("?", &["`?`"]),
-    ("(", &["`(`"]),
-    ("TYPE", &["`TYPE`"]),
-    ("INPUT", &["`INPUT`"]),
-    ("LET", &["`LET`"]),
-    ("IF", &["`IF`"]),
-    ("DELAY", &["`DELAY`"]),
-    ("INIT", &["`INIT`"]),
-    ("REC", &["`REC`"]),
-    ("MATCHES", &["`MATCHES`"]),
-    ("THEN", &["`THEN`"]),
-    ("ELSE", &["`ELSE`"]),
-    ("IN", &["`IN`"]),
-    ("=", &["`=`"]),
-    ("|", &["`|`"]),
-    (",", &["`,`"]),
-    (")", &["`)`"]),
-    ("[", &["`[1]`", "`[2]`"]),
-    ("1", &["`1`"]),
-    ("2", &["`2`"]),
-    ("]", &["`]`"]),
-];
+use crate::wording::grouped;
 
 /// The bytes of a byte order mark.
 const BYTE_ORDER_MARK: &[u8] = b"\xef\xbb\xbf";
-
-/// Where a text leaves the grammar.
-struct Fault<'a> {
-    source: &'a Source,
-    place: usize,
-    /// The word or sign there.
-    found: Piece,
-    /// The words before it, and the brackets open there.
-    before: Vec<Word<'a>>,
-    open: Vec<Bracket<'a>>,
-    /// The tokens that may stand there, as they were tried.
-    expected: Vec<&'static str>,
-}
 
 /// Whether a text is legal up to its end.
 fn legal(text: &[u8]) -> bool {
@@ -97,8 +58,8 @@ pub fn explain(source: &Source, place: usize) -> Vec<Message> {
     let before = words(so_far);
     let tried = TOKENS.iter().map(|(token, _)| *token);
     let expected = tried.filter(|token| legal(&with(so_far, token))).collect();
-    let fault = Fault { source, place, found, open: open(&before), before, expected };
-    fault.explain()
+    let (open, whole) = (open(&before), complete(so_far));
+    Fault { source, place, found, before, open, expected, whole }.explain()
 }
 
 /// Texts and bytes that need no look at the grammar.
@@ -123,6 +84,10 @@ fn bytes_outside(source: &Source, place: usize) -> Option<Message> {
         [b'\t', ..] => {
             at(0, "this is a tab: only spaces and line ends stand between words".to_string())
         }
+        [0xc2, 0xa0, ..] => {
+            let only = "only spaces and line ends stand between words";
+            at(0, format!("this is a no-break space: {only}"))
+        }
         [b'\r', b'\n', ..] => {
             at(0, "this line ends with CR LF: save the text with LF alone".to_string())
         }
@@ -130,225 +95,5 @@ fn bytes_outside(source: &Source, place: usize) -> Option<Message> {
         [b'#', ..] => at(1, "a text has no comments".to_string()),
         [b'-', b'-', ..] | [b'/', b'/' | b'*', ..] => at(2, "a text has no comments".to_string()),
         _ => None,
-    }
-}
-
-impl Fault<'_> {
-    fn expects(&self, token: &str) -> bool {
-        self.expected.contains(&token)
-    }
-
-    fn letters(&self) -> String {
-        self.source.letters(self.found)
-    }
-
-    /// The word so many words before the fault.
-    fn back(&self, words: usize) -> &str {
-        let at = self.before.len().checked_sub(words);
-        at.and_then(|at| self.before.get(at)).map_or("", |word| word.letters)
-    }
-
-    fn after_input(&self) -> bool {
-        self.before.iter().any(|word| word.letters == "INPUT")
-    }
-
-    fn error(&self, sentence: impl Into<String>) -> Message {
-        Message::error(Place::At(Mark { caret: self.place, around: self.found }), sentence)
-    }
-
-    /// The innermost bracket that is open.
-    fn note(&self) -> Option<Message> {
-        self.open.last().map(|bracket| Message::note(bracket.piece, bracket.sentence()))
-    }
-
-    fn explain(&self) -> Vec<Message> {
-        if self.place == self.source.bytes.len() {
-            return self.ended();
-        }
-        let so_far = &self.source.bytes[..self.found.place];
-        if complete(so_far) {
-            return vec![self.error(self.after_the_end())];
-        }
-        if let Some(sentence) = self.index() {
-            return vec![self.error(sentence)];
-        }
-        if let Some((around, sentence)) = self.name() {
-            let mark = Mark { caret: self.place, around };
-            return vec![Message::error(Place::At(mark), sentence)];
-        }
-        if let Some(sentence) = self.word() {
-            return vec![self.error(sentence)];
-        }
-        self.sign().unwrap_or_else(|| self.general())
-    }
-
-    /// The tokens that may stand there.
-    fn list(&self) -> String {
-        let mut shown: Vec<&str> = Vec::new();
-        for (token, words) in TOKENS {
-            if self.expects(token) {
-                shown.extend(words);
-            }
-        }
-        match shown.split_last() {
-            None => "another token".to_string(),
-            Some((last, [])) => last.to_string(),
-            Some((last, others)) => format!("{} or {last}", others.join(", ")),
-        }
-    }
-
-    fn ended(&self) -> Vec<Message> {
-        let cut = self.found.place < self.place;
-        let found = if cut { format!(", found `{}`", self.letters()) } else { String::new() };
-        let sentence = format!("the text ends too soon: expected {}{found}", self.list());
-        [Some(self.error(sentence)), self.note()].into_iter().flatten().collect()
-    }
-
-    fn after_the_end(&self) -> String {
-        match self.letters().as_str() {
-            ")" => "the circuit ends before this `)`: no bracket is open".to_string(),
-            found => {
-                let found = shown(found);
-                format!("the circuit ends before {found}: a text has one expression")
-            }
-        }
-    }
-
-    /// A part other than `[1]` and `[2]`.
-    fn index(&self) -> Option<String> {
-        let text = &self.source.bytes;
-        let in_index = self.back(1) == "[" || self.back(2) == "[";
-        if !in_index || !(self.expects("1") || self.expects("]")) {
-            return None;
-        }
-        let open = self.before.iter().rev().find(|word| word.letters == "[")?.piece.end;
-        let rest = &text[open..];
-        let digits = rest.iter().take_while(|byte| byte.is_ascii_alphanumeric()).count();
-        let index = String::from_utf8_lossy(&rest[..digits]);
-        if digits == 0 || index == "1" || index == "2" {
-            return None;
-        }
-        Some(format!("a pair has the parts `[1]` and `[2]`: there is no `[{index}]`"))
-    }
-
-    /// A word with other signs than letters in it.
-    fn name(&self) -> Option<(Piece, String)> {
-        let text = &self.source.bytes;
-        let part = |byte: &u8| byte.is_ascii_alphanumeric() || *byte == b'_' || *byte >= 0x80;
-        let odd = |byte: &u8| part(byte) && !byte.is_ascii_alphabetic();
-        if !text.get(self.place).is_some_and(odd) {
-            return None;
-        }
-        let before = text[..self.place].iter().rev().take_while(|byte| part(byte)).count();
-        let after = text[self.place..].iter().take_while(|byte| part(byte)).count();
-        let word = Piece::new(self.place - before, self.place + after);
-        let letters = self.source.letters(word);
-        let a_word = letters.chars().filter(|c| c.is_alphabetic()).count() > 0;
-        (a_word && !letters.contains('\u{fffd}'))
-            .then(|| (word, format!("a name has the letters a to z only: `{letters}` is none")))
-    }
-
-    /// A word that cannot stand there.
-    fn word(&self) -> Option<String> {
-        let found = self.letters();
-        if !found.bytes().all(|byte| byte.is_ascii_alphabetic()) {
-            return None;
-        }
-        let capitals = found.to_ascii_uppercase();
-        if capitals != found && self.expects(&capitals) {
-            return Some(format!("keywords are in capitals: `{capitals}`, not `{found}`"));
-        }
-        if let Some(sentence) = self.keyword(&found) {
-            return Some(sentence);
-        }
-        if !self.expects("x") || is_keyword(&found) {
-            return None;
-        }
-        let small = found.to_ascii_lowercase();
-        let letters = found.len();
-        if letters > LONGEST_NAME && small == found {
-            return Some(format!(
-                "a name has at most {LONGEST_NAME} letters: `{found}` has {letters}"
-            ));
-        }
-        let keywords = self.expected.iter().copied().filter(|token| is_keyword(token));
-        let near = nearest(&found, keywords).is_some();
-        (small != found && !near)
-            .then(|| format!("names are in small letters: `{small}`, not `{found}`"))
-    }
-
-    /// A keyword, or a word after one, that has a sentence of its own.
-    fn keyword(&self, found: &str) -> Option<String> {
-        let brackets = self.expects("(") && self.expects("x");
-        match (self.back(1), found) {
-            ("ELSE", "IF") => {
-                Some("an IF after ELSE has brackets of its own: `ELSE (IF .. )`".to_string())
-            }
-            (_, "IF" | "LET" | "DELAY") if brackets => {
-                Some(format!("`{found}` stands in round brackets: `({found} .. )`"))
-            }
-            ("DELAY", _) if self.expects("(") => {
-                Some("a DELAY has brackets inside its own: `(DELAY (.., ..))`".to_string())
-            }
-            ("INIT", _) => {
-                let begins = "a feedback begins undefined";
-                Some(format!("INIT is followed by `?` and a type: {begins}"))
-            }
-            (_, "IN") if self.back(2) == "INPUT" => {
-                Some("no `IN` follows INPUT and its type".to_string())
-            }
-            _ => None,
-        }
-    }
-
-    /// A sign that has a sentence of its own, with a note for some.
-    fn sign(&self) -> Option<Vec<Message>> {
-        let found = self.letters();
-        let in_pattern = self.expects("x") && self.expects("(") && !self.expects("?");
-        let (sentence, noted) = match found.as_str() {
-            ")" if self.expects(",") => match self.open.last() {
-                Some(bracket) if bracket.before == "DELAY" => {
-                    ("a DELAY has a constant, a comma and the part that it delays", false)
-                }
-                _ => ("brackets do not group: a pair has a comma and a second part", true),
-            },
-            "," if self.expects(")") && self.after_input() => {
-                ("a pair has two parts: put three as `((.., ..), ..)`", true)
-            }
-            "," if self.expects(")") => {
-                ("a pair type has two parts: a third one needs a pair type over this one", false)
-            }
-            "?" | "_" if in_pattern && self.after_input() => {
-                let rest = "the name of a type stands for every value of it";
-                return Some(vec![self.error(format!("a pattern has no `{found}`: {rest}"))]);
-            }
-            _ => return None,
-        };
-        let note = self.note().filter(|_| noted);
-        Some([Some(self.error(sentence)), note].into_iter().flatten().collect())
-    }
-
-    /// What may stand there, and what stands there.
-    fn general(&self) -> Vec<Message> {
-        let found = self.letters();
-        let expected = format!("expected {}, found {}", self.list(), shown(&found));
-        let is_word = found.bytes().all(|byte| byte.is_ascii_alphabetic());
-        let keywords = self.expected.iter().copied().filter(|token| is_keyword(token));
-        let near = nearest(&found, keywords).filter(|_| is_word && !is_keyword(&found));
-        if let Some(keyword) = near {
-            return vec![self.error(format!("{expected}; did you mean `{keyword}`?"))];
-        }
-        if !is_word && !TOKENS.iter().any(|(token, _)| *token == found) {
-            return vec![self.error(format!("{expected}, which is no sign of the language"))];
-        }
-        let because = if self.before.is_empty() {
-            ": a text begins with the declaration of a type"
-        } else if !self.after_input() && self.expects("IN") && is_keyword(&found) {
-            ": a declaration ends with `IN`"
-        } else {
-            ""
-        };
-        let error = self.error(format!("{expected}{because}"));
-        [Some(error), self.note()].into_iter().flatten().collect()
     }
 }

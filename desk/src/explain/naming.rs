@@ -7,9 +7,9 @@ use second::text::reading::tokens;
 use second::text::syntax::{Constant, Expression, Name, Syntax};
 use second::text::tokens::INPUT;
 
-use super::near::nearest;
 use super::scope::{find, Known, Role};
 use crate::message::{Message, Place};
+use crate::near::nearest;
 use crate::source::{Piece, Source};
 
 fn piece(name: &Name) -> Piece {

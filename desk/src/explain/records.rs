@@ -9,9 +9,9 @@ use second::records::{
     MAX_RECORDS, NEXT, PAIR_TYPE, RECORD_BYTES, WORD_NAMES,
 };
 
-use super::grouped;
 use crate::circuit::Circuit;
 use crate::message::{Message, Place};
+use crate::wording::grouped;
 
 const MOST_LEAVES: u64 = 64;
 const MOST_DEPTH: usize = 64;

@@ -3,8 +3,7 @@
 use std::collections::BTreeMap;
 
 use desk::archive;
-use desk::layout::layout;
-use desk::layout::Layout;
+use desk::layout::{layout, Layout};
 use second::random::Random;
 use second::records::{read, DELAY, KIND};
 use second::text::generate::sentence::{Role, Sentence};
@@ -40,33 +39,36 @@ pub fn run(count: u64) -> bool {
         }
         let wanted = places[change.word - change.back];
         let of_pair = matches!(word.role, Role::FirstOfPairType | Role::SecondOfPairType);
-        let mut seen = false;
-        for (record, (old, new)) in read(&sheet).iter().zip(&read(&after)).enumerate() {
-            // Another pair type can be the type of a DELAY's constant.
-            if old == new || (of_pair && old[KIND] == DELAY) {
-                continue;
-            }
-            seen = true;
-            let place = laid.piece(record).map(|piece| piece.place);
+        let changes: Vec<usize> = differing(&sheet, &after, of_pair);
+        for record in &changes {
+            let place = laid.piece(*record).map(|piece| piece.place);
             if place != Some(wanted) {
                 println!("byte {at} to {}: record {record}, {place:?}, {wanted}", change.letters);
                 return report("another record changed", &text);
             }
         }
-        if seen {
+        if !changes.is_empty() {
             *tally.entry(format!("{:?}", word.role)).or_default() += 1;
             done += 1;
         }
     }
     println!("compared {done} changed tokens: {tally:?}");
     let roles = ["Expression", "UndefinedType", "InputType", "InitType", "Constant", "Alternative"];
-    let pairs = ["FirstOfPairType", "SecondOfPairType", "NoName"];
+    let pairs = ["FirstOfPairType", "SecondOfPairType", "NoName", "ConstantType"];
     roles.iter().chain(&pairs).all(|role| tally.get(*role).is_some_and(|n| *n >= 50))
+}
+
+/// The records in which two sheets differ. Another pair type can be the type of
+/// a DELAY's constant, so where one was changed DELAYs do not count.
+fn differing(old: &[u8], new: &[u8], of_pair: bool) -> Vec<usize> {
+    let (old, new) = (read(old), read(new));
+    let differs = |at: &usize| old[*at] != new[*at] && !(of_pair && old[*at][KIND] == DELAY);
+    (0..old.len()).filter(differs).collect()
 }
 
 /// A change of a random word that leaves the layout as it is.
 fn pick(sentence: &Sentence, laid: &Layout, random: &mut Random) -> Option<Change> {
-    let word = random.below(sentence.words.len());
+    let word = a_word(sentence, random);
     let letters = &sentence.words[word].letters;
     let constructor = laid.names.constructors.get(letters);
     let change = |letters: Option<String>, back: usize| {
@@ -85,11 +87,23 @@ fn pick(sentence: &Sentence, laid: &Layout, random: &mut Random) -> Option<Chang
         Role::Alternative if random.one_in(2) => change(any_constructor(laid, random), 0),
         Role::Alternative => change(any(laid.names.types.keys(), random), 0),
         Role::UndefinedType | Role::InputType => change(any(laid.names.types.keys(), random), 1),
+        // The type of a DELAY whose constant is undefined is that of its record.
+        Role::ConstantType if word >= 4 && sentence.words[word - 3].letters == "DELAY" => {
+            change(any(laid.names.types.keys(), random), 4)
+        }
         Role::InitType => change(any(laid.names.types.keys(), random), 4),
         Role::FirstOfPairType => change(any(laid.names.types.keys(), random), 3),
         Role::SecondOfPairType => change(any(laid.names.types.keys(), random), 5),
         _ => None,
     }
+}
+
+/// Any word; at times the type of an undefined constant, which is rare.
+fn a_word(sentence: &Sentence, random: &mut Random) -> usize {
+    let is_rare = |at: &usize| sentence.words[*at].role == Role::ConstantType;
+    let rare: Vec<usize> = (0..sentence.words.len()).filter(is_rare).collect();
+    let any = random.below(sentence.words.len());
+    random.pick(&rare).filter(|_| random.one_in(4)).unwrap_or(any)
 }
 
 fn any_constructor(laid: &Layout, random: &mut Random) -> Option<String> {

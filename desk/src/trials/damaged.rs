@@ -1,9 +1,10 @@
-//! Damaged texts and stimuli: the program ends with a status, and with a
+//! Damaged texts, stimuli and sheets: the program ends with a status, and with a
 //! sentence where that is not 0.
 
 use std::fs;
 use std::path::Path;
 
+use desk::archive;
 use desk::desk::{Desk, GOOD, REFUSED, WRONG};
 use desk::program;
 use second::random::Random;
@@ -56,9 +57,10 @@ pub fn run(count: u64, folder: &str, texts: &str) -> bool {
     let mut trial = Trial { folder, random: Random::new(2_000), statuses: [0; 3] };
     for number in 0..count {
         let text = bases[trial.random.below(bases.len())].clone();
-        let good = match number % 2 {
+        let good = match number % 3 {
             0 => trial.damaged_text(text),
-            _ => trial.damaged_stimulus(text),
+            1 => trial.damaged_stimulus(text),
+            _ => trial.damaged_sheet(&text),
         };
         if !good {
             return false;
@@ -111,6 +113,30 @@ impl Trial<'_> {
         self.ends(&command)
     }
 
+    /// The sheet of a text with a few bytes changed, or cut.
+    fn damaged_sheet(&mut self, text: &[u8]) -> bool {
+        let mut sheet = archive::translate(text).unwrap_or_default();
+        for _ in 0..self.random.range(1, 2) {
+            let at = self.random.below(sheet.len().max(1));
+            match self.random.below(6) {
+                0 => sheet.truncate(at),
+                1 if at < sheet.len() => sheet[at] = self.random.draw() as u8,
+                _ if at < sheet.len() => sheet[at] = self.random.below(70) as u8,
+                _ => {}
+            }
+        }
+        self.files(text, b"1\n? * 2\n(2, 1)\n");
+        self.write("sheet.bin", &sheet);
+        let command = match self.random.below(6) {
+            0 => vec!["records", "sheet.bin"],
+            1 => vec!["run", "sheet.bin", "stimulus"],
+            2 => vec!["run", "text", "stimulus", "--from", "sheet.bin"],
+            3 => vec!["draw", "sheet.bin"],
+            _ => vec!["check", "-W", "sheet.bin"],
+        };
+        self.ends(&command)
+    }
+
     /// Some lines, most of them values of the type of a text's input.
     fn stimulus(&mut self, text: &[u8]) -> Vec<u8> {
         let text = String::from_utf8_lossy(text);
@@ -128,9 +154,16 @@ impl Trial<'_> {
     }
 
     fn files(&self, text: &[u8], stimulus: &[u8]) {
-        let written = fs::write(self.folder.join("text"), text)
-            .and_then(|()| fs::write(self.folder.join("stimulus"), stimulus));
-        written.unwrap_or_else(|error| panic!("{}: {error}", self.folder.display()));
+        self.write("text", text);
+        self.write("stimulus", stimulus);
+    }
+
+    /// Writes a file anew: to write over an old one takes long on some disks.
+    fn write(&self, name: &str, bytes: &[u8]) {
+        let file = self.folder.join(name);
+        let _ = fs::remove_file(&file);
+        let written = fs::write(&file, bytes);
+        written.unwrap_or_else(|error| panic!("{}: {error}", file.display()));
     }
 
     /// Runs a command whose files are in the folder, and looks at its end.
@@ -138,7 +171,7 @@ impl Trial<'_> {
         let words: Vec<String> = command
             .iter()
             .map(|word| match *word {
-                "text" | "stimulus" => self.folder.join(word).display().to_string(),
+                "text" | "stimulus" | "sheet.bin" => self.folder.join(word).display().to_string(),
                 word => word.to_string(),
             })
             .collect();

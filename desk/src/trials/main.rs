@@ -3,12 +3,15 @@
 //!
 //! desk-trials places COUNT     the second layout against the archive's sheets
 //! desk-trials changed COUNT    one token changed: which records change?
+//! desk-trials warned COUNT     alternatives that can never fire: do they?
 //! desk-trials damaged COUNT FOLDER TEXTS    damaged texts and stimuli
 
 mod changed;
 mod damaged;
 mod places;
 mod texts;
+#[cfg(call_run)]
+mod warned;
 
 use std::process::ExitCode;
 use std::thread;
@@ -31,6 +34,8 @@ fn run(words: &[String]) -> bool {
     match words.as_slice() {
         ["places", number] => places::run(count(number)),
         ["changed", number] => changed::run(count(number)),
+        #[cfg(call_run)]
+        ["warned", number] => warned::run(count(number)),
         ["damaged", number, folder, texts] => damaged::run(count(number), folder, texts),
         _ => {
             eprintln!(
