@@ -88,7 +88,7 @@ def completed(*words):
 
 
 def completion():
-    tally(completed("re")[0] == "records", "sheet re is completed by records")
+    tally(completed("rec") == ["records"], "sheet rec is completed by records")
     tally(completed("run", "--n") == ["--numbers", "--next"], "sheet run --n")
     tally(completed("check", "bad") == ["bad.txt"], "sheet check bad")
     tally(completed("help", "tra") == ["translate"], "sheet help tra")
