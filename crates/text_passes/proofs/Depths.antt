@@ -86,7 +86,9 @@ naming-in s q r w (suc k) h past within = go (ℕ-discrete w (suc k)) (naming-in
 
     go : Dec (w ≡ suc k) → (w ≤ k → List·Memᴰ (record { by = r; at = w }) (namingsIn s q r k))
         → List·Memᴰ (record { by = r; at = w }) (namingsIn s q r (suc k))
-    go (yes e) f = Memᴰ·append-right (namingsIn s q r k) (subst (λ v. List·Memᴰ (record { by = r; at = w }) (ifNamed (namesAt s q r v) r v)) e (here (namesAt s q r w) h))
+    go (yes e) f =
+        Memᴰ·append-right (namingsIn s q r k)
+        (subst (λ v. List·Memᴰ (record { by = r; at = w }) (ifNamed (namesAt s q r v) r v)) e (here (namesAt s q r w) h))
     go (no n) f = Memᴰ·append-left (ifNamed (namesAt s q r (suc k)) r (suc k)) (f (below w k within n))
       where
         below : (w k : ℕ) → w ≤ suc k → (w ≡ suc k → ⊥) → w ≤ k

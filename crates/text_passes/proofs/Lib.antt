@@ -10,6 +10,7 @@ pub mod PairTypes
 pub mod Depths
 pub mod TextDeep
 pub mod Verdicts
+pub mod WellTyped
 pub mod BadPlaces
 pub mod Kept
 pub mod Examples

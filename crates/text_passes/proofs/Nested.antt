@@ -241,7 +241,8 @@ module _ {s : List ℕ} where
         let l = expression-length T bound (suc r) e (both .0) in
         let there : Stands s second (laid ds bound second f) = rw l at (parted .1) in
         nests (roomOf ds bound (PairExpression e f)) (omega arith)
-        (one-nested (expression-nests bound (suc r) e (both .0) (parted .0)) (one-nested (expression-nests bound second f (both .1) there) none-nested)) (by-tuple h)
+        (one-nested (expression-nests bound (suc r) e (both .0) (parted .0))
+        (one-nested (expression-nests bound second f (both .1) there) none-nested)) (by-tuple h)
     expression-nests bound r (FirstOf e) good (one-stands h st) =
         nests (roomOf ds bound (FirstOf e)) (omega arith)
         (one-nested (expression-nests bound (suc r) e good st) none-nested) (by-first h)

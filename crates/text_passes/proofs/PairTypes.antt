@@ -30,7 +30,7 @@ use Rattle.translation.proofs.ConstructorTables.{pass-both, passes, pass-rest}
 use Rattle.translation.proofs.Tables.{isNamed, Known, no-type, after-known}
 use Rattle.text_meaning.proofs.TakenNames.{AllTaken, after-taken, later-number, first-entry}
 use Rattle.text_passes.specs.RefusedTypes.{declarationAt, whereDeclared, isRefusedPair, refusedPair}
-use Rattle.text_passes.specs.Promises.{typeNameOf}
+use Rattle.text_passes.specs.TypedText.{typeNameOf}
 use Rattle.text_passes.proofs.TypesReady.{NumbersBelow, no-numbers, ranged-number, after-ranged, named-all}
 
 -- the numbers of entries fall

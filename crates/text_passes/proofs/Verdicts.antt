@@ -30,7 +30,7 @@ use Rattle.answers.specs.declared.Verdict.the-variants.{
 }
 use Rattle.structure.specs.Rules.{wrongLength, wrongHeader, wrongRecord, wrongNaming, wrongType, tooDeep}
 use Rattle.typing.specs.Judgements.{judgements, firstFailing}
-use Rattle.records.specs.Trees.{circuit, typeAt}
+use Rattle.records.specs.Trees.{circuit, typeAt, TypeRecord}
 use Rattle.records.proofs.Tests.{neither-left, neither-right}
 use Rattle.accepted.proofs.Laws.{exact}
 use Rattle.verdict.specs.Scopes.{inputs}
@@ -47,7 +47,8 @@ use Rattle.translation.proofs.Kept as Translation
 use Rattle.translation.proofs.Kept.{names-good}
 use Rattle.text_meaning.specs.Promises.{declarations}
 use Rattle.text_passes.specs.RefusedTypes.{declarationAt, whereDeclared, hasManyConstructors, overCounted, isRefusedPair, refusedPair}
-use Rattle.text_passes.specs.Promises.{FittingText, NeverAnswered, AnsweredThree, AnsweredFive, AnsweredSix, typeNameOf, TypeDeclared, OutputDeclared}
+use Rattle.text_passes.specs.Promises.{FittingText, NeverAnswered, AnsweredThree, AnsweredFive, AnsweredSix, TypeDeclared, OutputDeclared}
+use Rattle.text_passes.specs.TypedText.{typeNameOf}
 use Rattle.text_passes.proofs.TypesReady.{FewConstructors, few-constructors}
 use Rattle.text_passes.proofs.NamedOnce.{sheet-long, length-passes, named-once}
 use Rattle.text_passes.proofs.RecordsSaid.{Said}
@@ -75,16 +76,16 @@ module _ (p q : ℕ → Bool) (n m : ℕ) (fewer : n ≤ m) (same : (r : ℕ) �
           (omega (arith, l, fewer), same r l ∙ f .1, λ k h. same k (omega (arith, l, h)) ∙ f .2 k h)
 
 -- there is no declaration past the last
-none-after : (ds : List Declaration) (k : ℕ) → length ds ≤ k → declarationAt ds (suc k) ≡ none
+pub none-after : (ds : List Declaration) (k : ℕ) → length ds ≤ k → declarationAt ds (suc k) ≡ none
 none-after [] k h = refl
 none-after (d ∷ ds) zero h = let no : ⊥ = omega arith in elim no [ ]
 none-after (d ∷ ds) (suc k) h = none-after ds k (omega arith)
 
-none-before : (ds : List Declaration) → declarationAt ds 0 ≡ none
+pub none-before : (ds : List Declaration) → declarationAt ds 0 ≡ none
 none-before [] = refl
 none-before (d ∷ ds) = refl
 
-all-counted : (ds : List Declaration) → lowest (overCounted ds) (suc (length ds)) ≡ none → (i : ℕ) → overCounted ds i ≡ false
+pub all-counted : (ds : List Declaration) → lowest (overCounted ds) (suc (length ds)) ≡ none → (i : ℕ) → overCounted ds i ≡ false
 unfolding overCounted
 all-counted ds e i = go i (ltb i (suc (length ds))) refl
   where
@@ -93,7 +94,7 @@ all-counted ds e i = go i (ltb i (suc (length ds))) refl
     go zero false f = rw (none-before ds)
     go (suc i) false f = let h = ltb-false (suc i) (suc (length ds)) f in rw (none-after ds i (omega (arith, h)))
 
-all-fit : (ds : List Declaration) → lowest (refusedPair ds) (suc (length ds)) ≡ none → (i : ℕ) → refusedPair ds i ≡ false
+pub all-fit : (ds : List Declaration) → lowest (refusedPair ds) (suc (length ds)) ≡ none → (i : ℕ) → refusedPair ds i ≡ false
 unfolding refusedPair
 all-fit ds e i = go i (ltb i (suc (length ds))) refl
   where
@@ -185,12 +186,12 @@ unfolding verdict byRecords byTypes
 shaped s l h n = rw (l, h, n)
 
 -- the searches of codes 3, 4 and 5 in the sheet of a text
-record Searched (s : List ℕ) (ds : List Declaration) : Type 0 where
-  fits : wrongLength s ≡ false
-  headed : wrongHeader s ≡ false
-  recorded : lowest (wrongRecord s) (count s) ≡ lowest (overCounted ds) (suc (length ds))
-  named : lowest (wrongNaming s) (count s) ≡ none
-  typed : lowest (overCounted ds) (suc (length ds)) ≡ none
+pub record Searched (s : List ℕ) (ds : List Declaration) : Type 0 where
+  pub fits : wrongLength s ≡ false
+  pub headed : wrongHeader s ≡ false
+  pub recorded : lowest (wrongRecord s) (count s) ≡ lowest (overCounted ds) (suc (length ds))
+  pub named : lowest (wrongNaming s) (count s) ≡ none
+  pub typed : lowest (overCounted ds) (suc (length ds)) ≡ none
       → lowest (wrongType s) (count s) ≡ lowest (refusedPair ds) (suc (length ds))
 
 module _ {s : List ℕ} {ds : List Declaration} (x : Searched s ds) where
@@ -250,7 +251,7 @@ unfolding overCounted refusedPair
 none-at-zero d ds = (refl, refl)
 
 -- the types as they stand
-types-stand : (d : Declaration) (ds : List Declaration) (w : List ℕ) (p : ℕ) (e : Expression)
+pub types-stand : (d : Declaration) (ds : List Declaration) (w : List ℕ) (p : ℕ) (e : Expression)
     → Stands (sheetOfText (text d ds (identifier w p) e)) 1 (typesLaid 1 [] (d ∷ ds))
 unfolding sheetOfText
 types-stand d ds w p e = go (sheet-stands (textRecords (text d ds (identifier w p) e)))
@@ -268,9 +269,9 @@ module _ (ts : List Token) (d : Declaration) (ds : List Declaration) (w : List �
   abbrev sheet : List ℕ
   sheet = sheetOfText source
 
-  counted : count sheet ≡ suc (length (d ∷ ds)) + roomOf (d ∷ ds) [] e
+  pub sheet-counted : count sheet ≡ suc (length (d ∷ ds)) + roomOf (d ∷ ds) [] e
   unfolding sheetOfText
-  counted =
+  sheet-counted =
       let c = sheet-count (textRecords source) in
       let n = Translation.kept .as-many-records ts source (fitting .read) (fitting .good) in
       c ∙ n ∙ omega arith
@@ -282,12 +283,12 @@ module _ (ts : List Token) (d : Declaration) (ds : List Declaration) (w : List �
       go : Stands (sheetOf (textRecords source)) 0 (textRecords source) → wrongType (sheetOf (textRecords source)) 0 ≡ false
       go (one-stands x st) = header-type x
 
-  searched : Searched sheet (d ∷ ds)
+  pub searched : Searched sheet (d ∷ ds)
   searched =
       let x = text-is-said ts d ds w p e (fitting .read) (fitting .good) in
       let names = names-good d ds w p e (fitting .good) in
       let n = suc (length (d ∷ ds)) in
-      let c = counted in
+      let c = sheet-counted in
       let all : lowest (overCounted (d ∷ ds)) n ≡ none → (r : ℕ) → n ≤ r → r < count sheet → Said sheet r =
       λ o r low high. x .expression (few-constructors (d ∷ ds) (λ k. all-counted (d ∷ ds) o (suc k))) .each r low (omega (arith, c, high)) in
       record {
@@ -350,19 +351,14 @@ accepted-few ts d ds n e rd good h =
 no-type-record : {s : List ℕ} {r : ℕ} → Said s r → sortAt s r ≡ types → ⊥
 no-type-record {s} {r} x e = let f : true ≡ false = rw e at (x .no-type) in let no : _≡_ {A = ℕ} 0 1 = cc in omega arith
 
-pub output-declared : OutputDeclared
-output-declared ts (text d ds (identifier w p) e) rd good τ accepted =
-    let t = text d ds (identifier w p) e in
-    let s = sheetOfText t in
-    let all = exact s τ .0 accepted in
-    let passes = all .0 in
-    let there = all .1 .0 in
-    let f : FittingText ts t =
-    record { read = rd; good = good; few = accepted-few ts d ds (identifier w p) e rd good (passes .length) } in
-    let found = searched ts d ds w p e f in
-    let counts = sym (found .recorded) ∙ passes .records in
-    let said = text-is-said ts d ds w p e rd good .expression (few-constructors (d ∷ ds) (λ k. all-counted (d ∷ ds) counts (suc k))) in
-    let c = counted ts d ds w p e f in
+-- a type record of the sheet is that of a declaration
+pub type-declared : (ts : List Token) (d : Declaration) (ds : List Declaration) (w : List ℕ) (p : ℕ) (e : Expression)
+    → FittingText ts (text d ds (identifier w p) e) → lowest (overCounted (d ∷ ds)) (suc (length (d ∷ ds))) ≡ none
+    → (τ : ℕ) → TypeRecord (sheetOfText (text d ds (identifier w p) e)) τ → TypeDeclared (text d ds (identifier w p) e) τ
+type-declared ts d ds w p e f counts τ there =
+    let said =
+    text-is-said ts d ds w p e (f .read) (f .good) .expression (few-constructors (d ∷ ds) (λ k. all-counted (d ∷ ds) counts (suc k))) in
+    let c = sheet-counted ts d ds w p e f in
     let within = there .there in
     go τ (there .past) (ltb τ (suc (length (d ∷ ds)))) refl
     (λ low. no-type-record (said .each τ low (omega (arith, c, within))) (there .sort))
@@ -374,11 +370,18 @@ output-declared ts (text d ds (identifier w p) e) rd good τ accepted =
     go (suc k) past true h past-all =
         let t = text d ds (identifier w p) e in
         let l = ltb-true (suc k) (suc (length (d ∷ ds))) h in
-        let meant = Translation.kept .types-as-declared t good in
-        let r = declared-named (d ∷ ds) (names-good d ds w p e good .0) (types-stand d ds w p e) meant k (omega (arith, l)) in
+        let meant = Translation.kept .types-as-declared t (f .good) in
+        let r = declared-named (d ∷ ds) (names-good d ds w p e (f .good) .0) (types-stand d ds w p e) meant k (omega (arith, l)) in
         record {
           declared = r .0;
           at = r .1;
           number = r .2;
           type = ap (typeAt (sheetOfText t)) (sym (r .2)) ∙ meant (typeNameOf (r .0));
         }
+
+pub output-declared : OutputDeclared
+output-declared ts (text d ds (identifier w p) e) rd good τ accepted =
+    let all = exact (sheetOfText (text d ds (identifier w p) e)) τ .0 accepted in
+    let f : FittingText ts (text d ds (identifier w p) e) =
+    record { read = rd; good = good; few = accepted-few ts d ds (identifier w p) e rd good (all .0 .length) } in
+    type-declared ts d ds w p e f (sym (searched ts d ds w p e f .recorded) ∙ all .0 .records) τ (all .1 .0)
