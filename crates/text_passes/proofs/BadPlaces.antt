@@ -97,7 +97,7 @@ among-typed w t n k (c ∷ cs) C h = go (sameName w (letters c)) (among-typed w 
     go true f h = inl refl
     go false f h = f h
 
-entry-typed : (w : List ℕ) (i : ℕ) (ds : List Declaration) → isEntry w (constructorEntriesFrom i ds) ≡ true → isTyped (typeOfConstructor ds w) ≡ true
+pub entry-typed : (w : List ℕ) (i : ℕ) (ds : List Declaration) → isEntry w (constructorEntriesFrom i ds) ≡ true → isTyped (typeOfConstructor ds w) ≡ true
 entry-typed w i [] h = absurd (let no : _≡_ {A = ℕ} 0 1 = cc in omega arith)
 entry-typed w i (Constructors t c cs ∷ ds) h =
     go (isAmong w (allLetters (c ∷ cs))) (entry-typed w (suc i) ds)

@@ -12,5 +12,7 @@ pub mod TextDeep
 pub mod Verdicts
 pub mod WellTyped
 pub mod BadPlaces
+pub mod NamedTyping
+pub mod AcceptedText
 pub mod Kept
 pub mod Examples

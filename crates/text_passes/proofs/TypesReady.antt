@@ -199,11 +199,11 @@ named-all w i T (d ∷ ds) h = named-all w (suc i) (afterEntry i T d) ds (named-
 same-self : (w : List ℕ) → sameName w w ≡ true
 same-self w = equal-same w w refl
 
-constructor-typed : (i : ℕ) (T : List TypeEntry) (ds : List Declaration) (w v : List ℕ) → typeOfConstructor ds w ≡ some v
+pub constructor-in-table : (i : ℕ) (T : List TypeEntry) (ds : List Declaration) (w v : List ℕ) → typeOfConstructor ds w ≡ some v
     → isNamed v (typeEntriesFrom i T ds) ≡ true
-constructor-typed i T [] w v h = absurd (let no : _≡_ {A = ℕ} 0 1 = cc in omega arith)
-constructor-typed i T (Constructors t c cs ∷ ds) w v h =
-    go (isAmong w (letters c ∷ allLetters cs)) (constructor-typed (suc i) (afterEntry i T (Constructors t c cs)) ds w v) h
+constructor-in-table i T [] w v h = absurd (let no : _≡_ {A = ℕ} 0 1 = cc in omega arith)
+constructor-in-table i T (Constructors t c cs ∷ ds) w v h =
+    go (isAmong w (letters c ∷ allLetters cs)) (constructor-in-table (suc i) (afterEntry i T (Constructors t c cs)) ds w v) h
   where
     go : (b : Bool)
         → (typeOfConstructor ds w ≡ some v → isNamed v (typeEntriesFrom (suc i) (afterEntry i T (Constructors t c cs)) ds) ≡ true)
@@ -214,7 +214,7 @@ constructor-typed i T (Constructors t c cs ∷ ds) w v h =
         named-all v (suc i) (afterEntry i T (Constructors t c cs)) ds
         (named-first v (letters t) i (Flat i (length (c ∷ cs))) T (equal-same v (letters t) (sym f)))
     go false f e = f e
-constructor-typed i T (PairOf t a b ∷ ds) w v h = constructor-typed (suc i) (afterEntry i T (PairOf t a b)) ds w v h
+constructor-in-table i T (PairOf t a b ∷ ds) w v h = constructor-in-table (suc i) (afterEntry i T (PairOf t a b)) ds w v h
 
 pair-typed : (i : ℕ) (T : List TypeEntry) (ds : List Declaration) (x y v : List ℕ) → firstPairType ds x y ≡ some v
     → isNamed v (typeEntriesFrom i T ds) ≡ true
@@ -235,7 +235,7 @@ pair-typed i T (PairOf t a b ∷ ds) x y v h =
 module _ (ds : List Declaration) (good : AllPass (declarationsChecks atFirst ds)) where
   constant-typed : (c : SourceConstant) → AllPass (constantNames (afterAll atFirst ds) c) → (v : List ℕ) → constantType ds c ≡ some v
       → isNamed v (typeEntries ds) ≡ true
-  constant-typed (OfConstructor n) h v e = constructor-typed 1 [] ds (letters n) v e
+  constant-typed (OfConstructor n) h v e = constructor-in-table 1 [] ds (letters n) v e
   constant-typed (Undefined (identifier w p)) h v e =
       let f : w ≡ v = cc in
       let k = types-known 1 atFirst [] [] ds no-type none-matched good in

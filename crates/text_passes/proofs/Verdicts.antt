@@ -48,7 +48,7 @@ use Rattle.translation.proofs.Kept.{names-good}
 use Rattle.text_meaning.specs.Promises.{declarations}
 use Rattle.text_passes.specs.RefusedTypes.{declarationAt, whereDeclared, hasManyConstructors, overCounted, isRefusedPair, refusedPair}
 use Rattle.text_passes.specs.Promises.{FittingText, NeverAnswered, AnsweredThree, AnsweredFive, AnsweredSix, TypeDeclared, OutputDeclared}
-use Rattle.text_passes.specs.TypedText.{typeNameOf}
+use Rattle.text_passes.specs.NamedTypes.{typeNameOf}
 use Rattle.text_passes.proofs.TypesReady.{FewConstructors, few-constructors}
 use Rattle.text_passes.proofs.NamedOnce.{sheet-long, length-passes, named-once}
 use Rattle.text_passes.proofs.RecordsSaid.{Said}

@@ -1,4 +1,5 @@
--- The sheet of a text is accepted exactly where its text is within the limits and well typed: the
+-- The sheet of a text is accepted exactly where its text is within the limits and, with names as
+-- distances, well typed: the
 -- annotation of delays does not matter to types, and the types of the sheet are those that the text
 -- declares.
 -- Assumes nothing.
@@ -35,12 +36,27 @@ use Rattle.translation.proofs.Kept as Translation
 use Rattle.translation.proofs.Kept.{names-good}
 use Rattle.text_passes.specs.RefusedTypes.{declarationAt, overCounted, refusedPair}
 use Rattle.text_passes.specs.TextDepths.{textExpressions, firstTooDeep}
-use Rattle.text_passes.specs.TypedText.{typeNameOf, DeclaredIn, TypedText}
-use Rattle.text_passes.specs.Promises.{FittingText, AcceptedExactly}
+use Rattle.text_meaning.specs.Promises.{declarations}
+use Rattle.text_passes.specs.NamedTypes.{typeNameOf}
+use Rattle.text_passes.specs.Promises.{FittingText}
 use Rattle.text_passes.proofs.TypesReady.{types-sorted}
 use Rattle.text_passes.proofs.PairTypes.{declared-named}
 use Rattle.text_passes.proofs.TextDeep.{deep-as}
 use Rattle.text_passes.proofs.Verdicts.{none-after, none-before, all-counted, all-fit, types-stand, Searched, sheet-counted, searched, type-declared}
+
+-- the types that a text declares
+pub record DeclaredIn (t : Text) (σ : Ty) : Type 0 where
+  pub number : ℕ
+  pub declared : Declaration
+  pub at : declarationAt (declarations t) number ≡ some declared
+  pub type : typeMeant (typesOf t) (typeNameOf declared) ≡ σ
+
+-- the text's expression, with names as distances, has the type that declaration number τ declares
+pub record TypedText (t : Text) (τ : ℕ) : Type 0 where
+  pub declared : Declaration
+  pub at : declarationAt (declarations t) τ ≡ some declared
+  pub typed :
+      Typed (DeclaredIn t) (typeMeant (typesOf t) (inputName t) ∷ []) (expressionMeant t) (typeMeant (typesOf t) (typeNameOf declared))
 
 module _ {D : Ty → Type 0} where
   without-places : {Γ : List Ty} {e : Expr} {τ : Ty} → Typed D Γ e τ → Typed D Γ (unplaced e) τ
@@ -95,7 +111,7 @@ module _ (ts : List Token) (d : Declaration) (ds : List Declaration) (w : List �
   sheet = sheetOfText (text d ds (identifier w p) e)
 
   -- a declaration's record is a type record, of the type that the name stands for
-  record-of : (i : ℕ) (c : Declaration) → declarationAt (d ∷ ds) i ≡ some c
+  pub record-of : (i : ℕ) (c : Declaration) → declarationAt (d ∷ ds) i ≡ some c
       → TypeRecord sheet i × (typeAt sheet i ≡ typeMeant (typesOf source) (typeNameOf c))
   record-of zero c at = absurd (no-declared (none-before (d ∷ ds)) at)
   record-of (suc k) c at = go (ltb k (length (d ∷ ds))) refl
@@ -129,12 +145,12 @@ module _ (ts : List Token) (d : Declaration) (ds : List Declaration) (w : List �
   input-is : typeAt sheet (wordA sheet 0) ≡ typeMeant (typesOf source) (inputName source)
   input-is = Translation.kept .input-as-declared source (f .good)
 
-  forward : (τ : ℕ) → verdict sheet ≡ Accepted τ
+  pub from-accepted : (τ : ℕ) → verdict sheet ≡ Accepted τ
       → ((i : ℕ) → overCounted (d ∷ ds) i ≡ false)
       × ((i : ℕ) → refusedPair (d ∷ ds) i ≡ false)
       × (firstTooDeep (textExpressions source) ≡ none)
       × TypedText source τ
-  forward τ a =
+  from-accepted τ a =
       let all = exact sheet τ .0 a in
       let passes = all .0 in
       let x = searched ts d ds w p e f in
@@ -157,13 +173,12 @@ module _ (ts : List Token) (d : Declaration) (ds : List Declaration) (w : List �
         record { declared = y .declared; at = y .at; typed = more-declared (to-text counts) named },
       )
 
-  back : (τ : ℕ) → ((i : ℕ) → overCounted (d ∷ ds) i ≡ false) → ((i : ℕ) → refusedPair (d ∷ ds) i ≡ false)
-      → firstTooDeep (textExpressions source) ≡ none → TypedText source τ → verdict sheet ≡ Accepted τ
-  back τ few fit deep y =
+  pub passing : ((i : ℕ) → overCounted (d ∷ ds) i ≡ false) → ((i : ℕ) → refusedPair (d ∷ ds) i ≡ false)
+      → firstTooDeep (textExpressions source) ≡ none → Passes sheet
+  passing few fit deep =
       let x = searched ts d ds w p e f in
       let counts = Answers.kept .lowest-none (overCounted (d ∷ ds)) (suc (length (d ∷ ds))) .1 (λ i h. few i) in
       let pairs = Answers.kept .lowest-none (refusedPair (d ∷ ds)) (suc (length (d ∷ ds))) .1 (λ i h. fit i) in
-      let passes : Passes sheet =
       record {
         length = x .fits;
         header = x .headed;
@@ -171,7 +186,12 @@ module _ (ts : List Token) (d : Declaration) (ds : List Declaration) (w : List �
         namings = x .named;
         types = x .typed counts ∙ pairs;
         depths = deep-as ts d ds w p e (f .read) (f .good) ∙ deep;
-      } in
+      }
+
+  pub to-accepted : (τ : ℕ) → ((i : ℕ) → overCounted (d ∷ ds) i ≡ false) → ((i : ℕ) → refusedPair (d ∷ ds) i ≡ false)
+      → firstTooDeep (textExpressions source) ≡ none → TypedText source τ → verdict sheet ≡ Accepted τ
+  to-accepted τ few fit deep y =
+      let passes = passing few fit deep in
       let r = record-of τ (y .declared) (y .at) in
       let meant = Translation.kept .decodes-to-text ts source (f .read) (f .good) in
       let named = more-declared to-sheet (y .typed) in
@@ -182,9 +202,3 @@ module _ (ts : List Token) (d : Declaration) (ds : List Declaration) (w : List �
       with-places (meant .0)
       (subst (λ g. Typed (Declared sheet) (typeAt sheet (wordA sheet 0) ∷ []) g (typeAt sheet τ)) (sym (meant .2)) typed) in
       exact sheet τ .1 (passes, (r .0, (meant .0, meant .1, placed)))
-
-pub accepted-exactly : AcceptedExactly
-accepted-exactly ts (text d ds (identifier w p) e) f τ = (
-  forward ts d ds w p e f τ,
-  λ b. back ts d ds w p e f τ (b .0) (b .1) (b .2) (b .3),
-)

@@ -30,7 +30,7 @@ use Rattle.text_passes.specs.RefusedTypes.{declarationAt, overCounted, r
 use Rattle.text_passes.specs.DelayConstants.{UntypedPair}
 use Rattle.text_passes.specs.RecordWalk.{recordWalk, numbersFrom}
 use Rattle.text_passes.specs.TextDepths.{textExpressions, firstTooDeep}
-use Rattle.text_passes.specs.TypedText.{typeNameOf, TypedText}
+use Rattle.text_passes.specs.NamedTypes.{typeNameOf, NameTypedText}
 
 -- a text that is read, with good names and constants, whose sheet fits
 pub record FittingText (ts : List Token) (t : Text) : Type 0 where
@@ -72,7 +72,8 @@ AnsweredSix =
     × (firstTooDeep (textExpressions t) ≡ some r))
 
 -- 5. It accepts the sheet with output type τ exactly where none of these applies and the text is
--- well typed with the type of declaration τ. So 7 is left for the texts that are not.
+-- well typed over its names, with the type of declaration τ. So 7 is left for the texts that are
+-- not.
 abbrev pub AcceptedExactly : Type 0
 AcceptedExactly =
     (ts : List Token) (t : Text) → FittingText ts t → (τ : ℕ)
@@ -80,7 +81,7 @@ AcceptedExactly =
     ↔ (((i : ℕ) → overCounted (declarations t) i ≡ false)
     × ((i : ℕ) → refusedPair (declarations t) i ≡ false)
     × (firstTooDeep (textExpressions t) ≡ none)
-    × TypedText t τ)
+    × NameTypedText t τ)
 
 -- 6. Each record but the header is named by exactly one word.
 abbrev pub EachNamedOnce : Type 0
