@@ -35,9 +35,10 @@ use Rattle.translation.proofs.Kept.{names-good}
 use Rattle.text_passes.specs.RefusedTypes.{declarationAt, overCounted, refusedPair}
 use Rattle.text_passes.specs.TextDepths.{textExpressions, firstTooDeep}
 use Rattle.text_passes.specs.NamedTypes.{typedName, PairDeclared, NameTyped, typeNameOf, NameTypedText, name-typed-text}
-use Rattle.text_passes.specs.Promises.{FittingText, AcceptedExactly}
+use Rattle.text_passes.specs.Promises.{FittingText, AcceptedExactly, AnsweredSeven}
 use Rattle.text_passes.proofs.PairTypes.{StandsDeclared, declared-stands}
-use Rattle.text_passes.proofs.Verdicts.{types-stand}
+use Rattle.text_passes.proofs.TextDeep.{deep-as}
+use Rattle.text_passes.proofs.Verdicts.{types-stand, searched, seven}
 use Rattle.text_passes.proofs.WellTyped.{DeclaredIn, TypedText, record-of, from-accepted, passing, to-accepted}
 use Rattle.text_passes.proofs.NamedTyping.{TypesKnown, pair-means, pair-at, type-in-table, PartsOf, parts-of}
 use Rattle.text_passes.proofs.NamedTyping.{InScope, scope-input, name-sound, NameFound, name-found}
@@ -219,3 +220,11 @@ accepted-exactly ts (text d ds (identifier w p) e) f τ = (
       (x .0, x .1, x .2, by-names ts d ds w p e f (passing ts d ds w p e f (x .0) (x .1) (x .2)) τ (x .3)),
   λ b. to-accepted ts d ds w p e f τ (b .0) (b .1) (b .2) (by-distances ts d ds w p e f (passing ts d ds w p e f (b .0) (b .1) (b .2)) τ (b .3)),
 )
+
+pub answered-seven : AnsweredSeven
+answered-seven ts (text d ds (identifier w p) e) f =
+    let t = text d ds (identifier w p) e in
+    let x = seven (searched ts d ds w p e f) (firstTooDeep (textExpressions t)) (deep-as ts d ds w p e (f .read) (f .good)) in (
+      λ a. let b = x .0 a in (b .0, b .1, b .2, λ τ y. b .3 τ (accepted-exactly ts t f τ .1 (b .0, b .1, b .2, y))),
+      λ b. x .1 (b .0, b .1, b .2, λ τ y. b .3 τ (accepted-exactly ts t f τ .0 y .3)),
+    )

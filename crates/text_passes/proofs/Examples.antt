@@ -13,7 +13,7 @@ use Rattle.records.specs.Says.{wellSaid, namings}
 use Rattle.records.specs.Trees.{typeWithin, typeAt, pairOf, chainWithin, chain, alternativesWithin, alternatives, treeWithin, treeAt, circuit}
 use Rattle.structure.specs.Rules.{ancestryWithin, ancestry, depth, nesting, wrongLength, wrongHeader, wrongRecord, wrongNaming, wrongType, tooDeep}
 use Rattle.answers.specs.Answers.{lowest}
-use Rattle.answers.specs.declared.Verdict.the-variants.{Accepted, WrongRecord, WrongType, TooDeep}
+use Rattle.answers.specs.declared.Verdict.the-variants.{Accepted, WrongRecord, WrongType, TooDeep, IllTyped}
 use Rattle.verdict.specs.Verdict.{byTypes, byRecords, verdict}
 use Rattle.grammar.specs.Source.{Identifier, identifier, Declaration, Constructors, PairOf, Text, text}
 use Rattle.grammar.specs.Source.{OfConstructor, Undefined, ConstantPair, Alone, PatternPair, Either}
@@ -177,8 +177,9 @@ depths-found = (refl, refl, refl, refl)
 
 deep-verdicts : (verdict (sheetOfText (ofExpression (inFeedbacks 3))) ≡ Accepted 1)
     × (verdict (sheetOfText (ofExpression (inFeedbacks 4))) ≡ TooDeep 6)
+    × (verdict (sheetOfText (ofExpression (ofFirstParts 1))) ≡ IllTyped 2)
 unfolding sheetOfText verdict byRecords byTypes wrongLength wrongHeader wrongRecord wrongNaming wrongType tooDeep depth nesting ancestry ancestryWithin circuit treeAt treeWithin alternatives alternativesWithin chain chainWithin pairOf typeAt typeWithin namings wellSaid askOf kindOf rowOf word count
-deep-verdicts = (refl, refl)
+deep-verdicts = (refl, refl, refl)
 
 -- TYPE b = h | l IN TYPE c = (b, b) IN INPUT b (LET x = (input, h) IN (IF x MATCHES (h, b) | c THEN
 -- x[2] ELSE (DELAY (?b, input))))

@@ -163,6 +163,15 @@ five-of none none (some i) r a k e = absurd (let no : _≡_ {A = ℕ} 0 1 = cc i
 five-of none none none (some i) a k e = absurd (let no : _≡_ {A = ℕ} 0 1 = cc in omega arith)
 five-of none none none none a k e = absurd (let no : _≡_ {A = ℕ} 0 1 = cc in omega arith)
 
+seven-of : (o p q r : Option ℕ) (a k : ℕ) → shape o p q r a ≡ IllTyped k → (o ≡ none) × (p ≡ none) × (q ≡ none)
+seven-of (some i) p q r a k e = absurd (let no : _≡_ {A = ℕ} 0 1 = cc in omega arith)
+seven-of none (some i) q r a k e = absurd (let no : _≡_ {A = ℕ} 0 1 = cc in omega arith)
+seven-of none none (some i) r a k e = absurd (let no : _≡_ {A = ℕ} 0 1 = cc in omega arith)
+seven-of none none none r a k e = (refl, refl, refl)
+
+never-both : {v : Verdict} {r τ : ℕ} → v ≡ IllTyped r → v ≡ Accepted τ → ⊥
+never-both p q = let no : _≡_ {A = ℕ} 0 1 = cc in omega arith
+
 abbrev pairs : List ℕ → Option ℕ
 pairs s = lowest (wrongType s) (count s)
 
@@ -241,6 +250,29 @@ module _ {s : List ℕ} {ds : List Declaration} (x : Searched s ds) where
         let it = same ∙ b .2 in
         is-shape ∙ rw (no, at, it),
   )
+
+  pub seven : (deep : Option ℕ) → depths s ≡ deep → ((r : ℕ) × (verdict s ≡ IllTyped r))
+      ↔ (((i : ℕ) → overCounted ds i ≡ false)
+      × ((i : ℕ) → refusedPair ds i ≡ false)
+      × (deep ≡ none)
+      × ((τ : ℕ) → verdict s ≡ Accepted τ → ⊥))
+  seven deep same = (
+    λ a. let f = seven-of flats (pairs s) (depths s) (judged s) (outputType s) (a .0) (sym is-shape ∙ a .1) in (
+      all-counted ds (f .0),
+      all-fit ds (sym (x .typed (f .0)) ∙ f .1),
+      sym same ∙ f .2,
+      λ τ b. never-both (a .1) b,
+    ),
+    λ b. let no = Answers.kept .lowest-none (overCounted ds) (suc (length ds)) .1 (λ i h. b .0 i) in
+        let at = x .typed no ∙ Answers.kept .lowest-none (refusedPair ds) (suc (length ds)) .1 (λ i h. b .1 i) in
+        let it = same ∙ b .2 in
+        go (judged s) refl no at it (b .3),
+  )
+    where
+      go : (o : Option ℕ) → judged s ≡ o → flats ≡ none → pairs s ≡ none → depths s ≡ none → ((τ : ℕ) → verdict s ≡ Accepted τ → ⊥)
+          → (r : ℕ) × (verdict s ≡ IllTyped r)
+      go (some r) e counts at it f = (r, is-shape ∙ rw (counts, at, it, e))
+      go none e counts at it f = absurd (f (outputType s) (is-shape ∙ rw (counts, at, it, e)))
 
 header-type : {s : List ℕ} {n a b c : ℕ} → RecordIs s 0 1 n a b c 0 → wrongType s 0 ≡ false
 unfolding wrongType kindOf rowOf
