@@ -1,38 +1,32 @@
 -- The sheet of a text is accepted exactly where its text is within the limits and well typed over
 -- its names.
 -- Assumes nothing.
-use Prim.Native.Nat.{ℕ, zero, suc, _+_, _≤_, _<_}
-use mathlib.Core.Path.{_≡_, refl, ap, ap₂, sym, subst, _∙_}
-use mathlib.Core.Logic.{_⊎_, inl, inr, _↔_}
+use Prim.Native.Nat.{ℕ, zero, suc, _≤_}
+use mathlib.Core.Path.{_≡_, refl, ap, sym, subst, _∙_}
+use mathlib.Core.Logic.{_⊎_, inl, inr}
 use mathlib.Core.Bool.{Bool, true, false, cond}
 use mathlib.Core.List.{List, [], _∷_}
-use mathlib.Core.Option.{Option, none, some}
+use mathlib.Core.Option.{Option, some}
 use native.Mathlib.Omega.{arith}
-use borrow.Author.Tests.{ltb-true, ltb-false}
-use lib.ListN.{length}
-use Rattle.picoella.specs.Language.{Ty, Flat, TyTuple, leaves, Typed}
-use Rattle.records.specs.Words.{count}
+use Rattle.picoella.specs.Language.{Ty, Flat, TyTuple, leaves}
 use Rattle.records.specs.Trees.{typeAt, TypeRecord}
 use Rattle.records.proofs.TypeRecords.{pair-record, same-type-same-record}
 use Rattle.structure.specs.Rules.{Passes}
-use Rattle.verdict.specs.Verdict.{verdict}
-use Rattle.answers.specs.declared.Verdict.the-variants.{Accepted}
 use Rattle.accepted.proofs.Laws.{written, types-fit}
 use Rattle.grammar.specs.Tokens.{Token}
-use Rattle.grammar.specs.Source.{Identifier, identifier, Declaration, Constructors, PairOf, Expression, Text, text}
-use Rattle.naming.specs.Declared.{sameName, input, atFirst, isDeclared, typeRole}
+use Rattle.grammar.specs.Source.{identifier, Declaration, Constructors, PairOf, Expression, text}
+use Rattle.naming.specs.Declared.{sameName, input, atFirst, typeRole}
 use Rattle.naming.specs.Checks.{AllPass}
 use Rattle.naming.specs.Constants.{letters, constantsOfText, constantChecks}
-use Rattle.naming.specs.Names.{afterAll, isOne, declarationsChecks, expressionChecks, nameChecks, textChecks}
+use Rattle.naming.specs.Names.{afterAll, isOne, declarationsChecks, expressionChecks, nameChecks}
 use Rattle.naming.proofs.SameName.{same-equal}
 use Rattle.translation.specs.Resolved.{TypeEntry, typeEntry, typeMeant, afterEntry, typeEntriesFrom, typeEntries}
 use Rattle.translation.specs.Layout.{sheetOfText}
-use Rattle.translation.specs.Promises.{typesOf}
 use Rattle.translation.proofs.ConstructorTables.{pass-both, passes}
 use Rattle.translation.proofs.Tables.{isNamed}
 use Rattle.translation.proofs.Kept as Translation
 use Rattle.translation.proofs.Kept.{names-good}
-use Rattle.text_passes.specs.RefusedTypes.{declarationAt, overCounted, refusedPair}
+use Rattle.text_passes.specs.RefusedTypes.{declarationAt}
 use Rattle.text_passes.specs.TextDepths.{textExpressions, firstTooDeep}
 use Rattle.text_passes.specs.NamedTypes.{typedName, PairDeclared, NameTyped, typeNameOf, NameTypedText, name-typed-text}
 use Rattle.text_passes.specs.Promises.{FittingText, AcceptedExactly, AnsweredSeven}
@@ -40,8 +34,8 @@ use Rattle.text_passes.proofs.PairTypes.{StandsDeclared, declared-stand
 use Rattle.text_passes.proofs.TextDeep.{deep-as}
 use Rattle.text_passes.proofs.Verdicts.{types-stand, searched, seven}
 use Rattle.text_passes.proofs.WellTyped.{DeclaredIn, TypedText, record-of, from-accepted, passing, to-accepted}
-use Rattle.text_passes.proofs.NamedTyping.{TypesKnown, pair-means, pair-at, type-in-table, PartsOf, parts-of}
-use Rattle.text_passes.proofs.NamedTyping.{InScope, scope-input, name-sound, NameFound, name-found}
+use Rattle.text_passes.proofs.NamedTyping.{TypesKnown, pair-means, pair-at, type-in-table, parts-of}
+use Rattle.text_passes.proofs.NamedTyping.{scope-input, name-sound, name-found}
 
 -- a name in the table is that of a declaration
 record Numbered (ds : List Declaration) (t : List ℕ) : Type 0 where

@@ -1,21 +1,19 @@
 -- The static semantics over names and the one over distances agree: a type name stands for one
 -- type, and where no pair type is refused two names do not stand for the same.
 -- Assumes nothing.
-use Prim.Native.Nat.{ℕ, zero, suc, _+_, _≤_, _<_, min}
+use Prim.Native.Nat.{ℕ, zero, suc, _+_, _≤_, min}
 use mathlib.Core.Path.{_≡_, refl, ap, ap₂, sym, subst, _∙_}
-use mathlib.Core.Logic.{_⊎_, inl, inr}
 use mathlib.Core.Bool.{Bool, true, false, cond}
 use mathlib.Core.List.{List, [], _∷_, _++_}
 use mathlib.Core.Option.{Option, none, some}
 use native.Mathlib.Omega.{arith}
 use lib.ListN.{length, replicate}
-use Rattle.picoella.specs.Language.{Ty, Flat, TyTuple, leaves, Within, within-none, within-leaf, OfType, Expr, Const, Var, Delay, Typed, Named, here, there}
+use Rattle.picoella.specs.Language.{Ty, Flat, TyTuple, leaves, within-none, within-leaf, OfType, Expr, Const, Var, Delay, Typed, Named, here, there}
 use Rattle.picoella.specs.Language.{Pattern, Whole, Constructor, Parts, Bar, HasType, p-whole, p-constructor, p-parts, p-bar}
 use Rattle.picoella.specs.Language.{t-const, t-var, t-tuple, t-index1, t-index2, t-let, t-letrec, t-if, t-delay}
-use Rattle.meaning.specs.Values.{undefined}
 use Rattle.meaning.proofs.Order.{within-append, undefined-typed}
 use Rattle.grammar.specs.Source.{Identifier, identifier, Declaration, Constructors, PairOf, SourceConstant, OfConstructor, Undefined, ConstantPair}
-use Rattle.grammar.specs.Source.{SourcePattern, Alone, PatternPair, Either, Text, text}
+use Rattle.grammar.specs.Source.{SourcePattern, Alone, PatternPair, Either}
 use Rattle.grammar.specs.Source.{
   Expression,
   NameUse,
@@ -46,15 +44,14 @@ use Rattle.naming.specs.Declared.{
 }
 use Rattle.naming.specs.Checks.{AllPass}
 use Rattle.naming.specs.Constants.{letters, typeOfConstructor, firstPairType, pairTypeOf, constantType, isTyped, constantChecks}
-use Rattle.naming.specs.Names.{afterAll, bind, declarationsChecks, patternChecks, constantNames, expressionChecks}
-use Rattle.naming.proofs.SameName.{equal-same, same-equal}
+use Rattle.naming.specs.Names.{afterAll, declarationsChecks, patternChecks, constantNames, expressionChecks}
+use Rattle.naming.proofs.SameName.{same-equal}
 use Rattle.translation.specs.Resolved.{TypeEntry, typeMeant, typeEntries, constructorMeant, constructorEntries, distance}
 use Rattle.translation.specs.Distances.{typeOr, asConstant, asPattern, undefinedLeavesOf, constantValues, patternMeant, nameMeant, byDistances}
 use Rattle.translation.proofs.ConstructorTables.{pass-both, passes, pass-rest, after-new, type-or-constructor, a-constructor}
 use Rattle.translation.proofs.Tables.{isNamed, no-type, none-matched, types-known}
 use Rattle.text_meaning.proofs.ConstantsStand.{constructor-of, pair-of}
 use Rattle.text_meaning.proofs.NamesStand.{constructor-has-number}
-use Rattle.text_meaning.proofs.Matched.{IsNumber}
 use Rattle.text_meaning.proofs.Begins.{value-or-input, input-no-constructor}
 use Rattle.text_passes.specs.RefusedTypes.{declarationAt}
 use Rattle.text_passes.specs.NamedTypes.{typeNameOf}

@@ -12,12 +12,10 @@ use borrow.Author.Tests.{lt-ltb, eq-eqb, ne-eqb}
 use lib.Dec.{eqb, ltb}
 use lib.ListN.{length, take}
 use Rattle.picoella.specs.Language.{Ty, Flat, TyTuple, leaves}
-use Rattle.records.specs.Words.{kindWord, wordA, wordB}
-use Rattle.records.specs.Kinds.{rowOf, kindOf, isPair}
-use Rattle.records.specs.Says.{kindAt}
+use Rattle.records.specs.Kinds.{rowOf, kindOf}
 use Rattle.records.specs.Trees.{typeAt, isPairOf, pairBelow}
 use Rattle.structure.specs.Rules.{wrongType}
-use Rattle.grammar.specs.Source.{Identifier, identifier, Declaration, Constructors, PairOf}
+use Rattle.grammar.specs.Source.{identifier, Declaration, Constructors, PairOf}
 use Rattle.naming.specs.Declared.{DeclaredName, sameName, atFirst}
 use Rattle.naming.specs.Checks.{AllPass}
 use Rattle.naming.specs.Constants.{letters, firstPairType, isTyped}

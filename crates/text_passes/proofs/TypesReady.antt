@@ -1,28 +1,27 @@
 -- The types of a text where they stand: what type names and constructors stand for lies among the
 -- type records.
 -- Assumes nothing.
-use Prim.Native.Nat.{ℕ, zero, suc, _+_, _≤_, _<_}
-use mathlib.Core.Path.{_≡_, refl, ap, sym, subst, _∙_}
-use mathlib.Core.Bool.{Bool, true, false, cond, _&&_}
+use Prim.Native.Nat.{ℕ, suc, _+_, _≤_, _<_}
+use mathlib.Core.Path.{_≡_, refl, sym, subst}
+use mathlib.Core.Bool.{Bool, true, false, cond}
 use mathlib.Core.List.{List, [], _∷_, _++_}
 use mathlib.Core.Option.{Option, none, some}
 use native.Mathlib.Omega.{arith}
 use native.Mathlib.Decide.{ℕ-discrete}
-use borrow.Author.Tests.{lt-ltb, le-leb, ltb-true, ltb-false}
-use lib.Dec.{ltb, leb}
+use borrow.Author.Tests.{ltb-true, ltb-false}
+use lib.Dec.{ltb}
 use lib.ListN.{length}
-use Rattle.records.specs.Words.{count, kindWord, wordA}
-use Rattle.records.specs.Kinds.{types, rowOf, kindOf, isFlat}
-use Rattle.records.specs.Says.{kindAt, sortAt}
-use Rattle.records.specs.SheetOf.{words}
+use Rattle.records.specs.Words.{kindWord, wordA}
+use Rattle.records.specs.Kinds.{types, rowOf, kindOf}
+use Rattle.records.specs.Says.{sortAt}
 use Rattle.picoella.specs.Language.{Ty, Flat, TyTuple}
 use Rattle.grammar.specs.Source.{Identifier, identifier, Declaration, Constructors, PairOf, SourceConstant, OfConstructor, Undefined, ConstantPair}
-use Rattle.naming.specs.Declared.{DeclaredName, sameName, isAmong, atFirst, isDeclared, typeRole, constructorRole}
+use Rattle.naming.specs.Declared.{sameName, isAmong, atFirst, isDeclared, typeRole, constructorRole}
 use Rattle.text_passes.specs.RefusedTypes.{overCounted}
 use Rattle.naming.proofs.SameName.{equal-same}
 use Rattle.naming.specs.Checks.{AllPass}
 use Rattle.naming.specs.Constants.{letters, allLetters, typeOfConstructor, firstPairType, pairTypeOf, constantType, isTyped}
-use Rattle.naming.specs.Names.{afterDeclaration, afterAll, declarationChecks, declarationsChecks, constantNames}
+use Rattle.naming.specs.Names.{afterAll, declarationsChecks, constantNames}
 use Rattle.translation.specs.Resolved.{
   TypeEntry,
   typeEntry,
@@ -40,9 +39,9 @@ use Rattle.translation.specs.Resolved.{
   constructorMeant,
 }
 use Rattle.translation.specs.Layout.{typesLaid, numberOr}
-use Rattle.translation.proofs.Standing.{RecordIs, Stands, none-stand, one-stands}
-use Rattle.translation.proofs.ConstructorTables.{pass-both, passes, pass-rest, isEntry, a-constructor}
-use Rattle.translation.proofs.Tables.{isNamed, Known, Matched, none-matched, no-type, types-known}
+use Rattle.translation.proofs.Standing.{Stands, one-stands}
+use Rattle.translation.proofs.ConstructorTables.{passes, isEntry, a-constructor}
+use Rattle.translation.proofs.Tables.{isNamed, none-matched, no-type, types-known}
 
 -- every flat type has at most 255 constructors
 abbrev pub FewConstructors : List Declaration → Type 0

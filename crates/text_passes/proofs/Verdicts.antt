@@ -1,9 +1,9 @@
 -- The verdict on the sheet of a text: 3 and 5 by the declarations alone, and never 1, 2 or 4.
 -- Assumes nothing.
 use Prim.Native.Nat.{ℕ, zero, suc, _+_, _-_, _%_, _≤_, _<_}
-use mathlib.Core.Path.{_≡_, refl, ap, sym, subst, _∙_}
+use mathlib.Core.Path.{_≡_, refl, ap, sym, _∙_}
 use mathlib.Core.Logic.{_≢_, _↔_}
-use mathlib.Core.Bool.{Bool, true, false, not, _&&_, _||_, and-false}
+use mathlib.Core.Bool.{Bool, true, false, not, _||_, and-false}
 use mathlib.Core.List.{List, [], _∷_}
 use mathlib.Core.Option.{Option, none, some}
 use native.Mathlib.Omega.{arith}
@@ -18,16 +18,7 @@ use Rattle.answers.specs.Answers.{code, verdictAnswer, lowest}
 use Rattle.answers.specs.Promises.{LowestBreaking}
 use Rattle.answers.proofs.Kept as Answers
 use Rattle.answers.specs.declared.Verdict.{Verdict}
-use Rattle.answers.specs.declared.Verdict.the-variants.{
-  Accepted,
-  WrongLength,
-  WrongHeader,
-  WrongRecord,
-  WrongNaming,
-  WrongType,
-  TooDeep,
-  IllTyped,
-}
+use Rattle.answers.specs.declared.Verdict.the-variants.{Accepted, WrongRecord, WrongType, TooDeep, IllTyped}
 use Rattle.structure.specs.Rules.{wrongLength, wrongHeader, wrongRecord, wrongNaming, wrongType, tooDeep}
 use Rattle.typing.specs.Judgements.{judgements, firstFailing}
 use Rattle.records.specs.Trees.{circuit, typeAt, TypeRecord}
@@ -45,14 +36,13 @@ use Rattle.translation.specs.Layout.{typesLaid, roomOf, laid, textRecords, shee
 use Rattle.translation.proofs.Standing.{RecordIs, Stands, one-stands, sheet-stands, stands-append, sheet-count}
 use Rattle.translation.proofs.Kept as Translation
 use Rattle.translation.proofs.Kept.{names-good}
-use Rattle.text_meaning.specs.Promises.{declarations}
 use Rattle.text_passes.specs.RefusedTypes.{declarationAt, whereDeclared, hasManyConstructors, overCounted, isRefusedPair, refusedPair}
 use Rattle.text_passes.specs.Promises.{FittingText, NeverAnswered, AnsweredThree, AnsweredFive, AnsweredSix, TypeDeclared, OutputDeclared}
 use Rattle.text_passes.specs.NamedTypes.{typeNameOf}
-use Rattle.text_passes.proofs.TypesReady.{FewConstructors, few-constructors}
+use Rattle.text_passes.proofs.TypesReady.{few-constructors}
 use Rattle.text_passes.proofs.NamedOnce.{sheet-long, length-passes, named-once}
 use Rattle.text_passes.proofs.RecordsSaid.{Said}
-use Rattle.text_passes.proofs.SheetSaid.{AllSaid, TextSaid, text-is-said}
+use Rattle.text_passes.proofs.SheetSaid.{text-is-said}
 use Rattle.text_passes.specs.TextDepths.{textExpressions, firstTooDeep}
 use Rattle.text_passes.proofs.TextDeep.{deep-as}
 use Rattle.text_passes.proofs.PairTypes.{types-refused, declared-named}

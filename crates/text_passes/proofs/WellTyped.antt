@@ -3,9 +3,8 @@
 -- annotation of delays does not matter to types, and the types of the sheet are those that the text
 -- declares.
 -- Assumes nothing.
-use Prim.Native.Nat.{ℕ, zero, suc, _+_, _≤_, _<_}
+use Prim.Native.Nat.{ℕ, zero, suc}
 use mathlib.Core.Path.{_≡_, refl, ap, sym, subst, _∙_}
-use mathlib.Core.Logic.{_↔_}
 use mathlib.Core.Bool.{Bool, true, false}
 use mathlib.Core.List.{List, [], _∷_}
 use mathlib.Core.Option.{Option, none, some}
@@ -15,11 +14,9 @@ use lib.Dec.{ltb}
 use lib.ListN.{length}
 use Rattle.picoella.specs.Language.{Ty, Expr, Const, Var, Tuple, Index1, Index2, Let, LetRec, If, Delay, Typed}
 use Rattle.picoella.specs.Language.{t-const, t-var, t-tuple, t-index1, t-index2, t-let, t-letrec, t-if, t-delay}
-use Rattle.records.specs.Words.{count, wordA}
+use Rattle.records.specs.Words.{wordA}
 use Rattle.records.specs.Kinds.{types}
-use Rattle.records.specs.Says.{sortAt}
 use Rattle.records.specs.Trees.{typeAt, TypeRecord, Declared}
-use Rattle.records.specs.Decoding.{decode}
 use Rattle.answers.specs.Answers.{lowest}
 use Rattle.answers.proofs.Kept as Answers
 use Rattle.answers.specs.declared.Verdict.the-variants.{Accepted}
@@ -42,7 +39,7 @@ use Rattle.text_passes.specs.Promises.{FittingText}
 use Rattle.text_passes.proofs.TypesReady.{types-sorted}
 use Rattle.text_passes.proofs.PairTypes.{declared-named}
 use Rattle.text_passes.proofs.TextDeep.{deep-as}
-use Rattle.text_passes.proofs.Verdicts.{none-after, none-before, all-counted, all-fit, types-stand, Searched, sheet-counted, searched, type-declared}
+use Rattle.text_passes.proofs.Verdicts.{none-after, none-before, all-counted, all-fit, types-stand, sheet-counted, searched, type-declared}
 
 -- the types that a text declares
 pub record DeclaredIn (t : Text) (σ : Ty) : Type 0 where
