@@ -7,7 +7,6 @@ use mathlib.Core.Option.{Option, some}
 use native.Mathlib.Omega.{arith}
 use native.Mathlib.Nat.{zero-div, div-eq-of-eq-mul-left}
 use lib.ListN.{length}
-use lib.Seq.{take-at, drop-at}
 use Rattle.picoella.specs.Language.{Ty, Flat, TyTuple, leaves, Expr, Typed}
 use Rattle.records.specs.Trees.{typeAt, Declared}
 use Rattle.records.specs.Decoding.{decode}
@@ -28,7 +27,7 @@ use Rattle.answers.specs.Answers.{packed}
 use Rattle.answers.specs.declared.Verdict.the-variants.{Accepted}
 use Rattle.verdict.specs.Verdict.{verdict}
 use Rattle.behaviour.specs.Run.{answer, finalOut, finalNext}
-use Rattle.behaviour.proofs.ByRules.{call-by-rules}
+use Rattle.behaviour.proofs.ByRules.{pieces-back, call-by-rules}
 use Rattle.translation.specs.Resolved.{typeMeant, typeEntries}
 use Rattle.translation.specs.Layout.{sheetOfText}
 use Rattle.translation.specs.Distances.{unplaced}
