@@ -17,7 +17,7 @@ use Rattle.behaviour.specs.Terms.{circuitTerm}
 use Rattle.behaviour.specs.Sheets.{write}
 use Rattle.behaviour.specs.Cycle.{outputBy, afterBy}
 use Rattle.stimulus.specs.Stimulus.{cycles, wrongStimulus, wrongByte}
-use Rattle.behaviour.specs.Run.{bySlices, answer, finalOut, finalNext, RunGiven}
+use Rattle.behaviour.specs.Run.{bySlices, answer, finalOut, finalNext}
 use Rattle.behaviour.specs.Afterwards.{WellFormed}
 use Rattle.text_meaning.specs.Promises.{CallsInTurn, no-call-left, one-call}
 use Rattle.text_table.specs.SheetRows.{sheetRows}

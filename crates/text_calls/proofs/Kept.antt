@@ -1,10 +1,7 @@
 -- One term of every promise of the front page: what the translation wrote is the sheet of the text, and the run of that sheet gives the
 -- meaning. Assumes nothing.
-use Prim.Native.Nat.{ℕ}
-use mathlib.Core.Path.{_≡_, refl, sym, subst}
-use mathlib.Core.List.{List}
+use mathlib.Core.Path.{refl, sym, subst}
 use native.Mathlib.Omega.{arith}
-use lib.ListN.{take}
 use Rattle.records.specs.Words.{word, count}
 use Rattle.records.specs.Kinds.{rowOf, kindOf, askOf}
 use Rattle.records.specs.Says.{wellSaid, namings}
@@ -20,7 +17,6 @@ use Rattle.stimulus.specs.Stimulus.{cycles, wrongStimulus, wrongByte, endToEnd}
 use Rattle.behaviour.specs.Run.{bySlices, answer, finalOut, finalNext, RunGiven}
 use Rattle.behaviour.specs.Afterwards.{WellFormed}
 use Rattle.translation.specs.Layout.{sheetOfText}
-use Rattle.translator.specs.Promises.{WroteSheet}
 use Rattle.translator.proofs.Kept as Translator
 use Rattle.text_meaning.specs.Promises.{CallsInTurn}
 use Rattle.text_meaning.proofs.Kept as Meaning

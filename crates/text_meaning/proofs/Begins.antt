@@ -122,6 +122,14 @@ input-taken D (d ∷ ds) good h =
 taken-at-first : InputTaken atFirst
 taken-at-first = record { taken = refl; no-constructor = refl }
 
+pub value-or-input : (ds : List Declaration) (w : List ℕ) → isDeclared valueRoles w (afterAll atFirst ds) ≡ true
+    → isDeclared constructorRole w (afterAll atFirst ds) ≡ false → sameName w input ≡ true
+value-or-input ds w = only-input atFirst ds only-at-first .only w
+
+pub input-no-constructor : (ds : List Declaration) → AllPass (declarationsChecks atFirst ds)
+    → isDeclared constructorRole input (afterAll atFirst ds) ≡ false
+input-no-constructor ds good = input-taken atFirst ds good taken-at-first .no-constructor
+
 not-the-input : (D : List DeclaredName) → InputTaken D → (w : List ℕ) → isDeclared constructorRole w D ≡ true → sameName w input ≡ false
 not-the-input D h w c = go (sameName w input) (same-equal w input)
   where

@@ -169,12 +169,12 @@ module _ (ds : List Declaration) where
 
   module _ (good : AllPass (declarationsChecks atFirst ds)) where
     -- the type of a constant: what its name means
-    constructor-of : (w u : List ℕ) → typeOfConstructor ds w ≡ some u
+    pub constructor-of : (w u : List ℕ) → typeOfConstructor ds w ≡ some u
         → typeMeant (typeEntries ds) u
         ≡ Flat (constructorMeant (constructorEntries ds) w .type) (constructorMeant (constructorEntries ds) w .constructors)
     constructor-of w u e = constructor-type w u 1 atFirst [] ds none-taken good e
 
-    pair-of : (v w u : List ℕ) → firstPairType ds v w ≡ some u
+    pub pair-of : (v w u : List ℕ) → firstPairType ds v w ≡ some u
         → typeMeant (typeEntries ds) u ≡ TyTuple (typeMeant (typeEntries ds) v) (typeMeant (typeEntries ds) w)
     pair-of v w u e = pair-type v w u 1 atFirst [] ds none-taken no-type good e
 

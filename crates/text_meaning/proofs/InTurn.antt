@@ -1,7 +1,7 @@
 -- Calls of the run in turn are one run of 000's rules: each next sheet decodes to the expression
 -- that the rules leave, with the types of the sheet before.
 -- Assumes nothing.
-use Prim.Native.Nat.{ℕ, suc, _+_, _*_}
+use Prim.Native.Nat.{ℕ, _+_, _*_}
 use mathlib.Core.Path.{_≡_, refl, ap, ap₂, sym, subst, _∙_}
 use mathlib.Core.List.{List, [], _∷_, _++_, map, append-assoc}
 use mathlib.Core.Option.{Option, some}
@@ -18,8 +18,7 @@ use Rattle.meaning.specs.Rules.{ReducesSeq, s-end, s-cycle}
 use Rattle.meaning.proofs.Order.{value-length}
 use Rattle.meaning.proofs.FlattenOneToOne.{flatten-typed}
 use Rattle.stimulus.specs.Stimulus.{inputType, endToEnd}
-use Rattle.behaviour.specs.Run.{RunGiven, RunsByRules}
-use Rattle.behaviour.specs.Afterwards.{WellFormed, OnlyDelays}
+use Rattle.behaviour.specs.Afterwards.{OnlyDelays}
 use Rattle.behaviour.proofs.Answers.{gives-afterwards}
 use Rattle.behaviour.proofs.ByRules.{call-by-rules}
 use Rattle.behaviour.proofs.Sheets.{only-leaves, header-same, accepted-written}

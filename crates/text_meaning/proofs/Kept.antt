@@ -38,7 +38,6 @@ use Rattle.text_meaning.specs.NamedValues.{valueOf}
 use Rattle.text_meaning.specs.Circuits.{NamedCircuit, circuitOf}
 use Rattle.text_meaning.specs.NamedRules.{GivesSeq, no-cycle, one-cycle}
 use Rattle.text_meaning.specs.Promises.{
-  declarations,
   Means,
   OneMeaning,
   RunGivesMeaning,

@@ -3,41 +3,30 @@
 -- `?` its own.
 -- Assumes nothing.
 use Prim.Native.Nat.{ℕ, suc}
-use mathlib.Core.Path.{_≡_, refl, sym, subst, _∙_}
-use mathlib.Core.Logic.{_⊎_, inl, inr, _↔_}
+use mathlib.Core.Path.{_≡_, refl, subst}
+use mathlib.Core.Logic.{_⊎_, inl, inr}
 use mathlib.Core.Bool.{Bool, true, false, cond}
 use mathlib.Core.Option.{Option, none, some}
 use mathlib.Core.List.{List, [], _∷_, _++_, List·Memᴰ, List·Memᴰ·head, List·Memᴰ·tail, Memᴰ·append-left, Memᴰ·append-right, List·Memᴰ·append-cases}
 use native.Mathlib.Omega.{arith}
 use lib.ListN.{length}
-use Rattle.grammar.specs.Tokens.{Token, keyword, symbol, nameToken, opens}
-use Rattle.grammar.specs.Source.{Identifier, identifier, Declaration, Constructors, PairOf, Text, text}
+use Rattle.grammar.specs.Tokens.{Token, symbol, opens}
+use Rattle.grammar.specs.Source.{Identifier, identifier, Declaration, Constructors, PairOf, text}
 use Rattle.grammar.specs.Source.{SourceConstant, OfConstructor, Undefined, ConstantPair, SourcePattern}
-use Rattle.grammar.specs.Source.{
-  Expression,
-  NameUse,
-  UndefinedOf,
-  PairExpression,
-  FirstOf,
-  SecondOf,
-  LetExpression,
-  LetRecExpression,
-  IfExpression,
-  DelayExpression,
-}
+use Rattle.grammar.specs.Source.{Expression, PairExpression, FirstOf, SecondOf, LetExpression, LetRecExpression, IfExpression, DelayExpression}
 use Rattle.grammar.specs.Grammar.{ReadsOthers, no-other, one-other, ReadsDeclaration, reads-constructors, reads-pair-of}
 use Rattle.grammar.specs.Grammar.{ReadsMore, no-more, one-more, ReadsConstant, reads-constructor, reads-undefined, reads-both}
 use Rattle.grammar.specs.Grammar.{ReadsPattern, reads-alone, reads-parts, reads-alone-or, reads-parts-or}
 use Rattle.grammar.specs.Grammar.{ReadsExpression, reads-named, reads-undefined-of, reads-pair, reads-first, reads-second, reads-let}
-use Rattle.grammar.specs.Grammar.{reads-let-rec, reads-if, reads-delay, ReadsText, reads-text}
-use Rattle.naming.specs.Declared.{DeclaredName, sameName, isAmong, isDeclared, constructorRole, typeRole, atFirst}
+use Rattle.grammar.specs.Grammar.{reads-let-rec, reads-if, reads-delay, reads-text}
+use Rattle.naming.specs.Declared.{sameName, isAmong, typeRole, atFirst}
 use Rattle.naming.specs.Checks.{PlacedCheck, checkAt, AllPass, no-check-left, one-holds, FirstFails, fails-here, fails-later, firstBadPlace}
 use Rattle.naming.specs.Constants.{letters, allLetters, typeOfConstructor, constantType, isTyped, constantPlace, constantChecks, constantsOfText}
 use Rattle.naming.specs.Names.{afterAll, bind, isOne, declarationsChecks, patternChecks, constantNames, expressionChecks, nameChecks, textChecks}
-use Rattle.naming.proofs.First.{none-bad, pass-none, pass-split, both-pass}
-use Rattle.translation.specs.Resolved.{ConstructorEntry, constructorEntriesOf, constructorEntriesFrom, constructorEntries}
+use Rattle.naming.proofs.First.{none-bad, pass-none, pass-split}
+use Rattle.translation.specs.Resolved.{ConstructorEntry, constructorEntriesOf, constructorEntriesFrom}
 use Rattle.translation.proofs.ConstructorTables.{passes, pass-rest, after-new, isEntry, a-constructor}
-use Rattle.text_passes.specs.DelayConstants.{delayConstants, UntypedPair}
+use Rattle.text_passes.specs.DelayConstants.{delayConstants}
 use Rattle.text_passes.specs.Promises.{BadPlaceExactly, NoBadPlace, NamesFirst, OnlyPairsFail}
 
 fails-found : {cs : List PlacedCheck} {p : ℕ} → FirstFails cs p → firstBadPlace cs ≡ some p
@@ -97,7 +86,7 @@ among-typed w t n k (c ∷ cs) C h = go (sameName w (letters c)) (among-typed w 
     go true f h = inl refl
     go false f h = f h
 
-entry-typed : (w : List ℕ) (i : ℕ) (ds : List Declaration) → isEntry w (constructorEntriesFrom i ds) ≡ true → isTyped (typeOfConstructor ds w) ≡ true
+pub entry-typed : (w : List ℕ) (i : ℕ) (ds : List Declaration) → isEntry w (constructorEntriesFrom i ds) ≡ true → isTyped (typeOfConstructor ds w) ≡ true
 entry-typed w i [] h = absurd (let no : _≡_ {A = ℕ} 0 1 = cc in omega arith)
 entry-typed w i (Constructors t c cs ∷ ds) h =
     go (isAmong w (allLetters (c ∷ cs))) (entry-typed w (suc i) ds)

@@ -3,16 +3,15 @@
 -- a x` to `below (suc a) x`.
 -- Assumes nothing.
 use Prim.Native.Nat.{ℕ, zero, suc, _+_, _≤_, _<_}
-use mathlib.Core.Path.{_≡_, refl, ap, ap₂, sym, _∙_}
+use mathlib.Core.Path.{_≡_, refl, ap, _∙_}
 use mathlib.Core.Bool.{Bool, true, false, cond, _&&_}
-use mathlib.Core.List.{List, [], _∷_, _++_}
+use mathlib.Core.List.{List, [], _∷_}
 use native.Mathlib.Omega.{arith}
 use borrow.Author.Tests.{ltb-true, ltb-false, eqb-true, eqb-false, ne-eqb, lt-ltb, le-ltb}
 use lib.Dec.{eqb, ltb}
 use lib.ListN.{length, length-append}
-use Rattle.records.specs.Words.{word, count, kindWord, nextWord, wordA, wordB, wordC, wordD}
-use Rattle.records.specs.Kinds.{rowOf, askOf}
-use Rattle.records.specs.Says.{askAt, Naming, names, namesAt, ifNamed, namings, namingsIn, namingsBelow}
+use Rattle.records.specs.Words.{word}
+use Rattle.records.specs.Says.{askAt, names, namesAt, ifNamed, namingsIn, namingsBelow}
 use Rattle.text_passes.specs.RecordWalk.{walkOrder, namedBy}
 use Rattle.text_passes.proofs.Nested.{Nested, nested, AllNested, none-nested, zero-nested, part-nested}
 

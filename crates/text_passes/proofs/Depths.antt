@@ -1,24 +1,22 @@
 -- Code 6 by the text: how deep each expression's record lies and in how many defining parts is read
 -- off the one word that names it, from the root down.
 -- Assumes nothing.
-use Prim.Native.Nat.{ℕ, zero, suc, _+_, _≤_, _<_, min}
-use mathlib.Core.Path.{_≡_, refl, ap, ap₂, sym, subst, _∙_}
-use mathlib.Core.Bool.{Bool, true, false, cond, _&&_, _||_}
-use mathlib.Core.List.{List, [], _∷_, _++_, List·Memᴰ, List·Memᴰ·head, List·Memᴰ·tail, Memᴰ·append-left, Memᴰ·append-right, List·Memᴰ·eq-of-singleton}
+use Prim.Native.Nat.{ℕ, zero, suc, _+_, _≤_, _<_}
+use mathlib.Core.Path.{_≡_, refl, ap, sym, subst, _∙_}
+use mathlib.Core.Bool.{Bool, true, false, cond, _||_}
+use mathlib.Core.List.{List, [], _∷_, _++_, List·Memᴰ, List·Memᴰ·head, Memᴰ·append-left, Memᴰ·append-right, List·Memᴰ·eq-of-singleton}
 use mathlib.Core.Option.{Option, none, some}
 use native.Mathlib.Omega.{arith}
 use native.Mathlib.Decide.{ℕ-discrete}
-use borrow.Author.Tests.{eq-eqb, lt-ltb, ltb-true, ltb-false}
-use lib.Dec.{eqb, ltb}
-use lib.ListN.{length, replicate, length-replicate}
-use Rattle.records.specs.Words.{word, count, kindWord}
-use Rattle.records.specs.Kinds.{expressions, sortOf, sameSort, rowOf, kindOf, askOf}
-use Rattle.records.specs.SheetOf.{words, sheetOf}
-use Rattle.records.specs.Says.{kindAt, sortAt, askAt, Naming, names, namesAt, ifNamed, namingsIn, namingsBelow, namings}
+use borrow.Author.Tests.{ltb-true, ltb-false}
+use lib.Dec.{ltb}
+use lib.ListN.{length}
+use Rattle.records.specs.Words.{count}
+use Rattle.records.specs.Kinds.{expressions}
+use Rattle.records.specs.Says.{sortAt, Naming, namesAt, ifNamed, namingsIn, namingsBelow, namings}
 use Rattle.records.specs.Trees.{follow}
 use Rattle.answers.specs.Answers.{lowest, orHere}
-use Rattle.structure.specs.Rules.{climb, ancestryWithin, ancestry, depth, isFeedback, ofDefiningPart, howMany, nesting, tooDeep}
-use Rattle.translation.proofs.Standing.{RecordIs}
+use Rattle.structure.specs.Rules.{ancestryWithin, ancestry, depth, ofDefiningPart, howMany, nesting, tooDeep}
 use Rattle.text_passes.specs.TextDepths.{LaidExpression, laidAt, liesTooDeep, firstTooDeep}
 
 -- a search upwards from a number
@@ -86,7 +84,9 @@ naming-in s q r w (suc k) h past within = go (ℕ-discrete w (suc k)) (naming-in
 
     go : Dec (w ≡ suc k) → (w ≤ k → List·Memᴰ (record { by = r; at = w }) (namingsIn s q r k))
         → List·Memᴰ (record { by = r; at = w }) (namingsIn s q r (suc k))
-    go (yes e) f = Memᴰ·append-right (namingsIn s q r k) (subst (λ v. List·Memᴰ (record { by = r; at = w }) (ifNamed (namesAt s q r v) r v)) e (here (namesAt s q r w) h))
+    go (yes e) f =
+        Memᴰ·append-right (namingsIn s q r k)
+        (subst (λ v. List·Memᴰ (record { by = r; at = w }) (ifNamed (namesAt s q r v) r v)) e (here (namesAt s q r w) h))
     go (no n) f = Memᴰ·append-left (ifNamed (namesAt s q r (suc k)) r (suc k)) (f (below w k within n))
       where
         below : (w k : ℕ) → w ≤ suc k → (w ≡ suc k → ⊥) → w ≤ k

@@ -13,7 +13,7 @@ use Rattle.records.specs.Says.{wellSaid, namings}
 use Rattle.records.specs.Trees.{typeWithin, typeAt, pairOf, chainWithin, chain, alternativesWithin, alternatives, treeWithin, treeAt, circuit}
 use Rattle.structure.specs.Rules.{ancestryWithin, ancestry, depth, nesting, wrongLength, wrongHeader, wrongRecord, wrongNaming, wrongType, tooDeep}
 use Rattle.answers.specs.Answers.{lowest}
-use Rattle.answers.specs.declared.Verdict.the-variants.{Accepted, WrongRecord, WrongType, TooDeep}
+use Rattle.answers.specs.declared.Verdict.the-variants.{Accepted, WrongRecord, WrongType, TooDeep, IllTyped}
 use Rattle.verdict.specs.Verdict.{byTypes, byRecords, verdict}
 use Rattle.grammar.specs.Source.{Identifier, identifier, Declaration, Constructors, PairOf, Text, text}
 use Rattle.grammar.specs.Source.{OfConstructor, Undefined, ConstantPair, Alone, PatternPair, Either}
@@ -23,6 +23,23 @@ use Rattle.records.specs.SheetOf.{words, sheetOf}
 use Rattle.text_passes.specs.RefusedTypes.{overCounted, refusedPair}
 use Rattle.text_passes.specs.RecordWalk.{walkWithin, recordWalk}
 use Rattle.text_passes.specs.TextDepths.{textExpressions, firstTooDeep}
+use Rattle.text_passes.specs.NamedTypes.{
+  declared-here,
+  declared-later,
+  whole-name-typed,
+  one-typed,
+  parts-typed,
+  either-typed,
+  bound-typed,
+  made-typed,
+  couple-typed,
+  second-part-typed,
+  let-typed,
+  if-typed,
+  delay-typed,
+  NameTypedText,
+  name-typed-text,
+}
 
 -- names of one letter, and `input`
 abbrev letter : ℕ → Identifier
@@ -160,5 +177,28 @@ depths-found = (refl, refl, refl, refl)
 
 deep-verdicts : (verdict (sheetOfText (ofExpression (inFeedbacks 3))) ≡ Accepted 1)
     × (verdict (sheetOfText (ofExpression (inFeedbacks 4))) ≡ TooDeep 6)
+    × (verdict (sheetOfText (ofExpression (ofFirstParts 1))) ≡ IllTyped 2)
 unfolding sheetOfText verdict byRecords byTypes wrongLength wrongHeader wrongRecord wrongNaming wrongType tooDeep depth nesting ancestry ancestryWithin circuit treeAt treeWithin alternatives alternativesWithin chain chainWithin pairOf typeAt typeWithin namings wellSaid askOf kindOf rowOf word count
-deep-verdicts = (refl, refl)
+deep-verdicts = (refl, refl, refl)
+
+-- TYPE b = h | l IN TYPE c = (b, b) IN INPUT b (LET x = (input, h) IN (IF x MATCHES (h, b) | c THEN
+-- x[2] ELSE (DELAY (?b, input))))
+abbrev wellTyped : Expression
+wellTyped =
+    LetExpression (letter 120) (PairExpression (NameUse theInputName) (NameUse (letter 104)))
+    (IfExpression (NameUse (letter 120)) (Either (PatternPair (Alone (letter 104)) (Alone (letter 98))) (Alone (letter 99)))
+    (SecondOf (NameUse (letter 120)))
+    (DelayExpression (Undefined (letter 98)) (NameUse theInputName)))
+
+well-typed : NameTypedText (text bit (PairOf (letter 99) (letter 98) (letter 98) ∷ []) (letter 98) wellTyped) 1
+well-typed =
+    name-typed-text refl
+    (let-typed (couple-typed (bound-typed refl) (made-typed refl refl refl) (declared-later declared-here))
+    (if-typed (bound-typed refl)
+    (either-typed (parts-typed (declared-later declared-here) (one-typed refl refl) (whole-name-typed refl)) (whole-name-typed refl))
+    (second-part-typed (bound-typed refl) (declared-later declared-here))
+    (delay-typed refl (bound-typed refl))))
+
+well-typed-accepted : verdict (sheetOfText (text bit (PairOf (letter 99) (letter 98) (letter 98) ∷ []) (letter 98) wellTyped)) ≡ Accepted 1
+unfolding sheetOfText verdict byRecords byTypes wrongLength wrongHeader wrongRecord wrongNaming wrongType tooDeep depth nesting ancestry ancestryWithin circuit treeAt treeWithin alternatives alternativesWithin chain chainWithin pairOf typeAt typeWithin namings wellSaid askOf kindOf rowOf word count
+well-typed-accepted = refl

@@ -10,6 +10,9 @@ pub mod PairTypes
 pub mod Depths
 pub mod TextDeep
 pub mod Verdicts
+pub mod WellTyped
 pub mod BadPlaces
+pub mod NamedTyping
+pub mod AcceptedText
 pub mod Kept
 pub mod Examples

@@ -1,22 +1,21 @@
 -- Each record of a text's sheet but the header is named by one word, and the sheet's length fits:
 -- codes 1 and 4 never come.
 -- Assumes nothing.
-use Prim.Native.Nat.{ℕ, zero, suc, _+_, _*_, _%_, _≤_, _<_}
+use Prim.Native.Nat.{ℕ, suc, _+_, _*_, _%_, _≤_, _<_}
 use mathlib.Core.Path.{_≡_, refl, ap, sym, _∙_}
-use mathlib.Core.Bool.{Bool, false}
+use mathlib.Core.Bool.{false}
 use mathlib.Core.List.{List, [], _∷_}
 use native.Mathlib.Omega.{arith}
 use borrow.Author.Tests.{le-ltb, eq-eqb}
-use lib.Dec.{eqb, ltb}
 use lib.ListN.{length}
 use Rattle.records.specs.Words.{count}
 use Rattle.records.specs.SheetOf.{Record, words, sheetOf}
 use Rattle.records.specs.Says.{namings, namingsBelow}
 use Rattle.structure.specs.Rules.{wrongLength}
 use Rattle.grammar.specs.Tokens.{Token}
-use Rattle.grammar.specs.Source.{identifier, Declaration, Expression, Text, text}
+use Rattle.grammar.specs.Source.{identifier, Text, text}
 use Rattle.naming.specs.RecordsNeeded.{recordsNeeded}
-use Rattle.translation.specs.Layout.{roomOf, textRecords, sheetOfText}
+use Rattle.translation.specs.Layout.{textRecords, sheetOfText}
 use Rattle.translation.proofs.Standing.{sheet-count}
 use Rattle.translation.proofs.Kept as Translation
 use Rattle.text_passes.specs.Promises.{FittingText, EachNamedOnce}
@@ -26,7 +25,6 @@ use Rattle.text_passes.proofs.Counting.{
   timesFrom,
   times-below,
   times-append,
-  oneAt,
   oneBelow,
   below-step,
   below-all,

@@ -2,18 +2,15 @@
 -- each part where the one before ends. That each record is named once and the order of the walk
 -- both follow.
 -- Assumes nothing.
-use Prim.Native.Nat.{ℕ, zero, suc, _+_, _-_, _≤_, _<_, min}
-use mathlib.Core.Path.{_≡_, refl, ap, ap₂, sym, subst, _∙_}
+use Prim.Native.Nat.{ℕ, suc, _+_, _-_, _≤_, min}
+use mathlib.Core.Path.{_≡_, refl, sym, subst}
 use mathlib.Core.Bool.{Bool, true, false, cond}
-use mathlib.Core.List.{List, [], _∷_, _++_, append-nil, append-assoc}
+use mathlib.Core.List.{List, [], _∷_, _++_}
 use native.Mathlib.Omega.{arith}
 use lib.ListN.{length, replicate, length-append, length-replicate}
-use Rattle.records.specs.Words.{word, count, nextWord, wordB}
 use Rattle.records.specs.Kinds.{rowOf, askOf}
 use Rattle.records.specs.SheetOf.{words, sheetOf}
-use Rattle.records.specs.Trees.{follow}
 use Rattle.picoella.specs.Language.{Ty, Flat, TyTuple, leaves}
-use Rattle.grammar.specs.Tokens.{Token}
 use Rattle.grammar.specs.Source.{Identifier, identifier, Declaration, Constructors, PairOf, SourceConstant, OfConstructor, Undefined, ConstantPair}
 use Rattle.grammar.specs.Source.{SourcePattern, Alone, PatternPair, Either, text}
 use Rattle.grammar.specs.Source.{
@@ -28,16 +25,15 @@ use Rattle.grammar.specs.Source.{
   IfExpression,
   DelayExpression,
 }
-use Rattle.grammar.specs.Grammar.{ReadsText}
 use Rattle.naming.specs.Declared.{isAmong, isDeclared, atFirst, typeRole, constructorRole}
 use Rattle.naming.specs.Checks.{AllPass}
 use Rattle.naming.specs.Constants.{letters}
 use Rattle.naming.specs.Names.{afterAll, bind, patternChecks, constantNames, expressionChecks, textChecks}
-use Rattle.naming.specs.RecordsNeeded.{leafCountOf, leafCounts, patternRecords, constantLeaves, recordsNeeded}
+use Rattle.naming.specs.RecordsNeeded.{leafCountOf, leafCounts, patternRecords, constantLeaves}
 use Rattle.translation.specs.Resolved.{TypeEntry, typeMeant, typeEntries, afterEntry, distance}
 use Rattle.translation.specs.Distances.{constantValues}
 use Rattle.translation.specs.Layout.{typesLaid, leavesLaid, constantLaid, nameLaid, patternLaid, roomOf, laid, textRecords, sheetOfText}
-use Rattle.translation.proofs.Standing.{RecordIs, Stands, one-stands, sheet-stands, stands-append, sheet-count}
+use Rattle.translation.proofs.Standing.{RecordIs, Stands, one-stands, sheet-stands, stands-append}
 use Rattle.translation.proofs.ConstructorTables.{pass-both, passes, pass-rest, after-new}
 use Rattle.translation.proofs.Tables.{TablesMeant}
 use Rattle.translation.proofs.Sizes.{types-length, leaves-length, pattern-length, constant-length, expression-length}
@@ -241,7 +237,8 @@ module _ {s : List ℕ} where
         let l = expression-length T bound (suc r) e (both .0) in
         let there : Stands s second (laid ds bound second f) = rw l at (parted .1) in
         nests (roomOf ds bound (PairExpression e f)) (omega arith)
-        (one-nested (expression-nests bound (suc r) e (both .0) (parted .0)) (one-nested (expression-nests bound second f (both .1) there) none-nested)) (by-tuple h)
+        (one-nested (expression-nests bound (suc r) e (both .0) (parted .0))
+        (one-nested (expression-nests bound second f (both .1) there) none-nested)) (by-tuple h)
     expression-nests bound r (FirstOf e) good (one-stands h st) =
         nests (roomOf ds bound (FirstOf e)) (omega arith)
         (one-nested (expression-nests bound (suc r) e good st) none-nested) (by-first h)

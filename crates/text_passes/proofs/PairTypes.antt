@@ -12,12 +12,10 @@ use borrow.Author.Tests.{lt-ltb, eq-eqb, ne-eqb}
 use lib.Dec.{eqb, ltb}
 use lib.ListN.{length, take}
 use Rattle.picoella.specs.Language.{Ty, Flat, TyTuple, leaves}
-use Rattle.records.specs.Words.{kindWord, wordA, wordB}
-use Rattle.records.specs.Kinds.{rowOf, kindOf, isPair}
-use Rattle.records.specs.Says.{kindAt}
+use Rattle.records.specs.Kinds.{rowOf, kindOf}
 use Rattle.records.specs.Trees.{typeAt, isPairOf, pairBelow}
 use Rattle.structure.specs.Rules.{wrongType}
-use Rattle.grammar.specs.Source.{Identifier, identifier, Declaration, Constructors, PairOf}
+use Rattle.grammar.specs.Source.{identifier, Declaration, Constructors, PairOf}
 use Rattle.naming.specs.Declared.{DeclaredName, sameName, atFirst}
 use Rattle.naming.specs.Checks.{AllPass}
 use Rattle.naming.specs.Constants.{letters, firstPairType, isTyped}
@@ -28,13 +26,13 @@ use Rattle.translation.specs.Layout.{typesLaid}
 use Rattle.translation.proofs.Standing.{RecordIs, Stands, one-stands}
 use Rattle.translation.proofs.ConstructorTables.{pass-both, passes, pass-rest}
 use Rattle.translation.proofs.Tables.{isNamed, Known, no-type, after-known}
-use Rattle.text_meaning.proofs.TakenNames.{AllTaken, after-taken, later-number, first-entry}
+use Rattle.text_meaning.proofs.TakenNames.{AllTaken, after-taken, later-same, later-number, first-entry}
 use Rattle.text_passes.specs.RefusedTypes.{declarationAt, whereDeclared, isRefusedPair, refusedPair}
-use Rattle.text_passes.specs.Promises.{typeNameOf}
+use Rattle.text_passes.specs.NamedTypes.{typeNameOf}
 use Rattle.text_passes.proofs.TypesReady.{NumbersBelow, no-numbers, ranged-number, after-ranged, named-all}
 
 -- the numbers of entries fall
-data Falling : List TypeEntry → Type 0 where
+pub data Falling : List TypeEntry → Type 0 where
   none-falling : Falling []
   one-falling : {v : List ℕ} {j : ℕ} {τ : Ty} {T : List TypeEntry} → NumbersBelow j T → Falling T → Falling (typeEntry v j τ ∷ T)
 
@@ -42,13 +40,13 @@ after-falling : (i : ℕ) (T : List TypeEntry) (d : Declaration) → NumbersBelo
 after-falling i T (Constructors t c cs) r f = one-falling r f
 after-falling i T (PairOf t a b) r f = one-falling r f
 
-entries-falling : (i : ℕ) (T : List TypeEntry) (ds : List Declaration) → 0 < i → NumbersBelow i T → Falling T → Falling (typeEntriesFrom i T ds)
+pub entries-falling : (i : ℕ) (T : List TypeEntry) (ds : List Declaration) → 0 < i → NumbersBelow i T → Falling T → Falling (typeEntriesFrom i T ds)
 entries-falling i T [] h r f = f
 entries-falling i T (d ∷ ds) h r f =
     entries-falling (suc i) (afterEntry i T d) ds (omega arith) (after-ranged i T d h r) (after-falling i T d r f)
 
 -- so two names of one number are the same
-number-one : (x y : List ℕ) {T : List TypeEntry} → Falling T → isNamed x T ≡ true → isNamed y T ≡ true → typeNumber T x ≡ typeNumber T y → x ≡ y
+pub number-one : (x y : List ℕ) {T : List TypeEntry} → Falling T → isNamed x T ≡ true → isNamed y T ≡ true → typeNumber T x ≡ typeNumber T y → x ≡ y
 number-one x y none-falling h k e = absurd (let no : _≡_ {A = ℕ} 0 1 = cc in omega arith)
 number-one x y (one-falling {v} {j} {τ} {T} r f) h k e =
     go (sameName x v) (sameName y v) (same-equal x v) (same-equal y v) (number-one x y f) (ranged-number x r) (ranged-number y r) h k e
@@ -141,6 +139,11 @@ in-all {U} {i} {D} {T} ds f w h = (
   subst (λ X. isNamed w X ≡ true) (f .all) (named-all w i T ds h),
   subst (λ X. typeNumber X w ≡ typeNumber T w) (f .all) (later-number w i D T ds (f .taken) h (f .good)),
 )
+
+in-all-meant : {U : List TypeEntry} {i : ℕ} {D : List DeclaredName} {T : List TypeEntry} (ds : List Declaration) → Far U i D T ds → (w : List ℕ)
+    → isNamed w T ≡ true → typeMeant U w ≡ typeMeant T w
+in-all-meant {U} {i} {D} {T} ds f w h =
+    subst (λ X. typeMeant X w ≡ typeMeant T w) (f .all) (later-same w i D T ds (f .taken) h (f .good))
 
 -- record i is the pair type of v's and w's exactly where its declaration is a pair of them
 module _ (s : List ℕ) {U : List TypeEntry} (falling : Falling U) (v w : List ℕ) (hv : isNamed v U ≡ true) (hw : isNamed w U ≡ true) where
@@ -284,3 +287,53 @@ module _ {s : List ℕ} (all : List Declaration) (good : AllPass (declarationsCh
       → (d : Declaration) × (declarationAt all (suc k) ≡ some d) × (typeNumber U (typeNameOf d) ≡ suc k)
   declared-named k h =
       let r = each-named all start k h in (r .0, r .1, r .2 ∙ (let z : 1 + k ≡ suc k = omega arith in z))
+
+  -- what the name of a declaration stands for
+  abbrev pub StandsDeclared : ℕ → Declaration → Type 0
+  StandsDeclared j (Constructors t c cs) = typeMeant U (letters t) ≡ Flat j (length (c ∷ cs))
+  StandsDeclared j (PairOf t a b) =
+      (typeMeant U (letters t) ≡ TyTuple (typeMeant U (letters a)) (typeMeant U (letters b)))
+      × (isNamed (letters a) U ≡ true)
+      × (isNamed (letters b) U ≡ true)
+
+  each-stands : {i : ℕ} {D : List DeclaredName} {T : List TypeEntry} (es : List Declaration) → Far U i D T es → (k : ℕ) (c : Declaration)
+      → declarationAt es (suc k) ≡ some c → StandsDeclared (i + k) c × (isNamed (typeNameOf c) U ≡ true)
+  each-stands [] f k c h = absurd (let no : _≡_ {A = ℕ} 0 1 = cc in omega arith)
+  each-stands {i} {D} {T} (Constructors (identifier t p) a cs ∷ es) f zero c h =
+      let d = Constructors (identifier t p) a cs in
+      let same : d ≡ c = cc in
+      let entry = first-entry i T t (Flat i (length (a ∷ cs))) in
+      let z : i ≡ i + 0 = omega arith in
+      let here : StandsDeclared i d × (isNamed t U ≡ true) =
+      (in-all-meant es (further d es f) t (entry .1) ∙ entry .0, in-all es (further d es f) t (entry .1) .0) in
+      subst (λ x. StandsDeclared (i + 0) x × (isNamed (typeNameOf x) U ≡ true)) same
+      (subst (λ j. StandsDeclared j d × (isNamed t U ≡ true)) z here)
+  each-stands {i} {D} {T} (PairOf (identifier t p) (identifier a q) (identifier b r) ∷ es) f zero c h =
+      let d = PairOf (identifier t p) (identifier a q) (identifier b r) in
+      let same : d ≡ c = cc in
+      let parts = pass-rest (pass-both (declarationChecks D d) (declarationsChecks (afterDeclaration D d) es) (f .good) .0) in
+      let na = f .known .named a (passes parts) in
+      let nb = f .known .named b (passes (pass-rest parts)) in
+      let entry = first-entry i T t (TyTuple (typeMeant T a) (typeMeant T b)) in
+      let here : StandsDeclared i d × (isNamed t U ≡ true) = (
+        (
+          in-all-meant es (further d es f) t (entry .1) ∙ entry .0
+              ∙ ap₂ TyTuple (sym (in-all-meant (d ∷ es) f a na)) (sym (in-all-meant (d ∷ es) f b nb)),
+          in-all (d ∷ es) f a na .0,
+          in-all (d ∷ es) f b nb .0,
+        ),
+        in-all es (further d es f) t (entry .1) .0,
+      ) in
+      subst (λ x. StandsDeclared (i + 0) x × (isNamed (typeNameOf x) U ≡ true)) same here
+  each-stands {i} (d ∷ es) f (suc k) c h =
+      let z : suc i + k ≡ i + suc k = omega arith in
+      subst (λ j. StandsDeclared j c × (isNamed (typeNameOf c) U ≡ true)) z (each-stands es (further d es f) k c h)
+
+  pub declared-stands : (k : ℕ) (c : Declaration) → declarationAt all (suc k) ≡ some c
+      → StandsDeclared (suc k) c × (isNamed (typeNameOf c) U ≡ true)
+  declared-stands k c h =
+      let z : 1 + k ≡ suc k = omega arith in
+      subst (λ j. StandsDeclared j c × (isNamed (typeNameOf c) U ≡ true)) z (each-stands all start k c h)
+
+  pub all-falling : Falling U
+  all-falling = falls

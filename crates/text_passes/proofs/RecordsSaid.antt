@@ -1,17 +1,14 @@
 -- A record of a text's expression with words as the table of kinds asks: it is well said, no header
 -- and no type.
 -- Assumes nothing.
-use Prim.Native.Nat.{ℕ, zero, suc, _+_, _≤_, _<_}
-use mathlib.Core.Path.{_≡_, refl, ap, sym, _∙_}
-use mathlib.Core.Bool.{Bool, true, false, cond, not, _&&_, _||_, or-true, and-false}
-use mathlib.Core.List.{List, [], _∷_, _++_}
-use native.Mathlib.Omega.{arith}
-use native.Mathlib.Decide.{ℕ-discrete}
-use borrow.Author.Tests.{eq-eqb, lt-ltb, le-leb, le-ltb, leb-true, leb-false}
+use Prim.Native.Nat.{ℕ, _<_}
+use mathlib.Core.Path.{_≡_, refl}
+use mathlib.Core.Bool.{Bool, true, false, not, _&&_, or-true, and-false}
+use mathlib.Core.List.{List}
+use borrow.Author.Tests.{eq-eqb, lt-ltb, le-ltb, leb-true, leb-false}
 use lib.Dec.{eqb, ltb, leb}
-use lib.ListN.{length}
-use Rattle.records.specs.Words.{word, count, kindWord, nextWord, wordA, wordB, wordC, wordD}
-use Rattle.records.specs.Kinds.{Sort, types, expressions, patterns, leafs, sortNumber, sameSort, sortOf, rowOf, kindOf, askOf, isHeader, isFlat, nextOf}
+use Rattle.records.specs.Words.{count, wordA}
+use Rattle.records.specs.Kinds.{Sort, types, expressions, patterns, leafs, sortNumber, sameSort, rowOf, kindOf, askOf, isHeader, isFlat, nextOf}
 use Rattle.records.specs.Says.{kindAt, sortAt, higher, meets, wellSaid}
 use Rattle.structure.specs.Rules.{wrongRecord}
 use Rattle.translation.proofs.Standing.{RecordIs}

@@ -2,24 +2,22 @@
 -- constructors: code 3 does not come; and the header always does: code 2 never comes.
 -- Assumes nothing.
 use Prim.Native.Nat.{ℕ, zero, suc, _+_, _≤_, _<_, min}
-use mathlib.Core.Path.{_≡_, refl, ap, sym, subst, _∙_}
-use mathlib.Core.Bool.{Bool, true, false, cond, not, _&&_, _||_}
+use mathlib.Core.Path.{_≡_, refl, sym, subst, _∙_}
+use mathlib.Core.Bool.{Bool, true, false, cond, _&&_}
 use mathlib.Core.List.{List, [], _∷_, _++_}
-use mathlib.Core.Option.{Option, none, some}
 use native.Mathlib.Omega.{arith}
 use borrow.Author.Tests.{lt-ltb, le-leb, eq-eqb, ltb-true, ltb-false}
-use lib.Dec.{eqb, ltb, leb}
-use lib.ListN.{length, replicate, length-append, length-replicate}
+use lib.Dec.{ltb}
+use lib.ListN.{length, replicate, length-replicate}
 use Rattle.records.specs.Words.{count, kindWord, wordA}
-use Rattle.records.specs.Kinds.{Sort, types, expressions, patterns, leafs, rowOf, kindOf, askOf, isHeader, isFlat, nextOf, sameSort}
-use Rattle.records.specs.SheetOf.{Record, words, sheetOf}
-use Rattle.records.specs.Says.{kindAt, sortAt, higher, meets, wellSaid, Naming, namings, wellNamed}
-use Rattle.picoella.specs.Language.{Ty, Flat, TyTuple, leaves}
-use Rattle.answers.specs.Answers.{lowest, orHere}
-use Rattle.structure.specs.Rules.{wrongHeader, wrongRecord, wrongNaming}
+use Rattle.records.specs.Kinds.{types, expressions, patterns, leafs, rowOf, kindOf, askOf, isFlat, nextOf, sameSort}
+use Rattle.records.specs.SheetOf.{words, sheetOf}
+use Rattle.records.specs.Says.{kindAt, sortAt, higher, meets, wellSaid}
+use Rattle.picoella.specs.Language.{leaves}
+use Rattle.structure.specs.Rules.{wrongHeader, wrongRecord}
 use Rattle.grammar.specs.Tokens.{Token}
-use Rattle.grammar.specs.Source.{Identifier, identifier, Declaration, Constructors, PairOf, SourceConstant, OfConstructor, Undefined, ConstantPair}
-use Rattle.grammar.specs.Source.{SourcePattern, Alone, PatternPair, Either, Text, text}
+use Rattle.grammar.specs.Source.{identifier, Declaration, Constructors, PairOf, SourceConstant, OfConstructor, Undefined, ConstantPair}
+use Rattle.grammar.specs.Source.{SourcePattern, Alone, PatternPair, Either, text}
 use Rattle.grammar.specs.Source.{
   Expression,
   NameUse,
@@ -42,7 +40,7 @@ use Rattle.naming.specs.RecordsNeeded.{leafCountOf, leafCounts, patternRecords,
 use Rattle.translation.specs.Resolved.{TypeEntry, typeMeant, typeNumber, typeEntries, afterEntry, constructorMeant, constructorEntries, distance}
 use Rattle.translation.specs.Distances.{constantValues}
 use Rattle.translation.specs.Layout.{nextType, typesLaid, leavesLaid, constantLaid, nameLaid, numberOr, patternLaid, roomOf, laid, textRecords, sheetOfText}
-use Rattle.translation.proofs.Standing.{RecordIs, Stands, none-stand, one-stands, sheet-stands, stands-append, sheet-count}
+use Rattle.translation.proofs.Standing.{RecordIs, Stands, one-stands, sheet-stands, stands-append, sheet-count}
 use Rattle.translation.proofs.ConstructorTables.{pass-both, passes, pass-rest, after-new, type-or-constructor}
 use Rattle.translation.proofs.Tables.{TablesMeant, Known, no-type, after-known}
 use Rattle.translation.proofs.Sizes.{types-length, leaves-length, pattern-length, constant-length, expression-length}

@@ -1,21 +1,20 @@
 -- The records of a text that are too deep: its expressions', as the text says them; no leaf,
 -- pattern or type is.
 -- Assumes nothing.
-use Prim.Native.Nat.{ℕ, zero, suc, _+_, _≤_, _<_, min}
-use mathlib.Core.Path.{_≡_, refl, ap, ap₂, sym, subst, _∙_}
-use mathlib.Core.Bool.{Bool, true, false, cond, _&&_, _||_}
+use Prim.Native.Nat.{ℕ, suc, _+_, _≤_, _<_}
+use mathlib.Core.Path.{_≡_, refl, ap, ap₂, sym, _∙_}
+use mathlib.Core.Bool.{Bool, true, false, cond, _||_}
 use mathlib.Core.List.{List, [], _∷_, _++_}
 use mathlib.Core.Option.{Option, none, some}
 use native.Mathlib.Omega.{arith}
 use borrow.Author.Tests.{eq-eqb}
-use lib.Dec.{eqb, ltb}
+use lib.Dec.{ltb}
 use lib.ListN.{length, replicate, length-replicate}
-use Rattle.records.specs.Words.{word, count}
-use Rattle.records.specs.Kinds.{expressions, types, sameSort, rowOf, kindOf, askOf}
-use Rattle.records.specs.SheetOf.{words, sheetOf}
-use Rattle.records.specs.Says.{sortAt, Naming, namesAt, namings}
+use Rattle.records.specs.Words.{count}
+use Rattle.records.specs.Kinds.{types, rowOf, kindOf, askOf}
+use Rattle.records.specs.SheetOf.{words}
+use Rattle.records.specs.Says.{sortAt, namesAt, namings}
 use Rattle.answers.specs.Answers.{lowest}
-use Rattle.picoella.specs.Language.{leaves}
 use Rattle.structure.specs.Rules.{ofDefiningPart, tooDeep}
 use Rattle.grammar.specs.Tokens.{Token}
 use Rattle.grammar.specs.Source.{Identifier, identifier, Declaration, SourcePattern, Alone, PatternPair, Either, Text, text}
@@ -37,17 +36,16 @@ use Rattle.naming.specs.Checks.{AllPass}
 use Rattle.naming.specs.Constants.{letters}
 use Rattle.naming.specs.Names.{afterAll, bind, patternChecks, constantNames, expressionChecks, textChecks}
 use Rattle.naming.specs.RecordsNeeded.{leafCountOf, leafCounts, patternRecords, constantLeaves, recordsNeeded}
-use Rattle.translation.specs.Resolved.{typeMeant, typeEntries, distance}
+use Rattle.translation.specs.Resolved.{distance}
 use Rattle.translation.specs.Distances.{constantValues}
 use Rattle.translation.specs.Layout.{typesLaid, leavesLaid, constantLaid, nameLaid, patternLaid, roomOf, laid, textRecords, sheetOfText}
-use Rattle.translation.proofs.Standing.{RecordIs, Stands, none-stand, one-stands, sheet-stands, stands-append}
-use Rattle.translation.proofs.ConstructorTables.{pass-both, passes, pass-rest, after-new}
+use Rattle.translation.proofs.Standing.{RecordIs, Stands, one-stands, sheet-stands, stands-append}
+use Rattle.translation.proofs.ConstructorTables.{pass-both, pass-rest, after-new}
 use Rattle.translation.proofs.Tables.{TablesMeant}
 use Rattle.translation.proofs.Sizes.{types-length, leaves-length, pattern-length, constant-length, expression-length}
 use Rattle.translation.proofs.Kept as Translation
 use Rattle.translation.proofs.Kept.{names-good, in-its-sheet}
-use Rattle.text_passes.specs.TextDepths.{LaidExpression, laidAt, expressionsLaid, textExpressions, firstTooDeep}
-use Rattle.text_passes.proofs.Nested.{leaves-some, values-some}
+use Rattle.text_passes.specs.TextDepths.{LaidExpression, expressionsLaid, textExpressions, firstTooDeep}
 use Rattle.text_passes.proofs.NamedOnce.{records-counted, named-once}
 use Rattle.text_passes.proofs.TypesReady.{types-sorted}
 use Rattle.text_passes.proofs.SheetSaid.{room-some, expression-sort}

@@ -1,28 +1,27 @@
 -- The types of a text where they stand: what type names and constructors stand for lies among the
 -- type records.
 -- Assumes nothing.
-use Prim.Native.Nat.{ℕ, zero, suc, _+_, _≤_, _<_}
-use mathlib.Core.Path.{_≡_, refl, ap, sym, subst, _∙_}
-use mathlib.Core.Bool.{Bool, true, false, cond, _&&_}
+use Prim.Native.Nat.{ℕ, suc, _+_, _≤_, _<_}
+use mathlib.Core.Path.{_≡_, refl, sym, subst}
+use mathlib.Core.Bool.{Bool, true, false, cond}
 use mathlib.Core.List.{List, [], _∷_, _++_}
 use mathlib.Core.Option.{Option, none, some}
 use native.Mathlib.Omega.{arith}
 use native.Mathlib.Decide.{ℕ-discrete}
-use borrow.Author.Tests.{lt-ltb, le-leb, ltb-true, ltb-false}
-use lib.Dec.{ltb, leb}
+use borrow.Author.Tests.{ltb-true, ltb-false}
+use lib.Dec.{ltb}
 use lib.ListN.{length}
-use Rattle.records.specs.Words.{count, kindWord, wordA}
-use Rattle.records.specs.Kinds.{types, rowOf, kindOf, isFlat}
-use Rattle.records.specs.Says.{kindAt, sortAt}
-use Rattle.records.specs.SheetOf.{words}
+use Rattle.records.specs.Words.{kindWord, wordA}
+use Rattle.records.specs.Kinds.{types, rowOf, kindOf}
+use Rattle.records.specs.Says.{sortAt}
 use Rattle.picoella.specs.Language.{Ty, Flat, TyTuple}
 use Rattle.grammar.specs.Source.{Identifier, identifier, Declaration, Constructors, PairOf, SourceConstant, OfConstructor, Undefined, ConstantPair}
-use Rattle.naming.specs.Declared.{DeclaredName, sameName, isAmong, atFirst, isDeclared, typeRole, constructorRole}
+use Rattle.naming.specs.Declared.{sameName, isAmong, atFirst, isDeclared, typeRole, constructorRole}
 use Rattle.text_passes.specs.RefusedTypes.{overCounted}
 use Rattle.naming.proofs.SameName.{equal-same}
 use Rattle.naming.specs.Checks.{AllPass}
 use Rattle.naming.specs.Constants.{letters, allLetters, typeOfConstructor, firstPairType, pairTypeOf, constantType, isTyped}
-use Rattle.naming.specs.Names.{afterDeclaration, afterAll, declarationChecks, declarationsChecks, constantNames}
+use Rattle.naming.specs.Names.{afterAll, declarationsChecks, constantNames}
 use Rattle.translation.specs.Resolved.{
   TypeEntry,
   typeEntry,
@@ -40,9 +39,9 @@ use Rattle.translation.specs.Resolved.{
   constructorMeant,
 }
 use Rattle.translation.specs.Layout.{typesLaid, numberOr}
-use Rattle.translation.proofs.Standing.{RecordIs, Stands, none-stand, one-stands}
-use Rattle.translation.proofs.ConstructorTables.{pass-both, passes, pass-rest, isEntry, a-constructor}
-use Rattle.translation.proofs.Tables.{isNamed, Known, Matched, none-matched, no-type, types-known}
+use Rattle.translation.proofs.Standing.{Stands, one-stands}
+use Rattle.translation.proofs.ConstructorTables.{passes, isEntry, a-constructor}
+use Rattle.translation.proofs.Tables.{isNamed, none-matched, no-type, types-known}
 
 -- every flat type has at most 255 constructors
 abbrev pub FewConstructors : List Declaration → Type 0
@@ -199,11 +198,11 @@ named-all w i T (d ∷ ds) h = named-all w (suc i) (afterEntry i T d) ds (named-
 same-self : (w : List ℕ) → sameName w w ≡ true
 same-self w = equal-same w w refl
 
-constructor-typed : (i : ℕ) (T : List TypeEntry) (ds : List Declaration) (w v : List ℕ) → typeOfConstructor ds w ≡ some v
+pub constructor-in-table : (i : ℕ) (T : List TypeEntry) (ds : List Declaration) (w v : List ℕ) → typeOfConstructor ds w ≡ some v
     → isNamed v (typeEntriesFrom i T ds) ≡ true
-constructor-typed i T [] w v h = absurd (let no : _≡_ {A = ℕ} 0 1 = cc in omega arith)
-constructor-typed i T (Constructors t c cs ∷ ds) w v h =
-    go (isAmong w (letters c ∷ allLetters cs)) (constructor-typed (suc i) (afterEntry i T (Constructors t c cs)) ds w v) h
+constructor-in-table i T [] w v h = absurd (let no : _≡_ {A = ℕ} 0 1 = cc in omega arith)
+constructor-in-table i T (Constructors t c cs ∷ ds) w v h =
+    go (isAmong w (letters c ∷ allLetters cs)) (constructor-in-table (suc i) (afterEntry i T (Constructors t c cs)) ds w v) h
   where
     go : (b : Bool)
         → (typeOfConstructor ds w ≡ some v → isNamed v (typeEntriesFrom (suc i) (afterEntry i T (Constructors t c cs)) ds) ≡ true)
@@ -214,7 +213,7 @@ constructor-typed i T (Constructors t c cs ∷ ds) w v h =
         named-all v (suc i) (afterEntry i T (Constructors t c cs)) ds
         (named-first v (letters t) i (Flat i (length (c ∷ cs))) T (equal-same v (letters t) (sym f)))
     go false f e = f e
-constructor-typed i T (PairOf t a b ∷ ds) w v h = constructor-typed (suc i) (afterEntry i T (PairOf t a b)) ds w v h
+constructor-in-table i T (PairOf t a b ∷ ds) w v h = constructor-in-table (suc i) (afterEntry i T (PairOf t a b)) ds w v h
 
 pair-typed : (i : ℕ) (T : List TypeEntry) (ds : List Declaration) (x y v : List ℕ) → firstPairType ds x y ≡ some v
     → isNamed v (typeEntriesFrom i T ds) ≡ true
@@ -235,7 +234,7 @@ pair-typed i T (PairOf t a b ∷ ds) x y v h =
 module _ (ds : List Declaration) (good : AllPass (declarationsChecks atFirst ds)) where
   constant-typed : (c : SourceConstant) → AllPass (constantNames (afterAll atFirst ds) c) → (v : List ℕ) → constantType ds c ≡ some v
       → isNamed v (typeEntries ds) ≡ true
-  constant-typed (OfConstructor n) h v e = constructor-typed 1 [] ds (letters n) v e
+  constant-typed (OfConstructor n) h v e = constructor-in-table 1 [] ds (letters n) v e
   constant-typed (Undefined (identifier w p)) h v e =
       let f : w ≡ v = cc in
       let k = types-known 1 atFirst [] [] ds no-type none-matched good in

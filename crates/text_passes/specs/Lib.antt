@@ -5,4 +5,5 @@ pub mod RefusedTypes
 pub mod DelayConstants
 pub mod RecordWalk
 pub mod TextDepths
+pub mod NamedTypes
 pub mod Promises

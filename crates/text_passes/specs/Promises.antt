@@ -13,13 +13,13 @@ use Rattle.records.specs.Says.{namings}
 use Rattle.records.specs.Trees.{typeAt}
 use Rattle.answers.specs.Answers.{code, verdictAnswer}
 use Rattle.answers.specs.Promises.{LowestBreaking}
-use Rattle.answers.specs.declared.Verdict.the-variants.{Accepted, WrongRecord, WrongType, TooDeep}
+use Rattle.answers.specs.declared.Verdict.the-variants.{Accepted, WrongRecord, WrongType, TooDeep, IllTyped}
 use Rattle.verdict.specs.Verdict.{verdict}
 use Rattle.grammar.specs.Tokens.{Token}
-use Rattle.grammar.specs.Source.{Declaration, Constructors, PairOf, Text}
+use Rattle.grammar.specs.Source.{Declaration, Text}
 use Rattle.grammar.specs.Grammar.{ReadsText}
 use Rattle.naming.specs.Checks.{PlacedCheck, AllPass, FirstFails, firstBadPlace}
-use Rattle.naming.specs.Constants.{letters, constantsOfText}
+use Rattle.naming.specs.Constants.{constantsOfText}
 use Rattle.naming.specs.Names.{nameChecks, textChecks}
 use Rattle.naming.specs.RecordsNeeded.{recordsNeeded}
 use Rattle.translation.specs.Resolved.{typeMeant, typeNumber}
@@ -30,6 +30,7 @@ use Rattle.text_passes.specs.RefusedTypes.{declarationAt, overCounted, r
 use Rattle.text_passes.specs.DelayConstants.{UntypedPair}
 use Rattle.text_passes.specs.RecordWalk.{recordWalk, numbersFrom}
 use Rattle.text_passes.specs.TextDepths.{textExpressions, firstTooDeep}
+use Rattle.text_passes.specs.NamedTypes.{typeNameOf, NameTypedText}
 
 -- a text that is read, with good names and constants, whose sheet fits
 pub record FittingText (ts : List Token) (t : Text) : Type 0 where
@@ -70,16 +71,34 @@ AnsweredSix =
     × ((i : ℕ) → refusedPair (declarations t) i ≡ false)
     × (firstTooDeep (textExpressions t) ≡ some r))
 
--- 5. Each record but the header is named by exactly one word.
+-- 5. It accepts the sheet with output type τ exactly where none of these applies and the text is
+-- well typed over its names, with the type of declaration τ. So 7 is left for the texts that are
+-- not.
+abbrev pub AcceptedExactly : Type 0
+AcceptedExactly =
+    (ts : List Token) (t : Text) → FittingText ts t → (τ : ℕ)
+    → verdict (sheetOfText t) ≡ Accepted τ
+    ↔ (((i : ℕ) → overCounted (declarations t) i ≡ false)
+    × ((i : ℕ) → refusedPair (declarations t) i ≡ false)
+    × (firstTooDeep (textExpressions t) ≡ none)
+    × NameTypedText t τ)
+
+-- 6. And it answers 7, at some record, exactly where none of these applies and the text is not well
+-- typed.
+abbrev pub AnsweredSeven : Type 0
+AnsweredSeven =
+    (ts : List Token) (t : Text) → FittingText ts t
+    → ((r : ℕ) × (verdict (sheetOfText t) ≡ IllTyped r))
+    ↔ (((i : ℕ) → overCounted (declarations t) i ≡ false)
+    × ((i : ℕ) → refusedPair (declarations t) i ≡ false)
+    × (firstTooDeep (textExpressions t) ≡ none)
+    × ((τ : ℕ) → NameTypedText t τ → ⊥))
+
+-- 7. Each record but the header is named by exactly one word.
 abbrev pub EachNamedOnce : Type 0
 EachNamedOnce =
     (ts : List Token) (t : Text) → ReadsText ts t → AllPass (textChecks t)
     → (r : ℕ) → 0 < r → r < count (sheetOfText t) → length (namings (sheetOfText t) r) ≡ 1
-
--- the name of the type that a declaration declares
-abbrev pub typeNameOf : Declaration → List ℕ
-typeNameOf (Constructors t c cs) = letters t
-typeNameOf (PairOf t a b) = letters t
 
 -- record τ is that of a declared type: it has the number of the declaration, and the name that is
 -- declared stands for its type
@@ -89,13 +108,13 @@ pub record TypeDeclared (t : Text) (τ : ℕ) : Type 0 where
   pub number : typeNumber (typesOf t) (typeNameOf declared) ≡ τ
   pub type : typeAt (sheetOfText t) τ ≡ typeMeant (typesOf t) (typeNameOf declared)
 
--- 6. Where the sheet is accepted, the outputs have a type that the text declares.
+-- 8. Where the sheet is accepted, the outputs have a type that the text declares.
 abbrev pub OutputDeclared : Type 0
 OutputDeclared =
     (ts : List Token) (t : Text) → ReadsText ts t → AllPass (textChecks t)
     → (τ : ℕ) → verdict (sheetOfText t) ≡ Accepted τ → TypeDeclared t τ
 
--- 7. Code 14: the place that the search finds is that of the first check that fails, all before it
+-- 9. Code 14: the place that the search finds is that of the first check that fails, all before it
 -- holding; it finds none exactly where all hold.
 abbrev pub BadPlaceExactly : Type 0
 BadPlaceExactly = (cs : List PlacedCheck) (p : ℕ) → firstBadPlace cs ≡ some p ↔ FirstFails cs p
@@ -103,21 +122,21 @@ BadPlaceExactly = (cs : List PlacedCheck) (p : ℕ) → firstBadPlace cs ≡ som
 abbrev pub NoBadPlace : Type 0
 NoBadPlace = (cs : List PlacedCheck) → firstBadPlace cs ≡ none ↔ AllPass cs
 
--- 8. Names before constants: the first check of a text that fails is the first of its names', or,
+-- 10. Names before constants: the first check of a text that fails is the first of its names', or,
 -- where those all hold, the first of its constants'.
 abbrev pub NamesFirst : Type 0
 NamesFirst =
     (t : Text) (p : ℕ)
     → FirstFails (textChecks t) p ↔ (FirstFails (nameChecks t) p ⊎ (AllPass (nameChecks t) × FirstFails (constantsOfText t) p))
 
--- 9. Where all names are good only a pair of a constant can fail, and its place is its opening
+-- 11. Where all names are good only a pair of a constant can fail, and its place is its opening
 -- bracket.
 abbrev pub OnlyPairsFail : Type 0
 OnlyPairsFail =
     (ts : List Token) (t : Text) → ReadsText ts t → AllPass (nameChecks t)
     → (p : ℕ) → FirstFails (constantsOfText t) p → UntypedPair ts t p
 
--- 10. The order of the records: the types stand first, and the walk from the first of them visits
+-- 12. The order of the records: the types stand first, and the walk from the first of them visits
 -- 1, 2 and so on up to the last; the root is the record after it, and the walk from there visits it
 -- and all records after it, in the order of their numbers.
 pub record InOrder (t : Text) : Type 0 where
@@ -135,6 +154,8 @@ pub record PassPromises : Type 0 where
   pub answered-three : AnsweredThree
   pub answered-five : AnsweredFive
   pub answered-six : AnsweredSix
+  pub accepted-exactly : AcceptedExactly
+  pub answered-seven : AnsweredSeven
   pub named-once : EachNamedOnce
   pub output-declared : OutputDeclared
   pub bad-place-exactly : BadPlaceExactly
