@@ -107,7 +107,7 @@ module _ {s : List ℕ} {n : ℕ} {widths : List ℕ} {p : ℕ} {value : List �
       → withRest (λ q. matches q value) (decisionOf so-far) s (alternatives s p)
       ≡ withRest (λ q. matches q value) (decisionOf now) s (follow end (alternatives s) x)
   taken-in so-far one now o e ex =
-      rest-is (decisionOf so-far) ∙ rw (o, e, ex) 
+      rest-is (decisionOf so-far) ∙ rw (o, e, ex)
       (chain-with-rest (λ q. matches q value) (decisionOf so-far) (decisionOf one) s (follow end (alternatives s) (nextWord s p)))
 
   module _ {k : ℕ} (ek : k ≡ word s p 0) where
