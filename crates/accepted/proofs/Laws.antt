@@ -1,5 +1,6 @@
 -- The one door: the laws of the check that crates above it use, handed on by their names. Whatever else stands in the proofs of
 -- `structure`, `typing` and `verdict` may change without a crate above noticing. Assumes nothing.
+pub use Rattle.structure.proofs.DepthCounts.{feedback-number}
 pub use Rattle.structure.proofs.Passes.{written, well-named, types-fit}
 pub use Rattle.typing.proofs.Alternatives.{in-sheet, next-matching, first-matching, second-matching}
 pub use Rattle.typing.proofs.Judged.{RulesHold}

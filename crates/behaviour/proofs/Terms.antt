@@ -81,16 +81,16 @@ pub erase-circuit : (s : List ℕ) → erase (circuitTerm s) ≡ expressionOf s 
 unfolding circuitTerm
 erase-circuit s = erase-term s (inputs s) (circuit s)
 
-name-typed : (s Γ : List ℕ) (k : ℕ) → k < length Γ → Named (map (typeAt s) Γ) k (typeAt s (getD Γ k 0))
-name-typed s [] k h = absurd (omega arith)
-name-typed s (t ∷ Γ) zero h = here
-name-typed s (t ∷ Γ) (suc k) h = there (name-typed s Γ k (omega arith))
+pub name-elaborated : (s Γ : List ℕ) (k : ℕ) → k < length Γ → Named (map (typeAt s) Γ) k (typeAt s (getD Γ k 0))
+name-elaborated s [] k h = absurd (omega arith)
+name-elaborated s (t ∷ Γ) zero h = here
+name-elaborated s (t ∷ Γ) (suc k) h = there (name-elaborated s Γ k (omega arith))
 
 pub term-typed : {s : List ℕ} → Written s → (Γ : List ℕ) (e : Tree) → Grown s e → Context s Γ → RulesHold s Γ e
     → Elaborated (Declared s) (map (typeAt s) Γ) (term s Γ e) (typeAt s (typeRecordOf s Γ e))
 term-typed {s} w Γ noExpression g c j = absurd g
 term-typed {s} w Γ (constantOf r t ls) g c j = e-constant (within-fits (bounds (typeAt s t)) (leafValues s ls) j)
-term-typed {s} w Γ (nameOf r k) g c j = e-name (name-typed s Γ k (ltb-true k (length Γ) j))
+term-typed {s} w Γ (nameOf r k) g c j = e-name (name-elaborated s Γ k (ltb-true k (length Γ) j))
 term-typed {s} w Γ (tupleOf r a b) g c j =
     let h = ltb-true 0 (pairOf s (typeRecordOf s Γ a) (typeRecordOf s Γ b)) (j .2) in
     let f = pair-of-found s (typeRecordOf s Γ a) (typeRecordOf s Γ b) (pairOf s (typeRecordOf s Γ a) (typeRecordOf s Γ b)) refl h in

@@ -68,7 +68,7 @@ module _ {s s′ : List ℕ} (o : Rewritten s s′) (w : Written s) where
       o .others t
       (λ e. let f : sortAt s t ≡ leafs = ap sortOf e in let g = u .sort in let z : _≡_ {A = ℕ} 0 1 = cc in omega arith) k h
 
-  pattern-same : (E : Type 0) (m : Alternatives) → Alternative s E m → patternOf s′ m ≡ patternOf s m
+  pub pattern-same : (E : Type 0) (m : Alternatives) → Alternative s E m → patternOf s′ m ≡ patternOf s m
   pattern-same E end g = refl
   pattern-same E noPattern g = refl
   pattern-same E (wholeType r t m) g =
@@ -99,7 +99,7 @@ module _ {s s′ : List ℕ} (o : Rewritten s s′) (w : Written s) where
   type-of-same Γ (delayOf r t ls a) g c j = refl
 
   -- the type of the first part of a pair
-  first-same : (Γ : List ℕ) (a : Tree) → Grown s a → Context s Γ → RulesHold s Γ a
+  pub first-same : (Γ : List ℕ) (a : Tree) → Grown s a → Context s Γ → RulesHold s Γ a
       → typeAt s′ (wordA s′ (typeRecordOf s′ Γ a)) ≡ typeAt s (wordA s (typeRecordOf s Γ a))
   first-same Γ a g c j =
       same-type o (wordA s′ (typeRecordOf s′ Γ a))

@@ -1,22 +1,21 @@
 -- IFs and delays: an IF evaluates all three parts, and a delay gives the value it holds and next holds its part's value.
 -- Assumes nothing.
-use Prim.Native.Nat.{ℕ, _+_, _-_, _*_, _≤_, _<_}
+use Prim.Native.Nat.{ℕ, _-_, _*_, _≤_, _<_}
 use mathlib.Core.List.{List, _++_}
 use mathlib.Core.Path.{_≡_, refl, sym, ap, _∙_}
 use native.Mathlib.Omega.{arith}
 use borrow.Author.Tests.{eqb-true}
 use lib.ListN.{length, getD, set, take, drop, replicate, length-map}
-use Rattle.picoella.specs.Language.{leaves}
 use Rattle.records.specs.Words.{word, wordA, wordB, wordC, count}
-use Rattle.records.specs.Kinds.{expression, ifMatches, delay, leafs, patterns}
+use Rattle.records.specs.Kinds.{expression, ifMatches, delay, leafs}
 use Rattle.records.specs.Says.{kindAt}
-use Rattle.records.specs.Trees.{typeAt, treeAt, chain, typeRecordOf}
+use Rattle.records.specs.Trees.{treeAt, chain, typeRecordOf}
 use Rattle.records.specs.Written.{Written}
 use Rattle.records.specs.Decoding.{leafValues}
 use Rattle.records.proofs.Table.{askOfKind}
 use Rattle.records.proofs.Asked.{part-of-kind}
 use Rattle.records.proofs.Trees.{tree-of}
-use Rattle.verdict.specs.Scopes.{Scope, if-tested, if-then, if-else, of-delay}
+use Rattle.verdict.specs.Scopes.{Scope, of-delay}
 use Rattle.accepted.proofs.Scopes.{judged-by-kind}
 use Rattle.meaning.specs.Undecided.{undecidedRule}
 use Rattle.behaviour.specs.Entries.{assigned, putAll, enter}
@@ -28,22 +27,10 @@ use Rattle.values.specs.Chained.{Chained}
 use Rattle.values.specs.Matchings.{Matching, Chosen}
 use Rattle.values.specs.Slots.{frames}
 use Rattle.evaluator.specs.Evaluating.{EvaluatingIn, EvaluatedIn, Evaluated}
-use Rattle.evaluator.proofs.Frames.{back-long, back-part, lent-long, zeros-long}
-use Rattle.evaluator.proofs.Readiness.{
-  ready-passes,
-  ready-written,
-  ready-there,
-  ready-value,
-  ready-at,
-  in-circuit,
-  part-typed-there,
-  room-few,
-  entry-is,
-  value-long,
-  same-frames,
-  values-again,
-}
-use Rattle.evaluator.proofs.Parts.{fits-room, room-done, room-wide}
+use Rattle.evaluator.proofs.Readiness.{ready-passes, ready-written, ready-there, ready-value, evaluating-at, in-circuit, entry-is, value-long, same-frames, values-again}
+use Rattle.evaluator.proofs.LentBranches.{own-entry, tested-scope, then-scope, else-scope, then-lent, otherwise-fits, else-lent, otherwise-is, else-inside, otherwise-long, tested-is, test-inside, test-matching}
+use Rattle.evaluator.proofs.Parts.{room-done, room-wide}
+use Rattle.evaluator.proofs.Frames.{lent-long}
 
 module _ {s : List ℕ} {n : ℕ} {W env : List ℕ} {names rec : ℕ} {out Γ : List ℕ} (r : EvaluatingIn s n W env names rec out Γ) where
   abbrev ρ : List (List ℕ)
@@ -53,184 +40,135 @@ module _ {s : List ℕ} {n : ℕ} {W env : List ℕ} {names rec : ℕ} {out Γ :
   val x = valueAt undecidedRule s Γ ρ x
 
   w : Written s
-  w = ready-written r
+  w = ready-written (r .at-hand)
 
   b : rec < count s
-  b = ready-there r
-
-  -- the entry of the record
-  own-entry : length out ≡ leaves (typeAt s (typeRecordOf s Γ (treeAt s rec)))
-  own-entry = r .room ∙ entry-is r (r .scope)
+  b = ready-there (r .at-hand)
 
   module _ (e : kindAt s rec ≡ expression ifMatches) {x y z p : ℕ} (ex : x ≡ word s rec 2) (ey : y ≡ word s rec 3) (ez : z ≡ word s rec 4)
-      (ep : p ≡ word s rec 5) {c : ℕ} (ec : c ≡ getD W x 0) {R : List ℕ} (eR : R ≡ replicate 64 0) where
-    pub tested-scope : Scope s x Γ
-    tested-scope = rw ex (if-tested e (r .scope))
+      (ep : p ≡ word s rec 5) {c : ℕ} (ec : c ≡ getD W x 0) {R : List ℕ} (eR : R ≡ replicate 64 0)
+      {held fired env₁ held₁ fired₁ o₁ : List ℕ} (p₁ : Evaluated s n W env names x held fired (take (c - 0) R) env₁ held₁ fired₁ o₁) where
+    d₁ : EvaluatedIn s Γ env names x held fired env₁ held₁ fired₁ o₁
+    d₁ = room-done r (tested-scope (r .at-hand) e ex) ec eR p₁
 
-    then-scope : Scope s y Γ
-    then-scope = rw ey (if-then e (r .scope))
+    wide₁ : length o₁ ≡ c
+    wide₁ = room-wide r (tested-scope (r .at-hand) e ex) ec eR p₁
 
-    else-scope : Scope s z Γ
-    else-scope = rw ez (if-else e (r .scope))
+    pub then-ready : EvaluatingIn s n W env₁ names y out Γ
+    then-ready =
+        evaluating-at (r .at-hand) (then-scope (r .at-hand) e ey) env₁ names out (r .at-hand .many) (d₁ .wide)
+        (then-lent (r .at-hand) e ey) (values-again r env₁ (d₁ .kept))
 
-    then-entry : length out ≡ getD W y 0
-    then-entry =
-        own-entry ∙ rw (tree-of w rec b (expression ifMatches) e, ey)
-        (sym (entry-is r (if-then e (r .scope))))
+    module _ {env₂ held₂ fired₂ o₂ : List ℕ} (p₂ : Evaluated s n W env₁ names y held₁ fired₁ out env₂ held₂ fired₂ o₂) where
+      d₂ : EvaluatedIn s Γ env₁ names y held₁ fired₁ env₂ held₂ fired₂ o₂
+      d₂ = p₂ .done Γ then-ready
 
-    same-types : typeRecordOf s Γ (treeAt s y) ≡ typeRecordOf s Γ (treeAt s z)
-    same-types =
-        rw (ey, ez)
-        (eqb-true (typeRecordOf s Γ (treeAt s (wordB s rec))) (typeRecordOf s Γ (treeAt s (wordC s rec)))
-        (judged-by-kind (ready-passes r) (in-circuit r (r .scope)) ifMatches e .4))
+      f₁ : frames s Γ env₁ ≡ ρ
+      f₁ = same-frames (r .at-hand) env₁ (d₁ .kept)
 
-    else-entry : length out ≡ getD W z 0
-    else-entry =
-        then-entry ∙ entry-is r then-scope ∙ rw same-types (sym (entry-is r else-scope))
+      then-value : o₂ ≡ val y
+      then-value = rw f₁ at (d₂ .value)
 
-    module _ {held fired env₁ held₁ fired₁ o₁ : List ℕ} (p₁ : Evaluated s n W env names x held fired (take (c - 0) R) env₁ held₁ fired₁ o₁) where
-      d₁ : EvaluatedIn s Γ env names x held fired env₁ held₁ fired₁ o₁
-      d₁ = room-done r tested-scope ec eR p₁
+      then-long : length o₂ ≡ length out
+      then-long =
+          ap length then-value ∙ value-long (r .at-hand) (then-scope (r .at-hand) e ey) (r .values) ∙ sym (then-lent (r .at-hand) e ey)
 
-      pub then-ready : EvaluatingIn s n W env₁ names y out Γ
-      then-ready =
-          ready-at r then-scope env₁ names out (r .many) (d₁ .wide) then-entry
-          (values-again r env₁ (d₁ .kept))
+      kept₂ : take (64 * names) env₂ ≡ take (64 * names) env
+      kept₂ = d₂ .kept ∙ d₁ .kept
 
-      module _ {env₂ held₂ fired₂ o₂ : List ℕ} (p₂ : Evaluated s n W env₁ names y held₁ fired₁ out env₂ held₂ fired₂ o₂) where
-        d₂ : EvaluatedIn s Γ env₁ names y held₁ fired₁ env₂ held₂ fired₂ o₂
-        d₂ = p₂ .done Γ then-ready
+      module _ {Q : List ℕ} (eQ : Q ≡ replicate 64 0) where
+        pub else-fits : length o₂ ≤ length Q
+        else-fits = otherwise-fits (r .at-hand) e o₂ then-long eQ
 
-        f₁ : frames s Γ env₁ ≡ ρ
-        f₁ = same-frames r env₁ (d₁ .kept)
+        pub else-ready : EvaluatingIn s n W env₂ names z (take (length o₂ - 0) Q) Γ
+        else-ready =
+            evaluating-at (r .at-hand) (else-scope (r .at-hand) e ez) env₂ names (take (length o₂ - 0) Q) (r .at-hand .many) (d₂ .wide)
+            (else-lent (r .at-hand) e o₂ then-long eQ ez) (values-again r env₂ kept₂)
 
-        then-value : o₂ ≡ val y
-        then-value = rw f₁ at (d₂ .value)
+        module _ {env₃ held₃ fired₃ o₃ : List ℕ} (p₃ : Evaluated s n W env₂ names z held₂ fired₂ (take (length o₂ - 0) Q) env₃ held₃ fired₃ o₃) where
+          d₃ : EvaluatedIn s Γ env₂ names z held₂ fired₂ env₃ held₃ fired₃ o₃
+          d₃ = p₃ .done Γ else-ready
 
-        then-long : length o₂ ≡ length out
-        then-long = ap length then-value ∙ value-long r then-scope (r .values) ∙ sym then-entry
+          f₂ : frames s Γ env₂ ≡ ρ
+          f₂ = same-frames (r .at-hand) env₂ kept₂
 
-        kept₂ : take (64 * names) env₂ ≡ take (64 * names) env
-        kept₂ = d₂ .kept ∙ d₁ .kept
+          else-value : o₃ ≡ val z
+          else-value = rw f₂ at (d₃ .value)
 
-        module _ {Q : List ℕ} (eQ : Q ≡ replicate 64 0) where
-          pub else-fits : length o₂ ≤ length Q
-          else-fits =
-              let l : length Q ≡ 64 = rw eQ (zeros-long 64) in
-              let f = room-few r in
-              let t = then-long in
-              omega arith
+          else-long : length o₃ ≡ length o₂
+          else-long =
+              ap length else-value ∙ value-long (r .at-hand) (else-scope (r .at-hand) e ez) (r .values)
+              ∙ sym (else-lent (r .at-hand) e o₂ then-long eQ ez) ∙ lent-long (length o₂) Q else-fits
 
-          pub else-ready : EvaluatingIn s n W env₂ names z (take (length o₂ - 0) Q) Γ
-          else-ready =
-              ready-at r else-scope env₂ names (take (length o₂ - 0) Q) (r .many) (d₂ .wide)
-              (lent-long (length o₂) Q else-fits ∙ then-long ∙ else-entry) (values-again r env₂ kept₂)
+          abbrev tested : List ℕ
+          tested = take (c - 0) (o₁ ++ drop (c - 0) R)
 
-          module _ {env₃ held₃ fired₃ o₃ : List ℕ} (p₃ : Evaluated s n W env₂ names z held₂ fired₂ (take (length o₂ - 0) Q) env₃ held₃ fired₃ o₃) where
-            d₃ : EvaluatedIn s Γ env₂ names z held₂ fired₂ env₃ held₃ fired₃ o₃
-            d₃ = p₃ .done Γ else-ready
+          abbrev otherwise : List ℕ
+          otherwise = take (length o₂ - 0) (o₃ ++ drop (length o₂ - 0) Q)
 
-            f₂ : frames s Γ env₂ ≡ ρ
-            f₂ = same-frames r env₂ kept₂
+          test-back : tested ≡ o₁
+          test-back = tested-is (r .at-hand) e ex ec eR o₁ wide₁
 
-            else-value : o₃ ≡ val z
-            else-value = rw f₂ at (d₃ .value)
+          else-back : otherwise ≡ o₃
+          else-back = otherwise-is (r .at-hand) e o₂ then-long eQ o₃ else-long
 
-            else-long : length o₃ ≡ length o₂
-            else-long =
-                ap length else-value ∙ value-long r else-scope (r .values) ∙ sym else-entry ∙ sym then-long
+          pub tested-inside : c ≤ length (o₁ ++ drop (c - 0) R)
+          tested-inside = test-inside (r .at-hand) e ex ec eR o₁ wide₁
 
-            abbrev tested : List ℕ
-            tested = take (c - 0) (o₁ ++ drop (c - 0) R)
+          pub otherwise-inside : length o₂ ≤ length (o₃ ++ drop (length o₂ - 0) Q)
+          otherwise-inside = else-inside (r .at-hand) e o₂ then-long eQ o₃ else-long
 
-            abbrev otherwise : List ℕ
-            otherwise = take (length o₂ - 0) (o₃ ++ drop (length o₂ - 0) Q)
+          pub as-long : length otherwise ≡ length o₂
+          as-long = otherwise-long (r .at-hand) e o₂ then-long eQ o₃ else-long
 
-            fits₁ : c ≤ length R
-            fits₁ = fits-room r tested-scope ec eR
+          pub pattern-matching : Matching s n W p tested
+          pattern-matching = test-matching (r .at-hand) e ex ec eR o₁ wide₁ ep
 
-            wide₁ : length o₁ ≡ c
-            wide₁ = room-wide r tested-scope ec eR p₁
+          pub if-wide : length env₃ ≡ length env
+          if-wide = d₃ .wide ∙ sym (r .at-hand .wide)
 
-            tested-is : tested ≡ o₁
-            tested-is = back-part R o₁ wide₁ fits₁
-
-            otherwise-is : otherwise ≡ o₃
-            otherwise-is = back-part Q o₃ else-long else-fits
-
-            pub tested-inside : c ≤ length (o₁ ++ drop (c - 0) R)
-            tested-inside = let l = back-long R o₁ wide₁ fits₁ in let f = fits₁ in omega arith
-
-            pub otherwise-inside : length o₂ ≤ length (o₃ ++ drop (length o₂ - 0) Q)
-            otherwise-inside = let l = back-long Q o₃ else-long else-fits in let f = else-fits in omega arith
-
-            pub as-long : length otherwise ≡ length o₂
-            as-long = ap length otherwise-is ∙ else-long
-
-            pub pattern-matching : Matching s n W p tested
-            pattern-matching =
-                let q = part-of-kind w rec (expression ifMatches) patterns b e 5 refl (unfold askOfKind in refl) in
-                let counted = r .sized .counted in
-                let j = judged-by-kind (ready-passes r) (in-circuit r (r .scope)) ifMatches e in
-                record {
-                  type = typeRecordOf s Γ (treeAt s x);
-                  against = record {
-                    sized = r .sized;
-                    passes = ready-passes r;
-                    there = omega (arith, q .1, ep);
-                    sort = rw ep (q .2);
-                    typed = part-typed-there r tested-scope;
-                  };
-                  table = r .table .patterns;
-                  fits = rw (ex, ep) (j .1);
-                  long = ap length tested-is ∙ wide₁ ∙ ec ∙ entry-is r tested-scope;
-                }
-
-            pub if-wide : length env₃ ≡ length env
-            if-wide = d₃ .wide ∙ sym (r .wide)
-
-            pub if-done : {out′ : List ℕ} {number : ℕ} → Chosen s p tested otherwise o₂ out′ number
-                → EvaluatedIn s Γ env names rec held fired env₃ held₃ (set fired₃ rec number) out′
-            if-done g =
-                let h₂ : held₂ ≡ storedAt undecidedRule s Γ ρ y held₁ = rw f₁ at (d₂ .stored) in
-                let h₃ : held₃ ≡ storedAt undecidedRule s Γ ρ z held₂ = rw f₂ at (d₃ .stored) in
-                let k₂ : fired₂ ≡ firedAt undecidedRule s Γ ρ y fired₁ = rw f₁ at (d₂ .noted) in
-                let k₃ : fired₃ ≡ firedAt undecidedRule s Γ ρ z fired₂ = rw f₂ at (d₃ .noted) in
-                let chosen = rw (tested-is, otherwise-is, d₁ .value, then-value, else-value, ex, ey, ez, ep) at (g .chosen) in
-                let number-is = rw (tested-is, d₁ .value, ex, ep) at (g .tells) in
-                record {
-                  value = chosen ∙ sym (if-value w Γ ρ b e);
-                  stored = h₃ ∙ rw (h₂, d₁ .stored, ex, ey, ez) (sym (if-stored w Γ ρ b e held));
-                  noted = rw (number-is, k₃, k₂, d₁ .noted, ex, ey, ez) (sym (if-fired w Γ ρ b e fired));
-                  wide = d₃ .wide;
-                  kept = d₃ .kept ∙ kept₂;
-                }
+          pub if-done : {out′ : List ℕ} {number : ℕ} → Chosen s p tested otherwise o₂ out′ number
+              → EvaluatedIn s Γ env names rec held fired env₃ held₃ (set fired₃ rec number) out′
+          if-done g =
+              let h₂ : held₂ ≡ storedAt undecidedRule s Γ ρ y held₁ = rw f₁ at (d₂ .stored) in
+              let h₃ : held₃ ≡ storedAt undecidedRule s Γ ρ z held₂ = rw f₂ at (d₃ .stored) in
+              let k₂ : fired₂ ≡ firedAt undecidedRule s Γ ρ y fired₁ = rw f₁ at (d₂ .noted) in
+              let k₃ : fired₃ ≡ firedAt undecidedRule s Γ ρ z fired₂ = rw f₂ at (d₃ .noted) in
+              let chosen = rw (test-back, else-back, d₁ .value, then-value, else-value, ex, ey, ez, ep) at (g .chosen) in
+              let number-is = rw (test-back, d₁ .value, ex, ep) at (g .tells) in
+              record {
+                value = chosen ∙ sym (if-value w Γ ρ b e);
+                stored = h₃ ∙ rw (h₂, d₁ .stored, ex, ey, ez) (sym (if-stored w Γ ρ b e held));
+                noted = rw (number-is, k₃, k₂, d₁ .noted, ex, ey, ez) (sym (if-fired w Γ ρ b e fired));
+                wide = d₃ .wide;
+                kept = d₃ .kept ∙ kept₂;
+              }
 
   module _ (e : kindAt s rec ≡ expression delay) {x : ℕ} (ex : x ≡ word s rec 4) {l : ℕ} (el : l ≡ word s rec 3) where
     delayed-scope : Scope s x Γ
-    delayed-scope = rw ex (of-delay e (r .scope))
+    delayed-scope = rw ex (of-delay e (r .at-hand .scope))
 
     delayed-type : typeRecordOf s Γ (treeAt s x) ≡ wordA s rec
     delayed-type =
         rw ex
         (eqb-true (typeRecordOf s Γ (treeAt s (wordC s rec))) (wordA s rec)
-        (judged-by-kind (ready-passes r) (in-circuit r (r .scope)) delay e .2))
+        (judged-by-kind (ready-passes (r .at-hand)) (in-circuit (r .at-hand) (r .at-hand .scope)) delay e .2))
 
     delayed-entry : length out ≡ getD W x 0
     delayed-entry =
-        own-entry ∙ rw (tree-of w rec b (expression delay) e, ← delayed-type) (sym (entry-is r delayed-scope))
+        own-entry (r .at-hand) ∙ rw (tree-of w rec b (expression delay) e, ← delayed-type) (sym (entry-is (r .at-hand) delayed-scope))
 
     pub delayed-ready : EvaluatingIn s n W env names x out Γ
     delayed-ready =
-        ready-at r delayed-scope env names out (r .many) (r .wide) delayed-entry (r .values)
+        evaluating-at (r .at-hand) delayed-scope env names out (r .at-hand .many) (r .at-hand .wide) delayed-entry (r .values)
 
     pub delay-chained : {held fired env₁ held₁ fired₁ o : List ℕ} → Evaluated s n W env names x held fired out env₁ held₁ fired₁ o → Chained s n l (length o)
     delay-chained p₁ =
-        let eo = ap length (p₁ .done Γ delayed-ready .value) ∙ value-long r delayed-scope (r .values) ∙ sym delayed-entry in
+        let eo = ap length (p₁ .done Γ delayed-ready .value) ∙ value-long (r .at-hand) delayed-scope (r .values) ∙ sym delayed-entry in
         let q = part-of-kind w rec (expression delay) leafs b e 3 refl (unfold askOfKind in refl) in
-        let counted = r .sized .counted in
+        let counted = r .at-hand .sized .counted in
         record {
-          sized = r .sized;
+          sized = r .at-hand .sized;
           written = w;
           there = omega (arith, q .1, el);
           sort = rw el (q .2);

@@ -32,7 +32,7 @@ use Rattle.behaviour.proofs.Firings.{feedback-fired}
 use Rattle.values.specs.Slots.{slot, entered, frames}
 use Rattle.evaluator.specs.Evaluating.{EvaluatingIn, EvaluatedIn, Evaluated, SettlingIn, SettledIn, Settled, leadsTo}
 use Rattle.evaluator.proofs.Frames.{front-kept, frames-kept, lent-long, zeros-long, zeros-front}
-use Rattle.evaluator.proofs.Readiness.{ready-passes, ready-written, ready-there, ready-value, ready-at, in-circuit, names-few, names-small, elaborated, entry-is, entry-few, value-long, room-there, name-wide, name-kept, name-slot, name-frames, name-values}
+use Rattle.evaluator.proofs.Readiness.{ready-passes, ready-written, ready-there, ready-value, evaluating-at, in-circuit, names-few, names-small, elaborated, entry-is, entry-few, value-long, room-there, name-wide, name-kept, name-slot, name-frames}
 
 module _ {s : List ℕ} {n : ℕ} {W env : List ℕ} {names rec : ℕ} {out Γ : List ℕ} (r : EvaluatingIn s n W env names rec out Γ)
     (e : kindAt s rec ≡ expression feedback) {d y : ℕ} (ed : d ≡ word s rec 3) (ey : y ≡ word s rec 4) {c : ℕ} (ec : c ≡ getD W d 0)
@@ -51,36 +51,36 @@ module _ {s : List ℕ} {n : ℕ} {W env : List ℕ} {names rec : ℕ} {out Γ :
     body-part = term s (t ∷ Γ) (treeAt s d)
 
     w : Written s
-    w = ready-written r
+    w = ready-written (r .at-hand)
 
     b : rec < count s
-    b = ready-there r
+    b = ready-there (r .at-hand)
 
     pub part-scope : Scope s d (t ∷ Γ)
-    part-scope = rw ed (feedback-defining e (r .scope))
+    part-scope = rw ed (feedback-defining e (r .at-hand .scope))
 
     body-scope : Scope s y (t ∷ Γ)
-    body-scope = rw ey (feedback-body e (r .scope))
+    body-scope = rw ey (feedback-body e (r .at-hand .scope))
 
     same-type : typeRecordOf s (t ∷ Γ) (treeAt s d) ≡ t
     same-type =
         rw ed
         (eqb-true (typeRecordOf s (t ∷ Γ) (treeAt s (wordB s rec))) t
-        (judged-by-kind (ready-passes r) (in-circuit r (r .scope)) feedback e .2))
+        (judged-by-kind (ready-passes (r .at-hand)) (in-circuit (r .at-hand) (r .at-hand .scope)) feedback e .2))
 
     entry : c ≡ leaves τ
-    entry = ec ∙ entry-is r part-scope ∙ rw same-type refl
+    entry = ec ∙ entry-is (r .at-hand) part-scope ∙ rw same-type refl
 
     pub feedback-small : leaves τ ≤ 64
     feedback-small =
-        let f = entry-few r part-scope in let i = entry in omega arith
+        let f = entry-few (r .at-hand) part-scope in let i = entry in omega arith
 
     pub feedback-fits : c ≤ length R
     feedback-fits =
         let l : length R ≡ 64 = rw eR (zeros-long 64) in let f = feedback-small in let i = entry in omega arith
 
     few-around : length (t ∷ Γ) ≤ 64
-    few-around = names-few r part-scope
+    few-around = names-few (r .at-hand) part-scope
 
     whole : (k : ℕ) → k - 0 ≡ k
     whole k = omega arith
@@ -89,9 +89,12 @@ module _ {s : List ℕ} {n : ℕ} {W env : List ℕ} {names rec : ℕ} {out Γ :
     start : take (c - 0) R ≡ undefined τ
     start = rw (whole c, eR) (zeros-front c 64 (let f = feedback-small in let i = entry in omega arith) ∙ rw entry refl)
 
+    start-leaves : length (undefined τ) ≡ leaves τ
+    start-leaves = value-length τ (undefined-typed τ)
+
     pub start-room : (64 * names + length (take (c - 0) R) ≤ length env) × (length env ≤ 4096)
     start-room =
-        rw start (room-there r t few-around (undefined τ) (undefined-typed τ) env (r .wide) refl feedback-small)
+        rw start (room-there (r .at-hand) t few-around (undefined τ) start-leaves env (r .at-hand .wide) refl feedback-small)
 
     module _ {env₁ : List ℕ} (g : env₁ ≡ entered names (take (c - 0) R) env) where
       started : env₁ ≡ entered names (undefined τ) env
@@ -99,21 +102,21 @@ module _ {s : List ℕ} {n : ℕ} {W env : List ℕ} {names rec : ℕ} {out Γ :
 
       slot₁ : slot names (leaves τ) env₁ ≡ undefined τ
       slot₁ =
-          name-slot r t few-around (undefined τ) (undefined-typed τ) env (r .wide) refl feedback-small env₁ started
+          name-slot (r .at-hand) t few-around (undefined τ) start-leaves env (r .at-hand .wide) refl feedback-small env₁ started
 
       framed₁ : frames s (t ∷ Γ) env₁ ≡ undefined τ ∷ π
       framed₁ =
-          name-frames r t few-around (undefined τ) (undefined-typed τ) env (r .wide) refl feedback-small env₁ started
+          name-frames (r .at-hand) t few-around (undefined τ) start-leaves env (r .at-hand .wide) refl feedback-small env₁ started
 
       kept₁ : take (64 * names) env₁ ≡ take (64 * names) env
       kept₁ =
-          name-kept r t few-around (undefined τ) (undefined-typed τ) env (r .wide) refl feedback-small env₁ started
+          name-kept (r .at-hand) t few-around (undefined τ) start-leaves env (r .at-hand .wide) refl feedback-small env₁ started
 
       ρ₁ : frames s Γ env₁ ≡ π
-      ρ₁ = frames-kept s Γ env₁ env (names-small r (r .scope)) (rw (r .many) kept₁)
+      ρ₁ = frames-kept s Γ env₁ env (names-small (r .at-hand) (r .at-hand .scope)) (rw (r .at-hand .many) kept₁)
 
       part-typed : Elaborated (Declared s) (τ ∷ map (typeAt s) Γ) body-part τ
-      part-typed = rw same-type at (elaborated r part-scope)
+      part-typed = rw same-type at (elaborated (r .at-hand) part-scope)
 
       applies : valueAt undecidedRule s (t ∷ Γ) (undefined τ ∷ π) d ≡ application undecidedRule π body-part (undefined τ)
       unfolding valueAt
@@ -122,11 +125,11 @@ module _ {s : List ℕ} {n : ℕ} {W env : List ℕ} {names rec : ℕ} {out Γ :
       pub feedback-settling : SettlingIn s n W env₁ names d (take (c - 0) R) t Γ
       feedback-settling =
           record {
-            ready = ready-at r part-scope env₁ (names + 1) (take (c - 0) R)
-                (rw (r .many, add-one names) refl)
-                (name-wide r t few-around (undefined τ) (undefined-typed τ) env (r .wide) refl feedback-small env₁ started)
+            ready = evaluating-at (r .at-hand) part-scope env₁ (names + 1) (take (c - 0) R)
+                (rw (r .at-hand .many, add-one names) refl)
+                (name-wide (r .at-hand) t few-around (undefined τ) start-leaves env (r .at-hand .wide) refl feedback-small env₁ started)
                 (lent-long c R feedback-fits ∙ ec)
-                (name-values r t few-around (undefined τ) (undefined-typed τ) env (r .wide) refl feedback-small env₁ started);
+                (rw framed₁ (more-values (undefined-typed τ) (r .values)));
             same = same-type;
             rises = rw (slot₁, framed₁, applies)
                 (undefined-rises rule-lawful {ρ = π} {t = body-part} part-typed (r .values));
@@ -161,8 +164,8 @@ module _ {s : List ℕ} {n : ℕ} {W env : List ℕ} {names rec : ℕ} {out Γ :
 
         framed₂ : frames s (t ∷ Γ) env₂ ≡ u ∷ π
         framed₂ =
-            ap₂ _∷_ (rw (r .many) reached)
-            (frames-kept s Γ env₂ env (names-small r (r .scope)) (rw (r .many) kept₂))
+            ap₂ _∷_ (rw (r .at-hand .many) reached)
+            (frames-kept s Γ env₂ env (names-small (r .at-hand) (r .at-hand .scope)) (rw (r .at-hand .many) kept₂))
 
         body-values : ValuesOf (map (typeAt s) (t ∷ Γ)) (frames s (t ∷ Γ) env₂)
         body-values =
@@ -174,9 +177,9 @@ module _ {s : List ℕ} {n : ℕ} {W env : List ℕ} {names rec : ℕ} {out Γ :
 
         pub feedback-body-ready : EvaluatingIn s n W env₂ (names + 1) y out (t ∷ Γ)
         feedback-body-ready =
-            ready-at r body-scope env₂ (names + 1) out (rw (r .many, add-one names) refl) (f₁ .wide)
+            evaluating-at (r .at-hand) body-scope env₂ (names + 1) out (rw (r .at-hand .many, add-one names) refl) (f₁ .wide)
             (sym (ready-value r) ∙ ap length body-value
-            ∙ value-long r body-scope body-values)
+            ∙ value-long (r .at-hand) body-scope body-values)
             body-values
 
         pub feedback-done : {env₃ held₂ fired₂ o : List ℕ} → Evaluated s n W env₂ (names + 1) y held₁ fired₁ out env₃ held₂ fired₂ o

@@ -1,6 +1,9 @@
 -- Laws of evaluation.
 pub mod Frames
 pub mod Readiness
+pub mod LentParts
+pub mod LentNames
+pub mod LentBranches
 pub mod Parts
 pub mod Names
 pub mod Settling

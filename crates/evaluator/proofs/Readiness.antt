@@ -1,6 +1,6 @@
--- What is known of an expression that is ready to be evaluated: it is one of an accepted circuit, so its names are at most 64 of at
--- most 64 leaves, and its value is of its type and as long as its entry in the table; its parts are higher, and ready where their
--- names are in the environment.
+-- What is known of an expression at hand: it is one of an accepted circuit, so its names are at most 64 of at most 64 leaves, and its
+-- entry in the table is the leaves of its type; its parts are higher, and at hand where their names are in the environment. Where the
+-- names have values, so has it, of its type.
 -- Assumes nothing.
 use Prim.Native.Nat.{ℕ, _+_, _*_, _≤_, _<_}
 use mathlib.Core.Bool.{true, _&&_}
@@ -24,7 +24,7 @@ use Rattle.accepted.proofs.Laws.{written, types-fit}
 use Rattle.verdict.specs.Scopes.{Scope}
 use Rattle.accepted.proofs.Laws.{exact}
 use Rattle.accepted.proofs.Scopes.{CheckedAt, scope-checked, few-names, small-names, checked-type}
-use Rattle.meaning.specs.Values.{ValuesOf, more-values}
+use Rattle.meaning.specs.Values.{ValuesOf}
 use Rattle.meaning.specs.Elaboration.{Elaborated}
 use Rattle.meaning.specs.Undecided.{undecidedRule}
 use Rattle.meaning.proofs.Order.{value-length}
@@ -34,10 +34,10 @@ use Rattle.behaviour.specs.Terms.{term}
 use Rattle.behaviour.specs.Evaluated.{valueAt}
 use Rattle.behaviour.proofs.Terms.{checked-term}
 use Rattle.values.specs.Slots.{slot, entered, frames}
-use Rattle.evaluator.specs.Evaluating.{EvaluatingIn}
+use Rattle.evaluator.specs.Evaluating.{Ready, EvaluatingIn}
 use Rattle.evaluator.proofs.Frames.{Small, frames-kept, entered-kept, entered-slot, entered-long}
 
-module _ {s : List ℕ} {n : ℕ} {W env : List ℕ} {names rec : ℕ} {out Γ : List ℕ} (r : EvaluatingIn s n W env names rec out Γ) where
+module _ {s : List ℕ} {n : ℕ} {W env : List ℕ} {names rec : ℕ} {out Γ : List ℕ} (r : Ready s n W env names rec out Γ) where
   pub ready-passes : Passes s
   ready-passes = exact s (r .type) .0 (r .accepted) .0
 
@@ -79,8 +79,8 @@ module _ {s : List ℕ} {n : ℕ} {W env : List ℕ} {names rec : ℕ} {out Γ :
       value-long = value-length (typeAt s (typeRecordOf s Δ (treeAt s x))) value-typed ∙ sym entry-is
 
     pub ready-at : (env′ : List ℕ) (names′ : ℕ) (out′ : List ℕ) → length Δ ≡ names′ → length env′ ≡ 4096
-        → length out′ ≡ getD W x 0 → ValuesOf (map (typeAt s) Δ) (frames s Δ env′) → EvaluatingIn s n W env′ names′ x out′ Δ
-    ready-at env′ names′ out′ many wide room values =
+        → length out′ ≡ getD W x 0 → Ready s n W env′ names′ x out′ Δ
+    ready-at env′ names′ out′ many wide room =
         record {
           sized = r .sized;
           type = r .type;
@@ -90,8 +90,11 @@ module _ {s : List ℕ} {n : ℕ} {W env : List ℕ} {names rec : ℕ} {out Γ :
           many = many;
           wide = wide;
           room = room;
-          values = values;
         }
+
+    pub evaluating-at : (env′ : List ℕ) (names′ : ℕ) (out′ : List ℕ) → length Δ ≡ names′ → length env′ ≡ 4096
+        → length out′ ≡ getD W x 0 → ValuesOf (map (typeAt s) Δ) (frames s Δ env′) → EvaluatingIn s n W env′ names′ x out′ Δ
+    evaluating-at env′ names′ out′ many wide room values = record { at-hand = ready-at env′ names′ out′ many wide room; values = values }
 
   -- the record itself
   pub ready-there : rec < count s
@@ -102,9 +105,6 @@ module _ {s : List ℕ} {n : ℕ} {W env : List ℕ} {names rec : ℕ} {out Γ :
 
   pub ready-word : {k : ℕ} → k < 6 → Sized s n × (rec < n) × (k < 6)
   ready-word h = let c = r .sized .counted in let t = ready-there in (r .sized, omega arith, h)
-
-  pub ready-value : length (valueAt undecidedRule s Γ (frames s Γ env) rec) ≡ length out
-  ready-value = value-long (r .scope) (r .values) ∙ sym (r .room)
 
   pub room-few : length out ≤ 64
   room-few = let e = entry-few (r .scope) in let l = r .room in omega arith
@@ -117,15 +117,9 @@ module _ {s : List ℕ} {n : ℕ} {W env : List ℕ} {names rec : ℕ} {out Γ :
     pub same-frames : frames s Γ env′ ≡ frames s Γ env
     same-frames = frames-kept s Γ env′ env (names-small (r .scope)) (rw (r .many) kept)
 
-    pub values-again : ValuesOf (map (typeAt s) Γ) (frames s Γ env′)
-    values-again = rw same-frames (r .values)
-
   -- a name of type t entered, where the names of Γ are kept
-  module _ (t : ℕ) (few : length (t ∷ Γ) ≤ 64) (v : List ℕ) (typed : OfType (typeAt s t) v) (env₁ : List ℕ)
+  module _ (t : ℕ) (few : length (t ∷ Γ) ≤ 64) (v : List ℕ) (value-leaves : length v ≡ leaves (typeAt s t)) (env₁ : List ℕ)
       (wide : length env₁ ≡ 4096) (kept : take (64 * names) env₁ ≡ take (64 * names) env) where
-    value-leaves : length v ≡ leaves (typeAt s t)
-    value-leaves = value-length (typeAt s t) typed
-
     below : 64 * names ≤ length env₁
     below = let m = r .many in omega arith
 
@@ -145,9 +139,6 @@ module _ {s : List ℕ} {n : ℕ} {W env : List ℕ} {names rec : ℕ} {out Γ :
       pub name-frames : frames s (t ∷ Γ) env₂ ≡ v ∷ frames s Γ env
       name-frames = ap₂ _∷_ (rw (r .many) name-slot) (same-frames env₂ name-kept)
 
-      pub name-values : ValuesOf (map (typeAt s) (t ∷ Γ)) (frames s (t ∷ Γ) env₂)
-      name-values = rw name-frames (more-values typed (r .values))
-
   -- a part
   module _ (k : ExpressionKind) (e : kindAt s rec ≡ expression k) (j : ℕ) (t : (ltb 0 j && ltb j 6) ≡ true)
       (a : askOfKind (expression k) j ≡ part expressions) {x : ℕ} (ex : x ≡ word s rec j) where
@@ -159,3 +150,11 @@ module _ {s : List ℕ} {n : ℕ} {W env : List ℕ} {names rec : ℕ} {out Γ :
 
     pub entry-there : x < 4096
     entry-there = let h = part-higher in let f = r .sized .few in omega (arith, h .1)
+
+-- with values of the names
+module _ {s : List ℕ} {n : ℕ} {W env : List ℕ} {names rec : ℕ} {out Γ : List ℕ} (r : EvaluatingIn s n W env names rec out Γ) where
+  pub ready-value : length (valueAt undecidedRule s Γ (frames s Γ env) rec) ≡ length out
+  ready-value = value-long (r .at-hand) (r .at-hand .scope) (r .values) ∙ sym (r .at-hand .room)
+
+  pub values-again : (env′ : List ℕ) → take (64 * names) env′ ≡ take (64 * names) env → ValuesOf (map (typeAt s) Γ) (frames s Γ env′)
+  values-again env′ kept = rw (same-frames (r .at-hand) env′ kept) (r .values)

@@ -29,7 +29,7 @@ use Rattle.values.specs.MatchAnswers.{ValuesCompared}
 use Rattle.values.specs.Slots.{slot, entered, frames}
 use Rattle.evaluator.specs.Evaluating.{EvaluatingIn, EvaluatedIn, Evaluated, SettlingIn, SettledIn, Settled, approximation, leadsTo}
 use Rattle.evaluator.proofs.Frames.{front-kept, slot-kept, frames-kept, entered-kept, entered-slot, entered-long}
-use Rattle.evaluator.proofs.Readiness.{ready-at, names-few, names-small, elaborated, entry-is, entry-few}
+use Rattle.evaluator.proofs.Readiness.{evaluating-at, names-few, names-small, elaborated, entry-is, entry-few}
 
 values-parts : {τ : Ty} {Γ : List Ty} {v : List ℕ} {ρ : List (List ℕ)} → ValuesOf (τ ∷ Γ) (v ∷ ρ) → OfType τ v × ValuesOf Γ ρ
 values-parts (more-values h r) = (h, r)
@@ -54,7 +54,7 @@ module _ {s : List ℕ} {n : ℕ} {W env : List ℕ} {names d : ℕ} {value : Li
   v = approximation s t names env
 
   around : length Γ ≡ names
-  around = one-less (r .many)
+  around = one-less (r .at-hand .many)
 
   framed : frames s (t ∷ Γ) env ≡ v ∷ ρ
   framed = ap (λ (k : ℕ). slot k (leaves σ) env ∷ ρ) around
@@ -63,7 +63,7 @@ module _ {s : List ℕ} {n : ℕ} {W env : List ℕ} {names d : ℕ} {value : Li
   typed-values = values-parts (rw framed at (r .values))
 
   typed : Elaborated (Declared s) (σ ∷ map (typeAt s) Γ) part σ
-  typed = rw (g .same) at (elaborated r (r .scope))
+  typed = rw (g .same) at (elaborated (r .at-hand) (r .at-hand .scope))
 
   -- what the defining part gives for a value
   gives : (u : List ℕ) → valueAt undecidedRule s (t ∷ Γ) (u ∷ ρ) d ≡ application undecidedRule ρ part u
@@ -74,19 +74,19 @@ module _ {s : List ℕ} {n : ℕ} {W env : List ℕ} {names d : ℕ} {value : Li
   rises = rw (framed, gives v) at (g .rises)
 
   wide-leaves : getD W d 0 ≡ leaves σ
-  wide-leaves = entry-is r (r .scope) ∙ rw (g .same) refl
+  wide-leaves = entry-is (r .at-hand) (r .at-hand .scope) ∙ rw (g .same) refl
 
   small : leaves σ ≤ 64
-  small = let e = entry-few r (r .scope) in let l = wide-leaves in omega arith
+  small = let e = entry-few (r .at-hand) (r .at-hand .scope) in let l = wide-leaves in omega arith
 
   few : length (t ∷ Γ) ≤ 64
-  few = names-few r (r .scope)
+  few = names-few (r .at-hand) (r .at-hand .scope)
 
   pub settle-few : names + 1 ≤ 64
   settle-few = let f = few in let a = around in omega arith
 
   pub value-wide : length value ≡ leaves σ
-  value-wide = r .room ∙ wide-leaves
+  value-wide = r .at-hand .room ∙ wide-leaves
 
   module _ {held fired env₁ held₁ fired₁ o : List ℕ} (p : Evaluated s n W env (names + 1) d held fired value env₁ held₁ fired₁ o) where
     d₁ : EvaluatedIn s (t ∷ Γ) env (names + 1) d held fired env₁ held₁ fired₁ o
@@ -153,7 +153,7 @@ module _ {s : List ℕ} {n : ℕ} {W env : List ℕ} {names d : ℕ} {value : Li
 
         ρ₂ : frames s Γ env₂ ≡ ρ
         ρ₂ =
-            frames-kept s Γ env₂ env (λ k h. names-small r (r .scope) (suc k) (omega arith))
+            frames-kept s Γ env₂ env (λ k h. names-small (r .at-hand) (r .at-hand .scope) (suc k) (omega arith))
             (rw around kept₂)
 
         framed₂ : frames s (t ∷ Γ) env₂ ≡ o ∷ ρ
@@ -167,7 +167,7 @@ module _ {s : List ℕ} {n : ℕ} {W env : List ℕ} {names d : ℕ} {value : Li
         pub settling-again : SettlingIn s n W env₂ names d o t Γ
         settling-again =
             record {
-              ready = ready-at r (r .scope) env₂ (names + 1) o (r .many) wide₂
+              ready = evaluating-at (r .at-hand) (r .at-hand .scope) env₂ (names + 1) o (r .at-hand .many) wide₂
                   (given-long ∙ sym wide-leaves) (rw framed₂ (more-values given-typed (typed-values .1)));
               same = g .same;
               rises = rw (slot₂, framed₂, gives o) rises₂;

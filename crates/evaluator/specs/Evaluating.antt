@@ -21,8 +21,8 @@ use Rattle.behaviour.specs.Midway.{storedAt}
 use Rattle.behaviour.specs.Midway.{firedAt}
 use Rattle.values.specs.Slots.{slot, frames}
 
--- an expression is evaluated: record rec of an accepted sheet, with the names of Γ in scope, into a slice as wide as its type
-pub record EvaluatingIn (s : List ℕ) (n : ℕ) (widths env : List ℕ) (names rec : ℕ) (out Γ : List ℕ) : Type 0 where
+-- an expression is at hand: record rec of an accepted sheet, with the names of Γ in scope, and a slice as wide as its type
+pub record Ready (s : List ℕ) (n : ℕ) (widths env : List ℕ) (names rec : ℕ) (out Γ : List ℕ) : Type 0 where
   pub sized : Sized s n
   pub type : ℕ
   pub accepted : verdict s ≡ Accepted type
@@ -31,6 +31,10 @@ pub record EvaluatingIn (s : List ℕ) (n : ℕ) (widths env : List ℕ) (names 
   pub many : length Γ ≡ names
   pub wide : length env ≡ environmentBytes
   pub room : length out ≡ getD widths rec 0
+
+-- it is evaluated: the values of the names stand in the environment
+pub record EvaluatingIn (s : List ℕ) (n : ℕ) (widths env : List ℕ) (names rec : ℕ) (out Γ : List ℕ) : Type 0 where
+  pub at-hand : Ready s n widths env names rec out Γ
   pub values : ValuesOf (map (typeAt s) Γ) (frames s Γ env)
 
 -- what comes of it: the value, the table of the delays' next values, the numbers of its IFs, and an environment with the same names

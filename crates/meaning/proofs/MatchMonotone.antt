@@ -85,7 +85,7 @@ module _ (f : Decision → Decision → Decision) (holds : T (every (λ a. every
       (and-right (below (f Undecided d) (f a d)) (below (f a Undecided) (f a d)) (rises a d)))
   right-monotone a (inr q) = rw q (inr refl)
 
-  table-monotone : {a b c d : Decision} → DecisionBelow a c → DecisionBelow b d → DecisionBelow (f a b) (f c d)
+  pub table-monotone : {a b c d : Decision} → DecisionBelow a c → DecisionBelow b d → DecisionBelow (f a b) (f c d)
   table-monotone {b} {c} r s = answer-trans (left-monotone b r) (right-monotone c s)
 
 pub match-monotone

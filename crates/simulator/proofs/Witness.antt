@@ -224,13 +224,13 @@ toggle-delay-ready = ready-of (toggle-settling .ready) delay (toggle-kinds .1)
 toggle-if-ready : ReadyOf toggle ifMatches
 toggle-if-ready =
     let d = toggle-settling .ready in
-    ready-of (ready-part d (of-delay (toggle-kinds .1) (d .scope))) ifMatches (toggle-kinds .2)
+    ready-of (ready-part d (of-delay (toggle-kinds .1) (d .at-hand .scope))) ifMatches (toggle-kinds .2)
 
 toggle-name-ready : ReadyOf toggle name
 toggle-name-ready =
     let d = toggle-settling .ready in
-    let i = ready-part d (of-delay (toggle-kinds .1) (d .scope)) in
-    ready-of (ready-part i (if-tested (toggle-kinds .2) (i .scope))) name (toggle-kinds .3)
+    let i = ready-part d (of-delay (toggle-kinds .1) (d .at-hand .scope)) in
+    ready-of (ready-part i (if-tested (toggle-kinds .2) (i .at-hand .scope))) name (toggle-kinds .3)
 
 -- the sheet with pairs
 pairs-formed : WellFormed PairWitness.sheet (1 ∷ 2 ∷ []) (replicate 2 0) (replicate 252 0) 3
@@ -257,16 +257,16 @@ pairs-let-ready = ready-of (first-ready pairs-formed some-pair) letIn (pairs-kin
 pairs-tuple-ready : ReadyOf pairs tuple
 pairs-tuple-ready =
     let r = first-ready pairs-formed some-pair in
-    ready-of (ready-part r (let-defining (pairs-kinds .0) (r .scope))) tuple (pairs-kinds .1)
+    ready-of (ready-part r (let-defining (pairs-kinds .0) (r .at-hand .scope))) tuple (pairs-kinds .1)
 
 pairs-first-ready : ReadyOf pairs first
 pairs-first-ready =
     let r = first-ready pairs-formed some-pair in
-    let d = ready-part r (let-defining (pairs-kinds .0) (r .scope)) in
-    ready-of (ready-part d (tuple-first (pairs-kinds .1) (d .scope))) first (pairs-kinds .2)
+    let d = ready-part r (let-defining (pairs-kinds .0) (r .at-hand .scope)) in
+    ready-of (ready-part d (tuple-first (pairs-kinds .1) (d .at-hand .scope))) first (pairs-kinds .2)
 
 pairs-second-ready : ReadyOf pairs second
 pairs-second-ready =
     let r = first-ready pairs-formed some-pair in
-    let d = ready-part r (let-defining (pairs-kinds .0) (r .scope)) in
-    ready-of (ready-part d (tuple-second (pairs-kinds .1) (d .scope))) second (pairs-kinds .3)
+    let d = ready-part r (let-defining (pairs-kinds .0) (r .at-hand .scope)) in
+    ready-of (ready-part d (tuple-second (pairs-kinds .1) (d .at-hand .scope))) second (pairs-kinds .3)

@@ -98,14 +98,16 @@ module _ {s : List ℕ} {n : ℕ} {W env held input current out : List ℕ} (g :
     pub root-evaluating : EvaluatingIn current n W env₁ 1 x out (inputs current)
     root-evaluating =
         record {
-          sized = sized-again o (g .sized);
-          type = g .type;
-          accepted = g .again;
-          table = table;
-          scope = rw at-root root;
-          many = refl;
-          wide = rw e (entered-long 0 input env (omega arith) (input-room .0) ∙ g .wide);
-          room = rw at-root root-entry;
+          at-hand = record {
+            sized = sized-again o (g .sized);
+            type = g .type;
+            accepted = g .again;
+            table = table;
+            scope = rw at-root root;
+            many = refl;
+            wide = rw e (entered-long 0 input env (omega arith) (input-room .0) ∙ g .wide);
+            room = rw at-root root-entry;
+          };
           values = rw framed (more-values input-typed no-values);
         }
 

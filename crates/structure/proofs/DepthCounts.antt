@@ -21,7 +21,7 @@ use Rattle.structure.specs.NamerTable.{summary}
 use Rattle.structure.specs.DepthTable.{Capped, Placed, Placing}
 use Rattle.structure.proofs.Depths.{depth-of, nesting-of}
 
-feedback-number : (k : ℕ) → isFeedback (kindOf k) ≡ eqb k 38
+pub feedback-number : (k : ℕ) → isFeedback (kindOf k) ≡ eqb k 38
 unfolding kindOf
 feedback-number = only-kind isFeedback 38 refl (omega arith) tt
 

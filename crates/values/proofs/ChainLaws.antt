@@ -3,13 +3,13 @@
 use Prim.Native.Nat.{ℕ, _-_, _<_}
 use mathlib.Core.List.{List}
 use mathlib.Core.Path.{_≡_, refl, sym, _∙_}
-use Rattle.picoella.specs.Language.{Pattern, Whole, Constructor, Parts}
+use Rattle.picoella.specs.Language.{Pattern, Whole, Constructor, Parts, Bar}
 use Rattle.records.specs.Words.{wordA}
 use Rattle.records.specs.Trees.{typeAt, Alternatives, end, noPattern, wholeType, oneConstructor, pairOfPatterns}
 use Rattle.records.specs.Decoding.{orElse, patternOf}
 use Rattle.records.proofs.Grown.{GrownPattern}
 use Rattle.verdict.specs.Widths.{patternLeaves}
-use Rattle.meaning.specs.Matching.{patternWidth, matches}
+use Rattle.meaning.specs.Matching.{patternWidth}
 use Rattle.meaning.specs.Decisions.{Decision, Yes, No, Undecided, chainDecision}
 use Rattle.values.specs.Matchings.{withRest}
 use Rattle.behaviour.specs.Firing.{orAfter}
@@ -52,12 +52,12 @@ told-alone Matched′.No = refl
 told-alone Matched′.Undecided = refl
 
 -- after a yes the rest changes nothing
-pub yes-stays : (s : List ℕ) (m : Alternatives) (v : List ℕ) → withRest Yes s m v ≡ Yes
-yes-stays s end v = refl
-yes-stays s noPattern v = refl
-yes-stays s (wholeType r t m) v = refl
-yes-stays s (oneConstructor r t k m) v = refl
-yes-stays s (pairOfPatterns r p q m) v = refl
+pub yes-stays : (says : Pattern → Decision) (s : List ℕ) (m : Alternatives) → withRest says Yes s m ≡ Yes
+yes-stays says s end = refl
+yes-stays says s noPattern = refl
+yes-stays says s (wholeType r t m) = refl
+yes-stays says s (oneConstructor r t k m) = refl
+yes-stays says s (pairOfPatterns r p q m) = refl
 
 -- what is matched next follows, unless it is nothing
 pub alternative-goes-on : (a : Match) {x y : ℕ} → x ≡ orAfter (decisionOf a) 0 y → (x ≡ 0 → ⊥) → x ≡ y
@@ -66,21 +66,30 @@ alternative-goes-on Matched′.No e f = e
 alternative-goes-on Matched′.Undecided e f = e
 
 -- the first of some alternatives, with the rest of them
-pub one-with-rest : (s : List ℕ) (p : Pattern) (m : Alternatives) (v : List ℕ)
-    → matches (orElse p m (patternOf s m)) v ≡ withRest (matches p v) s m v
-one-with-rest s p end v = refl
-one-with-rest s p noPattern v = refl
-one-with-rest s p (wholeType r t m) v = refl
-one-with-rest s p (oneConstructor r t k m) v = refl
-one-with-rest s p (pairOfPatterns r a b m) v = refl
+pub one-with-rest : (says : Pattern → Decision) → ((p q : Pattern) → says (Bar p q) ≡ chainDecision (says p) (says q)) → (s : List ℕ)
+    (p : Pattern) (m : Alternatives) → says (orElse p m (patternOf s m)) ≡ withRest says (says p) s m
+one-with-rest says bar s p end = refl
+one-with-rest says bar s p noPattern = refl
+one-with-rest says bar s p (wholeType r t m) = bar p (patternOf s (wholeType r t m))
+one-with-rest says bar s p (oneConstructor r t k m) = bar p (patternOf s (oneConstructor r t k m))
+one-with-rest says bar s p (pairOfPatterns r a b m) = bar p (patternOf s (pairOfPatterns r a b m))
 
-pub chain-with-rest : (a b : Decision) (s : List ℕ) (m : Alternatives) (v : List ℕ)
-    → chainDecision a (withRest b s m v) ≡ withRest (chainDecision a b) s m v
-chain-with-rest a b s end v = refl
-chain-with-rest a b s noPattern v = refl
-chain-with-rest a b s (wholeType r t m) v = sym (chain-associates a b (matches (patternOf s (wholeType r t m)) v))
-chain-with-rest a b s (oneConstructor r t k m) v = sym (chain-associates a b (matches (patternOf s (oneConstructor r t k m)) v))
-chain-with-rest a b s (pairOfPatterns r p q m) v = sym (chain-associates a b (matches (patternOf s (pairOfPatterns r p q m)) v))
+pub chain-with-rest : (says : Pattern → Decision) (a b : Decision) (s : List ℕ) (m : Alternatives)
+    → chainDecision a (withRest says b s m) ≡ withRest says (chainDecision a b) s m
+chain-with-rest says a b s end = refl
+chain-with-rest says a b s noPattern = refl
+chain-with-rest says a b s (wholeType r t m) = sym (chain-associates a b (says (patternOf s (wholeType r t m))))
+chain-with-rest says a b s (oneConstructor r t k m) = sym (chain-associates a b (says (patternOf s (oneConstructor r t k m))))
+chain-with-rest says a b s (pairOfPatterns r p q m) = sym (chain-associates a b (says (patternOf s (pairOfPatterns r p q m))))
+
+-- the rest of a pattern that is there
+pub rest-of-grown : (says : Pattern → Decision) (a : Decision) (s : List ℕ) (m : Alternatives) → GrownPattern s m
+    → withRest says a s m ≡ chainDecision a (says (patternOf s m))
+rest-of-grown says a s end g = absurd g
+rest-of-grown says a s noPattern g = absurd g
+rest-of-grown says a s (wholeType r t m) g = refl
+rest-of-grown says a s (oneConstructor r t k m) g = refl
+rest-of-grown says a s (pairOfPatterns r p q m) g = refl
 
 width-of-first : (p : Pattern) (m : Alternatives) (q : Pattern) → patternWidth (orElse p m q) ≡ patternWidth p
 width-of-first p end q = refl

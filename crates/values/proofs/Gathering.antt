@@ -21,7 +21,7 @@ use Rattle.values.proofs.Matches.{past, rest-is, taken-in}
 
 -- the whole chain from p is what was matched so far, with what is left from x
 pub record Gathered (s : List ℕ) (p : ℕ) (v : List ℕ) (a : Match) (x : ℕ) : Type 0 where
-  pub decides : matches (patternOf s (alternatives s p)) v ≡ withRest (decisionOf a) s (follow end (alternatives s) x) v
+  pub decides : matches (patternOf s (alternatives s p)) v ≡ withRest (λ q. matches q v) (decisionOf a) s (follow end (alternatives s) x)
   pub tells : firstYes s (alternatives s p) v ≡ orAfter (decisionOf a) (told a) (firstYes s (follow end (alternatives s) x) v)
   pub few : told a < 4096
 
@@ -49,7 +49,7 @@ module _ {s : List ℕ} {p : ℕ} {v : List ℕ} where
   -- and after a yes nothing more
   pub up-to-yes : (a : Match) {x y : ℕ} → Gathered s p v a y → x ≡ orAfter (decisionOf a) 0 y → Gathered s p v a x
   up-to-yes (Matched′.Yes r) {x} {y} h e =
-      record { decides = h .decides ∙ rw e (yes-stays s (follow end (alternatives s) y) v); tells = h .tells; few = h .few }
+      record { decides = h .decides ∙ rw e (yes-stays (λ q. matches q v) s (follow end (alternatives s) y)); tells = h .tells; few = h .few }
   up-to-yes Matched′.No h e = rw e h
   up-to-yes Matched′.Undecided h e = rw e h
 

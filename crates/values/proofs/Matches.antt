@@ -38,7 +38,7 @@ use Rattle.behaviour.specs.Firing.{firstYes}
 use Rattle.values.specs.MatchAnswers.{decisionOf, Own}
 use Rattle.values.specs.declared.Match.{Match}
 use Rattle.values.specs.declared.Match.the-variants as Matched′
-use Rattle.values.proofs.ChainLaws.{own-told, few-told, one-with-rest, chain-with-rest, alternatives-width}
+use Rattle.values.proofs.ChainLaws.{own-told, few-told, one-with-rest, chain-with-rest, rest-of-grown, alternatives-width}
 
 module _ {s : List ℕ} {n : ℕ} {widths : List ℕ} {p : ℕ} {value : List ℕ} (m : Matching s n widths p value) where
   w : Written s
@@ -97,35 +97,31 @@ module _ {s : List ℕ} {n : ℕ} {widths : List ℕ} {p : ℕ} {value : List �
       follows (suc x) f = refl
 
   -- an alternative is there
-  pub rest-is : (a : Decision) → withRest a s (alternatives s p) value ≡ chainDecision a (matches (patternOf s (alternatives s p)) value)
-  rest-is a = go (kind .0) (kind .1)
-    where
-      go : (q : PatternKind) → kindAt s p ≡ pattern q
-          → withRest a s (alternatives s p) value ≡ chainDecision a (matches (patternOf s (alternatives s p)) value)
-      go whole e = rw (alternatives-of w p there (pattern whole) e) refl
-      go constructor e = rw (alternatives-of w p there (pattern constructor) e) refl
-      go parts e = rw (alternatives-of w p there (pattern parts) e) refl
+  pub rest-is : (a : Decision) → withRest (λ q. matches q value) a s (alternatives s p) ≡ chainDecision a (matches (patternOf s (alternatives s p)) value)
+  rest-is a = rest-of-grown (λ q. matches q value) a s (alternatives s p) (grown-pattern w p there (m .against .sort))
 
   -- one more alternative taken in
   pub taken-in : (so-far one now : Match) {x : ℕ}
-      → matches (patternOf s (alternatives s p)) value ≡ withRest (decisionOf one) s after value → decisionOf now ≡ chainDecision (decisionOf so-far) (decisionOf one)
+      → matches (patternOf s (alternatives s p)) value ≡ withRest (λ q. matches q value) (decisionOf one) s after → decisionOf now ≡ chainDecision (decisionOf so-far) (decisionOf one)
       → x ≡ word s p 1
-      → withRest (decisionOf so-far) s (alternatives s p) value ≡ withRest (decisionOf now) s (follow end (alternatives s) x) value
+      → withRest (λ q. matches q value) (decisionOf so-far) s (alternatives s p)
+      ≡ withRest (λ q. matches q value) (decisionOf now) s (follow end (alternatives s) x)
   taken-in so-far one now o e ex =
-      rest-is (decisionOf so-far) ∙ rw (o, e, ex) (chain-with-rest (decisionOf so-far) (decisionOf one) s (follow end (alternatives s) (nextWord s p)) value)
+      rest-is (decisionOf so-far) ∙ rw (o, e, ex)
+      (chain-with-rest (λ q. matches q value) (decisionOf so-far) (decisionOf one) s (follow end (alternatives s) (nextWord s p)))
 
   module _ {k : ℕ} (ek : k ≡ word s p 0) where
     pub whole-matches : k ≡ 48 → MatchedOne s p value (Matched′.Yes p)
     whole-matches e =
         let is = alternatives-of w p there (pattern whole) (pattern-kind s p k ek whole e) in
-        record { decides = rw is (one-with-rest s _ after value); tells = rw is refl; few = low }
+        record { decides = rw is (one-with-rest (λ q. matches q value) (λ a b. refl) s _ after); tells = rw is refl; few = low }
 
     pub constructor-matches : {x : ℕ} (r : Match) → k ≡ 49 → x ≡ word s p 3 → Own p r (constructorDecision x (getD value 0 0))
         → MatchedOne s p value r
     constructor-matches {x} r e ex o =
         let is = alternatives-of w p there (pattern constructor) (pattern-kind s p k ek constructor e) in
         record {
-          decides = rw (o .decides, ex, is) (one-with-rest s _ after value);
+          decides = rw (o .decides, ex, is) (one-with-rest (λ q. matches q value) (λ a b. refl) s _ after);
           tells = rw is (rw ex at (own-told r (constructorDecision x (getD value 0 0)) p (firstYes s after value) o));
           few = rw (o .tells) (few-told (constructorDecision x (getD value 0 0)) p 0 low (omega arith));
         }
@@ -248,7 +244,7 @@ module _ {s : List ℕ} {n : ℕ} {widths : List ℕ} {p : ℕ} {value : List �
               record {
                 decides =
                     rw (two-parts, o .decides, ← parts-match)
-                    (one-with-rest s (Parts (patternOf s (alternatives s (wordA s p))) (patternOf s (alternatives s (wordB s p)))) after value);
+                    (one-with-rest (λ q. matches q value) (λ a b. refl) s (Parts (patternOf s (alternatives s (wordA s p))) (patternOf s (alternatives s (wordB s p)))) after);
                 tells = rw (two-parts, parts-match) (own-told r (pairDecision (decisionOf a) d) p (firstYes s after value) o);
                 few = rw (o .tells) (few-told (pairDecision (decisionOf a) d) p 0 low (omega arith));
               }

@@ -5,7 +5,7 @@ use mathlib.Core.Bool.{true}
 use mathlib.Core.List.{List}
 use lib.ListN.{length, getD}
 use Rattle.records.specs.Limits.{mostRecords}
-use Rattle.picoella.specs.Language.{leaves}
+use Rattle.picoella.specs.Language.{leaves, Pattern}
 use Rattle.records.specs.Words.{count, nextWord}
 use Rattle.records.specs.Kinds.{patterns}
 use Rattle.records.specs.Says.{sortAt}
@@ -29,13 +29,13 @@ pub record Matching (s : List ℕ) (n : ℕ) (widths : List ℕ) (p : ℕ) (valu
   pub fits : patternFits s (alternatives s p) type ≡ true
   pub long : length value ≡ leaves (typeAt s type)
 
--- the answer of a first alternative, with those after it
-abbrev pub withRest : Decision → List ℕ → Alternatives → List ℕ → Decision
-withRest a s end v = a
-withRest a s noPattern v = a
-withRest a s (wholeType r t m) v = chainDecision a (matches (patternOf s (wholeType r t m)) v)
-withRest a s (oneConstructor r t k m) v = chainDecision a (matches (patternOf s (oneConstructor r t k m)) v)
-withRest a s (pairOfPatterns r p q m) v = chainDecision a (matches (patternOf s (pairOfPatterns r p q m)) v)
+-- the answer of a first alternative, with those after it, where each pattern says something
+abbrev pub withRest : (says : Pattern → Decision) → Decision → List ℕ → Alternatives → Decision
+withRest says a s end = a
+withRest says a s noPattern = a
+withRest says a s (wholeType r t m) = chainDecision a (says (patternOf s (wholeType r t m)))
+withRest says a s (oneConstructor r t k m) = chainDecision a (says (patternOf s (oneConstructor r t k m)))
+withRest says a s (pairOfPatterns r p q m) = chainDecision a (says (patternOf s (pairOfPatterns r p q m)))
 
 -- a match of all alternatives from p: the answer, and the record of the first that says yes, 0 where none does
 pub record MatchedAll (s : List ℕ) (p : ℕ) (v : List ℕ) (answer : Match) : Type 0 where
@@ -46,7 +46,7 @@ pub record MatchedAll (s : List ℕ) (p : ℕ) (v : List ℕ) (answer : Match) :
 -- a match of the alternative at p, beside those after it
 pub record MatchedOne (s : List ℕ) (p : ℕ) (v : List ℕ) (answer : Match) : Type 0 where
   pub decides : matches (patternOf s (alternatives s p)) v
-      ≡ withRest (decisionOf answer) s (follow end (alternatives s) (nextWord s p)) v
+      ≡ withRest (λ q. matches q v) (decisionOf answer) s (follow end (alternatives s) (nextWord s p))
   pub tells : firstYes s (alternatives s p) v
       ≡ orAfter (decisionOf answer) (told answer) (firstYes s (follow end (alternatives s) (nextWord s p)) v)
   pub few : told answer < mostRecords

@@ -211,7 +211,7 @@ fn own(p: usize, answer: Match) -> Match
 }
 
 // The answer of the alternative at p, a pair pattern, from those of its parts.
-fn both(p: usize, a: Match, b: Match) -> Match
+pub fn both(p: usize, a: Match, b: Match) -> Match
     ensures { λ r. ⌜ Own p r (pairDecision (decisionOf a) (decisionOf b)) ⌝ }
 {
     match a {
@@ -226,7 +226,7 @@ fn both(p: usize, a: Match, b: Match) -> Match
 }
 
 // The answer of a chain, from that of its first alternatives and that of the next one: the first yes is told.
-fn either(a: Match, b: Match) -> Match
+pub fn either(a: Match, b: Match) -> Match
     ensures { λ r. ⌜ (decisionOf r ≡ chainDecision (decisionOf a) (decisionOf b)) × (told r ≡ orAfter (decisionOf a) (told a) (told b)) ⌝ }
 {
     match a {

@@ -62,11 +62,14 @@ use Rattle.records.proofs.Table.{askOfKind}
 use Rattle.accepted.proofs.Laws.{numbered, last-kind}
 use Rattle.evaluator.proofs.Frames.{from-zero, to-the-end}
 use Rattle.evaluator.proofs.Readiness.{ready-word, ready-low, ready-few, in-circuit, entry-few, entry-there, part-higher}
-use Rattle.evaluator.proofs.Parts.{constant-chained, constant-done, pair-width-small, pair-cut, pair-first-ready, pair-rest, pair-second-ready, pair-done, fits-room, room-ready, first-scope, first-fits, first-inside, first-done, second-scope, second-few, second-from, second-inside, second-fits, second-done}
-use Rattle.evaluator.proofs.Names.{defining-scope, let-inside, let-room, let-body-ready, let-done}
+use Rattle.evaluator.proofs.LentParts.{pair-width-small, fits-room, first-scope, second-scope}
+use Rattle.evaluator.proofs.LentNames.{defining-scope}
+use Rattle.evaluator.proofs.LentBranches.{tested-scope}
+use Rattle.evaluator.proofs.Parts.{constant-chained, constant-done, pair-cut, pair-first-ready, pair-rest, pair-second-ready, pair-done, room-ready, first-fits, first-inside, first-done, second-few, second-from, second-inside, second-fits, second-done}
+use Rattle.evaluator.proofs.Names.{let-inside, let-room, let-body-ready, let-done}
 use Rattle.evaluator.proofs.Settling.{settle-few, settle-room, unchanged-settled, settling-again, fewer-undefined, changed-settled}
 use Rattle.evaluator.proofs.Feedbacks.{part-scope, feedback-fits, start-room, feedback-settling, few-undefined, feedback-body-ready, feedback-done}
-use Rattle.evaluator.proofs.Branches.{tested-scope, then-ready, else-fits, else-ready, tested-inside, otherwise-inside, as-long, pattern-matching, if-wide, if-done, delayed-ready, delay-chained, delay-done}
+use Rattle.evaluator.proofs.Branches.{then-ready, else-fits, else-ready, tested-inside, otherwise-inside, as-long, pattern-matching, if-wide, if-done, delayed-ready, delay-chained, delay-done}
 
 abbrev μ-eval : Measures 6 eval-kinds.ps ℕ
 μ-eval κs a = 68 * (a .1 .0 - a .1 .1 .1 .1 .1 .1 .0) + 1
@@ -194,10 +197,10 @@ abbrev settle-claims : ℕ → settle-lts.Claims
 settle-claims t = (eval-part-below t, eval-part.Post, stands-at-reads.Asked, stands-at-reads.Learnt, enter-value-reads.Asked, enter-value-reads.Learnt, settle-below t, settle.Post)
 
 eval-word-requires : (t : ℕ) → eval-lts.Need-word-requires (eval-claims t) (eval-at t) eval.Post
-eval-word-requires t c κs = ready-word (c .before .before .before .pre .1 .1) (omega arith)
+eval-word-requires t c κs = ready-word (c .before .before .before .pre .1 .1 .at-hand) (omega arith)
 
 eval-word-requires-2 : (t : ℕ) → eval-lts.Need-word-requires-2 (eval-claims t) (eval-at t) eval.Post
-eval-word-requires-2 t c κs = ready-word (c .before .before .before .before .before .pre .1 .1) (omega arith)
+eval-word-requires-2 t c κs = ready-word (c .before .before .before .before .before .pre .1 .1 .at-hand) (omega arith)
 
 eval-read-leaves-requires : (t : ℕ) → eval-lts.Need-read-leaves-requires (eval-claims t) (eval-at t) eval.Post
 eval-read-leaves-requires t c κs = constant-chained (c .before .before .before .before .before .before .before .pre .1 .1) (numbered _ _ _ 32 (expression constant) (c .before .before .before .word .ensures .0) (c .before .before .if1 .taken) (unfold kindOf in refl)) (c .before .word2 .ensures .0)
@@ -293,7 +296,7 @@ eval-returns-8 : (t : ℕ) → eval-lts.Need-returns-8 (eval-claims t) (eval-at 
 eval-returns-8 t c = c .before .before .before .before .of-if .ensures
 
 eval-of-delay-requires : (t : ℕ) → eval-lts.Need-of-delay-requires (eval-claims t) (eval-at t) eval.Post
-eval-of-delay-requires t c κs = (omega (arith, c .before .before .before .before .before .before .before .before .before .before .before .before .before .before .before .before .pre .0), (c .before .before .before .before .before .before .before .before .before .before .before .before .before .before .before .before .pre .1, last-kind _ _ _ (in-circuit (c .before .before .before .before .before .before .before .before .before .before .before .before .before .before .before .before .pre .1 .1) (c .before .before .before .before .before .before .before .before .before .before .before .before .before .before .before .before .pre .1 .1 .scope) .sort) (c .before .before .before .before .before .before .before .before .before .before .before .before .word .ensures .0) (c .before .before .before .before .before .before .before .before .before .before .before .if1 .left) (c .before .before .before .before .before .before .before .before .before .before .if2 .left) (c .before .before .before .before .before .before .before .before .before .if3 .left) (c .before .before .before .before .before .before .before .before .if4 .left) (c .before .before .before .before .before .before .before .if5 .left) (c .before .before .before .before .before .before .if6 .left) (c .before .before .before .before .before .if7 .left) (c .before .before .before .before .if8 .left)))
+eval-of-delay-requires t c κs = (omega (arith, c .before .before .before .before .before .before .before .before .before .before .before .before .before .before .before .before .pre .0), (c .before .before .before .before .before .before .before .before .before .before .before .before .before .before .before .before .pre .1, last-kind _ _ _ (in-circuit (c .before .before .before .before .before .before .before .before .before .before .before .before .before .before .before .before .pre .1 .1 .at-hand) (c .before .before .before .before .before .before .before .before .before .before .before .before .before .before .before .before .pre .1 .1 .at-hand .scope) .sort) (c .before .before .before .before .before .before .before .before .before .before .before .before .word .ensures .0) (c .before .before .before .before .before .before .before .before .before .before .before .if1 .left) (c .before .before .before .before .before .before .before .before .before .before .if2 .left) (c .before .before .before .before .before .before .before .before .before .if3 .left) (c .before .before .before .before .before .before .before .before .if4 .left) (c .before .before .before .before .before .before .before .if5 .left) (c .before .before .before .before .before .before .if6 .left) (c .before .before .before .before .before .if7 .left) (c .before .before .before .before .if8 .left)))
 
 eval-same-length-16 : (t : ℕ) → eval-lts.Need-same-length-16 (eval-claims t) (eval-at t) eval.Post
 eval-same-length-16 t c = search needs
@@ -305,10 +308,10 @@ eval-returns-9 : (t : ℕ) → eval-lts.Need-returns-9 (eval-claims t) (eval-at 
 eval-returns-9 t c = c .before .before .before .before .of-delay .ensures
 
 eval-part-word-requires : (t : ℕ) → eval-part-lts.Need-word-requires (eval-part-claims t) (eval-part-at t) eval-part.Post
-eval-part-word-requires t c κs = ready-word (c .before .before .before .pre .1 .1) (omega arith)
+eval-part-word-requires t c κs = ready-word (c .before .before .before .pre .1 .1 .at-hand) (omega arith)
 
 eval-part-word-requires-2 : (t : ℕ) → eval-part-lts.Need-word-requires-2 (eval-part-claims t) (eval-part-at t) eval-part.Post
-eval-part-word-requires-2 t c κs = ready-word (c .before .before .before .before .before .pre .1 .1) (omega arith)
+eval-part-word-requires-2 t c κs = ready-word (c .before .before .before .before .before .pre .1 .1 .at-hand) (omega arith)
 
 eval-part-read-leaves-requires : (t : ℕ) → eval-part-lts.Need-read-leaves-requires (eval-part-claims t) (eval-part-at t) eval-part.Post
 eval-part-read-leaves-requires t c κs = constant-chained (c .before .before .before .before .before .before .before .pre .1 .1) (numbered _ _ _ 32 (expression constant) (c .before .before .before .word .ensures .0) (c .before .before .if1 .taken) (unfold kindOf in refl)) (c .before .word2 .ensures .0)
@@ -344,13 +347,13 @@ eval-part-returns-3 : (t : ℕ) → eval-part-lts.Need-returns-3 (eval-part-clai
 eval-part-returns-3 t c = c .before .before .before .before .eval .ensures
 
 of-delay-word-requires : (t : ℕ) → of-delay-lts.Need-word-requires (of-delay-claims t) (of-delay-at t) of-delay.Post
-of-delay-word-requires t c κs = ready-word (c .before .before .before .pre .1 .0 .1) (omega arith)
+of-delay-word-requires t c κs = ready-word (c .before .before .before .pre .1 .0 .1 .at-hand) (omega arith)
 
 of-delay-eval-part-requires : (t : ℕ) → of-delay-lts.Need-eval-part-requires (of-delay-claims t) (of-delay-at t) of-delay.Post
-of-delay-eval-part-requires t c κs = let h = (part-higher (c .before .before .before .before .before .before .before .before .pre .1 .0 .1) delay (c .before .before .before .before .before .before .before .before .pre .1 .1) 4 refl (unfold askOfKind in refl) (c .before .before .before .before .word .ensures .0)) in (omega (arith, c .before .before .before .before .before .before .before .before .pre .0, h .0, h .1), (c .before .before .before .before .before .before .before .before .pre .1 .0 .0, delayed-ready (c .before .before .before .before .before .before .before .before .pre .1 .0 .1) (c .before .before .before .before .before .before .before .before .pre .1 .1) (c .before .before .before .before .word .ensures .0) refl))
+of-delay-eval-part-requires t c κs = let h = (part-higher (c .before .before .before .before .before .before .before .before .pre .1 .0 .1 .at-hand) delay (c .before .before .before .before .before .before .before .before .pre .1 .1) 4 refl (unfold askOfKind in refl) (c .before .before .before .before .word .ensures .0)) in (omega (arith, c .before .before .before .before .before .before .before .before .pre .0, h .0, h .1), (c .before .before .before .before .before .before .before .before .pre .1 .0 .0, delayed-ready (c .before .before .before .before .before .before .before .before .pre .1 .0 .1) (c .before .before .before .before .before .before .before .before .pre .1 .1) (c .before .before .before .before .word .ensures .0) refl))
 
 of-delay-word-requires-2 : (t : ℕ) → of-delay-lts.Need-word-requires-2 (of-delay-claims t) (of-delay-at t) of-delay.Post
-of-delay-word-requires-2 t c κs = ready-word (c .before .before .before .before .before .before .before .before .before .before .before .before .before .pre .1 .0 .1) (omega arith)
+of-delay-word-requires-2 t c κs = ready-word (c .before .before .before .before .before .before .before .before .before .before .before .before .before .pre .1 .0 .1 .at-hand) (omega arith)
 
 of-delay-hold-leaves-requires : (t : ℕ) → of-delay-lts.Need-hold-leaves-requires (of-delay-claims t) (of-delay-at t) of-delay.Post
 of-delay-hold-leaves-requires t c κs = delay-chained (c .before .before .before .before .before .before .before .before .before .before .before .before .before .before .before .before .pre .1 .0 .1) (c .before .before .before .before .before .before .before .before .before .before .before .before .before .before .before .before .pre .1 .1) (c .before .before .before .before .before .before .before .before .before .before .before .before .word .ensures .0) (c .before .before .word2 .ensures .0) (c .before .before .before .before .before .before .before .eval-part .ensures)
@@ -368,13 +371,13 @@ of-delay-returns : (t : ℕ) → of-delay-lts.Need-returns (of-delay-claims t) (
 of-delay-returns t c = record { done = λ Γ r. delay-done r (c .before .before .before .before .before .before .before .before .before .before .before .before .before .before .before .before .before .before .before .before .before .pre .1 .1) (c .before .before .before .before .before .before .before .before .before .before .before .before .before .before .before .before .before .word .ensures .0) (c .before .before .before .before .before .before .before .word2 .ensures .0) (c .before .before .before .before .before .before .before .before .before .before .before .before .eval-part .ensures) (c .before .before .before .before .hold-leaves .ensures) (c .before .before .read-leaves .ensures) }
 
 of-feedback-word-requires : (t : ℕ) → of-feedback-lts.Need-word-requires (of-feedback-claims t) (of-feedback-at t) of-feedback.Post
-of-feedback-word-requires t c κs = ready-word (c .before .before .before .pre .1 .0 .1) (omega arith)
+of-feedback-word-requires t c κs = ready-word (c .before .before .before .pre .1 .0 .1 .at-hand) (omega arith)
 
 of-feedback-element-copy-out-w : (t : ℕ) → of-feedback-lts.Need-element-copy-out-w (of-feedback-claims t) (of-feedback-at t) of-feedback.Post
-of-feedback-element-copy-out-w t c = entry-there (c .before .before .before .before .pre .1 .0 .1) feedback (c .before .before .before .before .pre .1 .1) 3 refl (unfold askOfKind in refl) (c .word .ensures .0)
+of-feedback-element-copy-out-w t c = entry-there (c .before .before .before .before .pre .1 .0 .1 .at-hand) feedback (c .before .before .before .before .pre .1 .1) 3 refl (unfold askOfKind in refl) (c .word .ensures .0)
 
 of-feedback-cast-w : (t : ℕ) → of-feedback-lts.Need-cast-w (of-feedback-claims t) (of-feedback-at t) of-feedback.Post
-of-feedback-cast-w t c = let f = entry-few (c .before .before .before .before .before .pre .1 .0 .1) (part-scope (c .before .before .before .before .before .pre .1 .0 .1) (c .before .before .before .before .before .pre .1 .1) (c .before .word .ensures .0) refl refl refl) in omega arith
+of-feedback-cast-w t c = let f = entry-few (c .before .before .before .before .before .pre .1 .0 .1 .at-hand) (part-scope (c .before .before .before .before .before .pre .1 .0 .1) (c .before .before .before .before .before .pre .1 .1) (c .before .word .ensures .0) refl refl refl) in omega arith
 
 of-feedback-room-requires : (t : ℕ) → of-feedback-lts.Need-room-requires (of-feedback-claims t) (of-feedback-at t) of-feedback.Post
 of-feedback-room-requires t c κs = tt
@@ -401,16 +404,16 @@ of-feedback-part-settled-end : (t : ℕ) → of-feedback-lts.Need-part-settled-e
 of-feedback-part-settled-end t c = feedback-fits (c .before .before .before .before .before .before .before .before .before .before .before .before .before .before .pre .1 .0 .1) (c .before .before .before .before .before .before .before .before .before .before .before .before .before .before .pre .1 .1) (c .before .before .before .before .before .before .before .before .before .before .word .ensures .0) refl refl (c .before .before .before .before .before .before .before .before .room .ensures)
 
 of-feedback-settle-requires : (t : ℕ) → of-feedback-lts.Need-settle-requires (of-feedback-claims t) (of-feedback-at t) of-feedback.Post
-of-feedback-settle-requires t c κs = let h = (part-higher (c .before .before .before .before .before .before .before .before .before .before .before .before .before .before .before .before .pre .1 .0 .1) feedback (c .before .before .before .before .before .before .before .before .before .before .before .before .before .before .before .before .pre .1 .1) 3 refl (unfold askOfKind in refl) (c .before .before .before .before .before .before .before .before .before .before .before .before .word .ensures .0)) in let z = few-undefined (c .before .before .before .before .before .before .before .before .before .before .before .before .before .before .before .before .pre .1 .0 .1) (c .before .before .before .before .before .before .before .before .before .before .before .before .before .before .before .before .pre .1 .1) (c .before .before .before .before .before .before .before .before .before .before .before .before .word .ensures .0) refl refl (c .before .before .before .before .before .before .before .before .before .before .room .ensures) (c .before .before .before .before .before .before .enter-value .ensures) in (omega (arith, c .before .before .before .before .before .before .before .before .before .before .before .before .before .before .before .before .pre .0, h .0, h .1), (_, _, feedback-settling (c .before .before .before .before .before .before .before .before .before .before .before .before .before .before .before .before .pre .1 .0 .1) (c .before .before .before .before .before .before .before .before .before .before .before .before .before .before .before .before .pre .1 .1) (c .before .before .before .before .before .before .before .before .before .before .before .before .word .ensures .0) refl refl (c .before .before .before .before .before .before .before .before .before .before .room .ensures) (c .before .before .before .before .before .before .enter-value .ensures)))
+of-feedback-settle-requires t c κs = let h = (part-higher (c .before .before .before .before .before .before .before .before .before .before .before .before .before .before .before .before .pre .1 .0 .1 .at-hand) feedback (c .before .before .before .before .before .before .before .before .before .before .before .before .before .before .before .before .pre .1 .1) 3 refl (unfold askOfKind in refl) (c .before .before .before .before .before .before .before .before .before .before .before .before .word .ensures .0)) in let z = few-undefined (c .before .before .before .before .before .before .before .before .before .before .before .before .before .before .before .before .pre .1 .0 .1) (c .before .before .before .before .before .before .before .before .before .before .before .before .before .before .before .before .pre .1 .1) (c .before .before .before .before .before .before .before .before .before .before .before .before .word .ensures .0) refl refl (c .before .before .before .before .before .before .before .before .before .before .room .ensures) (c .before .before .before .before .before .before .enter-value .ensures) in (omega (arith, c .before .before .before .before .before .before .before .before .before .before .before .before .before .before .before .before .pre .0, h .0, h .1), (_, _, feedback-settling (c .before .before .before .before .before .before .before .before .before .before .before .before .before .before .before .before .pre .1 .0 .1) (c .before .before .before .before .before .before .before .before .before .before .before .before .before .before .before .before .pre .1 .1) (c .before .before .before .before .before .before .before .before .before .before .before .before .word .ensures .0) refl refl (c .before .before .before .before .before .before .before .before .before .before .room .ensures) (c .before .before .before .before .before .before .enter-value .ensures)))
 
 of-feedback-word-requires-2 : (t : ℕ) → of-feedback-lts.Need-word-requires-2 (of-feedback-claims t) (of-feedback-at t) of-feedback.Post
-of-feedback-word-requires-2 t c κs = ready-word (c .before .before .before .before .before .before .before .before .before .before .before .before .before .before .before .before .before .before .before .before .pre .1 .0 .1) (omega arith)
+of-feedback-word-requires-2 t c κs = ready-word (c .before .before .before .before .before .before .before .before .before .before .before .before .before .before .before .before .before .before .before .before .pre .1 .0 .1 .at-hand) (omega arith)
 
 of-feedback-add-eval-part : (t : ℕ) → of-feedback-lts.Need-add-eval-part (of-feedback-claims t) (of-feedback-at t) of-feedback.Post
-of-feedback-add-eval-part t c = let f = ready-few (c .before .before .before .before .before .before .before .before .before .before .before .before .before .before .before .before .before .before .before .before .before .before .pre .1 .0 .1) in omega arith
+of-feedback-add-eval-part t c = let f = ready-few (c .before .before .before .before .before .before .before .before .before .before .before .before .before .before .before .before .before .before .before .before .before .before .pre .1 .0 .1 .at-hand) in omega arith
 
 of-feedback-eval-part-requires : (t : ℕ) → of-feedback-lts.Need-eval-part-requires (of-feedback-claims t) (of-feedback-at t) of-feedback.Post
-of-feedback-eval-part-requires t c κs = let h = (part-higher (c .before .before .before .before .before .before .before .before .before .before .before .before .before .before .before .before .before .before .before .before .before .before .before .before .before .pre .1 .0 .1) feedback (c .before .before .before .before .before .before .before .before .before .before .before .before .before .before .before .before .before .before .before .before .before .before .before .before .before .pre .1 .1) 4 refl (unfold askOfKind in refl) (c .before .before .before .before .word2 .ensures .0)) in (omega (arith, c .before .before .before .before .before .before .before .before .before .before .before .before .before .before .before .before .before .before .before .before .before .before .before .before .before .pre .0, h .0, h .1), (_, feedback-body-ready (c .before .before .before .before .before .before .before .before .before .before .before .before .before .before .before .before .before .before .before .before .before .before .before .before .before .pre .1 .0 .1) (c .before .before .before .before .before .before .before .before .before .before .before .before .before .before .before .before .before .before .before .before .before .before .before .before .before .pre .1 .1) (c .before .before .before .before .before .before .before .before .before .before .before .before .before .before .before .before .before .before .before .before .before .word .ensures .0) (c .before .before .before .before .word2 .ensures .0) refl (c .before .before .before .before .before .before .before .before .before .before .before .before .before .before .before .before .before .before .before .room .ensures) (c .before .before .before .before .before .before .before .before .before .before .before .before .before .before .before .enter-value .ensures) (c .before .before .before .before .before .before .before .before .settle .ensures)))
+of-feedback-eval-part-requires t c κs = let h = (part-higher (c .before .before .before .before .before .before .before .before .before .before .before .before .before .before .before .before .before .before .before .before .before .before .before .before .before .pre .1 .0 .1 .at-hand) feedback (c .before .before .before .before .before .before .before .before .before .before .before .before .before .before .before .before .before .before .before .before .before .before .before .before .before .pre .1 .1) 4 refl (unfold askOfKind in refl) (c .before .before .before .before .word2 .ensures .0)) in (omega (arith, c .before .before .before .before .before .before .before .before .before .before .before .before .before .before .before .before .before .before .before .before .before .before .before .before .before .pre .0, h .0, h .1), (_, feedback-body-ready (c .before .before .before .before .before .before .before .before .before .before .before .before .before .before .before .before .before .before .before .before .before .before .before .before .before .pre .1 .0 .1) (c .before .before .before .before .before .before .before .before .before .before .before .before .before .before .before .before .before .before .before .before .before .before .before .before .before .pre .1 .1) (c .before .before .before .before .before .before .before .before .before .before .before .before .before .before .before .before .before .before .before .before .before .word .ensures .0) (c .before .before .before .before .word2 .ensures .0) refl (c .before .before .before .before .before .before .before .before .before .before .before .before .before .before .before .before .before .before .before .room .ensures) (c .before .before .before .before .before .before .before .before .before .before .before .before .before .before .before .enter-value .ensures) (c .before .before .before .before .before .before .before .before .settle .ensures)))
 
 of-feedback-same-length : (t : ℕ) → of-feedback-lts.Need-same-length (of-feedback-claims t) (of-feedback-at t) of-feedback.Post
 of-feedback-same-length t c = search needs
@@ -422,13 +425,13 @@ of-feedback-returns : (t : ℕ) → of-feedback-lts.Need-returns (of-feedback-cl
 of-feedback-returns t c = record { done = λ Γ r. feedback-done r (c .before .before .before .before .before .before .before .before .before .before .before .before .before .before .before .before .before .before .before .before .before .before .before .before .before .before .before .before .before .before .pre .1 .1) (c .before .before .before .before .before .before .before .before .before .before .before .before .before .before .before .before .before .before .before .before .before .before .before .before .before .before .word .ensures .0) (c .before .before .before .before .before .before .before .before .before .word2 .ensures .0) refl (c .before .before .before .before .before .before .before .before .before .before .before .before .before .before .before .before .before .before .before .before .before .before .before .before .room .ensures) (c .before .before .before .before .before .before .before .before .before .before .before .before .before .before .before .before .before .before .before .before .enter-value .ensures) (c .before .before .before .before .before .before .before .before .before .before .before .before .before .settle .ensures) (c .before .before .before .before .eval-part .ensures) }
 
 of-first-word-requires : (t : ℕ) → of-first-lts.Need-word-requires (of-first-claims t) (of-first-at t) of-first.Post
-of-first-word-requires t c κs = ready-word (c .before .before .before .pre .1 .0 .1) (omega arith)
+of-first-word-requires t c κs = ready-word (c .before .before .before .pre .1 .0 .1 .at-hand) (omega arith)
 
 of-first-element-copy-out-w : (t : ℕ) → of-first-lts.Need-element-copy-out-w (of-first-claims t) (of-first-at t) of-first.Post
-of-first-element-copy-out-w t c = entry-there (c .before .before .before .before .pre .1 .0 .1) first (c .before .before .before .before .pre .1 .1) 2 refl (unfold askOfKind in refl) (c .word .ensures .0)
+of-first-element-copy-out-w t c = entry-there (c .before .before .before .before .pre .1 .0 .1 .at-hand) first (c .before .before .before .before .pre .1 .1) 2 refl (unfold askOfKind in refl) (c .word .ensures .0)
 
 of-first-cast-w : (t : ℕ) → of-first-lts.Need-cast-w (of-first-claims t) (of-first-at t) of-first.Post
-of-first-cast-w t c = let f = entry-few (c .before .before .before .before .before .pre .1 .0 .1) (first-scope (c .before .before .before .before .before .pre .1 .0 .1) (c .before .before .before .before .before .pre .1 .1) (c .before .word .ensures .0) refl refl) in omega arith
+of-first-cast-w t c = let f = entry-few (c .before .before .before .before .before .pre .1 .0 .1 .at-hand) (first-scope (c .before .before .before .before .before .pre .1 .0 .1 .at-hand) (c .before .before .before .before .before .pre .1 .1) (c .before .word .ensures .0)) in omega arith
 
 of-first-room-requires : (t : ℕ) → of-first-lts.Need-room-requires (of-first-claims t) (of-first-at t) of-first.Post
 of-first-room-requires t c κs = tt
@@ -440,10 +443,10 @@ of-first-part-whole-start : (t : ℕ) → of-first-lts.Need-part-whole-start (of
 of-first-part-whole-start t c = from-zero _
 
 of-first-part-whole-end : (t : ℕ) → of-first-lts.Need-part-whole-end (of-first-claims t) (of-first-at t) of-first.Post
-of-first-part-whole-end t c = fits-room (c .before .before .before .before .before .before .before .before .pre .1 .0 .1) (first-scope (c .before .before .before .before .before .before .before .before .pre .1 .0 .1) (c .before .before .before .before .before .before .before .before .pre .1 .1) (c .before .before .before .before .word .ensures .0) refl refl) refl (c .before .before .room .ensures)
+of-first-part-whole-end t c = fits-room (c .before .before .before .before .before .before .before .before .pre .1 .0 .1 .at-hand) (first-scope (c .before .before .before .before .before .before .before .before .pre .1 .0 .1 .at-hand) (c .before .before .before .before .before .before .before .before .pre .1 .1) (c .before .before .before .before .word .ensures .0)) refl (c .before .before .room .ensures)
 
 of-first-eval-part-requires : (t : ℕ) → of-first-lts.Need-eval-part-requires (of-first-claims t) (of-first-at t) of-first.Post
-of-first-eval-part-requires t c κs = let h = (part-higher (c .before .before .before .before .before .before .before .before .before .before .pre .1 .0 .1) first (c .before .before .before .before .before .before .before .before .before .before .pre .1 .1) 2 refl (unfold askOfKind in refl) (c .before .before .before .before .before .before .word .ensures .0)) in (omega (arith, c .before .before .before .before .before .before .before .before .before .before .pre .0, h .0, h .1), (c .before .before .before .before .before .before .before .before .before .before .pre .1 .0 .0, room-ready (c .before .before .before .before .before .before .before .before .before .before .pre .1 .0 .1) (first-scope (c .before .before .before .before .before .before .before .before .before .before .pre .1 .0 .1) (c .before .before .before .before .before .before .before .before .before .before .pre .1 .1) (c .before .before .before .before .before .before .word .ensures .0) refl refl) refl (c .before .before .before .before .room .ensures)))
+of-first-eval-part-requires t c κs = let h = (part-higher (c .before .before .before .before .before .before .before .before .before .before .pre .1 .0 .1 .at-hand) first (c .before .before .before .before .before .before .before .before .before .before .pre .1 .1) 2 refl (unfold askOfKind in refl) (c .before .before .before .before .before .before .word .ensures .0)) in (omega (arith, c .before .before .before .before .before .before .before .before .before .before .pre .0, h .0, h .1), (c .before .before .before .before .before .before .before .before .before .before .pre .1 .0 .0, room-ready (c .before .before .before .before .before .before .before .before .before .before .pre .1 .0 .1) (first-scope (c .before .before .before .before .before .before .before .before .before .before .pre .1 .0 .1 .at-hand) (c .before .before .before .before .before .before .before .before .before .before .pre .1 .1) (c .before .before .before .before .before .before .word .ensures .0)) refl (c .before .before .before .before .room .ensures)))
 
 of-first-sub-put : (t : ℕ) → of-first-lts.Need-sub-put (of-first-claims t) (of-first-at t) of-first.Post
 of-first-sub-put t c = from-zero _
@@ -467,13 +470,13 @@ of-first-returns : (t : ℕ) → of-first-lts.Need-returns (of-first-claims t) (
 of-first-returns t c = record { done = λ Γ r. first-done r (c .before .before .before .before .before .before .before .before .before .before .before .before .before .before .before .before .before .before .before .before .pre .1 .1) (c .before .before .before .before .before .before .before .before .before .before .before .before .before .before .before .before .word .ensures .0) refl (c .before .before .before .before .before .before .before .before .before .before .before .before .before .before .room .ensures) (c .before .before .before .before .before .before .before .before .before .eval-part .ensures) (c .before .before .put .ensures) }
 
 of-if-word-requires : (t : ℕ) → of-if-lts.Need-word-requires (of-if-claims t) (of-if-at t) of-if.Post
-of-if-word-requires t c κs = ready-word (c .before .before .before .pre .1 .0 .1) (omega arith)
+of-if-word-requires t c κs = ready-word (c .before .before .before .pre .1 .0 .1 .at-hand) (omega arith)
 
 of-if-element-copy-out-w : (t : ℕ) → of-if-lts.Need-element-copy-out-w (of-if-claims t) (of-if-at t) of-if.Post
-of-if-element-copy-out-w t c = entry-there (c .before .before .before .before .pre .1 .0 .1) ifMatches (c .before .before .before .before .pre .1 .1) 2 refl (unfold askOfKind in refl) (c .word .ensures .0)
+of-if-element-copy-out-w t c = entry-there (c .before .before .before .before .pre .1 .0 .1 .at-hand) ifMatches (c .before .before .before .before .pre .1 .1) 2 refl (unfold askOfKind in refl) (c .word .ensures .0)
 
 of-if-cast-w : (t : ℕ) → of-if-lts.Need-cast-w (of-if-claims t) (of-if-at t) of-if.Post
-of-if-cast-w t c = let f = entry-few (c .before .before .before .before .before .pre .1 .0 .1) (tested-scope (c .before .before .before .before .before .pre .1 .0 .1) (c .before .before .before .before .before .pre .1 .1) (c .before .word .ensures .0) refl refl refl refl refl) in omega arith
+of-if-cast-w t c = let f = entry-few (c .before .before .before .before .before .pre .1 .0 .1 .at-hand) (tested-scope (c .before .before .before .before .before .pre .1 .0 .1 .at-hand) (c .before .before .before .before .before .pre .1 .1) (c .before .word .ensures .0)) in omega arith
 
 of-if-room-requires : (t : ℕ) → of-if-lts.Need-room-requires (of-if-claims t) (of-if-at t) of-if.Post
 of-if-room-requires t c κs = tt
@@ -485,19 +488,19 @@ of-if-part-tested-start : (t : ℕ) → of-if-lts.Need-part-tested-start (of-if-
 of-if-part-tested-start t c = from-zero _
 
 of-if-part-tested-end : (t : ℕ) → of-if-lts.Need-part-tested-end (of-if-claims t) (of-if-at t) of-if.Post
-of-if-part-tested-end t c = fits-room (c .before .before .before .before .before .before .before .before .pre .1 .0 .1) (tested-scope (c .before .before .before .before .before .before .before .before .pre .1 .0 .1) (c .before .before .before .before .before .before .before .before .pre .1 .1) (c .before .before .before .before .word .ensures .0) refl refl refl refl refl) refl (c .before .before .room .ensures)
+of-if-part-tested-end t c = fits-room (c .before .before .before .before .before .before .before .before .pre .1 .0 .1 .at-hand) (tested-scope (c .before .before .before .before .before .before .before .before .pre .1 .0 .1 .at-hand) (c .before .before .before .before .before .before .before .before .pre .1 .1) (c .before .before .before .before .word .ensures .0)) refl (c .before .before .room .ensures)
 
 of-if-eval-part-requires : (t : ℕ) → of-if-lts.Need-eval-part-requires (of-if-claims t) (of-if-at t) of-if.Post
-of-if-eval-part-requires t c κs = let h = (part-higher (c .before .before .before .before .before .before .before .before .before .before .pre .1 .0 .1) ifMatches (c .before .before .before .before .before .before .before .before .before .before .pre .1 .1) 2 refl (unfold askOfKind in refl) (c .before .before .before .before .before .before .word .ensures .0)) in (omega (arith, c .before .before .before .before .before .before .before .before .before .before .pre .0, h .0, h .1), (c .before .before .before .before .before .before .before .before .before .before .pre .1 .0 .0, room-ready (c .before .before .before .before .before .before .before .before .before .before .pre .1 .0 .1) (tested-scope (c .before .before .before .before .before .before .before .before .before .before .pre .1 .0 .1) (c .before .before .before .before .before .before .before .before .before .before .pre .1 .1) (c .before .before .before .before .before .before .word .ensures .0) refl refl refl refl refl) refl (c .before .before .before .before .room .ensures)))
+of-if-eval-part-requires t c κs = let h = (part-higher (c .before .before .before .before .before .before .before .before .before .before .pre .1 .0 .1 .at-hand) ifMatches (c .before .before .before .before .before .before .before .before .before .before .pre .1 .1) 2 refl (unfold askOfKind in refl) (c .before .before .before .before .before .before .word .ensures .0)) in (omega (arith, c .before .before .before .before .before .before .before .before .before .before .pre .0, h .0, h .1), (c .before .before .before .before .before .before .before .before .before .before .pre .1 .0 .0, room-ready (c .before .before .before .before .before .before .before .before .before .before .pre .1 .0 .1) (tested-scope (c .before .before .before .before .before .before .before .before .before .before .pre .1 .0 .1 .at-hand) (c .before .before .before .before .before .before .before .before .before .before .pre .1 .1) (c .before .before .before .before .before .before .word .ensures .0)) refl (c .before .before .before .before .room .ensures)))
 
 of-if-word-requires-2 : (t : ℕ) → of-if-lts.Need-word-requires-2 (of-if-claims t) (of-if-at t) of-if.Post
-of-if-word-requires-2 t c κs = ready-word (c .before .before .before .before .before .before .before .before .before .before .before .before .before .before .pre .1 .0 .1) (omega arith)
+of-if-word-requires-2 t c κs = ready-word (c .before .before .before .before .before .before .before .before .before .before .before .before .before .before .pre .1 .0 .1 .at-hand) (omega arith)
 
 of-if-eval-part-requires-2 : (t : ℕ) → of-if-lts.Need-eval-part-requires-2 (of-if-claims t) (of-if-at t) of-if.Post
-of-if-eval-part-requires-2 t c κs = let h = (part-higher (c .before .before .before .before .before .before .before .before .before .before .before .before .before .before .before .before .before .before .before .pre .1 .0 .1) ifMatches (c .before .before .before .before .before .before .before .before .before .before .before .before .before .before .before .before .before .before .before .pre .1 .1) 3 refl (unfold askOfKind in refl) (c .before .before .before .before .word2 .ensures .0)) in (omega (arith, c .before .before .before .before .before .before .before .before .before .before .before .before .before .before .before .before .before .before .before .pre .0, h .0, h .1), (c .before .before .before .before .before .before .before .before .before .before .before .before .before .before .before .before .before .before .before .pre .1 .0 .0, then-ready (c .before .before .before .before .before .before .before .before .before .before .before .before .before .before .before .before .before .before .before .pre .1 .0 .1) (c .before .before .before .before .before .before .before .before .before .before .before .before .before .before .before .before .before .before .before .pre .1 .1) (c .before .before .before .before .before .before .before .before .before .before .before .before .before .before .before .word .ensures .0) (c .before .before .before .before .word2 .ensures .0) refl refl refl (c .before .before .before .before .before .before .before .before .before .before .before .before .before .room .ensures) (c .before .before .before .before .before .before .before .before .eval-part .ensures)))
+of-if-eval-part-requires-2 t c κs = let h = (part-higher (c .before .before .before .before .before .before .before .before .before .before .before .before .before .before .before .before .before .before .before .pre .1 .0 .1 .at-hand) ifMatches (c .before .before .before .before .before .before .before .before .before .before .before .before .before .before .before .before .before .before .before .pre .1 .1) 3 refl (unfold askOfKind in refl) (c .before .before .before .before .word2 .ensures .0)) in (omega (arith, c .before .before .before .before .before .before .before .before .before .before .before .before .before .before .before .before .before .before .before .pre .0, h .0, h .1), (c .before .before .before .before .before .before .before .before .before .before .before .before .before .before .before .before .before .before .before .pre .1 .0 .0, then-ready (c .before .before .before .before .before .before .before .before .before .before .before .before .before .before .before .before .before .before .before .pre .1 .0 .1) (c .before .before .before .before .before .before .before .before .before .before .before .before .before .before .before .before .before .before .before .pre .1 .1) (c .before .before .before .before .before .before .before .before .before .before .before .before .before .before .before .word .ensures .0) (c .before .before .before .before .word2 .ensures .0) refl refl refl (c .before .before .before .before .before .before .before .before .before .before .before .before .before .room .ensures) (c .before .before .before .before .before .before .before .before .eval-part .ensures)))
 
 of-if-word-requires-3 : (t : ℕ) → of-if-lts.Need-word-requires-3 (of-if-claims t) (of-if-at t) of-if.Post
-of-if-word-requires-3 t c κs = ready-word (c .before .before .before .before .before .before .before .before .before .before .before .before .before .before .before .before .before .before .before .before .before .before .before .before .pre .1 .0 .1) (omega arith)
+of-if-word-requires-3 t c κs = ready-word (c .before .before .before .before .before .before .before .before .before .before .before .before .before .before .before .before .before .before .before .before .before .before .before .before .pre .1 .0 .1 .at-hand) (omega arith)
 
 of-if-room-requires-2 : (t : ℕ) → of-if-lts.Need-room-requires-2 (of-if-claims t) (of-if-at t) of-if.Post
 of-if-room-requires-2 t c κs = tt
@@ -512,10 +515,10 @@ of-if-part-otherwise-end : (t : ℕ) → of-if-lts.Need-part-otherwise-end (of-i
 of-if-part-otherwise-end t c = else-fits (c .before .before .before .before .before .before .before .before .before .before .before .before .before .before .before .before .before .before .before .before .before .before .before .before .before .before .before .before .pre .1 .0 .1) (c .before .before .before .before .before .before .before .before .before .before .before .before .before .before .before .before .before .before .before .before .before .before .before .before .before .before .before .before .pre .1 .1) (c .before .before .before .before .before .before .before .before .before .before .before .before .before .before .before .before .before .before .before .before .before .before .before .before .word .ensures .0) (c .before .before .before .before .before .before .before .before .before .before .before .before .before .word2 .ensures .0) (c .before .before .before .word3 .ensures .0) refl refl (c .before .before .before .before .before .before .before .before .before .before .before .before .before .before .before .before .before .before .before .before .before .before .room .ensures) (c .before .before .before .before .before .before .before .before .before .before .before .before .before .before .before .before .before .eval-part .ensures) (c .before .before .before .before .before .before .before .before .eval-part2 .ensures) (c .before .before .room2 .ensures)
 
 of-if-eval-part-requires-3 : (t : ℕ) → of-if-lts.Need-eval-part-requires-3 (of-if-claims t) (of-if-at t) of-if.Post
-of-if-eval-part-requires-3 t c κs = let h = (part-higher (c .before .before .before .before .before .before .before .before .before .before .before .before .before .before .before .before .before .before .before .before .before .before .before .before .before .before .before .before .before .before .pre .1 .0 .1) ifMatches (c .before .before .before .before .before .before .before .before .before .before .before .before .before .before .before .before .before .before .before .before .before .before .before .before .before .before .before .before .before .before .pre .1 .1) 4 refl (unfold askOfKind in refl) (c .before .before .before .before .before .word3 .ensures .0)) in (omega (arith, c .before .before .before .before .before .before .before .before .before .before .before .before .before .before .before .before .before .before .before .before .before .before .before .before .before .before .before .before .before .before .pre .0, h .0, h .1), (c .before .before .before .before .before .before .before .before .before .before .before .before .before .before .before .before .before .before .before .before .before .before .before .before .before .before .before .before .before .before .pre .1 .0 .0, else-ready (c .before .before .before .before .before .before .before .before .before .before .before .before .before .before .before .before .before .before .before .before .before .before .before .before .before .before .before .before .before .before .pre .1 .0 .1) (c .before .before .before .before .before .before .before .before .before .before .before .before .before .before .before .before .before .before .before .before .before .before .before .before .before .before .before .before .before .before .pre .1 .1) (c .before .before .before .before .before .before .before .before .before .before .before .before .before .before .before .before .before .before .before .before .before .before .before .before .before .before .word .ensures .0) (c .before .before .before .before .before .before .before .before .before .before .before .before .before .before .before .word2 .ensures .0) (c .before .before .before .before .before .word3 .ensures .0) refl refl (c .before .before .before .before .before .before .before .before .before .before .before .before .before .before .before .before .before .before .before .before .before .before .before .before .room .ensures) (c .before .before .before .before .before .before .before .before .before .before .before .before .before .before .before .before .before .before .before .eval-part .ensures) (c .before .before .before .before .before .before .before .before .before .before .eval-part2 .ensures) (c .before .before .before .before .room2 .ensures)))
+of-if-eval-part-requires-3 t c κs = let h = (part-higher (c .before .before .before .before .before .before .before .before .before .before .before .before .before .before .before .before .before .before .before .before .before .before .before .before .before .before .before .before .before .before .pre .1 .0 .1 .at-hand) ifMatches (c .before .before .before .before .before .before .before .before .before .before .before .before .before .before .before .before .before .before .before .before .before .before .before .before .before .before .before .before .before .before .pre .1 .1) 4 refl (unfold askOfKind in refl) (c .before .before .before .before .before .word3 .ensures .0)) in (omega (arith, c .before .before .before .before .before .before .before .before .before .before .before .before .before .before .before .before .before .before .before .before .before .before .before .before .before .before .before .before .before .before .pre .0, h .0, h .1), (c .before .before .before .before .before .before .before .before .before .before .before .before .before .before .before .before .before .before .before .before .before .before .before .before .before .before .before .before .before .before .pre .1 .0 .0, else-ready (c .before .before .before .before .before .before .before .before .before .before .before .before .before .before .before .before .before .before .before .before .before .before .before .before .before .before .before .before .before .before .pre .1 .0 .1) (c .before .before .before .before .before .before .before .before .before .before .before .before .before .before .before .before .before .before .before .before .before .before .before .before .before .before .before .before .before .before .pre .1 .1) (c .before .before .before .before .before .before .before .before .before .before .before .before .before .before .before .before .before .before .before .before .before .before .before .before .before .before .word .ensures .0) (c .before .before .before .before .before .before .before .before .before .before .before .before .before .before .before .word2 .ensures .0) (c .before .before .before .before .before .word3 .ensures .0) refl refl (c .before .before .before .before .before .before .before .before .before .before .before .before .before .before .before .before .before .before .before .before .before .before .before .before .room .ensures) (c .before .before .before .before .before .before .before .before .before .before .before .before .before .before .before .before .before .before .before .eval-part .ensures) (c .before .before .before .before .before .before .before .before .before .before .eval-part2 .ensures) (c .before .before .before .before .room2 .ensures)))
 
 of-if-word-requires-4 : (t : ℕ) → of-if-lts.Need-word-requires-4 (of-if-claims t) (of-if-at t) of-if.Post
-of-if-word-requires-4 t c κs = ready-word (c .before .before .before .before .before .before .before .before .before .before .before .before .before .before .before .before .before .before .before .before .before .before .before .before .before .before .before .before .before .before .before .before .before .before .pre .1 .0 .1) (omega arith)
+of-if-word-requires-4 t c κs = ready-word (c .before .before .before .before .before .before .before .before .before .before .before .before .before .before .before .before .before .before .before .before .before .before .before .before .before .before .before .before .before .before .before .before .before .before .pre .1 .0 .1 .at-hand) (omega arith)
 
 of-if-sub-choose-value : (t : ℕ) → of-if-lts.Need-sub-choose-value (of-if-claims t) (of-if-at t) of-if.Post
 of-if-sub-choose-value t c = from-zero _
@@ -542,10 +545,10 @@ of-if-cast-fired : (t : ℕ) → of-if-lts.Need-cast-fired (of-if-claims t) (of-
 of-if-cast-fired t c = search needs
 
 of-if-mul-fired : (t : ℕ) → of-if-lts.Need-mul-fired (of-if-claims t) (of-if-at t) of-if.Post
-of-if-mul-fired t c = let h = ready-low (c .before .before .before .before .before .before .before .before .before .before .before .before .before .before .before .before .before .before .before .before .before .before .before .before .before .before .before .before .before .before .before .before .before .before .before .before .before .before .before .before .before .before .before .pre .1 .0 .1) in omega arith
+of-if-mul-fired t c = let h = ready-low (c .before .before .before .before .before .before .before .before .before .before .before .before .before .before .before .before .before .before .before .before .before .before .before .before .before .before .before .before .before .before .before .before .before .before .before .before .before .before .before .before .before .before .before .pre .1 .0 .1 .at-hand) in omega arith
 
 of-if-element-write-fired : (t : ℕ) → of-if-lts.Need-element-write-fired (of-if-claims t) (of-if-at t) of-if.Post
-of-if-element-write-fired t c = ready-low (c .before .before .before .before .before .before .before .before .before .before .before .before .before .before .before .before .before .before .before .before .before .before .before .before .before .before .before .before .before .before .before .before .before .before .before .before .before .before .before .before .before .before .before .pre .1 .0 .1)
+of-if-element-write-fired t c = ready-low (c .before .before .before .before .before .before .before .before .before .before .before .before .before .before .before .before .before .before .before .before .before .before .before .before .before .before .before .before .before .before .before .before .before .before .before .before .before .before .before .before .before .before .before .pre .1 .0 .1 .at-hand)
 
 of-if-same-length : (t : ℕ) → of-if-lts.Need-same-length (of-if-claims t) (of-if-at t) of-if.Post
 of-if-same-length t c = if-wide (c .before .before .before .before .before .before .before .before .before .before .before .before .before .before .before .before .before .before .before .before .before .before .before .before .before .before .before .before .before .before .before .before .before .before .before .before .before .before .before .before .before .before .before .pre .1 .0 .1) (c .before .before .before .before .before .before .before .before .before .before .before .before .before .before .before .before .before .before .before .before .before .before .before .before .before .before .before .before .before .before .before .before .before .before .before .before .before .before .before .before .before .before .before .pre .1 .1) (c .before .before .before .before .before .before .before .before .before .before .before .before .before .before .before .before .before .before .before .before .before .before .before .before .before .before .before .before .before .before .before .before .before .before .before .before .before .before .before .word .ensures .0) (c .before .before .before .before .before .before .before .before .before .before .before .before .before .before .before .before .before .before .before .before .before .before .before .before .before .before .before .before .word2 .ensures .0) (c .before .before .before .before .before .before .before .before .before .before .before .before .before .before .before .before .before .before .word3 .ensures .0) (c .before .before .before .before .before .before .before .before .word4 .ensures .0) refl (c .before .before .before .before .before .before .before .before .before .before .before .before .before .before .before .before .before .before .before .before .before .before .before .before .before .before .before .before .before .before .before .before .before .before .before .before .before .room .ensures) (c .before .before .before .before .before .before .before .before .before .before .before .before .before .before .before .before .before .before .before .before .before .before .before .before .before .before .before .before .before .before .before .before .eval-part .ensures) (c .before .before .before .before .before .before .before .before .before .before .before .before .before .before .before .before .before .before .before .before .before .before .before .eval-part2 .ensures) (c .before .before .before .before .before .before .before .before .before .before .before .before .before .before .before .before .before .room2 .ensures) (c .before .before .before .before .before .before .before .before .before .before .before .before .eval-part3 .ensures)
@@ -557,13 +560,13 @@ of-if-returns : (t : ℕ) → of-if-lts.Need-returns (of-if-claims t) (of-if-at 
 of-if-returns t c = record { done = λ Γ r. if-done r (c .before .before .before .before .before .before .before .before .before .before .before .before .before .before .before .before .before .before .before .before .before .before .before .before .before .before .before .before .before .before .before .before .before .before .before .before .before .before .before .before .before .before .before .pre .1 .1) (c .before .before .before .before .before .before .before .before .before .before .before .before .before .before .before .before .before .before .before .before .before .before .before .before .before .before .before .before .before .before .before .before .before .before .before .before .before .before .before .word .ensures .0) (c .before .before .before .before .before .before .before .before .before .before .before .before .before .before .before .before .before .before .before .before .before .before .before .before .before .before .before .before .word2 .ensures .0) (c .before .before .before .before .before .before .before .before .before .before .before .before .before .before .before .before .before .before .word3 .ensures .0) (c .before .before .before .before .before .before .before .before .word4 .ensures .0) refl (c .before .before .before .before .before .before .before .before .before .before .before .before .before .before .before .before .before .before .before .before .before .before .before .before .before .before .before .before .before .before .before .before .before .before .before .before .before .room .ensures) (c .before .before .before .before .before .before .before .before .before .before .before .before .before .before .before .before .before .before .before .before .before .before .before .before .before .before .before .before .before .before .before .before .eval-part .ensures) (c .before .before .before .before .before .before .before .before .before .before .before .before .before .before .before .before .before .before .before .before .before .before .before .eval-part2 .ensures) (c .before .before .before .before .before .before .before .before .before .before .before .before .before .before .before .before .before .room2 .ensures) (c .before .before .before .before .before .before .before .before .before .before .before .before .eval-part3 .ensures) (c .before .before .choose-value .ensures) }
 
 of-let-word-requires : (t : ℕ) → of-let-lts.Need-word-requires (of-let-claims t) (of-let-at t) of-let.Post
-of-let-word-requires t c κs = ready-word (c .before .before .before .pre .1 .0 .1) (omega arith)
+of-let-word-requires t c κs = ready-word (c .before .before .before .pre .1 .0 .1 .at-hand) (omega arith)
 
 of-let-element-copy-out-w : (t : ℕ) → of-let-lts.Need-element-copy-out-w (of-let-claims t) (of-let-at t) of-let.Post
-of-let-element-copy-out-w t c = entry-there (c .before .before .before .before .pre .1 .0 .1) letIn (c .before .before .before .before .pre .1 .1) 2 refl (unfold askOfKind in refl) (c .word .ensures .0)
+of-let-element-copy-out-w t c = entry-there (c .before .before .before .before .pre .1 .0 .1 .at-hand) letIn (c .before .before .before .before .pre .1 .1) 2 refl (unfold askOfKind in refl) (c .word .ensures .0)
 
 of-let-cast-w : (t : ℕ) → of-let-lts.Need-cast-w (of-let-claims t) (of-let-at t) of-let.Post
-of-let-cast-w t c = let f = entry-few (c .before .before .before .before .before .pre .1 .0 .1) (defining-scope (c .before .before .before .before .before .pre .1 .0 .1) (c .before .before .before .before .before .pre .1 .1) (c .before .word .ensures .0) refl refl refl) in omega arith
+of-let-cast-w t c = let f = entry-few (c .before .before .before .before .before .pre .1 .0 .1 .at-hand) (defining-scope (c .before .before .before .before .before .pre .1 .0 .1 .at-hand) (c .before .before .before .before .before .pre .1 .1) (c .before .word .ensures .0)) in omega arith
 
 of-let-room-requires : (t : ℕ) → of-let-lts.Need-room-requires (of-let-claims t) (of-let-at t) of-let.Post
 of-let-room-requires t c κs = tt
@@ -575,10 +578,10 @@ of-let-part-value-start : (t : ℕ) → of-let-lts.Need-part-value-start (of-let
 of-let-part-value-start t c = from-zero _
 
 of-let-part-value-end : (t : ℕ) → of-let-lts.Need-part-value-end (of-let-claims t) (of-let-at t) of-let.Post
-of-let-part-value-end t c = fits-room (c .before .before .before .before .before .before .before .before .pre .1 .0 .1) (defining-scope (c .before .before .before .before .before .before .before .before .pre .1 .0 .1) (c .before .before .before .before .before .before .before .before .pre .1 .1) (c .before .before .before .before .word .ensures .0) refl refl refl) refl (c .before .before .room .ensures)
+of-let-part-value-end t c = fits-room (c .before .before .before .before .before .before .before .before .pre .1 .0 .1 .at-hand) (defining-scope (c .before .before .before .before .before .before .before .before .pre .1 .0 .1 .at-hand) (c .before .before .before .before .before .before .before .before .pre .1 .1) (c .before .before .before .before .word .ensures .0)) refl (c .before .before .room .ensures)
 
 of-let-eval-part-requires : (t : ℕ) → of-let-lts.Need-eval-part-requires (of-let-claims t) (of-let-at t) of-let.Post
-of-let-eval-part-requires t c κs = let h = (part-higher (c .before .before .before .before .before .before .before .before .before .before .pre .1 .0 .1) letIn (c .before .before .before .before .before .before .before .before .before .before .pre .1 .1) 2 refl (unfold askOfKind in refl) (c .before .before .before .before .before .before .word .ensures .0)) in (omega (arith, c .before .before .before .before .before .before .before .before .before .before .pre .0, h .0, h .1), (c .before .before .before .before .before .before .before .before .before .before .pre .1 .0 .0, room-ready (c .before .before .before .before .before .before .before .before .before .before .pre .1 .0 .1) (defining-scope (c .before .before .before .before .before .before .before .before .before .before .pre .1 .0 .1) (c .before .before .before .before .before .before .before .before .before .before .pre .1 .1) (c .before .before .before .before .before .before .word .ensures .0) refl refl refl) refl (c .before .before .before .before .room .ensures)))
+of-let-eval-part-requires t c κs = let h = (part-higher (c .before .before .before .before .before .before .before .before .before .before .pre .1 .0 .1 .at-hand) letIn (c .before .before .before .before .before .before .before .before .before .before .pre .1 .1) 2 refl (unfold askOfKind in refl) (c .before .before .before .before .before .before .word .ensures .0)) in (omega (arith, c .before .before .before .before .before .before .before .before .before .before .pre .0, h .0, h .1), (c .before .before .before .before .before .before .before .before .before .before .pre .1 .0 .0, room-ready (c .before .before .before .before .before .before .before .before .before .before .pre .1 .0 .1) (defining-scope (c .before .before .before .before .before .before .before .before .before .before .pre .1 .0 .1 .at-hand) (c .before .before .before .before .before .before .before .before .before .before .pre .1 .1) (c .before .before .before .before .before .before .word .ensures .0)) refl (c .before .before .before .before .room .ensures)))
 
 of-let-sub-enter-value : (t : ℕ) → of-let-lts.Need-sub-enter-value (of-let-claims t) (of-let-at t) of-let.Post
 of-let-sub-enter-value t c = from-zero _
@@ -593,13 +596,13 @@ of-let-enter-value-requires : (t : ℕ) → of-let-lts.Need-enter-value-requires
 of-let-enter-value-requires t c κs = let-room (c .before .before .before .before .before .before .before .before .before .before .before .before .before .before .before .before .before .pre .1 .0 .1) (c .before .before .before .before .before .before .before .before .before .before .before .before .before .before .before .before .before .pre .1 .1) (c .before .before .before .before .before .before .before .before .before .before .before .before .before .word .ensures .0) refl refl (c .before .before .before .before .before .before .before .before .before .before .before .room .ensures) (c .before .before .before .before .before .before .eval-part .ensures)
 
 of-let-word-requires-2 : (t : ℕ) → of-let-lts.Need-word-requires-2 (of-let-claims t) (of-let-at t) of-let.Post
-of-let-word-requires-2 t c κs = ready-word (c .before .before .before .before .before .before .before .before .before .before .before .before .before .before .before .before .before .before .before .before .pre .1 .0 .1) (omega arith)
+of-let-word-requires-2 t c κs = ready-word (c .before .before .before .before .before .before .before .before .before .before .before .before .before .before .before .before .before .before .before .before .pre .1 .0 .1 .at-hand) (omega arith)
 
 of-let-add-eval-part : (t : ℕ) → of-let-lts.Need-add-eval-part (of-let-claims t) (of-let-at t) of-let.Post
-of-let-add-eval-part t c = let f = ready-few (c .before .before .before .before .before .before .before .before .before .before .before .before .before .before .before .before .before .before .before .before .before .before .pre .1 .0 .1) in omega arith
+of-let-add-eval-part t c = let f = ready-few (c .before .before .before .before .before .before .before .before .before .before .before .before .before .before .before .before .before .before .before .before .before .before .pre .1 .0 .1 .at-hand) in omega arith
 
 of-let-eval-part-requires-2 : (t : ℕ) → of-let-lts.Need-eval-part-requires-2 (of-let-claims t) (of-let-at t) of-let.Post
-of-let-eval-part-requires-2 t c κs = let h = (part-higher (c .before .before .before .before .before .before .before .before .before .before .before .before .before .before .before .before .before .before .before .before .before .before .before .before .before .pre .1 .0 .1) letIn (c .before .before .before .before .before .before .before .before .before .before .before .before .before .before .before .before .before .before .before .before .before .before .before .before .before .pre .1 .1) 3 refl (unfold askOfKind in refl) (c .before .before .before .before .word2 .ensures .0)) in (omega (arith, c .before .before .before .before .before .before .before .before .before .before .before .before .before .before .before .before .before .before .before .before .before .before .before .before .before .pre .0, h .0, h .1), (_, let-body-ready (c .before .before .before .before .before .before .before .before .before .before .before .before .before .before .before .before .before .before .before .before .before .before .before .before .before .pre .1 .0 .1) (c .before .before .before .before .before .before .before .before .before .before .before .before .before .before .before .before .before .before .before .before .before .before .before .before .before .pre .1 .1) (c .before .before .before .before .before .before .before .before .before .before .before .before .before .before .before .before .before .before .before .before .before .word .ensures .0) (c .before .before .before .before .word2 .ensures .0) refl (c .before .before .before .before .before .before .before .before .before .before .before .before .before .before .before .before .before .before .before .room .ensures) (c .before .before .before .before .before .before .before .before .before .before .before .before .before .before .eval-part .ensures) (c .before .before .before .before .before .before .before .enter-value .ensures)))
+of-let-eval-part-requires-2 t c κs = let h = (part-higher (c .before .before .before .before .before .before .before .before .before .before .before .before .before .before .before .before .before .before .before .before .before .before .before .before .before .pre .1 .0 .1 .at-hand) letIn (c .before .before .before .before .before .before .before .before .before .before .before .before .before .before .before .before .before .before .before .before .before .before .before .before .before .pre .1 .1) 3 refl (unfold askOfKind in refl) (c .before .before .before .before .word2 .ensures .0)) in (omega (arith, c .before .before .before .before .before .before .before .before .before .before .before .before .before .before .before .before .before .before .before .before .before .before .before .before .before .pre .0, h .0, h .1), (_, let-body-ready (c .before .before .before .before .before .before .before .before .before .before .before .before .before .before .before .before .before .before .before .before .before .before .before .before .before .pre .1 .0 .1) (c .before .before .before .before .before .before .before .before .before .before .before .before .before .before .before .before .before .before .before .before .before .before .before .before .before .pre .1 .1) (c .before .before .before .before .before .before .before .before .before .before .before .before .before .before .before .before .before .before .before .before .before .word .ensures .0) (c .before .before .before .before .word2 .ensures .0) refl (c .before .before .before .before .before .before .before .before .before .before .before .before .before .before .before .before .before .before .before .room .ensures) (c .before .before .before .before .before .before .before .before .before .before .before .before .before .before .eval-part .ensures) (c .before .before .before .before .before .before .before .enter-value .ensures)))
 
 of-let-same-length : (t : ℕ) → of-let-lts.Need-same-length (of-let-claims t) (of-let-at t) of-let.Post
 of-let-same-length t c = search needs
@@ -611,13 +614,13 @@ of-let-returns : (t : ℕ) → of-let-lts.Need-returns (of-let-claims t) (of-let
 of-let-returns t c = record { done = λ Γ r. let-done r (c .before .before .before .before .before .before .before .before .before .before .before .before .before .before .before .before .before .before .before .before .before .before .before .before .before .before .before .before .before .before .pre .1 .1) (c .before .before .before .before .before .before .before .before .before .before .before .before .before .before .before .before .before .before .before .before .before .before .before .before .before .before .word .ensures .0) (c .before .before .before .before .before .before .before .before .before .word2 .ensures .0) refl (c .before .before .before .before .before .before .before .before .before .before .before .before .before .before .before .before .before .before .before .before .before .before .before .before .room .ensures) (c .before .before .before .before .before .before .before .before .before .before .before .before .before .before .before .before .before .before .before .eval-part .ensures) (c .before .before .before .before .before .before .before .before .before .before .before .before .enter-value .ensures) (c .before .before .before .before .eval-part2 .ensures) }
 
 of-pair-word-requires : (t : ℕ) → of-pair-lts.Need-word-requires (of-pair-claims t) (of-pair-at t) of-pair.Post
-of-pair-word-requires t c κs = ready-word (c .before .before .before .pre .1 .0 .1) (omega arith)
+of-pair-word-requires t c κs = ready-word (c .before .before .before .pre .1 .0 .1 .at-hand) (omega arith)
 
 of-pair-element-copy-out-w : (t : ℕ) → of-pair-lts.Need-element-copy-out-w (of-pair-claims t) (of-pair-at t) of-pair.Post
-of-pair-element-copy-out-w t c = entry-there (c .before .before .before .before .pre .1 .0 .1) tuple (c .before .before .before .before .pre .1 .1) 2 refl (unfold askOfKind in refl) (c .word .ensures .0)
+of-pair-element-copy-out-w t c = entry-there (c .before .before .before .before .pre .1 .0 .1 .at-hand) tuple (c .before .before .before .before .pre .1 .1) 2 refl (unfold askOfKind in refl) (c .word .ensures .0)
 
 of-pair-cast-w : (t : ℕ) → of-pair-lts.Need-cast-w (of-pair-claims t) (of-pair-at t) of-pair.Post
-of-pair-cast-w t c = let f = pair-width-small (c .before .before .before .before .before .pre .1 .0 .1) (c .before .before .before .before .before .pre .1 .1) (c .before .word .ensures .0) refl in omega arith
+of-pair-cast-w t c = let f = pair-width-small (c .before .before .before .before .before .pre .1 .0 .1 .at-hand) (c .before .before .before .before .before .pre .1 .1) (c .before .word .ensures .0) in omega arith
 
 of-pair-sub-eval-part : (t : ℕ) → of-pair-lts.Need-sub-eval-part (of-pair-claims t) (of-pair-at t) of-pair.Post
 of-pair-sub-eval-part t c = from-zero _
@@ -629,10 +632,10 @@ of-pair-part-eval-part-end : (t : ℕ) → of-pair-lts.Need-part-eval-part-end (
 of-pair-part-eval-part-end t c = pair-cut (c .before .before .before .before .before .before .before .pre .1 .0 .1) (c .before .before .before .before .before .before .before .pre .1 .1) (c .before .before .before .word .ensures .0) refl refl
 
 of-pair-eval-part-requires : (t : ℕ) → of-pair-lts.Need-eval-part-requires (of-pair-claims t) (of-pair-at t) of-pair.Post
-of-pair-eval-part-requires t c κs = let h = (part-higher (c .before .before .before .before .before .before .before .before .before .pre .1 .0 .1) tuple (c .before .before .before .before .before .before .before .before .before .pre .1 .1) 2 refl (unfold askOfKind in refl) (c .before .before .before .before .before .word .ensures .0)) in (omega (arith, c .before .before .before .before .before .before .before .before .before .pre .0, h .0, h .1), (c .before .before .before .before .before .before .before .before .before .pre .1 .0 .0, pair-first-ready (c .before .before .before .before .before .before .before .before .before .pre .1 .0 .1) (c .before .before .before .before .before .before .before .before .before .pre .1 .1) (c .before .before .before .before .before .word .ensures .0) refl refl))
+of-pair-eval-part-requires t c κs = let h = (part-higher (c .before .before .before .before .before .before .before .before .before .pre .1 .0 .1 .at-hand) tuple (c .before .before .before .before .before .before .before .before .before .pre .1 .1) 2 refl (unfold askOfKind in refl) (c .before .before .before .before .before .word .ensures .0)) in (omega (arith, c .before .before .before .before .before .before .before .before .before .pre .0, h .0, h .1), (c .before .before .before .before .before .before .before .before .before .pre .1 .0 .0, pair-first-ready (c .before .before .before .before .before .before .before .before .before .pre .1 .0 .1) (c .before .before .before .before .before .before .before .before .before .pre .1 .1) (c .before .before .before .before .before .word .ensures .0) refl refl))
 
 of-pair-word-requires-2 : (t : ℕ) → of-pair-lts.Need-word-requires-2 (of-pair-claims t) (of-pair-at t) of-pair.Post
-of-pair-word-requires-2 t c κs = ready-word (c .before .before .before .before .before .before .before .before .before .before .before .before .before .before .pre .1 .0 .1) (omega arith)
+of-pair-word-requires-2 t c κs = ready-word (c .before .before .before .before .before .before .before .before .before .before .before .before .before .before .pre .1 .0 .1 .at-hand) (omega arith)
 
 of-pair-sub-eval-part-2 : (t : ℕ) → of-pair-lts.Need-sub-eval-part-2 (of-pair-claims t) (of-pair-at t) of-pair.Post
 of-pair-sub-eval-part-2 t c = pair-rest (c .before .before .before .before .before .before .before .before .before .before .before .before .before .before .before .before .before .pre .1 .0 .1) (c .before .before .before .before .before .before .before .before .before .before .before .before .before .before .before .before .before .pre .1 .1) (c .before .before .before .before .before .before .before .before .before .before .before .before .before .word .ensures .0) refl refl (c .before .before .before .before .before .before .before .eval-part .ensures)
@@ -644,7 +647,7 @@ of-pair-part-eval-part-end-2 : (t : ℕ) → of-pair-lts.Need-part-eval-part-end
 of-pair-part-eval-part-end-2 t c = to-the-end _
 
 of-pair-eval-part-requires-2 : (t : ℕ) → of-pair-lts.Need-eval-part-requires-2 (of-pair-claims t) (of-pair-at t) of-pair.Post
-of-pair-eval-part-requires-2 t c κs = let h = (part-higher (c .before .before .before .before .before .before .before .before .before .before .before .before .before .before .before .before .before .before .before .pre .1 .0 .1) tuple (c .before .before .before .before .before .before .before .before .before .before .before .before .before .before .before .before .before .before .before .pre .1 .1) 3 refl (unfold askOfKind in refl) (c .before .before .before .before .word2 .ensures .0)) in (omega (arith, c .before .before .before .before .before .before .before .before .before .before .before .before .before .before .before .before .before .before .before .pre .0, h .0, h .1), (c .before .before .before .before .before .before .before .before .before .before .before .before .before .before .before .before .before .before .before .pre .1 .0 .0, pair-second-ready (c .before .before .before .before .before .before .before .before .before .before .before .before .before .before .before .before .before .before .before .pre .1 .0 .1) (c .before .before .before .before .before .before .before .before .before .before .before .before .before .before .before .before .before .before .before .pre .1 .1) (c .before .before .before .before .before .before .before .before .before .before .before .before .before .before .before .word .ensures .0) (c .before .before .before .before .word2 .ensures .0) refl (c .before .before .before .before .before .before .before .before .before .eval-part .ensures)))
+of-pair-eval-part-requires-2 t c κs = let h = (part-higher (c .before .before .before .before .before .before .before .before .before .before .before .before .before .before .before .before .before .before .before .pre .1 .0 .1 .at-hand) tuple (c .before .before .before .before .before .before .before .before .before .before .before .before .before .before .before .before .before .before .before .pre .1 .1) 3 refl (unfold askOfKind in refl) (c .before .before .before .before .word2 .ensures .0)) in (omega (arith, c .before .before .before .before .before .before .before .before .before .before .before .before .before .before .before .before .before .before .before .pre .0, h .0, h .1), (c .before .before .before .before .before .before .before .before .before .before .before .before .before .before .before .before .before .before .before .pre .1 .0 .0, pair-second-ready (c .before .before .before .before .before .before .before .before .before .before .before .before .before .before .before .before .before .before .before .pre .1 .0 .1) (c .before .before .before .before .before .before .before .before .before .before .before .before .before .before .before .before .before .before .before .pre .1 .1) (c .before .before .before .before .before .before .before .before .before .before .before .before .before .before .before .word .ensures .0) (c .before .before .before .before .word2 .ensures .0) refl (c .before .before .before .before .before .before .before .before .before .eval-part .ensures)))
 
 of-pair-same-length : (t : ℕ) → of-pair-lts.Need-same-length (of-pair-claims t) (of-pair-at t) of-pair.Post
 of-pair-same-length t c = search needs
@@ -656,13 +659,13 @@ of-pair-returns : (t : ℕ) → of-pair-lts.Need-returns (of-pair-claims t) (of-
 of-pair-returns t c = record { done = λ Γ r. pair-done r (c .before .before .before .before .before .before .before .before .before .before .before .before .before .before .before .before .before .before .before .before .before .before .before .before .pre .1 .1) (c .before .before .before .before .before .before .before .before .before .before .before .before .before .before .before .before .before .before .before .before .word .ensures .0) (c .before .before .before .before .before .before .before .before .before .word2 .ensures .0) refl (c .before .before .before .before .before .before .before .before .before .before .before .before .before .before .eval-part .ensures) (c .before .before .before .before .eval-part2 .ensures) }
 
 of-second-word-requires : (t : ℕ) → of-second-lts.Need-word-requires (of-second-claims t) (of-second-at t) of-second.Post
-of-second-word-requires t c κs = ready-word (c .before .before .before .pre .1 .0 .1) (omega arith)
+of-second-word-requires t c κs = ready-word (c .before .before .before .pre .1 .0 .1 .at-hand) (omega arith)
 
 of-second-element-copy-out-w : (t : ℕ) → of-second-lts.Need-element-copy-out-w (of-second-claims t) (of-second-at t) of-second.Post
-of-second-element-copy-out-w t c = entry-there (c .before .before .before .before .pre .1 .0 .1) second (c .before .before .before .before .pre .1 .1) 2 refl (unfold askOfKind in refl) (c .word .ensures .0)
+of-second-element-copy-out-w t c = entry-there (c .before .before .before .before .pre .1 .0 .1 .at-hand) second (c .before .before .before .before .pre .1 .1) 2 refl (unfold askOfKind in refl) (c .word .ensures .0)
 
 of-second-cast-w : (t : ℕ) → of-second-lts.Need-cast-w (of-second-claims t) (of-second-at t) of-second.Post
-of-second-cast-w t c = let f = entry-few (c .before .before .before .before .before .pre .1 .0 .1) (second-scope (c .before .before .before .before .before .pre .1 .0 .1) (c .before .before .before .before .before .pre .1 .1) (c .before .word .ensures .0) refl refl) in omega arith
+of-second-cast-w t c = let f = entry-few (c .before .before .before .before .before .pre .1 .0 .1 .at-hand) (second-scope (c .before .before .before .before .before .pre .1 .0 .1 .at-hand) (c .before .before .before .before .before .pre .1 .1) (c .before .word .ensures .0)) in omega arith
 
 of-second-room-requires : (t : ℕ) → of-second-lts.Need-room-requires (of-second-claims t) (of-second-at t) of-second.Post
 of-second-room-requires t c κs = tt
@@ -674,10 +677,10 @@ of-second-part-whole-start : (t : ℕ) → of-second-lts.Need-part-whole-start (
 of-second-part-whole-start t c = from-zero _
 
 of-second-part-whole-end : (t : ℕ) → of-second-lts.Need-part-whole-end (of-second-claims t) (of-second-at t) of-second.Post
-of-second-part-whole-end t c = fits-room (c .before .before .before .before .before .before .before .before .pre .1 .0 .1) (second-scope (c .before .before .before .before .before .before .before .before .pre .1 .0 .1) (c .before .before .before .before .before .before .before .before .pre .1 .1) (c .before .before .before .before .word .ensures .0) refl refl) refl (c .before .before .room .ensures)
+of-second-part-whole-end t c = fits-room (c .before .before .before .before .before .before .before .before .pre .1 .0 .1 .at-hand) (second-scope (c .before .before .before .before .before .before .before .before .pre .1 .0 .1 .at-hand) (c .before .before .before .before .before .before .before .before .pre .1 .1) (c .before .before .before .before .word .ensures .0)) refl (c .before .before .room .ensures)
 
 of-second-eval-part-requires : (t : ℕ) → of-second-lts.Need-eval-part-requires (of-second-claims t) (of-second-at t) of-second.Post
-of-second-eval-part-requires t c κs = let h = (part-higher (c .before .before .before .before .before .before .before .before .before .before .pre .1 .0 .1) second (c .before .before .before .before .before .before .before .before .before .before .pre .1 .1) 2 refl (unfold askOfKind in refl) (c .before .before .before .before .before .before .word .ensures .0)) in (omega (arith, c .before .before .before .before .before .before .before .before .before .before .pre .0, h .0, h .1), (c .before .before .before .before .before .before .before .before .before .before .pre .1 .0 .0, room-ready (c .before .before .before .before .before .before .before .before .before .before .pre .1 .0 .1) (second-scope (c .before .before .before .before .before .before .before .before .before .before .pre .1 .0 .1) (c .before .before .before .before .before .before .before .before .before .before .pre .1 .1) (c .before .before .before .before .before .before .word .ensures .0) refl refl) refl (c .before .before .before .before .room .ensures)))
+of-second-eval-part-requires t c κs = let h = (part-higher (c .before .before .before .before .before .before .before .before .before .before .pre .1 .0 .1 .at-hand) second (c .before .before .before .before .before .before .before .before .before .before .pre .1 .1) 2 refl (unfold askOfKind in refl) (c .before .before .before .before .before .before .word .ensures .0)) in (omega (arith, c .before .before .before .before .before .before .before .before .before .before .pre .0, h .0, h .1), (c .before .before .before .before .before .before .before .before .before .before .pre .1 .0 .0, room-ready (c .before .before .before .before .before .before .before .before .before .before .pre .1 .0 .1) (second-scope (c .before .before .before .before .before .before .before .before .before .before .pre .1 .0 .1 .at-hand) (c .before .before .before .before .before .before .before .before .before .before .pre .1 .1) (c .before .before .before .before .before .before .word .ensures .0)) refl (c .before .before .before .before .room .ensures)))
 
 of-second-sub-put : (t : ℕ) → of-second-lts.Need-sub-put (of-second-claims t) (of-second-at t) of-second.Post
 of-second-sub-put t c = second-few (c .before .before .before .before .before .before .before .before .before .before .before .before .before .before .pre .1 .0 .1) (c .before .before .before .before .before .before .before .before .before .before .before .before .before .before .pre .1 .1) (c .before .before .before .before .before .before .before .before .before .before .word .ensures .0) refl (c .before .before .before .before .before .before .before .before .room .ensures) (c .before .before .before .eval-part .ensures)

@@ -2,18 +2,20 @@
 use borrow.Author.Needs.{needs}
 use native.Mathlib.Omega.{arith}
 use Prim.Native.Nat.{_-_}
-use Rattle.values.proofs.Agreement.{AgreedTo, one-leaf, none-agreed, agree-next, all-agreed}
+use Rattle.meaning.specs.Undecided.{agreedLeaf}
+use Rattle.values.proofs.LeafByLeaf.{JoinedTo, none-joined, join-next}
+use Rattle.values.proofs.Agreement.{one-leaf, all-agreed}
 use Rattle.values.proofs.undecided.Statement.{statement}
 use Rattle.values.proofs.undecided.Tie as tie
 
 abbrev Inv-loop : tie.InvT-loop
-Inv-loop otherwise out₀ all i₀ out i = AgreedTo otherwise out₀ i out
+Inv-loop otherwise out₀ all i₀ out i = JoinedTo agreedLeaf otherwise out₀ i out
 
 abbrev μ-loop : tie.MeasureT-loop
 μ-loop otherwise out₀ all i₀ out i = all - i
 
 loop-holds : tie.Need-loop-holds Inv-loop μ-loop
-loop-holds c = none-agreed _ _
+loop-holds c = none-joined agreedLeaf _ _
 
 slice-read-agreed : tie.Need-slice-read-agreed Inv-loop μ-loop
 slice-read-agreed c = let l = c .before .before .loop .inv .long in omega arith
@@ -34,7 +36,7 @@ loop-less : tie.Need-loop-less Inv-loop μ-loop
 loop-less c = search needs
 
 loop-again : tie.Need-loop-again Inv-loop μ-loop
-loop-again c = agree-next _ _ _ _ _ (search needs) (c .before .before .before .before .loop .inv) (one-leaf _ _ _ (c .agreed .ensures))
+loop-again c = join-next agreedLeaf _ _ _ _ _ (search needs) (c .before .before .before .before .loop .inv) (one-leaf _ _ _ (c .agreed .ensures))
 
 same-length : tie.Need-same-length Inv-loop μ-loop
 same-length c = c .before .loop .inv .long
