@@ -341,20 +341,30 @@ uint64_t sheet_fired(const uint8_t *sheet, size_t sheet_length, const uint8_t *s
 uint64_t sheet_preview(const uint8_t *sheet, size_t sheet_length, const uint8_t *stim, size_t stim_length, uint8_t *out,
                        size_t out_length);
 
-/* The stack need of the call on what can still happen, measured as the check's and bounded as the run's. */
-#define SHEET_POSSIBLE_STACK 262144
+/*
+ * The stack need of the call on what can still happen, measured and bounded as the check's. It is
+ * more than that of a run, since a leaf has a set of 8 bytes in place of a value of one.
+ */
+#define SHEET_POSSIBLE_STACK 212992
 
 /*
- * What can still happen: how many constructors are still possible at each output leaf for one cycle
- * of input, where undefined leaves of the input, of constants and of delays may yet be anything of
- * their types. It begins with the check. Codes 0 to 7, 22, 8, 9 and 10, and 0 at place 0.
+ * What can still happen: how many constructors are still possible at each output leaf in one cycle,
+ * where undefined leaves of the input, of constants and of what delays hold may yet be anything of
+ * their types. It begins with the check. Codes 0 to 7, 22 and 8 to 10, in this order, and 0 at
+ * place 0.
  *
- * The sheet has no feedback and no flat type of over 64 constructors: else it is refused by 22, whose
- * place is the lowest such record, before the stimulus is looked at. `stim` is exactly one cycle. On
- * success `out` holds one byte for each output leaf, 1 up to the constructors of the leaf's type: in
- * how many of them the leaf may still be. If undefined leaves are filled in any way, sheet_preview
- * shows in each leaf one of those; a leaf that sheet_preview shows defined now has the count 1. The
- * sheet is only read. `out` is to be as long as the output has leaves, as for sheet_preview.
+ * The sheet has no feedback, and no flat type, used or not, of over 64 constructors: else it is
+ * refused by 22, whose place is the lowest such record. `stim` is exactly one cycle, as many bytes
+ * as the input has leaves; an empty stimulus and one of several cycles are refused by 8. On success
+ * `out` holds a byte for each output leaf: how many constructors are possible there, 1 up to all of
+ * the leaf's type. The sheet is only read. `out` is to be as long as the output has leaves: lent
+ * with length 0, a good call is refused with code 10, whose place is that length, 1 to
+ * SHEET_MOST_LEAVES.
+ *
+ * In whichever way the undefined leaves are filled, sheet_preview then shows at each output leaf
+ * one of the constructors that were counted. A leaf that it shows defined already has the count 1,
+ * and no count rises when a leaf is filled. A count may be more than the constructors that fillings
+ * lead to. docs/SHEETS.md, What can still happen, has the rules.
  *
  *     uint8_t out[SHEET_MOST_LEAVES];
  *     uint64_t result = sheet_possible(sheet, length, stim, stim_length, out, 0);
