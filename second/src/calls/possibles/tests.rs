@@ -1,0 +1,6 @@
+//! What remains possible, worked out by hand from docs/SHEETS.md.
+
+mod asked;
+mod patterns;
+mod refusals;
+mod values;
