@@ -23,8 +23,15 @@
 //! takes of any, `circuits` random ones, `rows` those that are timed; `fillings`
 //! and `promises` try what is promised, and `chains` finds what is counted of
 //! patterns.
+//!
+//! `bench-possible` times the archive's preview and its `sheet_possible` in turn
+//! on each row, on an undefined and on a defined input, and prints the ratio of
+//! their medians of 21. It fails where the counts are not the second's, or where
+//! a row is over its limit: three times the preview, or 20 ms where all IFs share
+//! one pattern. It is no part of the gate.
 
 mod archive;
+mod bench;
 mod case;
 mod cases;
 mod chains;
@@ -48,6 +55,10 @@ mod wrong_rules;
 #[cfg(test)]
 mod tests;
 
+use crate::frame::command::Command;
 use crate::frame::entry::{Call, Entry};
 
-pub const CALL: Call = Call { comparisons: &[Entry::of::<compare::Possibles>()], commands: &[] };
+pub const CALL: Call = Call {
+    comparisons: &[Entry::of::<compare::Possibles>()],
+    commands: &[Command { name: "bench-possible", parameters: "", run: bench::command }],
+};
