@@ -53,6 +53,7 @@ pub fn rows() -> Vec<Row> {
         row("64-choices", choices(false)),
         row("64-choices-on-pairs", choices(true)),
         row("580-wide-choices", wide_choices()),
+        row("64-names-of-64-leaves", names_of_64_leaves()),
         row("random", without_shared_patterns()),
     ];
     for name in NAMED {
@@ -116,6 +117,31 @@ fn choices(on_pairs: bool) -> Vec<u8> {
         leaves.push(draft.choice(tested, pattern, then, other));
     }
     let root = joined(&mut draft, of, &leaves);
+    draft.set_root(root);
+    laid(&draft)
+}
+
+/// As many names of as many leaves as there can be: LETs in each other's bodies,
+/// of which most exchange the halves of the name before; the innermost
+/// expression is a name in the middle.
+fn names_of_64_leaves() -> Vec<u8> {
+    let mut draft = Draft::new();
+    draft.flat(64);
+    let half = doubling(&mut draft, 5);
+    let of = draft.need_pair(half, half);
+    draft.set_input(of);
+    let mut root = draft.name(40, of);
+    for depth in (1..64).rev() {
+        // The parts of such a pair lie three deeper.
+        let defining = if depth > 61 {
+            draft.name(0, of)
+        } else {
+            let (whole, again) = (draft.name(0, of), draft.name(0, of));
+            let (second, first) = (draft.second(whole, half), draft.first(again, half));
+            draft.pair(second, first, of)
+        };
+        root = draft.bind(defining, root);
+    }
     draft.set_root(root);
     laid(&draft)
 }
