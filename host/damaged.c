@@ -99,6 +99,33 @@ static int carry_differs(const uint8_t *sheet, size_t length, uint64_t verdict)
     return sheet_code_of(result) != SHEET_DONE && sheet_code_of(result) != SHEET_LABEL_TWICE;
 }
 
+/*
+ * Counts what can still happen, for an input of so many leaves: refused as the check refuses the
+ * sheet, by 22, or by 8 or 9 where the input is another.
+ */
+static int possible_differs(const uint8_t *sheet, size_t length, uint64_t verdict, size_t inputs)
+{
+    uint8_t *stim = block(inputs), *out = block(0);
+    for (size_t at = 0; at < inputs; at++)
+        stim[at] = (uint8_t)(at % 3);
+    uint64_t result = sheet_possible(sheet, length, stim, inputs, out, 0);
+    uint32_t leaves = sheet_place_of(result);
+    if (sheet_code_of(result) == SHEET_WRONG_OUTPUT_LENGTH) {
+        free(out);
+        out = block(leaves);
+        result = sheet_possible(sheet, length, stim, inputs, out, leaves);
+    }
+    if (sheet_code_of(result) == SHEET_DONE)
+        look_at(out, leaves);
+    free(stim);
+    free(out);
+    if (sheet_code_of(verdict) != SHEET_ACCEPTED)
+        return result != verdict;
+    return result != 0 && sheet_code_of(result) != SHEET_NOT_FOR_SETS &&
+           sheet_code_of(result) != SHEET_WRONG_STIMULUS &&
+           sheet_code_of(result) != SHEET_WRONG_INPUT;
+}
+
 int main(int count, char **words)
 {
     static uint8_t bytes[MOST_BYTES];
@@ -109,6 +136,8 @@ int main(int count, char **words)
         uint8_t *sheet = memcpy(block(length), bytes, length);
         uint64_t verdict = sheet_check(sheet, length);
         differences += (size_t)carry_differs(sheet, length, verdict);
+        differences += (size_t)possible_differs(sheet, length, verdict, 1);
+        differences += (size_t)possible_differs(sheet, length, verdict, 64);
         /* Without room the run says how much is needed, by code 10. */
         static const size_t stims[] = {0, 1, 3, 64, 192};
         for (size_t k = 0; k < sizeof stims / sizeof *stims; k++) {

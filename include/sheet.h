@@ -11,6 +11,8 @@
  *         Which alternative of each IF says yes first in one cycle?
  *     uint64_t sheet_preview(sheet, sheet_length, stim, stim_length, out, out_length)
  *         What would it put out for one cycle, without taking it?
+ *     uint64_t sheet_possible(sheet, sheet_length, stim, stim_length, out, out_length)
+ *         How many constructors are still possible at each output leaf in one cycle?
  *     struct sheet_pressed sheet_press(sheet, sheet_length, stim, stim_length, leaf)
  *         Which change of one input leaf alters this output leaf in one cycle?
  *     struct sheet_counts sheet_count(sheet, sheet_length, leaf)
@@ -49,8 +51,8 @@
  *     cc -Iinclude host.c target/staticlib/libsheets.a
  *
  * examples/check.c, examples/run.c, examples/carry.c, examples/fired.c, examples/preview.c,
- * examples/press.c, examples/count.c, examples/replay.c, examples/bound.c and examples/translate.c
- * are whole hosts.
+ * examples/possible.c, examples/press.c, examples/count.c, examples/replay.c, examples/bound.c and
+ * examples/translate.c are whole hosts.
  */
 #ifndef SHEET_H
 #define SHEET_H
@@ -67,11 +69,11 @@ extern "C" {
  * be, the second where a call or a code is added, the third where neither is so.
  */
 #define SHEET_VERSION_MAJOR 1
-#define SHEET_VERSION_MINOR 8
+#define SHEET_VERSION_MINOR 9
 #define SHEET_VERSION_PATCH 0
 
 /* The same as text, and as one number to compare: 1.2.3 is 10203. */
-#define SHEET_VERSION "1.8.0"
+#define SHEET_VERSION "1.9.0"
 #define SHEET_VERSION_NUMBER (SHEET_VERSION_MAJOR * 10000 + SHEET_VERSION_MINOR * 100 + SHEET_VERSION_PATCH)
 
 /* The most records that a sheet may have. */
@@ -155,7 +157,9 @@ enum sheet_code {
     /* Of sheet_count: place 0. */
     SHEET_TOO_MANY_INPUTS = 20,
     /* Of sheet_press and sheet_count: the number of output leaves. */
-    SHEET_NO_OUTPUT_LEAF = 21
+    SHEET_NO_OUTPUT_LEAF = 21,
+    /* Of sheet_possible: the lowest record that is a feedback or a flat type above 64 constructors. */
+    SHEET_NOT_FOR_SETS = 22
 };
 
 /* The code of a result. */
@@ -204,6 +208,8 @@ static inline const char *sheet_sentence(uint32_t code)
         return "The product of the constructor counts of the input's leaves is over 65,536.";
     case SHEET_NO_OUTPUT_LEAF:
         return "The output has no leaf of this number.";
+    case SHEET_NOT_FOR_SETS:
+        return "A record is a feedback, or a flat type of over 64 constructors.";
     }
     return code < sizeof sentences / sizeof *sentences ? sentences[code] : "No call returns this code.";
 }
@@ -334,6 +340,43 @@ uint64_t sheet_fired(const uint8_t *sheet, size_t sheet_length, const uint8_t *s
  */
 uint64_t sheet_preview(const uint8_t *sheet, size_t sheet_length, const uint8_t *stim, size_t stim_length, uint8_t *out,
                        size_t out_length);
+
+/*
+ * The stack need of the call on what can still happen, measured and bounded as the check's. It is
+ * more than that of a run, since a leaf has a set of 8 bytes in place of a value of one.
+ */
+#define SHEET_POSSIBLE_STACK 212992
+
+/*
+ * What can still happen: how many constructors are still possible at each output leaf in one cycle,
+ * where undefined leaves of the input, of constants and of what delays hold may yet be anything of
+ * their types. It begins with the check. Codes 0 to 7, 22 and 8 to 10, in this order, and 0 at
+ * place 0.
+ *
+ * The sheet has no feedback, and no flat type, used or not, of over 64 constructors: else it is
+ * refused by 22, whose place is the lowest such record. `stim` is exactly one cycle, as many bytes
+ * as the input has leaves; an empty stimulus and one of several cycles are refused by 8. On success
+ * `out` holds a byte for each output leaf: how many constructors are possible there, 1 up to all of
+ * the leaf's type. The sheet is only read. `out` is to be as long as the output has leaves: lent
+ * with length 0, a good call is refused with code 10, whose place is that length, 1 to
+ * SHEET_MOST_LEAVES.
+ *
+ * In whichever way the undefined leaves are filled, sheet_preview then shows at each output leaf
+ * one of the constructors that were counted. A leaf that it shows defined already has the count 1,
+ * and no count rises when a leaf is filled. A count may be more than the constructors that fillings
+ * lead to. docs/SHEETS.md, What can still happen, has the rules.
+ *
+ *     uint8_t out[SHEET_MOST_LEAVES];
+ *     uint64_t result = sheet_possible(sheet, length, stim, stim_length, out, 0);
+ *     if (sheet_code_of(result) == SHEET_WRONG_OUTPUT_LENGTH) {
+ *         size_t needed = sheet_place_of(result);
+ *         result = sheet_possible(sheet, length, stim, stim_length, out, needed);
+ *     }
+ *     if (sheet_code_of(result) == SHEET_DONE)
+ *         printf("first leaf: %d possible\n", out[0]);
+ */
+uint64_t sheet_possible(const uint8_t *sheet, size_t sheet_length, const uint8_t *stim, size_t stim_length,
+                        uint8_t *out, size_t out_length);
 
 /* The stack need of the call for one press, measured as the check's and bounded as the run's. */
 #define SHEET_PRESS_STACK 131072

@@ -19,6 +19,7 @@ calls! {
     pub mod firings;
     pub mod presses;
     pub mod counts;
+    pub mod possibles;
     pub mod replays;
     pub mod reports;
     pub mod carries;

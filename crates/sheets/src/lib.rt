@@ -6,6 +6,7 @@ ghost use Rattle.simulator.specs.Calls.{Ran};
 ghost use Rattle.carry.specs.Carry.{CarryGiven};
 ghost use Rattle.firing.specs.Telling.{ToldFired};
 ghost use Rattle.preview.specs.Preview.{Previewed};
+ghost use Rattle.possible.specs.Possible.{PossibleGiven};
 ghost use Rattle.press.specs.Press.{PressGiven};
 ghost use Rattle.counting.specs.Counting.{CountGiven};
 ghost use Rattle.replay.specs.Replay.{ReplayGiven};
@@ -17,6 +18,7 @@ use firing::fired_of;
 use press::Pressed;
 use press::press_of;
 use preview::preview;
+use remaining::possible;
 use replay::Replayed;
 use replay::replay;
 use simulator::run;
@@ -61,6 +63,14 @@ pub extern "C" fn sheet_preview(sheet: &[u8], stim: &[u8], out: &mut [u8]) -> u6
     ensures { λ r. ⌜ Previewed (now (sheet .entry)) (now (stim .entry)) (now (out .entry)) r (now (out .exit)) ⌝ }
 {
     preview(sheet, stim, out)
+}
+
+// What can still happen, in one cycle: the answer's code times 2^32, plus its place.
+#[no_mangle]
+pub extern "C" fn sheet_possible(sheet: &[u8], stim: &[u8], out: &mut [u8]) -> u64
+    ensures { λ r. ⌜ PossibleGiven (now (sheet .entry)) (now (stim .entry)) (now (out .entry)) r (now (out .exit)) ⌝ }
+{
+    possible(sheet, stim, out)
 }
 
 // One press away, in one cycle: the answer's code times 2^32, plus its place; and the change, if one is found.

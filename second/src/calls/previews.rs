@@ -1,7 +1,7 @@
 //! `sheet_preview`: compares the second implementation with the one in the
 //! archive, and that one with the archive's run.
 
-mod archive;
+pub mod archive;
 mod bench;
 mod kind;
 pub mod mistakes;

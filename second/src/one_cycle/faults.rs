@@ -28,15 +28,26 @@ pub fn broken<K: Kind>(
     let mut ways = Vec::new();
     // The stimulus gets its length first, and then bytes that are too great.
     for &code in codes.iter().filter(|&&code| code > ILL_TYPED) {
-        let way = match code {
-            WRONG_STIMULUS => break_stimulus(&mut case, &ground, random)?,
-            WRONG_INPUT => raise_bytes(&mut case.stimulus, &ground, random)?,
-            _ => break_length(&mut case, &ground, random)?,
-        };
-        case.source = format!("{}; {way}", case.source);
-        ways.push(way);
+        ways.push(break_call(&mut case, code, &ground, random)?);
     }
     Some((case, ways))
+}
+
+/// Breaks a call in one way of code 8, of 9 or of that for a slice of the wrong
+/// length; the way, none if the call has no place for it.
+pub fn break_call(
+    case: &mut Case,
+    code: u8,
+    ground: &Ground,
+    random: &mut Random,
+) -> Option<&'static str> {
+    let way = match code {
+        WRONG_STIMULUS => break_stimulus(case, ground, random)?,
+        WRONG_INPUT => raise_bytes(&mut case.stimulus, ground, random)?,
+        _ => break_length(case, ground, random)?,
+    };
+    case.source = format!("{}; {way}", case.source);
+    Some(way)
 }
 
 /// Code 8: not exactly one cycle. The slice is as long as one cycle asks for,

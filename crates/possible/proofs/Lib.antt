@@ -1,0 +1,4 @@
+-- Theorems.
+pub mod FilledTerms
+pub mod WithoutFeedback
+pub mod Kept
