@@ -12,6 +12,8 @@ mod draw;
 mod options;
 #[cfg(call_run)]
 mod page;
+#[cfg(call_possible)]
+mod possible;
 #[cfg(call_press)]
 mod press;
 mod records;
@@ -45,6 +47,8 @@ pub const COMMANDS: &[Command] = &[
     press::COMMAND,
     #[cfg(call_count)]
     count::COMMAND,
+    #[cfg(call_possible)]
+    possible::COMMAND,
     #[cfg(call_replay)]
     replay::COMMAND,
     translate::COMMAND,
@@ -60,8 +64,8 @@ const NEEDS: [(&str, &str); 9] = [
     ("carry", "sheet_carry"),
     ("press", "sheet_press"),
     ("count", "sheet_count"),
-    ("replay", "sheet_replay"),
     ("possible", "sheet_possible"),
+    ("replay", "sheet_replay"),
 ];
 
 /// The commands that the archive has no call for.

@@ -10,6 +10,8 @@ pub mod source;
 pub mod types;
 
 // Values and runs.
+#[cfg(call_possible)]
+pub mod fillings;
 pub mod patterns;
 #[cfg(call_run)]
 pub mod signals;

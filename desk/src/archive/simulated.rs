@@ -52,6 +52,18 @@ extern "C" {
     ) -> u64;
 }
 
+#[cfg(call_possible)]
+extern "C" {
+    fn sheet_possible(
+        sheet: *const u8,
+        sheet_length: usize,
+        stimulus: *const u8,
+        stimulus_length: usize,
+        counts: *mut u8,
+        count_length: usize,
+    ) -> u64;
+}
+
 #[cfg(call_press)]
 extern "C" {
     fn sheet_press(
@@ -148,31 +160,45 @@ pub fn fired(sheet: &[u8], stimulus: &[u8]) -> Result<Vec<u16>, Answer> {
     }
 }
 
-/// The outputs of one cycle, which is not taken.
-pub fn preview(sheet: &[u8], stimulus: &[u8]) -> Result<Vec<u8>, Answer> {
-    let mut outputs = vec![0; MOST_LEAVES];
-    let call = |outputs: &mut [u8]| {
+/// A call on one cycle that writes a byte for each output leaf.
+type OneCycle = unsafe extern "C" fn(*const u8, usize, *const u8, usize, *mut u8, usize) -> u64;
+
+/// What such a call writes: without room it says how many bytes that is.
+fn one_cycle(call: OneCycle, sheet: &[u8], stimulus: &[u8]) -> Result<Vec<u8>, Answer> {
+    let mut written = vec![0; MOST_LEAVES];
+    let call = |written: &mut [u8]| {
         Answer::unpacked(unsafe {
-            sheet_preview(
+            call(
                 sheet.as_ptr(),
                 sheet.len(),
                 stimulus.as_ptr(),
                 stimulus.len(),
-                outputs.as_mut_ptr(),
-                outputs.len(),
+                written.as_mut_ptr(),
+                written.len(),
             )
         })
     };
-    let mut answer = call(&mut outputs[..0]);
+    let mut answer = call(&mut written[..0]);
     if answer.code == WRONG_OUTPUT_LENGTH {
-        outputs.truncate(answer.place as usize);
-        answer = call(&mut outputs);
+        written.truncate(answer.place as usize);
+        answer = call(&mut written);
     }
     if answer.code == ACCEPTED {
-        Ok(outputs)
+        Ok(written)
     } else {
         Err(answer)
     }
+}
+
+/// The outputs of one cycle, which is not taken.
+pub fn preview(sheet: &[u8], stimulus: &[u8]) -> Result<Vec<u8>, Answer> {
+    one_cycle(sheet_preview, sheet, stimulus)
+}
+
+/// How many constructors are still possible at each output leaf of one cycle.
+#[cfg(call_possible)]
+pub fn possible(sheet: &[u8], stimulus: &[u8]) -> Result<Vec<u8>, Answer> {
+    one_cycle(sheet_possible, sheet, stimulus)
 }
 
 /// The new sheet with the values that the delays of the old one hold.

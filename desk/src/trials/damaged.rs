@@ -103,11 +103,12 @@ impl Trial<'_> {
         self.files(&text, &lines);
         let line = String::from_utf8_lossy(lines.split(|b| *b == b'\n').next().unwrap_or(b""));
         let line = line.replace('\0', "?");
-        let command = match self.random.below(6) {
+        let command = match self.random.below(7) {
             0 => vec!["wave", "text", "stimulus"],
             1 => vec!["page", "text", "stimulus"],
             2 => vec!["show", "text", "--", &line],
             3 => vec!["run", "text", "stimulus", "--numbers"],
+            4 => vec!["possible", "text", "--", &line],
             _ => vec!["run", "text", "stimulus"],
         };
         self.ends(&command)
@@ -127,11 +128,12 @@ impl Trial<'_> {
         }
         self.files(text, b"1\n? * 2\n(2, 1)\n");
         self.write("sheet.bin", &sheet);
-        let command = match self.random.below(6) {
+        let command = match self.random.below(7) {
             0 => vec!["records", "sheet.bin"],
             1 => vec!["run", "sheet.bin", "stimulus"],
             2 => vec!["run", "text", "stimulus", "--from", "sheet.bin"],
             3 => vec!["draw", "sheet.bin"],
+            4 => vec!["possible", "sheet.bin", "?"],
             _ => vec!["check", "-W", "sheet.bin"],
         };
         self.ends(&command)
