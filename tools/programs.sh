@@ -136,6 +136,40 @@ prints() { # TEXT [COMMAND..]
     [ -n "$writes" ] || leaves "$before"
 }
 
+# The stack that docs/SHEETS.md says is enough, with no more of an environment than it allows for.
+stated_stack() { # TEXT
+    begin 'the stated stack'
+    prints "$1" env -i bash -c 'ulimit -S -s 4608; exec "$0"'
+}
+
+# Runs the program into a pipe that nobody reads. It ends by that signal, unless it was started with
+# the signal ignored.
+unheard() {
+    local status=0
+    mkfifo ../pipe
+    exec 3<>../pipe 4>../pipe 3<&-
+    timeout 60 "$program" </dev/null >&4 2>../errors || status=$?
+    exec 4>&-
+    rm ../pipe
+    case $status in
+        0 | 141) tally "$name" 0 '' ;;
+        *) tally "$name" 1 "status $status" ;;
+    esac
+}
+
+# A program that writes no file leaves the folder as it was also where nobody reads what it prints,
+# or there is no room for that.
+unread() {
+    local before
+    begin 'nobody reads'
+    before=$(held)
+    unheard
+    { timeout 60 "$program" </dev/null || true; } | head -c 0
+    timeout 60 "$program" </dev/null >/dev/full || tally "$name" 1 "status $? on a full device"
+    timeout 60 "$program" </dev/null >&- || tally "$name" 1 "status $? with no output"
+    leaves "$before"
+}
+
 # The folder holds what it held.
 leaves() { # HELD
     local now

@@ -1,16 +1,18 @@
-// Files for programs: a file read whole or past its limit, the line of a refusal printed, also that of a file that cannot be opened, what was
-// told printed in pieces, and a file replaced.
-ghost use Prim.Native.Nat.{_≤_, _<_};
+// Files for programs: a file read whole or past its limit, the line of a file that cannot be
+// opened, and a file replaced.
+ghost use Prim.Native.Nat.{_≤_};
 ghost use mathlib.Core.Path.{_≡_};
 ghost use lib.ListN.{length};
+ghost use lib.Signed.{nonNeg};
 ghost use Rattle.io.specs.Counts.{Counts};
-ghost use Rattle.records.specs.Limits.{mostLeaves};
-ghost use Rattle.printing.specs.Pieces.{unopenedFile};
+ghost use Rattle.libc.specs.Io.{Ended};
+ghost use Rattle.printing.specs.Pieces.{noFileLine, unopenedFile};
+use libc::ENOENT;
+use libc::ENOSPC;
+use libc::PATH_MAX;
+use libc::SEEK_CUR;
 use libc::STDOUT_FILENO;
 use listing::LINE_BYTES;
-use listing::put_refused;
-use printing::first_piece;
-use printing::next_piece;
 use printing::put_no_file;
 
 // What reading gave: so many bytes, unless it failed.
@@ -49,12 +51,20 @@ fn read_file(fd: i32, buffer: &mut [u8]) -> Got
     Got { ok: true, n }
 }
 
+// Whether a call that opens a file gave a descriptor. 0 is one too, where standard input was
+// closed.
+fn opened(fd: i32) -> bool
+    ensures { λ r. ⌜ r ≡ nonNeg fd ⌝ }
+{
+    fd >= 0
+}
+
 // Opens a file and reads it, to its end or until the buffer is full: a buffer of one byte more than a limit tells a longer file.
 pub fn read_named(path: &[u8], buffer: &mut [u8]) -> Got
     ensures { λ r. ⌜ Counts (r .n) (now (buffer .exit)) ⌝ }
 {
     let fd = os::open_read(path);
-    if fd < 0 {
+    if !opened(fd) {
         return Got { ok: false, n: 0 };
     }
     let got = read_file(fd, buffer);
@@ -62,18 +72,18 @@ pub fn read_named(path: &[u8], buffer: &mut [u8]) -> Got
     got
 }
 
-// Prints the line of a refusal.
-pub fn refuse(code: u64, place: u64) {
-    let mut line = [0u8; LINE_BYTES];
-    let end = put_refused(&mut line, 0, code, place);
-    io::write_all(STDOUT_FILENO, &line[0..end]);
+// Writes the line for a file that could not be opened.
+fn write_no_file(place: u64, line: &[u8])
+    requires { ⌜ now line ≡ noFileLine place ⌝ }
+{
+    io::write_all(STDOUT_FILENO, line);
 }
 
 // Prints the line for a file that could not be opened, from its place among the files of a program: 1 for the first.
 pub fn refuse_file(place: u64) {
     let mut line = [0u8; LINE_BYTES];
     let end = put_no_file(&mut line, place);
-    io::write_all(STDOUT_FILENO, &line[0..end]);
+    write_no_file(place, &line[0..end]);
 }
 
 // The places of the files of a program, by which one that cannot be opened is refused.
@@ -133,34 +143,112 @@ pub fn read_inputs(sheet: &mut [u8], stim: &mut [u8]) -> Inputs
     }
 }
 
-// Prints what was told, piece by piece: laid end to end the pieces are the listing, or the line of a refusal.
-pub fn print(code: u64, place: u64, t: u64, w: usize, outputs: &[u8])
-    requires { ⌜ (0 < w) × (w ≤ mostLeaves) ⌝ }
+// The last byte of a path that the C library reads.
+const PATH_END: usize = PATH_MAX - 1;
+
+// A path as the C library reads it, ended by a 0.
+fn c_path(path: &[u8]) -> [u8; PATH_MAX]
+    ensures { λ r. ⌜ Ended r ⌝ }
 {
-    let mut buffer = io::large_buffer();
-    let begun = first_piece(&mut buffer, code, place, t, w, outputs);
-    let end = begun.end;
-    io::write_all(STDOUT_FILENO, &buffer[0..end]);
-    let mut k = begun.k;
-    let mut first = begun.first;
-    let mut last = begun.last;
-    while !last {
-        let piece = next_piece(&mut buffer, w, outputs, k, first);
-        let until = piece.end;
-        io::write_all(STDOUT_FILENO, &buffer[0..until]);
-        k = piece.k;
-        first = piece.first;
-        last = piece.last;
+    let mut name = io::buffer();
+    let mut i = 0;
+    while i < path.len() {
+        if i >= PATH_END {
+            break;
+        }
+        name[i] = path[i];
+        i += 1;
     }
+    name[PATH_END] = 0;
+    name
 }
 
-// Replaces a file, and says whether it could be opened for that.
-pub fn replace(path: &[u8], bytes: &[u8]) -> bool {
-    let fd = os::open_overwrite(path);
-    if fd < 0 {
+// Whether a link has this name.
+fn is_link(path: &[u8]) -> bool {
+    let name = c_path(path);
+    let mut leads = [0u8; 1];
+    libc::readlink(&name, &mut leads) >= 0
+}
+
+// Whether a new file may take the name of one that was opened: it is no pipe and no link leads to
+// it.
+fn is_plain(fd: i32, path: &[u8]) -> bool {
+    if libc::lseek(fd, 0, SEEK_CUR) < 0 {
         return false;
     }
+    !is_link(path)
+}
+
+// Whether nothing has the name, after it could not be opened.
+fn is_free(path: &[u8]) -> bool {
+    if os::errno() != ENOENT {
+        return false;
+    }
+    !is_link(path)
+}
+
+fn may_take(fd: i32, path: &[u8]) -> bool {
+    if opened(fd) {
+        return is_plain(fd, path);
+    }
+    is_free(path)
+}
+
+// Writes the new file and gives it the name. Where not all of it can be written it goes again, and
+// what had the name keeps it.
+fn write_new(fd: i32, path: &[u8], beside: &[u8], bytes: &[u8]) {
+    let whole = io::write_all(fd, bytes);
+    let closed = libc::close(fd) == 0;
+    if whole {
+        if closed {
+            if os::rename(beside, path) == 0 {
+                return;
+            }
+        }
+    }
+    os::unlink(beside);
+}
+
+// A descriptor to write a file where it stands: the one that it was opened by, or else, where it
+// may not be read, or is missing and a link leads to it, one that finds it empty.
+fn in_place(fd: i32, path: &[u8]) -> i32 {
+    if opened(fd) {
+        return fd;
+    }
+    os::open_overwrite(path)
+}
+
+// Writes over the front of a file and cuts it after that. Where nothing can be written the file
+// stays.
+fn write_over(fd: i32, bytes: &[u8]) {
     io::write_all(fd, bytes);
+    let end = libc::lseek(fd, 0, SEEK_CUR);
+    if end > 0 {
+        libc::ftruncate(fd, end);
+    }
     libc::close(fd);
-    true
+}
+
+// Replaces a file: by a new one that is written beside it and takes its name, so that it is
+// replaced whole or, as where the disk is full, stays. What a link leads to, a pipe, and a file in
+// a folder that may not be written are written where they stand.
+pub fn replace(path: &[u8], beside: &[u8], bytes: &[u8]) {
+    let old = os::open_update(path);
+    if may_take(old, path) {
+        os::unlink(beside);
+        let made = os::create(beside);
+        if opened(made) {
+            write_new(made, path, beside, bytes);
+            libc::close(old);
+            return;
+        }
+        if os::errno() == ENOSPC {
+            libc::close(old);
+            return;
+        }
+    }
+    let fd = in_place(old, path);
+    if opened(fd) {
+        write_over(fd, bytes);
+    }
 }

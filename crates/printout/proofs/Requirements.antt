@@ -7,6 +7,7 @@ use lib.Dec.{lit≤}
 use lib.ListN.{length, replicate, length-replicate}
 use Rattle.behaviour.specs.Bench.{toggle}
 use Rattle.rooms.specs.Rooms.{mostOutput}
+use Rattle.simulator.specs.Running.{RunningAccepted}
 
 outputs-length : 1 ≤ 64
 outputs-length = lit≤ tt
@@ -20,3 +21,9 @@ outputs = replicate mostOutput 0
 tell : (mostOutput ≤ length outputs) × (length toggle ≤ length toggle)
 unfolding outputs
 tell = (long mostOutput, omega arith)
+
+-- what is asked of the table of widths has its instance in `simulator`
+tell-accepted : (n t : ℕ) (widths : List ℕ) → RunningAccepted toggle n widths t
+    → RunningAccepted toggle n widths t × (mostOutput ≤ length outputs) × (length toggle ≤ length toggle)
+unfolding outputs
+tell-accepted n t widths g = (g, long mostOutput, omega arith)

@@ -13,21 +13,21 @@ use borrow.Author.Tests.{lt-ltb}
 use Rattle.picoella.specs.Language.{leaves}
 use Rattle.records.specs.Trees.{typeAt}
 use Rattle.records.proofs.Types.{some-leaves}
-use Rattle.answers.specs.Answers.{code, place, codeOfResult, placeOfResult, verdictAnswer, firstApplying, SaysOf}
+use Rattle.answers.specs.Answers.{code, place, codeOfResult, placeOfResult, verdictAnswer, packed, firstApplying, SaysOf}
 use Rattle.answers.specs.declared.Answer.{Answer}
 use Rattle.answers.specs.declared.Answer.the-variants.{Done, Refused}
 use Rattle.answers.proofs.First.{first-says}
 use Rattle.answers.proofs.Kept as Answers
 use Rattle.verdict.specs.Verdict.{sheetChecks, outputType, verdict}
+use Rattle.answers.specs.declared.Verdict.{Verdict}
 use Rattle.answers.specs.declared.Verdict.the-variants.{Accepted}
-use Rattle.accepted.proofs.Laws.{verdict-first, first-accepted}
+use Rattle.accepted.proofs.Laws.{verdict-first, first-accepted, Refusing, refusing-answer}
 use Rattle.accepted.proofs.Small.{accepted-few}
 use Rattle.stimulus.specs.Stimulus.{inputType, wrongStimulus, stimulusChecks, cycleCount}
-use Rattle.behaviour.specs.Run.{outputNeeded, answer, finalOut, finalNext}
+use Rattle.behaviour.specs.Run.{outputNeeded, answer, finalOut, finalNext, RunGiven}
 use Rattle.behaviour.specs.Afterwards.{WellFormed}
 use Rattle.behaviour.proofs.Answers.{run-laws, answer-by-lengths, refused-by-verdict, stimulus-refused}
 use Rattle.simulator.specs.Running.{Measured}
-use Rattle.simulator.specs.Calls.{Ran}
 use Rattle.printing.specs.Pieces.{toldText}
 use Rattle.printout.specs.Printout.{outputRecord, runAnswer, runOutputs, runSheet, printed, RunTold}
 use Rattle.printout.specs.Lengths.{OutputsMeasured}
@@ -84,12 +84,12 @@ module _ (s stim : List ℕ) (i o t many : ℕ) (m : Measured s i o t) (q : Outp
           accepted-same (outputType s) (first-accepted s (says .0)) (decLt 65535 (length stim))
       go (Refused c p) e = same-refused c p e
 
-  module _ {r c p w : ℕ} {ro rn : List ℕ} (ran : Ran s stim lo ln r ro rn) (ec : c ≡ codeOfResult r) (ep : p ≡ placeOfResult r)
+  module _ {r c p w : ℕ} {ro rn : List ℕ} (ran : RunGiven s stim lo ln r ro rn) (ec : c ≡ codeOfResult r) (ep : p ≡ placeOfResult r)
       (ew : (0 < w) × (w ≤ 64) × (0 < o → o ≤ 64 → w ≡ o)) where
     apart : (c ≡ code (answer s stim lo ln)) × (p ≡ place (answer s stim lo ln))
     apart =
         let given = answer s stim lo ln in
-        rw (ec, ep, ran .gives .result-is) (Answers.kept .taken-apart (code given) (place given) (run-laws s stim lo ln .place-small))
+        rw (ec, ep, ran .result-is) (Answers.kept .taken-apart (code given) (place given) (run-laws s stim lo ln .place-small))
 
     -- done: the outputs and the sheet after them
     module _ (n : ℕ) (e : answer s stim lo ln ≡ Done n) where
@@ -98,11 +98,11 @@ module _ (s stim : List ℕ) (i o t many : ℕ) (m : Measured s i o t) (q : Outp
 
       done-outputs : ro ≡ runOutputs s stim
       unfolding finalOut runOutputs
-      done-outputs = ran .gives .out-is ∙ rw e refl
+      done-outputs = ran .out-is ∙ rw e refl
 
       done-sheet : rn ≡ runSheet s stim
       unfolding finalNext runSheet
-      done-sheet = ran .gives .next-is ∙ rw e refl
+      done-sheet = ran .next-is ∙ rw e refl
 
       done-record : t ≡ outputRecord s
       done-record = let a : verdict s ≡ Accepted (formed .0) = formed .1 .accepted in m .typed (formed .0) a ∙ rw a refl
@@ -153,6 +153,47 @@ told-printed {s} {stim} {c} {p} {t} {w} {many} {out′} told = rw (← told .cod
     go zero e = rw (told .typed e, told .wide e, told .outputs e) refl
     go (suc k) e = refl
 
+-- of a sheet that is refused, its code and its place, and no outputs
+module _ (s stim : List ℕ) (v : Verdict) (e : v ≡ verdict s) (o : Refusing v) where
+  refused-answer : runAnswer s stim ≡ verdictAnswer v
+  unfolding runAnswer
+  refused-answer =
+      let r = refusing-answer v o in
+      refused-by-verdict s stim (replicate (outputNeeded s (outputRecord s) stim) 0) (replicate (length s) 0) (r .0) (r .1)
+      (ap verdictAnswer (sym e) ∙ r .2)
+      ∙ sym (r .2)
+
+  refused-coded : 0 < code (runAnswer s stim)
+  unfolding runAnswer
+  refused-coded =
+      let r = refusing-answer v o in
+      let h = refused-code s stim (replicate (outputNeeded s (outputRecord s) stim) 0) (replicate (length s) 0) (r .0) (r .1)
+      (refused-answer ∙ r .2)
+      in
+      rw (refused-answer, r .2) h
+
+  pub told-refused : {r c p : ℕ} → r ≡ packed (verdictAnswer v) → c ≡ codeOfResult r → p ≡ placeOfResult r
+      → (out next : List ℕ) → RunTold s stim c p 0 1 0 out next
+  unfolding runAnswer
+  told-refused {r} {c} {p} er ec ep out next =
+      let given = runAnswer s stim in
+      let small = run-laws s stim (replicate (outputNeeded s (outputRecord s) stim) 0) (replicate (length s) 0) .place-small in
+      let apart = Answers.kept .taken-apart (code given) (place given) small in
+      let coded : c ≡ code given = rw (ec, er, ← refused-answer) (apart .0) in
+      let placed : p ≡ place given = rw (ep, er, ← refused-answer) (apart .1) in
+      let never : c ≡ 0 → ⊥ = λ z. let h = refused-coded in omega arith in
+      record {
+        coded = coded;
+        placed = placed;
+        typed = λ z. absurd (never z);
+        wide = λ z. absurd (never z);
+        outputs = λ z. absurd (never z);
+        inside = omega arith;
+        some = omega arith;
+        few = omega arith;
+        next = λ z. absurd (never z);
+      }
+
 -- the same of the front parts of the rooms lent
 module _ (s stim : List ℕ) (i o t many : ℕ) (m : Measured s i o t) (q : OutputsMeasured i o (length stim) many) (out next : List ℕ)
     (room : (4194240 ≤ length out) × (length s ≤ length next)) where
@@ -162,7 +203,7 @@ module _ (s stim : List ℕ) (i o t many : ℕ) (m : Measured s i o t) (q : Outp
   next-long : length (take (length s - 0) next) ≡ length s
   next-long = let r = room .1 in length-take-le (length s - 0) next (omega arith) ∙ omega arith
 
-  pub told-lent : {r c p w : ℕ} {ro rn : List ℕ} → Ran s stim (take (many - 0) out) (take (length s - 0) next) r ro rn
+  pub told-lent : {r c p w : ℕ} {ro rn : List ℕ} → RunGiven s stim (take (many - 0) out) (take (length s - 0) next) r ro rn
       → length ro ≡ length (take (many - 0) out) → length rn ≡ length (take (length s - 0) next)
       → c ≡ codeOfResult r → p ≡ placeOfResult r → (0 < w) × (w ≤ 64) × (0 < o → o ≤ 64 → w ≡ o)
       → RunTold s stim c p t w many (ro ++ drop (many - 0) out) (rn ++ drop (length s - 0) next)

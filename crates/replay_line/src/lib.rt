@@ -25,7 +25,9 @@ pub fn tell_replay(
     let told = replay(sheet, stim, recorded, &mut next[0..long]);
     let result = told.result;
     if result != 0 {
-        return put_refused(line, 0, code_of(result), place_of(result));
+        let code = code_of(result);
+        let place = place_of(result);
+        return put_refused(line, 0, code, place);
     }
     if told.differs != 0 {
         return put_numbers_line(line, 0, b"cycle ", told.cycle, b" leaf ", told.leaf);

@@ -119,19 +119,6 @@ accepted-call s n c w before table t l e =
     record { sized = rw c (accepted-sized v); accepted = v; table = l .accepted (rw e refl) }
 
 -- the leaves that a host asks for
-pub measured-refused : (s : List ℕ) (w : Verdict) → w ≡ verdict s → Refusing w → Measured s 0 0 0
-measured-refused s w e o =
-    let r = refusing-answer w o in
-    let never : (t : ℕ) → verdict s ≡ Verdicts.Accepted t → ⊥ =
-    λ t v. let z : _≡_ {A = ℕ} 0 1 = cc (ap verdictAnswer (e ∙ v), r .2) in omega arith
-    in
-    record {
-      leaves-of = λ t v. absurd (never t v);
-      typed = λ t v. absurd (never t v);
-      few-input = omega arith;
-      few-output = omega arith;
-    }
-
 pub measured-accepted : {s : List ℕ} {n : ℕ} {W : List ℕ} {t : ℕ} (g : RunningAccepted s n W t) {a : ℕ} → a ≡ word s 0 2
     → Measured s (getD W a 0) (getD W t 0) t
 measured-accepted {s} {n} {W} {t} g {a} ea =

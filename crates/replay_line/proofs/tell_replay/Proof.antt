@@ -33,7 +33,7 @@ same-length-2 : tie.Need-same-length-2
 same-length-2 c = search needs
 
 returns : tie.Need-returns
-returns c = refusal-told (c .before .before .before .before .before .before .before .before .before .replay .ensures) (search needs) (c .before .before .before .before .before .before .if1 .taken) (c .before .before .before .before .code-of .ensures) (c .before .before .before .place-of .ensures) (c .before .before .put-refused .ensures)
+returns c = refusal-told (c .before .before .before .before .before .before .before .before .before .replay .ensures) (search needs) (c .before .before .before .before .before .before .if1 .taken) (c .before .before .before .before .before .code-of .ensures) (c .before .before .before .before .place-of .ensures) (c .before .before .put-refused .ensures)
 
 slice-aggregate-put-numbers-line : tie.Need-slice-aggregate-put-numbers-line
 slice-aggregate-put-numbers-line c = search needs

@@ -1,5 +1,7 @@
 -- Assumes nothing.
 use borrow.Author.Needs.{needs}
+use native.Mathlib.Nat.{sub-zero}
+use Rattle.printout.proofs.Telling.{told-printed}
 use Rattle.sheetrun.proofs.run_files.Statement.{statement}
 use Rattle.sheetrun.proofs.run_files.Tie as tie
 
@@ -18,6 +20,12 @@ slice-aggregate-tell-2 c = search needs
 tell-requires : tie.Need-tell-requires
 tell-requires c κs = search needs
 
+slice-aggregate-keep-next : tie.Need-slice-aggregate-keep-next
+slice-aggregate-keep-next c = search needs
+
+keep-next-requires : tie.Need-keep-next-requires
+keep-next-requires c κs = (search needs, c .before .before .before .before .before .tell .ensures .next (c .before .if1 .taken))
+
 sub-print : tie.Need-sub-print
 sub-print c = search needs
 
@@ -28,19 +36,10 @@ part-print-end : tie.Need-part-print-end
 part-print-end c = search needs
 
 print-requires : tie.Need-print-requires
-print-requires c κs = search needs
+print-requires c κs = rw sub-zero (search needs, search needs, told-printed (c .before .before .before .before .before .before .tell .ensures))
 
 returns : tie.Need-returns
 returns c = search needs
-
-slice-aggregate-keep-next : tie.Need-slice-aggregate-keep-next
-slice-aggregate-keep-next c = search needs
-
-keep-next-requires : tie.Need-keep-next-requires
-keep-next-requires c κs = (search needs, c .before .before .before .before .before .before .before .before .tell .ensures .next (c .before .if1 .left))
-
-returns-2 : tie.Need-returns-2
-returns-2 c = search needs
 
 pub run-files-spec : {M : Type 1} → statement M
 run-files-spec =
@@ -51,11 +50,10 @@ run-files-spec =
     slice-aggregate-tell
     slice-aggregate-tell-2
     tell-requires
+    slice-aggregate-keep-next
+    keep-next-requires
     sub-print
     part-print-start
     part-print-end
     print-requires
-    returns
-    slice-aggregate-keep-next
-    keep-next-requires
-    returns-2)
+    returns)

@@ -1,0 +1,2 @@
+-- Instances of what the functions ask.
+pub mod Requirements
