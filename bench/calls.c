@@ -32,7 +32,8 @@ int main(int count, char **words)
     size_t length = read_whole(words[1], sheet, sizeof sheet);
     size_t stim_length = read_whole(words[2], stim, sizeof stim);
     /* The first run says how long the output is, and brings both into the caches. */
-    struct interpreted run = interpreter_run(sheet, length, stim, stim_length, other_out, other_next);
+    struct interpreted run =
+        interpreter_run(sheet, length, stim, stim_length, other_out, other_next);
     size_t out_length = run.cycles * run.leaves;
     uint64_t expected = run.cycles;
 
