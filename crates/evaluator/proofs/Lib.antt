@@ -1,5 +1,6 @@
 -- Laws of evaluation.
 pub mod Frames
+pub mod Wanted
 pub mod Readiness
 pub mod LentParts
 pub mod LentNames

@@ -9,7 +9,7 @@ ghost use Rattle.behaviour.specs.Entries.{assigned, putAll, enter};
 ghost use mathlib.Core.List.{List, [], _∷_, _++_};
 ghost use Rattle.meaning.specs.Decisions.{constructorDecision, pairDecision, chainDecision};
 ghost use Rattle.values.specs.Chained.{Chained};
-ghost use Rattle.values.specs.MatchAnswers.{decisionOf, told, Own, ValuesCompared};
+ghost use Rattle.values.specs.MatchAnswers.{decisionOf, told, Own, ValuesCompared, LeavesDefined};
 ghost use Rattle.values.specs.Matchings.{Matching, MatchedAll, MatchedOne, Chosen};
 ghost use Rattle.values.specs.Slots.{slot, entered};
 ghost use Rattle.meaning.specs.Evaluation.{choose};
@@ -120,6 +120,21 @@ pub fn stands(value: &[u8], slot: &[u8]) -> bool
     let mut i = 0;
     while i < all {
         if slot[i] != value[i] {
+            return false;
+        }
+        i += 1;
+    }
+    true
+}
+
+// Whether a value is defined in every leaf.
+pub fn all_defined(value: &[u8]) -> bool
+    ensures { λ r. ⌜ LeavesDefined (now (value .entry)) r ⌝ }
+{
+    let all = value.len();
+    let mut i = 0;
+    while i < all {
+        if value[i] == 0 {
             return false;
         }
         i += 1;

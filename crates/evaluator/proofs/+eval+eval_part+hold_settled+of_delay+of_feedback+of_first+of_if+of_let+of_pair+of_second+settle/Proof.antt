@@ -6,36 +6,40 @@ use borrow.Fn.Kinds.{In}
 use borrow.Fn.PlainCycle.{Measures, is, falls, and}
 use Rattle.evaluator.proofs.eval.Reads as eval
 use Rattle.evaluator.proofs.eval.Kinds as eval-kinds
-use Rattle.evaluator.proofs.+eval+eval_part+of_delay+of_feedback+of_first+of_if+of_let+of_pair+of_second+settle.Lts-eval as eval-lts
+use Rattle.evaluator.proofs.+eval+eval_part+hold_settled+of_delay+of_feedback+of_first+of_if+of_let+of_pair+of_second+settle.Lts-eval as eval-lts
 use Rattle.evaluator.proofs.eval_part.Reads as eval-part
 use Rattle.evaluator.proofs.eval_part.Kinds as eval-part-kinds
-use Rattle.evaluator.proofs.+eval+eval_part+of_delay+of_feedback+of_first+of_if+of_let+of_pair+of_second+settle.Lts-eval_part as eval-part-lts
+use Rattle.evaluator.proofs.+eval+eval_part+hold_settled+of_delay+of_feedback+of_first+of_if+of_let+of_pair+of_second+settle.Lts-eval_part as eval-part-lts
+use Rattle.evaluator.proofs.hold_settled.Reads as hold-settled
+use Rattle.evaluator.proofs.hold_settled.Kinds as hold-settled-kinds
+use Rattle.evaluator.proofs.+eval+eval_part+hold_settled+of_delay+of_feedback+of_first+of_if+of_let+of_pair+of_second+settle.Lts-hold_settled as hold-settled-lts
 use Rattle.evaluator.proofs.of_delay.Reads as of-delay
 use Rattle.evaluator.proofs.of_delay.Kinds as of-delay-kinds
-use Rattle.evaluator.proofs.+eval+eval_part+of_delay+of_feedback+of_first+of_if+of_let+of_pair+of_second+settle.Lts-of_delay as of-delay-lts
+use Rattle.evaluator.proofs.+eval+eval_part+hold_settled+of_delay+of_feedback+of_first+of_if+of_let+of_pair+of_second+settle.Lts-of_delay as of-delay-lts
 use Rattle.evaluator.proofs.of_feedback.Reads as of-feedback
 use Rattle.evaluator.proofs.of_feedback.Kinds as of-feedback-kinds
-use Rattle.evaluator.proofs.+eval+eval_part+of_delay+of_feedback+of_first+of_if+of_let+of_pair+of_second+settle.Lts-of_feedback as of-feedback-lts
+use Rattle.evaluator.proofs.+eval+eval_part+hold_settled+of_delay+of_feedback+of_first+of_if+of_let+of_pair+of_second+settle.Lts-of_feedback as of-feedback-lts
 use Rattle.evaluator.proofs.of_first.Reads as of-first
 use Rattle.evaluator.proofs.of_first.Kinds as of-first-kinds
-use Rattle.evaluator.proofs.+eval+eval_part+of_delay+of_feedback+of_first+of_if+of_let+of_pair+of_second+settle.Lts-of_first as of-first-lts
+use Rattle.evaluator.proofs.+eval+eval_part+hold_settled+of_delay+of_feedback+of_first+of_if+of_let+of_pair+of_second+settle.Lts-of_first as of-first-lts
 use Rattle.evaluator.proofs.of_if.Reads as of-if
 use Rattle.evaluator.proofs.of_if.Kinds as of-if-kinds
-use Rattle.evaluator.proofs.+eval+eval_part+of_delay+of_feedback+of_first+of_if+of_let+of_pair+of_second+settle.Lts-of_if as of-if-lts
+use Rattle.evaluator.proofs.+eval+eval_part+hold_settled+of_delay+of_feedback+of_first+of_if+of_let+of_pair+of_second+settle.Lts-of_if as of-if-lts
 use Rattle.evaluator.proofs.of_let.Reads as of-let
 use Rattle.evaluator.proofs.of_let.Kinds as of-let-kinds
-use Rattle.evaluator.proofs.+eval+eval_part+of_delay+of_feedback+of_first+of_if+of_let+of_pair+of_second+settle.Lts-of_let as of-let-lts
+use Rattle.evaluator.proofs.+eval+eval_part+hold_settled+of_delay+of_feedback+of_first+of_if+of_let+of_pair+of_second+settle.Lts-of_let as of-let-lts
 use Rattle.evaluator.proofs.of_pair.Reads as of-pair
 use Rattle.evaluator.proofs.of_pair.Kinds as of-pair-kinds
-use Rattle.evaluator.proofs.+eval+eval_part+of_delay+of_feedback+of_first+of_if+of_let+of_pair+of_second+settle.Lts-of_pair as of-pair-lts
+use Rattle.evaluator.proofs.+eval+eval_part+hold_settled+of_delay+of_feedback+of_first+of_if+of_let+of_pair+of_second+settle.Lts-of_pair as of-pair-lts
 use Rattle.evaluator.proofs.of_second.Reads as of-second
 use Rattle.evaluator.proofs.of_second.Kinds as of-second-kinds
-use Rattle.evaluator.proofs.+eval+eval_part+of_delay+of_feedback+of_first+of_if+of_let+of_pair+of_second+settle.Lts-of_second as of-second-lts
+use Rattle.evaluator.proofs.+eval+eval_part+hold_settled+of_delay+of_feedback+of_first+of_if+of_let+of_pair+of_second+settle.Lts-of_second as of-second-lts
 use Rattle.evaluator.proofs.settle.Reads as settle
 use Rattle.evaluator.proofs.settle.Kinds as settle-kinds
-use Rattle.evaluator.proofs.+eval+eval_part+of_delay+of_feedback+of_first+of_if+of_let+of_pair+of_second+settle.Lts-settle as settle-lts
+use Rattle.evaluator.proofs.+eval+eval_part+hold_settled+of_delay+of_feedback+of_first+of_if+of_let+of_pair+of_second+settle.Lts-settle as settle-lts
 use Rattle.evaluator.proofs.copy_name.Reads as copy-name-reads
 use Rattle.records.proofs.word.Reads as word-reads
+use Rattle.values.proofs.all_defined.Reads as all-defined-reads
 use Rattle.values.proofs.choose_value.Reads as choose-value-reads
 use Rattle.values.proofs.enter_value.Reads as enter-value-reads
 use Rattle.values.proofs.hold_leaves.Reads as hold-leaves-reads
@@ -43,13 +47,14 @@ use Rattle.values.proofs.put.Reads as put-reads
 use Rattle.values.proofs.read_leaves.Reads as read-leaves-reads
 use Rattle.values.proofs.room.Reads as room-reads
 use Rattle.values.proofs.stands_at.Reads as stands-at-reads
-use Rattle.evaluator.proofs.+eval+eval_part+of_delay+of_feedback+of_first+of_if+of_let+of_pair+of_second+settle.{
+use Rattle.evaluator.proofs.+eval+eval_part+hold_settled+of_delay+of_feedback+of_first+of_if+of_let+of_pair+of_second+settle.{
   statement,
 }
-use Rattle.evaluator.proofs.+eval+eval_part+of_delay+of_feedback+of_first+of_if+of_let+of_pair+of_second+settle.Tie.{
+use Rattle.evaluator.proofs.+eval+eval_part+hold_settled+of_delay+of_feedback+of_first+of_if+of_let+of_pair+of_second+settle.Tie.{
   close,
 }
 use borrow.Author.Needs.{needs}
+use borrow.Author.Tests.{not-true, not-false}
 use native.Mathlib.Omega.{arith}
 use Prim.Native.Nat.{ℕ, _+_, _*_, _-_, _<_}
 use mathlib.Core.Path.{refl}
@@ -67,39 +72,43 @@ use Rattle.evaluator.proofs.LentNames.{defining-scope}
 use Rattle.evaluator.proofs.LentBranches.{tested-scope}
 use Rattle.evaluator.proofs.Parts.{constant-chained, constant-done, pair-cut, pair-first-ready, pair-rest, pair-second-ready, pair-done, room-ready, first-fits, first-inside, first-done, second-few, second-from, second-inside, second-fits, second-done}
 use Rattle.evaluator.proofs.Names.{let-inside, let-room, let-body-ready, let-done}
-use Rattle.evaluator.proofs.Settling.{settle-few, settle-room, unchanged-settled, settling-again, fewer-undefined, changed-settled}
+use Rattle.evaluator.proofs.Settling.{settle-few, settle-room, unchanged-settled, defined-settled, settled-ready, settled-value, settled-whole, settling-again, fewer-undefined, changed-settled}
 use Rattle.evaluator.proofs.Feedbacks.{part-scope, feedback-fits, start-room, feedback-settling, few-undefined, feedback-body-ready, feedback-done}
-use Rattle.evaluator.proofs.Branches.{then-ready, else-fits, else-ready, tested-inside, otherwise-inside, as-long, pattern-matching, if-wide, if-done, delayed-ready, delay-chained, delay-done}
+use Rattle.evaluator.proofs.Branches.{then-ready, else-fits, else-ready, tested-inside, otherwise-inside, as-long, pattern-matching, if-wide, if-done, delay-held, delay-read, delayed-ready, delay-chained, delay-done}
+use Rattle.evaluator.proofs.Wanted.{wanted-whole, wanted-value}
 
 abbrev μ-eval : Measures 6 eval-kinds.ps ℕ
-μ-eval κs a = 68 * (a .1 .0 - a .1 .1 .1 .1 .1 .1 .0) + 1
+μ-eval κs a = 69 * (a .1 .0 - a .1 .1 .1 .1 .1 .1 .0) + 1
 
 abbrev μ-eval-part : Measures 6 eval-part-kinds.ps ℕ
-μ-eval-part κs a = 68 * (a .1 .0 - a .1 .1 .1 .1 .1 .1 .0) + 2
+μ-eval-part κs a = 69 * (a .1 .0 - a .1 .1 .1 .1 .1 .1 .0) + 2
+
+abbrev μ-hold-settled : Measures 6 hold-settled-kinds.ps ℕ
+μ-hold-settled κs a = 69 * (a .1 .0 - a .1 .1 .1 .1 .1 .1 .0) + 4 + zeros (slot (a .1 .1 .1 .1 .0) (length (now (a .1 .1 .1 .1 .1 .1 .1 .0))) (now (a .1 .1 .1 .0)))
 
 abbrev μ-of-delay : Measures 6 of-delay-kinds.ps ℕ
-μ-of-delay κs a = 68 * (a .1 .0 - a .1 .1 .1 .1 .1 .1 .0)
+μ-of-delay κs a = 69 * (a .1 .0 - a .1 .1 .1 .1 .1 .1 .0)
 
 abbrev μ-of-feedback : Measures 6 of-feedback-kinds.ps ℕ
-μ-of-feedback κs a = 68 * (a .1 .0 - a .1 .1 .1 .1 .1 .1 .0)
+μ-of-feedback κs a = 69 * (a .1 .0 - a .1 .1 .1 .1 .1 .1 .0)
 
 abbrev μ-of-first : Measures 6 of-first-kinds.ps ℕ
-μ-of-first κs a = 68 * (a .1 .0 - a .1 .1 .1 .1 .1 .1 .0)
+μ-of-first κs a = 69 * (a .1 .0 - a .1 .1 .1 .1 .1 .1 .0)
 
 abbrev μ-of-if : Measures 6 of-if-kinds.ps ℕ
-μ-of-if κs a = 68 * (a .1 .0 - a .1 .1 .1 .1 .1 .1 .0)
+μ-of-if κs a = 69 * (a .1 .0 - a .1 .1 .1 .1 .1 .1 .0)
 
 abbrev μ-of-let : Measures 6 of-let-kinds.ps ℕ
-μ-of-let κs a = 68 * (a .1 .0 - a .1 .1 .1 .1 .1 .1 .0)
+μ-of-let κs a = 69 * (a .1 .0 - a .1 .1 .1 .1 .1 .1 .0)
 
 abbrev μ-of-pair : Measures 6 of-pair-kinds.ps ℕ
-μ-of-pair κs a = 68 * (a .1 .0 - a .1 .1 .1 .1 .1 .1 .0)
+μ-of-pair κs a = 69 * (a .1 .0 - a .1 .1 .1 .1 .1 .1 .0)
 
 abbrev μ-of-second : Measures 6 of-second-kinds.ps ℕ
-μ-of-second κs a = 68 * (a .1 .0 - a .1 .1 .1 .1 .1 .1 .0)
+μ-of-second κs a = 69 * (a .1 .0 - a .1 .1 .1 .1 .1 .1 .0)
 
 abbrev μ-settle : Measures 6 settle-kinds.ps ℕ
-μ-settle κs a = 68 * (a .1 .0 - a .1 .1 .1 .1 .1 .1 .0) + 3 + zeros (slot (a .1 .1 .1 .1 .0) (length (now (a .1 .1 .1 .1 .1 .1 .1 .0))) (now (a .1 .1 .1 .0)))
+μ-settle κs a = 69 * (a .1 .0 - a .1 .1 .1 .1 .1 .1 .0) + 3 + zeros (slot (a .1 .1 .1 .1 .0) (length (now (a .1 .1 .1 .1 .1 .1 .1 .0))) (now (a .1 .1 .1 .0)))
 
 abbrev eval-at : ℕ → In 6 eval-kinds.ps
 eval-at t = and 6 eval-kinds.ps (is 6 eval-kinds.ps μ-eval t) eval.Pre
@@ -112,6 +121,14 @@ eval-part-at t = and 6 eval-part-kinds.ps (is 6 eval-part-kinds.ps μ-eval-part 
 
 abbrev eval-part-below : ℕ → In 6 eval-part-kinds.ps
 eval-part-below t = and 6 eval-part-kinds.ps (falls 6 eval-part-kinds.ps _<_ μ-eval-part t) eval-part.Pre
+
+abbrev hold-settled-at : ℕ → In 6 hold-settled-kinds.ps
+hold-settled-at t =
+    and 6 hold-settled-kinds.ps (is 6 hold-settled-kinds.ps μ-hold-settled t) hold-settled.Pre
+
+abbrev hold-settled-below : ℕ → In 6 hold-settled-kinds.ps
+hold-settled-below t =
+    and 6 hold-settled-kinds.ps (falls 6 hold-settled-kinds.ps _<_ μ-hold-settled t) hold-settled.Pre
 
 abbrev of-delay-at : ℕ → In 6 of-delay-kinds.ps
 of-delay-at t = and 6 of-delay-kinds.ps (is 6 of-delay-kinds.ps μ-of-delay t) of-delay.Pre
@@ -172,11 +189,14 @@ eval-claims t = (word-reads.Asked, word-reads.Learnt, read-leaves-reads.Asked, r
 abbrev eval-part-claims : ℕ → eval-part-lts.Claims
 eval-part-claims t = (word-reads.Asked, word-reads.Learnt, read-leaves-reads.Asked, read-leaves-reads.Learnt, copy-name-reads.Asked, copy-name-reads.Learnt, eval-below t, eval.Post)
 
+abbrev hold-settled-claims : ℕ → hold-settled-lts.Claims
+hold-settled-claims t = (settle-below t, settle.Post, eval-part-below t, eval-part.Post)
+
 abbrev of-delay-claims : ℕ → of-delay-lts.Claims
-of-delay-claims t = (word-reads.Asked, word-reads.Learnt, eval-part-below t, eval-part.Post, hold-leaves-reads.Asked, hold-leaves-reads.Learnt, read-leaves-reads.Asked, read-leaves-reads.Learnt)
+of-delay-claims t = (word-reads.Asked, word-reads.Learnt, read-leaves-reads.Asked, read-leaves-reads.Learnt, eval-part-below t, eval-part.Post, hold-leaves-reads.Asked, hold-leaves-reads.Learnt)
 
 abbrev of-feedback-claims : ℕ → of-feedback-lts.Claims
-of-feedback-claims t = (word-reads.Asked, word-reads.Learnt, room-reads.Asked, room-reads.Learnt, enter-value-reads.Asked, enter-value-reads.Learnt, settle-below t, settle.Post, eval-part-below t, eval-part.Post)
+of-feedback-claims t = (word-reads.Asked, word-reads.Learnt, room-reads.Asked, room-reads.Learnt, enter-value-reads.Asked, enter-value-reads.Learnt, hold-settled-below t, hold-settled.Post, eval-part-below t, eval-part.Post)
 
 abbrev of-first-claims : ℕ → of-first-lts.Claims
 of-first-claims t = (word-reads.Asked, word-reads.Learnt, room-reads.Asked, room-reads.Learnt, eval-part-below t, eval-part.Post, put-reads.Asked, put-reads.Learnt)
@@ -194,7 +214,7 @@ abbrev of-second-claims : ℕ → of-second-lts.Claims
 of-second-claims t = (word-reads.Asked, word-reads.Learnt, room-reads.Asked, room-reads.Learnt, eval-part-below t, eval-part.Post, put-reads.Asked, put-reads.Learnt)
 
 abbrev settle-claims : ℕ → settle-lts.Claims
-settle-claims t = (eval-part-below t, eval-part.Post, stands-at-reads.Asked, stands-at-reads.Learnt, enter-value-reads.Asked, enter-value-reads.Learnt, settle-below t, settle.Post)
+settle-claims t = (eval-part-below t, eval-part.Post, stands-at-reads.Asked, stands-at-reads.Learnt, enter-value-reads.Asked, enter-value-reads.Learnt, all-defined-reads.Asked, all-defined-reads.Learnt, settle-below t, settle.Post)
 
 eval-word-requires : (t : ℕ) → eval-lts.Need-word-requires (eval-claims t) (eval-at t) eval.Post
 eval-word-requires t c κs = ready-word (c .before .before .before .pre .1 .1 .at-hand) (omega arith)
@@ -221,7 +241,7 @@ eval-same-length-3 : (t : ℕ) → eval-lts.Need-same-length-3 (eval-claims t) (
 eval-same-length-3 t c = search needs
 
 eval-returns-2 : (t : ℕ) → eval-lts.Need-returns-2 (eval-claims t) (eval-at t) eval.Post
-eval-returns-2 t c = c .before .before .copy-name .ensures (now (c .before .before .before .before .before .before .before .before .before .before .before .args .held)) (now (c .before .before .before .before .before .before .before .before .before .before .before .args .fired))
+eval-returns-2 t c = c .before .before .copy-name .ensures (c .before .before .before .before .before .before .before .before .before .before .before .args .whole) (now (c .before .before .before .before .before .before .before .before .before .before .before .args .held)) (now (c .before .before .before .before .before .before .before .before .before .before .before .args .fired))
 
 eval-of-pair-requires : (t : ℕ) → eval-lts.Need-of-pair-requires (eval-claims t) (eval-at t) eval.Post
 eval-of-pair-requires t c κs = (omega (arith, c .before .before .before .before .before .before .before .before .before .before .before .pre .0), (c .before .before .before .before .before .before .before .before .before .before .before .pre .1, (numbered _ _ _ 34 (expression tuple) (c .before .before .before .before .before .before .before .word .ensures .0) (c .before .before .before .before .if3 .taken) (unfold kindOf in refl))))
@@ -332,7 +352,7 @@ eval-part-same-length-3 : (t : ℕ) → eval-part-lts.Need-same-length-3 (eval-p
 eval-part-same-length-3 t c = search needs
 
 eval-part-returns-2 : (t : ℕ) → eval-part-lts.Need-returns-2 (eval-part-claims t) (eval-part-at t) eval-part.Post
-eval-part-returns-2 t c = c .before .before .copy-name .ensures (now (c .before .before .before .before .before .before .before .before .before .before .before .args .held)) (now (c .before .before .before .before .before .before .before .before .before .before .before .args .fired))
+eval-part-returns-2 t c = c .before .before .copy-name .ensures (c .before .before .before .before .before .before .before .before .before .before .before .args .whole) (now (c .before .before .before .before .before .before .before .before .before .before .before .args .held)) (now (c .before .before .before .before .before .before .before .before .before .before .before .args .fired))
 
 eval-part-eval-requires : (t : ℕ) → eval-part-lts.Need-eval-requires (eval-part-claims t) (eval-part-at t) eval-part.Post
 eval-part-eval-requires t c κs = (omega (arith, c .before .before .before .before .before .before .before .before .before .before .pre .0), c .before .before .before .before .before .before .before .before .before .before .pre .1)
@@ -346,29 +366,65 @@ eval-part-same-length-5 t c = search needs
 eval-part-returns-3 : (t : ℕ) → eval-part-lts.Need-returns-3 (eval-part-claims t) (eval-part-at t) eval-part.Post
 eval-part-returns-3 t c = c .before .before .before .before .eval .ensures
 
+hold-settled-settle-requires : (t : ℕ) → hold-settled-lts.Need-settle-requires (hold-settled-claims t) (hold-settled-at t) hold-settled.Post
+hold-settled-settle-requires t c κs = (omega (arith, c .before .before .before .before .before .before .before .pre .0), c .before .before .before .before .before .before .before .pre .1)
+
+hold-settled-add-eval-part : (t : ℕ) → hold-settled-lts.Need-add-eval-part (hold-settled-claims t) (hold-settled-at t) hold-settled.Post
+hold-settled-add-eval-part t c = let f = settle-few (c .before .before .before .before .before .before .before .before .before .before .before .before .before .before .pre .1 .2) in omega arith
+
+hold-settled-eval-part-requires : (t : ℕ) → hold-settled-lts.Need-eval-part-requires (hold-settled-claims t) (hold-settled-at t) hold-settled.Post
+hold-settled-eval-part-requires t c κs = (omega (arith, c .before .before .before .before .before .before .before .before .before .before .before .before .before .before .before .before .before .pre .0), (_, settled-ready (c .before .before .before .before .before .before .before .before .before .before .before .before .before .before .before .before .before .pre .1 .2) (c .before .before .before .before .before .before .before .before .before .settle .ensures) _ (search needs)))
+
+hold-settled-same-length : (t : ℕ) → hold-settled-lts.Need-same-length (hold-settled-claims t) (hold-settled-at t) hold-settled.Post
+hold-settled-same-length t c = search needs
+
+hold-settled-same-length-2 : (t : ℕ) → hold-settled-lts.Need-same-length-2 (hold-settled-claims t) (hold-settled-at t) hold-settled.Post
+hold-settled-same-length-2 t c = search needs
+
+hold-settled-returns : (t : ℕ) → hold-settled-lts.Need-returns (hold-settled-claims t) (hold-settled-at t) hold-settled.Post
+hold-settled-returns t c = record { settled = λ t Γ g. settled-whole g (c .before .before .before .before .before .before .before .before .before .before .before .before .before .before .settle .ensures) (c .before .before .before .before .before .before .before .before .before .if1 .taken) (search needs) (c .before .before .before .before .eval-part .ensures) }
+
+hold-settled-same-length-3 : (t : ℕ) → hold-settled-lts.Need-same-length-3 (hold-settled-claims t) (hold-settled-at t) hold-settled.Post
+hold-settled-same-length-3 t c = search needs
+
+hold-settled-same-length-4 : (t : ℕ) → hold-settled-lts.Need-same-length-4 (hold-settled-claims t) (hold-settled-at t) hold-settled.Post
+hold-settled-same-length-4 t c = search needs
+
+hold-settled-returns-2 : (t : ℕ) → hold-settled-lts.Need-returns-2 (hold-settled-claims t) (hold-settled-at t) hold-settled.Post
+hold-settled-returns-2 t c = record { settled = λ t Γ g. settled-value g (c .before .before .before .before .before .settle .ensures) (c .if1 .left) }
+
 of-delay-word-requires : (t : ℕ) → of-delay-lts.Need-word-requires (of-delay-claims t) (of-delay-at t) of-delay.Post
 of-delay-word-requires t c κs = ready-word (c .before .before .before .pre .1 .0 .1 .at-hand) (omega arith)
 
-of-delay-eval-part-requires : (t : ℕ) → of-delay-lts.Need-eval-part-requires (of-delay-claims t) (of-delay-at t) of-delay.Post
-of-delay-eval-part-requires t c κs = let h = (part-higher (c .before .before .before .before .before .before .before .before .pre .1 .0 .1 .at-hand) delay (c .before .before .before .before .before .before .before .before .pre .1 .1) 4 refl (unfold askOfKind in refl) (c .before .before .before .before .word .ensures .0)) in (omega (arith, c .before .before .before .before .before .before .before .before .pre .0, h .0, h .1), (c .before .before .before .before .before .before .before .before .pre .1 .0 .0, delayed-ready (c .before .before .before .before .before .before .before .before .pre .1 .0 .1) (c .before .before .before .before .before .before .before .before .pre .1 .1) (c .before .before .before .before .word .ensures .0) refl))
-
-of-delay-word-requires-2 : (t : ℕ) → of-delay-lts.Need-word-requires-2 (of-delay-claims t) (of-delay-at t) of-delay.Post
-of-delay-word-requires-2 t c κs = ready-word (c .before .before .before .before .before .before .before .before .before .before .before .before .before .pre .1 .0 .1 .at-hand) (omega arith)
-
-of-delay-hold-leaves-requires : (t : ℕ) → of-delay-lts.Need-hold-leaves-requires (of-delay-claims t) (of-delay-at t) of-delay.Post
-of-delay-hold-leaves-requires t c κs = delay-chained (c .before .before .before .before .before .before .before .before .before .before .before .before .before .before .before .before .pre .1 .0 .1) (c .before .before .before .before .before .before .before .before .before .before .before .before .before .before .before .before .pre .1 .1) (c .before .before .before .before .before .before .before .before .before .before .before .before .word .ensures .0) (c .before .before .word2 .ensures .0) (c .before .before .before .before .before .before .before .eval-part .ensures)
-
 of-delay-read-leaves-requires : (t : ℕ) → of-delay-lts.Need-read-leaves-requires (of-delay-claims t) (of-delay-at t) of-delay.Post
-of-delay-read-leaves-requires t c κs = delay-chained (c .before .before .before .before .before .before .before .before .before .before .before .before .before .before .before .before .before .before .pre .1 .0 .1) (c .before .before .before .before .before .before .before .before .before .before .before .before .before .before .before .before .before .before .pre .1 .1) (c .before .before .before .before .before .before .before .before .before .before .before .before .before .before .word .ensures .0) (c .before .before .before .before .word2 .ensures .0) (c .before .before .before .before .before .before .before .before .before .eval-part .ensures)
+of-delay-read-leaves-requires t c κs = delay-held (c .before .before .before .before .before .before .pre .1 .0 .1) (c .before .before .before .before .before .before .pre .1 .1) (c .before .before .word .ensures .0)
 
 of-delay-same-length : (t : ℕ) → of-delay-lts.Need-same-length (of-delay-claims t) (of-delay-at t) of-delay.Post
 of-delay-same-length t c = search needs
 
+of-delay-returns : (t : ℕ) → of-delay-lts.Need-returns (of-delay-claims t) (of-delay-at t) of-delay.Post
+of-delay-returns t c = record { done = λ Γ r. delay-read r (c .before .before .before .before .before .before .before .before .before .pre .1 .1) (c .before .before .before .before .before .word .ensures .0) (not-true _ (c .before .before .before .before .if1 .taken)) (c .before .before .read-leaves .ensures) }
+
+of-delay-word-requires-2 : (t : ℕ) → of-delay-lts.Need-word-requires-2 (of-delay-claims t) (of-delay-at t) of-delay.Post
+of-delay-word-requires-2 t c κs = ready-word (c .before .before .before .before .before .pre .1 .0 .1 .at-hand) (omega arith)
+
+of-delay-eval-part-requires : (t : ℕ) → of-delay-lts.Need-eval-part-requires (of-delay-claims t) (of-delay-at t) of-delay.Post
+of-delay-eval-part-requires t c κs = let h = (part-higher (c .before .before .before .before .before .before .before .before .before .before .pre .1 .0 .1 .at-hand) delay (c .before .before .before .before .before .before .before .before .before .before .pre .1 .1) 4 refl (unfold askOfKind in refl) (c .before .before .before .before .word2 .ensures .0)) in (omega (arith, c .before .before .before .before .before .before .before .before .before .before .pre .0, h .0, h .1), (c .before .before .before .before .before .before .before .before .before .before .pre .1 .0 .0, delayed-ready (c .before .before .before .before .before .before .before .before .before .before .pre .1 .0 .1) (c .before .before .before .before .before .before .before .before .before .before .pre .1 .1) (c .before .before .before .before .before .before .word .ensures .0) (c .before .before .before .before .word2 .ensures .0)))
+
+of-delay-hold-leaves-requires : (t : ℕ) → of-delay-lts.Need-hold-leaves-requires (of-delay-claims t) (of-delay-at t) of-delay.Post
+of-delay-hold-leaves-requires t c κs = delay-chained (c .before .before .before .before .before .before .before .before .before .before .before .before .before .before .before .before .before .pre .1 .0 .1) (c .before .before .before .before .before .before .before .before .before .before .before .before .before .before .before .before .before .pre .1 .1) (c .before .before .before .before .before .before .before .before .before .before .before .before .before .word .ensures .0) (c .before .before .before .before .before .before .before .before .before .before .before .word2 .ensures .0) (c .before .before .before .before .before .before .eval-part .ensures)
+
+of-delay-read-leaves-requires-2 : (t : ℕ) → of-delay-lts.Need-read-leaves-requires-2 (of-delay-claims t) (of-delay-at t) of-delay.Post
+of-delay-read-leaves-requires-2 t c κs = delay-chained (c .before .before .before .before .before .before .before .before .before .before .before .before .before .before .before .before .before .before .before .pre .1 .0 .1) (c .before .before .before .before .before .before .before .before .before .before .before .before .before .before .before .before .before .before .before .pre .1 .1) (c .before .before .before .before .before .before .before .before .before .before .before .before .before .before .before .word .ensures .0) (c .before .before .before .before .before .before .before .before .before .before .before .before .before .word2 .ensures .0) (c .before .before .before .before .before .before .before .before .eval-part .ensures)
+
 of-delay-same-length-2 : (t : ℕ) → of-delay-lts.Need-same-length-2 (of-delay-claims t) (of-delay-at t) of-delay.Post
 of-delay-same-length-2 t c = search needs
 
-of-delay-returns : (t : ℕ) → of-delay-lts.Need-returns (of-delay-claims t) (of-delay-at t) of-delay.Post
-of-delay-returns t c = record { done = λ Γ r. delay-done r (c .before .before .before .before .before .before .before .before .before .before .before .before .before .before .before .before .before .before .before .before .before .pre .1 .1) (c .before .before .before .before .before .before .before .before .before .before .before .before .before .before .before .before .before .word .ensures .0) (c .before .before .before .before .before .before .before .word2 .ensures .0) (c .before .before .before .before .before .before .before .before .before .before .before .before .eval-part .ensures) (c .before .before .before .before .hold-leaves .ensures) (c .before .before .read-leaves .ensures) }
+of-delay-same-length-3 : (t : ℕ) → of-delay-lts.Need-same-length-3 (of-delay-claims t) (of-delay-at t) of-delay.Post
+of-delay-same-length-3 t c = search needs
+
+of-delay-returns-2 : (t : ℕ) → of-delay-lts.Need-returns-2 (of-delay-claims t) (of-delay-at t) of-delay.Post
+of-delay-returns-2 t c = record { done = λ Γ r. delay-done r (c .before .before .before .before .before .before .before .before .before .before .before .before .before .before .before .before .before .before .before .before .before .before .pre .1 .1) (c .before .before .before .before .before .before .before .before .before .before .before .before .before .before .before .before .before .before .word .ensures .0) (c .before .before .before .before .before .before .before .before .before .before .before .before .before .before .before .before .word2 .ensures .0) (not-false _ (c .before .before .before .before .before .before .before .before .before .before .before .before .before .before .before .before .before .if1 .left)) (c .before .before .before .before .before .before .before .before .before .before .before .eval-part .ensures) (c .before .before .before .before .hold-leaves .ensures) (c .before .before .read-leaves2 .ensures) }
 
 of-feedback-word-requires : (t : ℕ) → of-feedback-lts.Need-word-requires (of-feedback-claims t) (of-feedback-at t) of-feedback.Post
 of-feedback-word-requires t c κs = ready-word (c .before .before .before .pre .1 .0 .1 .at-hand) (omega arith)
@@ -394,8 +450,8 @@ of-feedback-part-enter-value-end t c = feedback-fits (c .before .before .before 
 of-feedback-enter-value-requires : (t : ℕ) → of-feedback-lts.Need-enter-value-requires (of-feedback-claims t) (of-feedback-at t) of-feedback.Post
 of-feedback-enter-value-requires t c κs = start-room (c .before .before .before .before .before .before .before .before .before .pre .1 .0 .1) (c .before .before .before .before .before .before .before .before .before .pre .1 .1) (c .before .before .before .before .before .word .ensures .0) refl refl (c .before .before .before .room .ensures)
 
-of-feedback-sub-settle : (t : ℕ) → of-feedback-lts.Need-sub-settle (of-feedback-claims t) (of-feedback-at t) of-feedback.Post
-of-feedback-sub-settle t c = from-zero _
+of-feedback-sub-hold-settled : (t : ℕ) → of-feedback-lts.Need-sub-hold-settled (of-feedback-claims t) (of-feedback-at t) of-feedback.Post
+of-feedback-sub-hold-settled t c = from-zero _
 
 of-feedback-part-settled-start : (t : ℕ) → of-feedback-lts.Need-part-settled-start (of-feedback-claims t) (of-feedback-at t) of-feedback.Post
 of-feedback-part-settled-start t c = from-zero _
@@ -403,8 +459,8 @@ of-feedback-part-settled-start t c = from-zero _
 of-feedback-part-settled-end : (t : ℕ) → of-feedback-lts.Need-part-settled-end (of-feedback-claims t) (of-feedback-at t) of-feedback.Post
 of-feedback-part-settled-end t c = feedback-fits (c .before .before .before .before .before .before .before .before .before .before .before .before .before .before .pre .1 .0 .1) (c .before .before .before .before .before .before .before .before .before .before .before .before .before .before .pre .1 .1) (c .before .before .before .before .before .before .before .before .before .before .word .ensures .0) refl refl (c .before .before .before .before .before .before .before .before .room .ensures)
 
-of-feedback-settle-requires : (t : ℕ) → of-feedback-lts.Need-settle-requires (of-feedback-claims t) (of-feedback-at t) of-feedback.Post
-of-feedback-settle-requires t c κs = let h = (part-higher (c .before .before .before .before .before .before .before .before .before .before .before .before .before .before .before .before .pre .1 .0 .1 .at-hand) feedback (c .before .before .before .before .before .before .before .before .before .before .before .before .before .before .before .before .pre .1 .1) 3 refl (unfold askOfKind in refl) (c .before .before .before .before .before .before .before .before .before .before .before .before .word .ensures .0)) in let z = few-undefined (c .before .before .before .before .before .before .before .before .before .before .before .before .before .before .before .before .pre .1 .0 .1) (c .before .before .before .before .before .before .before .before .before .before .before .before .before .before .before .before .pre .1 .1) (c .before .before .before .before .before .before .before .before .before .before .before .before .word .ensures .0) refl refl (c .before .before .before .before .before .before .before .before .before .before .room .ensures) (c .before .before .before .before .before .before .enter-value .ensures) in (omega (arith, c .before .before .before .before .before .before .before .before .before .before .before .before .before .before .before .before .pre .0, h .0, h .1), (_, _, feedback-settling (c .before .before .before .before .before .before .before .before .before .before .before .before .before .before .before .before .pre .1 .0 .1) (c .before .before .before .before .before .before .before .before .before .before .before .before .before .before .before .before .pre .1 .1) (c .before .before .before .before .before .before .before .before .before .before .before .before .word .ensures .0) refl refl (c .before .before .before .before .before .before .before .before .before .before .room .ensures) (c .before .before .before .before .before .before .enter-value .ensures)))
+of-feedback-hold-settled-requires : (t : ℕ) → of-feedback-lts.Need-hold-settled-requires (of-feedback-claims t) (of-feedback-at t) of-feedback.Post
+of-feedback-hold-settled-requires t c κs = let h = (part-higher (c .before .before .before .before .before .before .before .before .before .before .before .before .before .before .before .before .pre .1 .0 .1 .at-hand) feedback (c .before .before .before .before .before .before .before .before .before .before .before .before .before .before .before .before .pre .1 .1) 3 refl (unfold askOfKind in refl) (c .before .before .before .before .before .before .before .before .before .before .before .before .word .ensures .0)) in let z = few-undefined (c .before .before .before .before .before .before .before .before .before .before .before .before .before .before .before .before .pre .1 .0 .1) (c .before .before .before .before .before .before .before .before .before .before .before .before .before .before .before .before .pre .1 .1) (c .before .before .before .before .before .before .before .before .before .before .before .before .word .ensures .0) refl refl (c .before .before .before .before .before .before .before .before .before .before .room .ensures) (c .before .before .before .before .before .before .enter-value .ensures) in (omega (arith, c .before .before .before .before .before .before .before .before .before .before .before .before .before .before .before .before .pre .0, h .0, h .1), (_, _, feedback-settling (c .before .before .before .before .before .before .before .before .before .before .before .before .before .before .before .before .pre .1 .0 .1) (c .before .before .before .before .before .before .before .before .before .before .before .before .before .before .before .before .pre .1 .1) (c .before .before .before .before .before .before .before .before .before .before .before .before .word .ensures .0) refl refl (c .before .before .before .before .before .before .before .before .before .before .room .ensures) (c .before .before .before .before .before .before .enter-value .ensures)))
 
 of-feedback-word-requires-2 : (t : ℕ) → of-feedback-lts.Need-word-requires-2 (of-feedback-claims t) (of-feedback-at t) of-feedback.Post
 of-feedback-word-requires-2 t c κs = ready-word (c .before .before .before .before .before .before .before .before .before .before .before .before .before .before .before .before .before .before .before .before .pre .1 .0 .1 .at-hand) (omega arith)
@@ -413,7 +469,7 @@ of-feedback-add-eval-part : (t : ℕ) → of-feedback-lts.Need-add-eval-part (of
 of-feedback-add-eval-part t c = let f = ready-few (c .before .before .before .before .before .before .before .before .before .before .before .before .before .before .before .before .before .before .before .before .before .before .pre .1 .0 .1 .at-hand) in omega arith
 
 of-feedback-eval-part-requires : (t : ℕ) → of-feedback-lts.Need-eval-part-requires (of-feedback-claims t) (of-feedback-at t) of-feedback.Post
-of-feedback-eval-part-requires t c κs = let h = (part-higher (c .before .before .before .before .before .before .before .before .before .before .before .before .before .before .before .before .before .before .before .before .before .before .before .before .before .pre .1 .0 .1 .at-hand) feedback (c .before .before .before .before .before .before .before .before .before .before .before .before .before .before .before .before .before .before .before .before .before .before .before .before .before .pre .1 .1) 4 refl (unfold askOfKind in refl) (c .before .before .before .before .word2 .ensures .0)) in (omega (arith, c .before .before .before .before .before .before .before .before .before .before .before .before .before .before .before .before .before .before .before .before .before .before .before .before .before .pre .0, h .0, h .1), (_, feedback-body-ready (c .before .before .before .before .before .before .before .before .before .before .before .before .before .before .before .before .before .before .before .before .before .before .before .before .before .pre .1 .0 .1) (c .before .before .before .before .before .before .before .before .before .before .before .before .before .before .before .before .before .before .before .before .before .before .before .before .before .pre .1 .1) (c .before .before .before .before .before .before .before .before .before .before .before .before .before .before .before .before .before .before .before .before .before .word .ensures .0) (c .before .before .before .before .word2 .ensures .0) refl (c .before .before .before .before .before .before .before .before .before .before .before .before .before .before .before .before .before .before .before .room .ensures) (c .before .before .before .before .before .before .before .before .before .before .before .before .before .before .before .enter-value .ensures) (c .before .before .before .before .before .before .before .before .settle .ensures)))
+of-feedback-eval-part-requires t c κs = let h = (part-higher (c .before .before .before .before .before .before .before .before .before .before .before .before .before .before .before .before .before .before .before .before .before .before .before .before .before .pre .1 .0 .1 .at-hand) feedback (c .before .before .before .before .before .before .before .before .before .before .before .before .before .before .before .before .before .before .before .before .before .before .before .before .before .pre .1 .1) 4 refl (unfold askOfKind in refl) (c .before .before .before .before .word2 .ensures .0)) in (omega (arith, c .before .before .before .before .before .before .before .before .before .before .before .before .before .before .before .before .before .before .before .before .before .before .before .before .before .pre .0, h .0, h .1), (_, feedback-body-ready (c .before .before .before .before .before .before .before .before .before .before .before .before .before .before .before .before .before .before .before .before .before .before .before .before .before .pre .1 .0 .1) (c .before .before .before .before .before .before .before .before .before .before .before .before .before .before .before .before .before .before .before .before .before .before .before .before .before .pre .1 .1) (c .before .before .before .before .before .before .before .before .before .before .before .before .before .before .before .before .before .before .before .before .before .word .ensures .0) (c .before .before .before .before .word2 .ensures .0) refl (c .before .before .before .before .before .before .before .before .before .before .before .before .before .before .before .before .before .before .before .room .ensures) (c .before .before .before .before .before .before .before .before .before .before .before .before .before .before .before .enter-value .ensures) (c .before .before .before .before .before .before .before .before .hold-settled .ensures)))
 
 of-feedback-same-length : (t : ℕ) → of-feedback-lts.Need-same-length (of-feedback-claims t) (of-feedback-at t) of-feedback.Post
 of-feedback-same-length t c = search needs
@@ -422,7 +478,7 @@ of-feedback-same-length-2 : (t : ℕ) → of-feedback-lts.Need-same-length-2 (of
 of-feedback-same-length-2 t c = search needs
 
 of-feedback-returns : (t : ℕ) → of-feedback-lts.Need-returns (of-feedback-claims t) (of-feedback-at t) of-feedback.Post
-of-feedback-returns t c = record { done = λ Γ r. feedback-done r (c .before .before .before .before .before .before .before .before .before .before .before .before .before .before .before .before .before .before .before .before .before .before .before .before .before .before .before .before .before .before .pre .1 .1) (c .before .before .before .before .before .before .before .before .before .before .before .before .before .before .before .before .before .before .before .before .before .before .before .before .before .before .word .ensures .0) (c .before .before .before .before .before .before .before .before .before .word2 .ensures .0) refl (c .before .before .before .before .before .before .before .before .before .before .before .before .before .before .before .before .before .before .before .before .before .before .before .before .room .ensures) (c .before .before .before .before .before .before .before .before .before .before .before .before .before .before .before .before .before .before .before .before .enter-value .ensures) (c .before .before .before .before .before .before .before .before .before .before .before .before .before .settle .ensures) (c .before .before .before .before .eval-part .ensures) }
+of-feedback-returns t c = record { done = λ Γ r. feedback-done r (c .before .before .before .before .before .before .before .before .before .before .before .before .before .before .before .before .before .before .before .before .before .before .before .before .before .before .before .before .before .before .pre .1 .1) (c .before .before .before .before .before .before .before .before .before .before .before .before .before .before .before .before .before .before .before .before .before .before .before .before .before .before .word .ensures .0) (c .before .before .before .before .before .before .before .before .before .word2 .ensures .0) refl (c .before .before .before .before .before .before .before .before .before .before .before .before .before .before .before .before .before .before .before .before .before .before .before .before .room .ensures) (c .before .before .before .before .before .before .before .before .before .before .before .before .before .before .before .before .before .before .before .before .enter-value .ensures) (c .before .before .before .before .before .before .before .before .before .before .before .before .before .hold-settled .ensures) (c .before .before .before .before .eval-part .ensures) }
 
 of-first-word-requires : (t : ℕ) → of-first-lts.Need-word-requires (of-first-claims t) (of-first-at t) of-first.Post
 of-first-word-requires t c κs = ready-word (c .before .before .before .pre .1 .0 .1 .at-hand) (omega arith)
@@ -439,11 +495,11 @@ of-first-room-requires t c κs = tt
 of-first-sub-eval-part : (t : ℕ) → of-first-lts.Need-sub-eval-part (of-first-claims t) (of-first-at t) of-first.Post
 of-first-sub-eval-part t c = from-zero _
 
-of-first-part-whole-start : (t : ℕ) → of-first-lts.Need-part-whole-start (of-first-claims t) (of-first-at t) of-first.Post
-of-first-part-whole-start t c = from-zero _
+of-first-part-pair-start : (t : ℕ) → of-first-lts.Need-part-pair-start (of-first-claims t) (of-first-at t) of-first.Post
+of-first-part-pair-start t c = from-zero _
 
-of-first-part-whole-end : (t : ℕ) → of-first-lts.Need-part-whole-end (of-first-claims t) (of-first-at t) of-first.Post
-of-first-part-whole-end t c = fits-room (c .before .before .before .before .before .before .before .before .pre .1 .0 .1 .at-hand) (first-scope (c .before .before .before .before .before .before .before .before .pre .1 .0 .1 .at-hand) (c .before .before .before .before .before .before .before .before .pre .1 .1) (c .before .before .before .before .word .ensures .0)) refl (c .before .before .room .ensures)
+of-first-part-pair-end : (t : ℕ) → of-first-lts.Need-part-pair-end (of-first-claims t) (of-first-at t) of-first.Post
+of-first-part-pair-end t c = fits-room (c .before .before .before .before .before .before .before .before .pre .1 .0 .1 .at-hand) (first-scope (c .before .before .before .before .before .before .before .before .pre .1 .0 .1 .at-hand) (c .before .before .before .before .before .before .before .before .pre .1 .1) (c .before .before .before .before .word .ensures .0)) refl (c .before .before .room .ensures)
 
 of-first-eval-part-requires : (t : ℕ) → of-first-lts.Need-eval-part-requires (of-first-claims t) (of-first-at t) of-first.Post
 of-first-eval-part-requires t c κs = let h = (part-higher (c .before .before .before .before .before .before .before .before .before .before .pre .1 .0 .1 .at-hand) first (c .before .before .before .before .before .before .before .before .before .before .pre .1 .1) 2 refl (unfold askOfKind in refl) (c .before .before .before .before .before .before .word .ensures .0)) in (omega (arith, c .before .before .before .before .before .before .before .before .before .before .pre .0, h .0, h .1), (c .before .before .before .before .before .before .before .before .before .before .pre .1 .0 .0, room-ready (c .before .before .before .before .before .before .before .before .before .before .pre .1 .0 .1) (first-scope (c .before .before .before .before .before .before .before .before .before .before .pre .1 .0 .1 .at-hand) (c .before .before .before .before .before .before .before .before .before .before .pre .1 .1) (c .before .before .before .before .before .before .word .ensures .0)) refl (c .before .before .before .before .room .ensures)))
@@ -545,19 +601,28 @@ of-if-cast-fired : (t : ℕ) → of-if-lts.Need-cast-fired (of-if-claims t) (of-
 of-if-cast-fired t c = search needs
 
 of-if-mul-fired : (t : ℕ) → of-if-lts.Need-mul-fired (of-if-claims t) (of-if-at t) of-if.Post
-of-if-mul-fired t c = let h = ready-low (c .before .before .before .before .before .before .before .before .before .before .before .before .before .before .before .before .before .before .before .before .before .before .before .before .before .before .before .before .before .before .before .before .before .before .before .before .before .before .before .before .before .before .before .pre .1 .0 .1 .at-hand) in omega arith
+of-if-mul-fired t c = let h = ready-low (c .before .before .before .before .before .before .before .before .before .before .before .before .before .before .before .before .before .before .before .before .before .before .before .before .before .before .before .before .before .before .before .before .before .before .before .before .before .before .before .before .before .before .before .before .pre .1 .0 .1 .at-hand) in omega arith
 
 of-if-element-write-fired : (t : ℕ) → of-if-lts.Need-element-write-fired (of-if-claims t) (of-if-at t) of-if.Post
-of-if-element-write-fired t c = ready-low (c .before .before .before .before .before .before .before .before .before .before .before .before .before .before .before .before .before .before .before .before .before .before .before .before .before .before .before .before .before .before .before .before .before .before .before .before .before .before .before .before .before .before .before .pre .1 .0 .1 .at-hand)
+of-if-element-write-fired t c = ready-low (c .before .before .before .before .before .before .before .before .before .before .before .before .before .before .before .before .before .before .before .before .before .before .before .before .before .before .before .before .before .before .before .before .before .before .before .before .before .before .before .before .before .before .before .before .pre .1 .0 .1 .at-hand)
 
 of-if-same-length : (t : ℕ) → of-if-lts.Need-same-length (of-if-claims t) (of-if-at t) of-if.Post
-of-if-same-length t c = if-wide (c .before .before .before .before .before .before .before .before .before .before .before .before .before .before .before .before .before .before .before .before .before .before .before .before .before .before .before .before .before .before .before .before .before .before .before .before .before .before .before .before .before .before .before .pre .1 .0 .1) (c .before .before .before .before .before .before .before .before .before .before .before .before .before .before .before .before .before .before .before .before .before .before .before .before .before .before .before .before .before .before .before .before .before .before .before .before .before .before .before .before .before .before .before .pre .1 .1) (c .before .before .before .before .before .before .before .before .before .before .before .before .before .before .before .before .before .before .before .before .before .before .before .before .before .before .before .before .before .before .before .before .before .before .before .before .before .before .before .word .ensures .0) (c .before .before .before .before .before .before .before .before .before .before .before .before .before .before .before .before .before .before .before .before .before .before .before .before .before .before .before .before .word2 .ensures .0) (c .before .before .before .before .before .before .before .before .before .before .before .before .before .before .before .before .before .before .word3 .ensures .0) (c .before .before .before .before .before .before .before .before .word4 .ensures .0) refl (c .before .before .before .before .before .before .before .before .before .before .before .before .before .before .before .before .before .before .before .before .before .before .before .before .before .before .before .before .before .before .before .before .before .before .before .before .before .room .ensures) (c .before .before .before .before .before .before .before .before .before .before .before .before .before .before .before .before .before .before .before .before .before .before .before .before .before .before .before .before .before .before .before .before .eval-part .ensures) (c .before .before .before .before .before .before .before .before .before .before .before .before .before .before .before .before .before .before .before .before .before .before .before .eval-part2 .ensures) (c .before .before .before .before .before .before .before .before .before .before .before .before .before .before .before .before .before .room2 .ensures) (c .before .before .before .before .before .before .before .before .before .before .before .before .eval-part3 .ensures)
+of-if-same-length t c = if-wide (c .before .before .before .before .before .before .before .before .before .before .before .before .before .before .before .before .before .before .before .before .before .before .before .before .before .before .before .before .before .before .before .before .before .before .before .before .before .before .before .before .before .before .before .before .pre .1 .0 .1) (c .before .before .before .before .before .before .before .before .before .before .before .before .before .before .before .before .before .before .before .before .before .before .before .before .before .before .before .before .before .before .before .before .before .before .before .before .before .before .before .before .before .before .before .before .pre .1 .1) (c .before .before .before .before .before .before .before .before .before .before .before .before .before .before .before .before .before .before .before .before .before .before .before .before .before .before .before .before .before .before .before .before .before .before .before .before .before .before .before .before .word .ensures .0) (c .before .before .before .before .before .before .before .before .before .before .before .before .before .before .before .before .before .before .before .before .before .before .before .before .before .before .before .before .before .word2 .ensures .0) (c .before .before .before .before .before .before .before .before .before .before .before .before .before .before .before .before .before .before .before .word3 .ensures .0) (c .before .before .before .before .before .before .before .before .before .word4 .ensures .0) refl (c .before .before .before .before .before .before .before .before .before .before .before .before .before .before .before .before .before .before .before .before .before .before .before .before .before .before .before .before .before .before .before .before .before .before .before .before .before .before .room .ensures) (c .before .before .before .before .before .before .before .before .before .before .before .before .before .before .before .before .before .before .before .before .before .before .before .before .before .before .before .before .before .before .before .before .before .eval-part .ensures) (c .before .before .before .before .before .before .before .before .before .before .before .before .before .before .before .before .before .before .before .before .before .before .before .before .eval-part2 .ensures) (c .before .before .before .before .before .before .before .before .before .before .before .before .before .before .before .before .before .before .room2 .ensures) (c .before .before .before .before .before .before .before .before .before .before .before .before .before .eval-part3 .ensures)
 
 of-if-same-length-2 : (t : ℕ) → of-if-lts.Need-same-length-2 (of-if-claims t) (of-if-at t) of-if.Post
 of-if-same-length-2 t c = search needs
 
 of-if-returns : (t : ℕ) → of-if-lts.Need-returns (of-if-claims t) (of-if-at t) of-if.Post
-of-if-returns t c = record { done = λ Γ r. if-done r (c .before .before .before .before .before .before .before .before .before .before .before .before .before .before .before .before .before .before .before .before .before .before .before .before .before .before .before .before .before .before .before .before .before .before .before .before .before .before .before .before .before .before .before .pre .1 .1) (c .before .before .before .before .before .before .before .before .before .before .before .before .before .before .before .before .before .before .before .before .before .before .before .before .before .before .before .before .before .before .before .before .before .before .before .before .before .before .before .word .ensures .0) (c .before .before .before .before .before .before .before .before .before .before .before .before .before .before .before .before .before .before .before .before .before .before .before .before .before .before .before .before .word2 .ensures .0) (c .before .before .before .before .before .before .before .before .before .before .before .before .before .before .before .before .before .before .word3 .ensures .0) (c .before .before .before .before .before .before .before .before .word4 .ensures .0) refl (c .before .before .before .before .before .before .before .before .before .before .before .before .before .before .before .before .before .before .before .before .before .before .before .before .before .before .before .before .before .before .before .before .before .before .before .before .before .room .ensures) (c .before .before .before .before .before .before .before .before .before .before .before .before .before .before .before .before .before .before .before .before .before .before .before .before .before .before .before .before .before .before .before .before .eval-part .ensures) (c .before .before .before .before .before .before .before .before .before .before .before .before .before .before .before .before .before .before .before .before .before .before .before .eval-part2 .ensures) (c .before .before .before .before .before .before .before .before .before .before .before .before .before .before .before .before .before .room2 .ensures) (c .before .before .before .before .before .before .before .before .before .before .before .before .eval-part3 .ensures) (c .before .before .choose-value .ensures) }
+of-if-returns t c = record { done = λ Γ r. if-done r (c .before .before .before .before .before .before .before .before .before .before .before .before .before .before .before .before .before .before .before .before .before .before .before .before .before .before .before .before .before .before .before .before .before .before .before .before .before .before .before .before .before .before .before .before .pre .1 .1) (c .before .before .before .before .before .before .before .before .before .before .before .before .before .before .before .before .before .before .before .before .before .before .before .before .before .before .before .before .before .before .before .before .before .before .before .before .before .before .before .before .word .ensures .0) (c .before .before .before .before .before .before .before .before .before .before .before .before .before .before .before .before .before .before .before .before .before .before .before .before .before .before .before .before .before .word2 .ensures .0) (c .before .before .before .before .before .before .before .before .before .before .before .before .before .before .before .before .before .before .before .word3 .ensures .0) (c .before .before .before .before .before .before .before .before .before .word4 .ensures .0) refl (c .before .before .before .before .before .before .before .before .before .before .before .before .before .before .before .before .before .before .before .before .before .before .before .before .before .before .before .before .before .before .before .before .before .before .before .before .before .before .room .ensures) (c .before .before .before .before .before .before .before .before .before .before .before .before .before .before .before .before .before .before .before .before .before .before .before .before .before .before .before .before .before .before .before .before .before .eval-part .ensures) (c .before .before .before .before .before .before .before .before .before .before .before .before .before .before .before .before .before .before .before .before .before .before .before .before .eval-part2 .ensures) (c .before .before .before .before .before .before .before .before .before .before .before .before .before .before .before .before .before .before .room2 .ensures) (c .before .before .before .before .before .before .before .before .before .before .before .before .before .eval-part3 .ensures) (c .before .before .before .choose-value .ensures) (wanted-whole (c .if1 .taken) refl) }
+
+of-if-same-length-3 : (t : ℕ) → of-if-lts.Need-same-length-3 (of-if-claims t) (of-if-at t) of-if.Post
+of-if-same-length-3 t c = if-wide (c .before .before .before .before .before .before .before .before .before .before .before .before .before .before .before .before .before .before .before .before .before .before .before .before .before .before .before .before .before .before .before .before .before .before .before .before .before .before .before .before .before .before .before .before .pre .1 .0 .1) (c .before .before .before .before .before .before .before .before .before .before .before .before .before .before .before .before .before .before .before .before .before .before .before .before .before .before .before .before .before .before .before .before .before .before .before .before .before .before .before .before .before .before .before .before .pre .1 .1) (c .before .before .before .before .before .before .before .before .before .before .before .before .before .before .before .before .before .before .before .before .before .before .before .before .before .before .before .before .before .before .before .before .before .before .before .before .before .before .before .before .word .ensures .0) (c .before .before .before .before .before .before .before .before .before .before .before .before .before .before .before .before .before .before .before .before .before .before .before .before .before .before .before .before .before .word2 .ensures .0) (c .before .before .before .before .before .before .before .before .before .before .before .before .before .before .before .before .before .before .before .word3 .ensures .0) (c .before .before .before .before .before .before .before .before .before .word4 .ensures .0) refl (c .before .before .before .before .before .before .before .before .before .before .before .before .before .before .before .before .before .before .before .before .before .before .before .before .before .before .before .before .before .before .before .before .before .before .before .before .before .before .room .ensures) (c .before .before .before .before .before .before .before .before .before .before .before .before .before .before .before .before .before .before .before .before .before .before .before .before .before .before .before .before .before .before .before .before .before .eval-part .ensures) (c .before .before .before .before .before .before .before .before .before .before .before .before .before .before .before .before .before .before .before .before .before .before .before .before .eval-part2 .ensures) (c .before .before .before .before .before .before .before .before .before .before .before .before .before .before .before .before .before .before .room2 .ensures) (c .before .before .before .before .before .before .before .before .before .before .before .before .before .eval-part3 .ensures)
+
+of-if-same-length-4 : (t : ℕ) → of-if-lts.Need-same-length-4 (of-if-claims t) (of-if-at t) of-if.Post
+of-if-same-length-4 t c = search needs
+
+of-if-returns-2 : (t : ℕ) → of-if-lts.Need-returns-2 (of-if-claims t) (of-if-at t) of-if.Post
+of-if-returns-2 t c = record { done = λ Γ r. if-done r (c .before .before .before .before .before .before .before .before .before .before .before .before .before .before .before .before .before .before .before .before .before .before .before .before .before .before .before .before .before .before .before .before .before .before .before .before .before .before .before .before .before .before .before .before .pre .1 .1) (c .before .before .before .before .before .before .before .before .before .before .before .before .before .before .before .before .before .before .before .before .before .before .before .before .before .before .before .before .before .before .before .before .before .before .before .before .before .before .before .before .word .ensures .0) (c .before .before .before .before .before .before .before .before .before .before .before .before .before .before .before .before .before .before .before .before .before .before .before .before .before .before .before .before .before .word2 .ensures .0) (c .before .before .before .before .before .before .before .before .before .before .before .before .before .before .before .before .before .before .before .word3 .ensures .0) (c .before .before .before .before .before .before .before .before .before .word4 .ensures .0) refl (c .before .before .before .before .before .before .before .before .before .before .before .before .before .before .before .before .before .before .before .before .before .before .before .before .before .before .before .before .before .before .before .before .before .before .before .before .before .before .room .ensures) (c .before .before .before .before .before .before .before .before .before .before .before .before .before .before .before .before .before .before .before .before .before .before .before .before .before .before .before .before .before .before .before .before .before .eval-part .ensures) (c .before .before .before .before .before .before .before .before .before .before .before .before .before .before .before .before .before .before .before .before .before .before .before .before .eval-part2 .ensures) (c .before .before .before .before .before .before .before .before .before .before .before .before .before .before .before .before .before .before .room2 .ensures) (c .before .before .before .before .before .before .before .before .before .before .before .before .before .eval-part3 .ensures) (c .before .before .before .choose-value .ensures) (wanted-value (c .if1 .left)) }
 
 of-let-word-requires : (t : ℕ) → of-let-lts.Need-word-requires (of-let-claims t) (of-let-at t) of-let.Post
 of-let-word-requires t c κs = ready-word (c .before .before .before .pre .1 .0 .1 .at-hand) (omega arith)
@@ -673,11 +738,11 @@ of-second-room-requires t c κs = tt
 of-second-sub-eval-part : (t : ℕ) → of-second-lts.Need-sub-eval-part (of-second-claims t) (of-second-at t) of-second.Post
 of-second-sub-eval-part t c = from-zero _
 
-of-second-part-whole-start : (t : ℕ) → of-second-lts.Need-part-whole-start (of-second-claims t) (of-second-at t) of-second.Post
-of-second-part-whole-start t c = from-zero _
+of-second-part-pair-start : (t : ℕ) → of-second-lts.Need-part-pair-start (of-second-claims t) (of-second-at t) of-second.Post
+of-second-part-pair-start t c = from-zero _
 
-of-second-part-whole-end : (t : ℕ) → of-second-lts.Need-part-whole-end (of-second-claims t) (of-second-at t) of-second.Post
-of-second-part-whole-end t c = fits-room (c .before .before .before .before .before .before .before .before .pre .1 .0 .1 .at-hand) (second-scope (c .before .before .before .before .before .before .before .before .pre .1 .0 .1 .at-hand) (c .before .before .before .before .before .before .before .before .pre .1 .1) (c .before .before .before .before .word .ensures .0)) refl (c .before .before .room .ensures)
+of-second-part-pair-end : (t : ℕ) → of-second-lts.Need-part-pair-end (of-second-claims t) (of-second-at t) of-second.Post
+of-second-part-pair-end t c = fits-room (c .before .before .before .before .before .before .before .before .pre .1 .0 .1 .at-hand) (second-scope (c .before .before .before .before .before .before .before .before .pre .1 .0 .1 .at-hand) (c .before .before .before .before .before .before .before .before .pre .1 .1) (c .before .before .before .before .word .ensures .0)) refl (c .before .before .room .ensures)
 
 of-second-eval-part-requires : (t : ℕ) → of-second-lts.Need-eval-part-requires (of-second-claims t) (of-second-at t) of-second.Post
 of-second-eval-part-requires t c κs = let h = (part-higher (c .before .before .before .before .before .before .before .before .before .before .pre .1 .0 .1 .at-hand) second (c .before .before .before .before .before .before .before .before .before .before .pre .1 .1) 2 refl (unfold askOfKind in refl) (c .before .before .before .before .before .before .word .ensures .0)) in (omega (arith, c .before .before .before .before .before .before .before .before .before .before .pre .0, h .0, h .1), (c .before .before .before .before .before .before .before .before .before .before .pre .1 .0 .0, room-ready (c .before .before .before .before .before .before .before .before .before .before .pre .1 .0 .1) (second-scope (c .before .before .before .before .before .before .before .before .before .before .pre .1 .0 .1 .at-hand) (c .before .before .before .before .before .before .before .before .before .before .pre .1 .1) (c .before .before .before .before .before .before .word .ensures .0)) refl (c .before .before .before .before .room .ensures)))
@@ -727,8 +792,8 @@ settle-returns t c = record { settled = λ t Γ g. unchanged-settled g (c .befor
 settle-enter-value-requires : (t : ℕ) → settle-lts.Need-enter-value-requires (settle-claims t) (settle-at t) settle.Post
 settle-enter-value-requires t c κs = settle-room (c .before .before .before .before .before .before .before .before .before .before .before .before .before .before .before .before .before .before .pre .1 .2) (c .before .before .before .before .before .before .before .before .before .before .eval-part .ensures)
 
-settle-settle-requires : (t : ℕ) → settle-lts.Need-settle-requires (settle-claims t) (settle-at t) settle.Post
-settle-settle-requires t c κs = let h = fewer-undefined (c .before .before .before .before .before .before .before .before .before .before .before .before .before .before .before .before .before .before .before .before .before .before .before .before .before .pre .1 .2) (c .before .before .before .before .before .before .before .before .before .before .before .before .before .before .before .before .before .eval-part .ensures) (c .before .before .before .before .before .before .before .before .before .before .stands-at .ensures) (c .before .before .before .before .before .before .before .before .before .if1 .left) (c .before .before .before .before .before .before .enter-value .ensures) in (omega (arith, c .before .before .before .before .before .before .before .before .before .before .before .before .before .before .before .before .before .before .before .before .before .before .before .before .before .pre .0, h), (_, _, settling-again (c .before .before .before .before .before .before .before .before .before .before .before .before .before .before .before .before .before .before .before .before .before .before .before .before .before .pre .1 .2) (c .before .before .before .before .before .before .before .before .before .before .before .before .before .before .before .before .before .eval-part .ensures) (c .before .before .before .before .before .before .before .before .before .before .stands-at .ensures) (c .before .before .before .before .before .before .before .before .before .if1 .left) (c .before .before .before .before .before .before .enter-value .ensures)))
+settle-all-defined-requires : (t : ℕ) → settle-lts.Need-all-defined-requires (settle-claims t) (settle-at t) settle.Post
+settle-all-defined-requires t c κs = tt
 
 settle-same-length-3 : (t : ℕ) → settle-lts.Need-same-length-3 (settle-claims t) (settle-at t) settle.Post
 settle-same-length-3 t c = search needs
@@ -737,14 +802,27 @@ settle-same-length-4 : (t : ℕ) → settle-lts.Need-same-length-4 (settle-claim
 settle-same-length-4 t c = search needs
 
 settle-returns-2 : (t : ℕ) → settle-lts.Need-returns-2 (settle-claims t) (settle-at t) settle.Post
-settle-returns-2 t c = record { settled = λ t Γ g. changed-settled g (c .before .before .before .before .before .before .before .before .before .before .before .before .before .before .before .before .before .before .before .before .before .before .eval-part .ensures) (c .before .before .before .before .before .before .before .before .before .before .before .before .before .before .before .stands-at .ensures) (c .before .before .before .before .before .before .before .before .before .before .before .before .before .before .if1 .left) (c .before .before .before .before .before .before .before .before .before .before .before .enter-value .ensures) (c .before .before .before .before .settle .ensures) }
+settle-returns-2 t c = record { settled = λ t Γ g. defined-settled g (c .before .before .before .before .before .before .before .before .before .before .before .before .before .before .before .before .eval-part .ensures) (c .before .before .before .before .before .before .before .before .before .stands-at .ensures) (c .before .before .before .before .before .before .before .before .if1 .left) (c .before .before .before .before .before .enter-value .ensures) (c .before .all-defined .ensures) (c .if2 .taken) }
 
-pub +eval+eval-part+of-delay+of-feedback+of-first+of-if+of-let+of-pair+of-second+settle-spec :
+settle-settle-requires : (t : ℕ) → settle-lts.Need-settle-requires (settle-claims t) (settle-at t) settle.Post
+settle-settle-requires t c κs = let h = fewer-undefined (c .before .before .before .before .before .before .before .before .before .before .before .before .before .before .before .before .before .before .before .before .before .before .before .before .before .before .before .before .pre .1 .2) (c .before .before .before .before .before .before .before .before .before .before .before .before .before .before .before .before .before .before .before .before .eval-part .ensures) (c .before .before .before .before .before .before .before .before .before .before .before .before .before .stands-at .ensures) (c .before .before .before .before .before .before .before .before .before .before .before .before .if1 .left) (c .before .before .before .before .before .before .before .before .before .enter-value .ensures) in (omega (arith, c .before .before .before .before .before .before .before .before .before .before .before .before .before .before .before .before .before .before .before .before .before .before .before .before .before .before .before .before .pre .0, h), (_, _, settling-again (c .before .before .before .before .before .before .before .before .before .before .before .before .before .before .before .before .before .before .before .before .before .before .before .before .before .before .before .before .pre .1 .2) (c .before .before .before .before .before .before .before .before .before .before .before .before .before .before .before .before .before .before .before .before .eval-part .ensures) (c .before .before .before .before .before .before .before .before .before .before .before .before .before .stands-at .ensures) (c .before .before .before .before .before .before .before .before .before .before .before .before .if1 .left) (c .before .before .before .before .before .before .before .before .before .enter-value .ensures)))
+
+settle-same-length-5 : (t : ℕ) → settle-lts.Need-same-length-5 (settle-claims t) (settle-at t) settle.Post
+settle-same-length-5 t c = search needs
+
+settle-same-length-6 : (t : ℕ) → settle-lts.Need-same-length-6 (settle-claims t) (settle-at t) settle.Post
+settle-same-length-6 t c = search needs
+
+settle-returns-3 : (t : ℕ) → settle-lts.Need-returns-3 (settle-claims t) (settle-at t) settle.Post
+settle-returns-3 t c = record { settled = λ t Γ g. changed-settled g (c .before .before .before .before .before .before .before .before .before .before .before .before .before .before .before .before .before .before .before .before .before .before .before .before .before .eval-part .ensures) (c .before .before .before .before .before .before .before .before .before .before .before .before .before .before .before .before .before .before .stands-at .ensures) (c .before .before .before .before .before .before .before .before .before .before .before .before .before .before .before .before .before .if1 .left) (c .before .before .before .before .before .before .before .before .before .before .before .before .before .before .enter-value .ensures) (c .before .before .before .before .settle .ensures) }
+
+pub +eval+eval-part+hold-settled+of-delay+of-feedback+of-first+of-if+of-let+of-pair+of-second+settle-spec :
     {M : Type 1} → statement M
-+eval+eval-part+of-delay+of-feedback+of-first+of-if+of-let+of-pair+of-second+settle-spec =
++eval+eval-part+hold-settled+of-delay+of-feedback+of-first+of-if+of-let+of-pair+of-second+settle-spec =
     close
     μ-eval
     μ-eval-part
+    μ-hold-settled
     μ-of-delay
     μ-of-feedback
     μ-of-first
@@ -809,17 +887,32 @@ pub +eval+eval-part+of-delay+of-feedback+of-first+of-if+of-let+of-pair+of-second
     (eval-part-same-length-4 t)
     (eval-part-same-length-5 t)
     (eval-part-returns-3 t))
+    (λ t. hold-settled-lts.spec (hold-settled-claims t)
+    (hold-settled-at t)
+    hold-settled.Post
+    (hold-settled-settle-requires t)
+    (hold-settled-add-eval-part t)
+    (hold-settled-eval-part-requires t)
+    (hold-settled-same-length t)
+    (hold-settled-same-length-2 t)
+    (hold-settled-returns t)
+    (hold-settled-same-length-3 t)
+    (hold-settled-same-length-4 t)
+    (hold-settled-returns-2 t))
     (λ t. of-delay-lts.spec (of-delay-claims t)
     (of-delay-at t)
     of-delay.Post
     (of-delay-word-requires t)
-    (of-delay-eval-part-requires t)
-    (of-delay-word-requires-2 t)
-    (of-delay-hold-leaves-requires t)
     (of-delay-read-leaves-requires t)
     (of-delay-same-length t)
+    (of-delay-returns t)
+    (of-delay-word-requires-2 t)
+    (of-delay-eval-part-requires t)
+    (of-delay-hold-leaves-requires t)
+    (of-delay-read-leaves-requires-2 t)
     (of-delay-same-length-2 t)
-    (of-delay-returns t))
+    (of-delay-same-length-3 t)
+    (of-delay-returns-2 t))
     (λ t. of-feedback-lts.spec (of-feedback-claims t)
     (of-feedback-at t)
     of-feedback.Post
@@ -831,10 +924,10 @@ pub +eval+eval-part+of-delay+of-feedback+of-first+of-if+of-let+of-pair+of-second
     (of-feedback-part-enter-value-start t)
     (of-feedback-part-enter-value-end t)
     (of-feedback-enter-value-requires t)
-    (of-feedback-sub-settle t)
+    (of-feedback-sub-hold-settled t)
     (of-feedback-part-settled-start t)
     (of-feedback-part-settled-end t)
-    (of-feedback-settle-requires t)
+    (of-feedback-hold-settled-requires t)
     (of-feedback-word-requires-2 t)
     (of-feedback-add-eval-part t)
     (of-feedback-eval-part-requires t)
@@ -849,8 +942,8 @@ pub +eval+eval-part+of-delay+of-feedback+of-first+of-if+of-let+of-pair+of-second
     (of-first-cast-w t)
     (of-first-room-requires t)
     (of-first-sub-eval-part t)
-    (of-first-part-whole-start t)
-    (of-first-part-whole-end t)
+    (of-first-part-pair-start t)
+    (of-first-part-pair-end t)
     (of-first-eval-part-requires t)
     (of-first-sub-put t)
     (of-first-part-put-start t)
@@ -891,7 +984,10 @@ pub +eval+eval-part+of-delay+of-feedback+of-first+of-if+of-let+of-pair+of-second
     (of-if-element-write-fired t)
     (of-if-same-length t)
     (of-if-same-length-2 t)
-    (of-if-returns t))
+    (of-if-returns t)
+    (of-if-same-length-3 t)
+    (of-if-same-length-4 t)
+    (of-if-returns-2 t))
     (λ t. of-let-lts.spec (of-let-claims t)
     (of-let-at t)
     of-let.Post
@@ -913,8 +1009,7 @@ pub +eval+eval-part+of-delay+of-feedback+of-first+of-if+of-let+of-pair+of-second
     (of-let-same-length t)
     (of-let-same-length-2 t)
     (of-let-returns t))
-    (λ t. of-pair-lts.spec
-    (of-pair-claims t)
+    (λ t. of-pair-lts.spec (of-pair-claims t)
     (of-pair-at t)
     of-pair.Post
     (of-pair-word-requires t)
@@ -932,7 +1027,7 @@ pub +eval+eval-part+of-delay+of-feedback+of-first+of-if+of-let+of-pair+of-second
     (of-pair-same-length t)
     (of-pair-same-length-2 t)
     (of-pair-returns t))
-    (λ t. of-second-lts.spec (of-first-claims t)
+    (λ t. of-second-lts.spec (of-second-claims t)
     (of-second-at t)
     of-second.Post
     (of-second-word-requires t)
@@ -940,8 +1035,8 @@ pub +eval+eval-part+of-delay+of-feedback+of-first+of-if+of-let+of-pair+of-second
     (of-second-cast-w t)
     (of-second-room-requires t)
     (of-second-sub-eval-part t)
-    (of-second-part-whole-start t)
-    (of-second-part-whole-end t)
+    (of-second-part-pair-start t)
+    (of-second-part-pair-end t)
     (of-second-eval-part-requires t)
     (of-second-sub-put t)
     (of-second-sub-put-2 t)
@@ -961,7 +1056,11 @@ pub +eval+eval-part+of-delay+of-feedback+of-first+of-if+of-let+of-pair+of-second
     (settle-same-length-2 t)
     (settle-returns t)
     (settle-enter-value-requires t)
-    (settle-settle-requires t)
+    (settle-all-defined-requires t)
     (settle-same-length-3 t)
     (settle-same-length-4 t)
     (settle-returns-2 t)
+    (settle-settle-requires t)
+    (settle-same-length-5 t)
+    (settle-same-length-6 t)
+    (settle-returns-3 t)
