@@ -7,6 +7,7 @@ pub mod LentNames
 pub mod LentBranches
 pub mod Parts
 pub mod Names
+pub mod Chains
 pub mod Settling
 pub mod Feedbacks
 pub mod Branches

@@ -1,4 +1,4 @@
--- Constants, names, pairs and their parts: from what evaluating the parts gives.
+-- Constants and pairs, from what evaluating the parts gives, and a part evaluated into some room.
 -- Assumes nothing.
 use Prim.Native.Nat.{ℕ, _-_, _≤_, _<_}
 use mathlib.Core.Bool.{Bool}
@@ -6,11 +6,10 @@ use mathlib.Core.List.{List, _++_}
 use mathlib.Core.Path.{_≡_, refl, sym, ap, _∙_}
 use native.Mathlib.Omega.{arith}
 use lib.ListN.{length, getD, take, drop, replicate, length-map}
-use Rattle.picoella.specs.Language.{leaves}
 use Rattle.records.specs.Words.{word, wordA, wordB, count}
-use Rattle.records.specs.Kinds.{expression, constant, tuple, first, second, leafs, part}
+use Rattle.records.specs.Kinds.{expression, constant, tuple, leafs, part}
 use Rattle.records.specs.Says.{kindAt}
-use Rattle.records.specs.Trees.{typeAt, treeAt, chain, typeRecordOf}
+use Rattle.records.specs.Trees.{chain}
 use Rattle.records.specs.Decoding.{leafValues}
 use Rattle.records.specs.Written.{Written}
 use Rattle.records.proofs.Table.{askOfKind}
@@ -19,15 +18,15 @@ use Rattle.verdict.specs.Scopes.{Scope}
 use Rattle.meaning.specs.Undecided.{undecidedRule}
 use Rattle.behaviour.specs.Evaluated.{valueAt}
 use Rattle.behaviour.specs.Midway.{storedAt}
-use Rattle.behaviour.proofs.Evaluated.{constant-value, constant-stored, tuple-value, tuple-stored, first-value, first-stored, second-value, second-stored}
+use Rattle.behaviour.proofs.Evaluated.{constant-value, constant-stored, tuple-value, tuple-stored}
 use Rattle.behaviour.specs.Midway.{firedAt}
-use Rattle.behaviour.proofs.Firings.{constant-fired, tuple-fired, first-fired, second-fired}
+use Rattle.behaviour.proofs.Firings.{constant-fired, tuple-fired}
 use Rattle.values.specs.Chained.{Chained}
 use Rattle.values.specs.Slots.{frames}
 use Rattle.evaluator.specs.Evaluating.{Wanted, EvaluatingIn, EvaluatedIn, Evaluated}
 use Rattle.evaluator.proofs.Readiness.{ready-written, ready-there, ready-value, evaluating-at, value-long, same-frames, values-again}
 use Rattle.evaluator.proofs.Wanted.{wanted-none, wanted-one, wanted-both}
-use Rattle.evaluator.proofs.LentParts.{left-scope, right-scope, left-inside, left-lent, right-inside, right-lent, both-stand, first-scope, second-scope, room-lent, stands-wide, whole-inside, front-in-room, front-fits, front-stands, end-narrow, end-fits, end-stands}
+use Rattle.evaluator.proofs.LentParts.{left-scope, right-scope, left-inside, left-lent, right-inside, right-lent, both-stand, room-lent, stands-wide}
 
 module _ {s : List ℕ} {n : ℕ} {W env : List ℕ} {names rec : ℕ} {out Γ : List ℕ} (r : EvaluatingIn s n W env names rec out Γ) where
   abbrev ρ : List (List ℕ)
@@ -138,73 +137,3 @@ module _ {s : List ℕ} {n : ℕ} {W env : List ℕ} {names rec : ℕ} {out Γ :
 
       pub room-wide : length o₁ ≡ w
       room-wide = stands-wide (r .at-hand) val long c ew eR (room-done .value)
-
-  abbrev cut : ℕ
-  cut = leaves (typeAt s (wordA s (typeRecordOf s Γ (treeAt s (wordA s rec)))))
-
-  module _ (e : kindAt s rec ≡ expression first) {x : ℕ} (ex : x ≡ word s rec 2) {w : ℕ} (ew : w ≡ getD W x 0) {R : List ℕ}
-      (eR : R ≡ replicate 64 0) {whole : Bool} {held fired env₁ held₁ fired₁ o₁ : List ℕ}
-      (p₁ : Evaluated whole s n W env names x held fired (take (w - 0) R) env₁ held₁ fired₁ o₁) where
-    scope : Scope s x Γ
-    scope = first-scope (r .at-hand) e ex
-
-    d : EvaluatedIn whole s Γ env names x held fired env₁ held₁ fired₁ o₁
-    d = room-done scope ew eR p₁
-
-    front : val rec ≡ take cut (val x)
-    front = rw ex (first-value sheet-written Γ ρ record-there e)
-
-    pub first-inside : length out ≤ length (o₁ ++ drop (w - 0) R)
-    first-inside = front-in-room (r .at-hand) val long scope ew eR (d .value) cut front
-
-    pub first-fits : length (take (length out - 0) (o₁ ++ drop (w - 0) R)) ≡ length out
-    first-fits = front-fits (r .at-hand) val long scope ew eR (d .value) cut front
-
-    pub first-done : {out′ : List ℕ}
-        → out′ ≡ take (length out - 0) (o₁ ++ drop (w - 0) R) ++ drop (length (take (length out - 0) (o₁ ++ drop (w - 0) R))) out
-        → EvaluatedIn whole s Γ env names rec held fired env₁ held₁ fired₁ out′
-    first-done g =
-        record {
-          value = front-stands (r .at-hand) val long scope ew eR (d .value) cut front g;
-          stored = wanted-one (d .stored) (rw ex (first-stored sheet-written Γ ρ record-there e held));
-          noted = wanted-one (d .noted) (rw ex (first-fired sheet-written Γ ρ record-there e fired));
-          wide = d .wide;
-          kept = d .kept;
-        }
-
-  module _ (e : kindAt s rec ≡ expression second) {x : ℕ} (ex : x ≡ word s rec 2) {w : ℕ} (ew : w ≡ getD W x 0) {R : List ℕ}
-      (eR : R ≡ replicate 64 0) {whole : Bool} {held fired env₁ held₁ fired₁ o₁ : List ℕ}
-      (p₁ : Evaluated whole s n W env names x held fired (take (w - 0) R) env₁ held₁ fired₁ o₁) where
-    scope′ : Scope s x Γ
-    scope′ = second-scope (r .at-hand) e ex
-
-    d′ : EvaluatedIn whole s Γ env names x held fired env₁ held₁ fired₁ o₁
-    d′ = room-done scope′ ew eR p₁
-
-    end : val rec ≡ drop cut (val x)
-    end = rw ex (second-value sheet-written Γ ρ record-there e)
-
-    pub second-few : length out ≤ w
-    second-few = end-narrow (r .at-hand) val long scope′ ew eR (d′ .value) cut end
-
-    pub second-from : w - length out ≤ w
-    second-from = omega arith
-
-    pub second-inside : w ≤ length (o₁ ++ drop (w - 0) R)
-    second-inside = whole-inside (r .at-hand) val long scope′ ew eR (d′ .value)
-
-    abbrev piece : List ℕ
-    piece = take (w - (w - length out)) (drop (w - length out) (o₁ ++ drop (w - 0) R))
-
-    pub second-fits : length piece ≡ length out
-    second-fits = end-fits (r .at-hand) val long scope′ ew eR (d′ .value) cut end
-
-    pub second-done : {out′ : List ℕ} → out′ ≡ piece ++ drop (length piece) out → EvaluatedIn whole s Γ env names rec held fired env₁ held₁ fired₁ out′
-    second-done g =
-        record {
-          value = end-stands (r .at-hand) val long scope′ ew eR (d′ .value) cut end g;
-          stored = wanted-one (d′ .stored) (rw ex (second-stored sheet-written Γ ρ record-there e held));
-          noted = wanted-one (d′ .noted) (rw ex (second-fired sheet-written Γ ρ record-there e fired));
-          wide = d′ .wide;
-          kept = d′ .kept;
-        }

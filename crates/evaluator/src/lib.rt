@@ -3,10 +3,12 @@
 ghost use mathlib.Core.Path.{_≡_};
 ghost use mathlib.Core.Bool.{Bool, false};
 ghost use mathlib.Core.List.{List};
-ghost use Prim.Native.Nat.{ℕ};
+ghost use Prim.Native.Nat.{ℕ, _≤_};
+ghost use lib.ListN.{getD};
 ghost use Rattle.records.specs.Kinds.{expression, name, tuple, first, second, letIn, feedback, ifMatches, delay};
 ghost use Rattle.records.specs.Says.{kindAt};
 ghost use Rattle.evaluator.specs.Evaluating.{EvaluatingIn, Evaluated, SettlingIn, Settled};
+ghost use Rattle.evaluator.specs.Chains.{PartEvaluatingIn, PartEvaluated, ChainEnded};
 use records::KIND_CONSTANT;
 use records::KIND_FEEDBACK;
 use records::KIND_FIRST;
@@ -26,6 +28,7 @@ use values::Fired;
 use values::NextValues;
 use values::all_defined;
 use values::choose_value;
+use values::copy_part;
 use values::copy_value;
 use values::enter_value;
 use values::hold_leaves;
@@ -49,6 +52,48 @@ fn copy_name(
 {
     let k = word(sheet, n, rec, WORD_A);
     copy_value(env, names - 1 - k, out);
+}
+
+// Copies a part of the value of a name, from the leaf `from` on, and nothing else changes.
+fn copy_name_part(
+    sheet: &[u8],
+    n: usize,
+    widths: &WidthTable,
+    env: &[u8],
+    names: usize,
+    rec: usize,
+    from: usize,
+    out: &mut [u8],
+)
+    requires { ⌜ ((Γ : List ℕ) × PartEvaluatingIn (now sheet) n (now widths) (now env) names rec from (now out) Γ) × (kindAt (now sheet) rec ≡ expression name) ⌝ }
+    ensures { λ _. ⌜ ((whole : Bool) (held fired : List ℕ) → PartEvaluated whole (now (sheet .entry)) n (now (widths .entry)) (now (env .entry)) names rec from held fired (now (out .entry)) (now (env .entry)) held fired (now (out .exit))) ⌝ }
+{
+    let k = word(sheet, n, rec, WORD_A);
+    copy_part(env, names - 1 - k, from, out);
+}
+
+// Where a chain of first and second parts ends, and from which leaf on the value there has what is asked for.
+struct ChainEnd {
+    rec: usize,
+    from: usize,
+}
+
+// The end of the chain of first and second parts at a record, of whose value the leaves from `from` on are asked for. What is no
+// first or second part is the end of its own.
+fn chain_end(sheet: &[u8], n: usize, widths: &WidthTable, rec: usize, from: usize) -> ChainEnd
+    requires { ⌜ ((env : List ℕ) × (names : ℕ) × (out : List ℕ) × (Γ : List ℕ) × EvaluatingIn (now sheet) n (now widths) env names rec out Γ) × (from ≤ getD (now widths) rec 0) ⌝ }
+    ensures { λ r. ⌜ ChainEnded (now (sheet .entry)) n (now (widths .entry)) rec from (r .rec) (r .from) ⌝ }
+{
+    let kind = word(sheet, n, rec, WORD_KIND);
+    if kind == KIND_FIRST {
+        return chain_end(sheet, n, widths, word(sheet, n, rec, WORD_A), from);
+    }
+    if kind == KIND_SECOND {
+        let a = word(sheet, n, rec, WORD_A);
+        let before = widths[a] as usize - widths[rec] as usize;
+        return chain_end(sheet, n, widths, a, from + before);
+    }
+    ChainEnd { rec, from }
 }
 
 // Evaluates an expression: its value goes to `out` and, where `whole` is true, its delays' next values to `held` and the numbers of
@@ -193,21 +238,7 @@ fn of_first(
     ensures { λ _. ⌜ Evaluated whole (now (sheet .entry)) n (now (widths .entry)) (now (env .entry)) names rec (now (held .entry)) (now (fired .entry)) (now (out .entry)) (now (env .exit)) (now (held .exit)) (now (fired .exit)) (now (out .exit)) ⌝ }
 {
     let a = word(sheet, n, rec, WORD_A);
-    let w = widths[a] as usize;
-    let mut pair = room();
-    eval_part(
-        sheet,
-        n,
-        widths,
-        env,
-        names,
-        held,
-        a,
-        &mut pair[0..w],
-        fired,
-        whole,
-    );
-    put(&pair[0..out.len()], out);
+    eval_from(sheet, n, widths, env, names, held, a, out, fired, whole, 0);
 }
 
 fn of_second(
@@ -226,9 +257,8 @@ fn of_second(
     ensures { λ _. ⌜ Evaluated whole (now (sheet .entry)) n (now (widths .entry)) (now (env .entry)) names rec (now (held .entry)) (now (fired .entry)) (now (out .entry)) (now (env .exit)) (now (held .exit)) (now (fired .exit)) (now (out .exit)) ⌝ }
 {
     let a = word(sheet, n, rec, WORD_A);
-    let w = widths[a] as usize;
-    let mut pair = room();
-    eval_part(
+    let from = widths[a] as usize - widths[rec] as usize;
+    eval_from(
         sheet,
         n,
         widths,
@@ -236,11 +266,53 @@ fn of_second(
         names,
         held,
         a,
-        &mut pair[0..w],
+        out,
+        fired,
+        whole,
+        from,
+    );
+}
+
+// Evaluates an expression for a part of its value, from the leaf `from` on. A chain of first and second parts is one part of the
+// value at its end, and is read there: in place where the end is a name, and else in the one room that the end is evaluated into.
+fn eval_from(
+    sheet: &[u8],
+    n: usize,
+    widths: &WidthTable,
+    env: &mut [u8],
+    names: usize,
+    held: &mut NextValues,
+    rec: usize,
+    out: &mut [u8],
+    fired: &mut Fired,
+    whole: bool,
+    from: usize,
+)
+    requires { ⌜ ((Γ : List ℕ) × PartEvaluatingIn (now sheet) n (now widths) (now env) names rec from (now out) Γ) ⌝ }
+    ensures { λ _. ⌜ PartEvaluated whole (now (sheet .entry)) n (now (widths .entry)) (now (env .entry)) names rec from (now (held .entry)) (now (fired .entry)) (now (out .entry)) (now (env .exit)) (now (held .exit)) (now (fired .exit)) (now (out .exit)) ⌝ }
+{
+    let end = chain_end(sheet, n, widths, rec, from);
+    let at = end.rec;
+    let start = end.from;
+    if word(sheet, n, at, WORD_KIND) == KIND_NAME {
+        copy_name_part(sheet, n, widths, env, names, at, start, out);
+        return;
+    }
+    let w = widths[at] as usize;
+    let mut value = room();
+    eval_part(
+        sheet,
+        n,
+        widths,
+        env,
+        names,
+        held,
+        at,
+        &mut value[0..w],
         fired,
         whole,
     );
-    put(&pair[w - out.len()..w], out);
+    put(&value[start..start + out.len()], out);
 }
 
 fn of_let(

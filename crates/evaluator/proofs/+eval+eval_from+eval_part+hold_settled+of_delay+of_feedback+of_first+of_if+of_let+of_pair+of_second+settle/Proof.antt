@@ -6,38 +6,43 @@ use borrow.Fn.Kinds.{In}
 use borrow.Fn.PlainCycle.{Measures, is, falls, and}
 use Rattle.evaluator.proofs.eval.Reads as eval
 use Rattle.evaluator.proofs.eval.Kinds as eval-kinds
-use Rattle.evaluator.proofs.+eval+eval_part+hold_settled+of_delay+of_feedback+of_first+of_if+of_let+of_pair+of_second+settle.Lts-eval as eval-lts
+use Rattle.evaluator.proofs.+eval+eval_from+eval_part+hold_settled+of_delay+of_feedback+of_first+of_if+of_let+of_pair+of_second+settle.Lts-eval as eval-lts
+use Rattle.evaluator.proofs.eval_from.Reads as eval-from
+use Rattle.evaluator.proofs.eval_from.Kinds as eval-from-kinds
+use Rattle.evaluator.proofs.+eval+eval_from+eval_part+hold_settled+of_delay+of_feedback+of_first+of_if+of_let+of_pair+of_second+settle.Lts-eval_from as eval-from-lts
 use Rattle.evaluator.proofs.eval_part.Reads as eval-part
 use Rattle.evaluator.proofs.eval_part.Kinds as eval-part-kinds
-use Rattle.evaluator.proofs.+eval+eval_part+hold_settled+of_delay+of_feedback+of_first+of_if+of_let+of_pair+of_second+settle.Lts-eval_part as eval-part-lts
+use Rattle.evaluator.proofs.+eval+eval_from+eval_part+hold_settled+of_delay+of_feedback+of_first+of_if+of_let+of_pair+of_second+settle.Lts-eval_part as eval-part-lts
 use Rattle.evaluator.proofs.hold_settled.Reads as hold-settled
 use Rattle.evaluator.proofs.hold_settled.Kinds as hold-settled-kinds
-use Rattle.evaluator.proofs.+eval+eval_part+hold_settled+of_delay+of_feedback+of_first+of_if+of_let+of_pair+of_second+settle.Lts-hold_settled as hold-settled-lts
+use Rattle.evaluator.proofs.+eval+eval_from+eval_part+hold_settled+of_delay+of_feedback+of_first+of_if+of_let+of_pair+of_second+settle.Lts-hold_settled as hold-settled-lts
 use Rattle.evaluator.proofs.of_delay.Reads as of-delay
 use Rattle.evaluator.proofs.of_delay.Kinds as of-delay-kinds
-use Rattle.evaluator.proofs.+eval+eval_part+hold_settled+of_delay+of_feedback+of_first+of_if+of_let+of_pair+of_second+settle.Lts-of_delay as of-delay-lts
+use Rattle.evaluator.proofs.+eval+eval_from+eval_part+hold_settled+of_delay+of_feedback+of_first+of_if+of_let+of_pair+of_second+settle.Lts-of_delay as of-delay-lts
 use Rattle.evaluator.proofs.of_feedback.Reads as of-feedback
 use Rattle.evaluator.proofs.of_feedback.Kinds as of-feedback-kinds
-use Rattle.evaluator.proofs.+eval+eval_part+hold_settled+of_delay+of_feedback+of_first+of_if+of_let+of_pair+of_second+settle.Lts-of_feedback as of-feedback-lts
+use Rattle.evaluator.proofs.+eval+eval_from+eval_part+hold_settled+of_delay+of_feedback+of_first+of_if+of_let+of_pair+of_second+settle.Lts-of_feedback as of-feedback-lts
 use Rattle.evaluator.proofs.of_first.Reads as of-first
 use Rattle.evaluator.proofs.of_first.Kinds as of-first-kinds
-use Rattle.evaluator.proofs.+eval+eval_part+hold_settled+of_delay+of_feedback+of_first+of_if+of_let+of_pair+of_second+settle.Lts-of_first as of-first-lts
+use Rattle.evaluator.proofs.+eval+eval_from+eval_part+hold_settled+of_delay+of_feedback+of_first+of_if+of_let+of_pair+of_second+settle.Lts-of_first as of-first-lts
 use Rattle.evaluator.proofs.of_if.Reads as of-if
 use Rattle.evaluator.proofs.of_if.Kinds as of-if-kinds
-use Rattle.evaluator.proofs.+eval+eval_part+hold_settled+of_delay+of_feedback+of_first+of_if+of_let+of_pair+of_second+settle.Lts-of_if as of-if-lts
+use Rattle.evaluator.proofs.+eval+eval_from+eval_part+hold_settled+of_delay+of_feedback+of_first+of_if+of_let+of_pair+of_second+settle.Lts-of_if as of-if-lts
 use Rattle.evaluator.proofs.of_let.Reads as of-let
 use Rattle.evaluator.proofs.of_let.Kinds as of-let-kinds
-use Rattle.evaluator.proofs.+eval+eval_part+hold_settled+of_delay+of_feedback+of_first+of_if+of_let+of_pair+of_second+settle.Lts-of_let as of-let-lts
+use Rattle.evaluator.proofs.+eval+eval_from+eval_part+hold_settled+of_delay+of_feedback+of_first+of_if+of_let+of_pair+of_second+settle.Lts-of_let as of-let-lts
 use Rattle.evaluator.proofs.of_pair.Reads as of-pair
 use Rattle.evaluator.proofs.of_pair.Kinds as of-pair-kinds
-use Rattle.evaluator.proofs.+eval+eval_part+hold_settled+of_delay+of_feedback+of_first+of_if+of_let+of_pair+of_second+settle.Lts-of_pair as of-pair-lts
+use Rattle.evaluator.proofs.+eval+eval_from+eval_part+hold_settled+of_delay+of_feedback+of_first+of_if+of_let+of_pair+of_second+settle.Lts-of_pair as of-pair-lts
 use Rattle.evaluator.proofs.of_second.Reads as of-second
 use Rattle.evaluator.proofs.of_second.Kinds as of-second-kinds
-use Rattle.evaluator.proofs.+eval+eval_part+hold_settled+of_delay+of_feedback+of_first+of_if+of_let+of_pair+of_second+settle.Lts-of_second as of-second-lts
+use Rattle.evaluator.proofs.+eval+eval_from+eval_part+hold_settled+of_delay+of_feedback+of_first+of_if+of_let+of_pair+of_second+settle.Lts-of_second as of-second-lts
 use Rattle.evaluator.proofs.settle.Reads as settle
 use Rattle.evaluator.proofs.settle.Kinds as settle-kinds
-use Rattle.evaluator.proofs.+eval+eval_part+hold_settled+of_delay+of_feedback+of_first+of_if+of_let+of_pair+of_second+settle.Lts-settle as settle-lts
+use Rattle.evaluator.proofs.+eval+eval_from+eval_part+hold_settled+of_delay+of_feedback+of_first+of_if+of_let+of_pair+of_second+settle.Lts-settle as settle-lts
+use Rattle.evaluator.proofs.chain_end.Reads as chain-end-reads
 use Rattle.evaluator.proofs.copy_name.Reads as copy-name-reads
+use Rattle.evaluator.proofs.copy_name_part.Reads as copy-name-part-reads
 use Rattle.records.proofs.word.Reads as word-reads
 use Rattle.values.proofs.all_defined.Reads as all-defined-reads
 use Rattle.values.proofs.choose_value.Reads as choose-value-reads
@@ -47,10 +52,10 @@ use Rattle.values.proofs.put.Reads as put-reads
 use Rattle.values.proofs.read_leaves.Reads as read-leaves-reads
 use Rattle.values.proofs.room.Reads as room-reads
 use Rattle.values.proofs.stands_at.Reads as stands-at-reads
-use Rattle.evaluator.proofs.+eval+eval_part+hold_settled+of_delay+of_feedback+of_first+of_if+of_let+of_pair+of_second+settle.{
+use Rattle.evaluator.proofs.+eval+eval_from+eval_part+hold_settled+of_delay+of_feedback+of_first+of_if+of_let+of_pair+of_second+settle.{
   statement,
 }
-use Rattle.evaluator.proofs.+eval+eval_part+hold_settled+of_delay+of_feedback+of_first+of_if+of_let+of_pair+of_second+settle.Tie.{
+use Rattle.evaluator.proofs.+eval+eval_from+eval_part+hold_settled+of_delay+of_feedback+of_first+of_if+of_let+of_pair+of_second+settle.Tie.{
   close,
 }
 use borrow.Author.Needs.{needs}
@@ -67,10 +72,11 @@ use Rattle.records.proofs.Table.{askOfKind}
 use Rattle.accepted.proofs.Laws.{numbered, last-kind}
 use Rattle.evaluator.proofs.Frames.{from-zero, to-the-end}
 use Rattle.evaluator.proofs.Readiness.{ready-word, ready-low, ready-few, in-circuit, entry-few, entry-there, part-higher}
-use Rattle.evaluator.proofs.LentParts.{pair-width-small, fits-room, first-scope, second-scope}
+use Rattle.evaluator.proofs.LentParts.{pair-width-small, fits-room, second-scope}
 use Rattle.evaluator.proofs.LentNames.{defining-scope}
 use Rattle.evaluator.proofs.LentBranches.{tested-scope}
-use Rattle.evaluator.proofs.Parts.{constant-chained, constant-done, pair-cut, pair-first-ready, pair-rest, pair-second-ready, pair-done, room-ready, first-fits, first-inside, first-done, second-few, second-from, second-inside, second-fits, second-done}
+use Rattle.evaluator.proofs.Parts.{constant-chained, constant-done, pair-cut, pair-first-ready, pair-rest, pair-second-ready, pair-done, room-ready}
+use Rattle.evaluator.proofs.Chains.{first-asked, first-done, second-narrow, second-asked, second-done, the-chain, end-there, end-low, end-few-leaves, to-few, end-part-ready, in-place-done, end-in-room, part-in-room, piece-fits, from-room-done}
 use Rattle.evaluator.proofs.Names.{let-inside, let-room, let-body-ready, let-done}
 use Rattle.evaluator.proofs.Settling.{settle-few, settle-room, unchanged-settled, defined-settled, settled-ready, settled-value, settled-whole, settling-again, fewer-undefined, changed-settled}
 use Rattle.evaluator.proofs.Feedbacks.{part-scope, feedback-fits, start-room, feedback-settling, few-undefined, feedback-body-ready, feedback-done}
@@ -79,6 +85,9 @@ use Rattle.evaluator.proofs.Wanted.{wanted-whole, wanted-value}
 
 abbrev μ-eval : Measures 6 eval-kinds.ps ℕ
 μ-eval κs a = 69 * (a .1 .0 - a .1 .1 .1 .1 .1 .1 .0) + 1
+
+abbrev μ-eval-from : Measures 6 eval-from-kinds.ps ℕ
+μ-eval-from κs a = 69 * (a .1 .0 - a .1 .1 .1 .1 .1 .1 .0) + 3
 
 abbrev μ-eval-part : Measures 6 eval-part-kinds.ps ℕ
 μ-eval-part κs a = 69 * (a .1 .0 - a .1 .1 .1 .1 .1 .1 .0) + 2
@@ -115,6 +124,13 @@ eval-at t = and 6 eval-kinds.ps (is 6 eval-kinds.ps μ-eval t) eval.Pre
 
 abbrev eval-below : ℕ → In 6 eval-kinds.ps
 eval-below t = and 6 eval-kinds.ps (falls 6 eval-kinds.ps _<_ μ-eval t) eval.Pre
+
+abbrev eval-from-at : ℕ → In 6 eval-from-kinds.ps
+eval-from-at t = and 6 eval-from-kinds.ps (is 6 eval-from-kinds.ps μ-eval-from t) eval-from.Pre
+
+abbrev eval-from-below : ℕ → In 6 eval-from-kinds.ps
+eval-from-below t =
+    and 6 eval-from-kinds.ps (falls 6 eval-from-kinds.ps _<_ μ-eval-from t) eval-from.Pre
 
 abbrev eval-part-at : ℕ → In 6 eval-part-kinds.ps
 eval-part-at t = and 6 eval-part-kinds.ps (is 6 eval-part-kinds.ps μ-eval-part t) eval-part.Pre
@@ -186,6 +202,9 @@ settle-below t = and 6 settle-kinds.ps (falls 6 settle-kinds.ps _<_ μ-settle t)
 abbrev eval-claims : ℕ → eval-lts.Claims
 eval-claims t = (word-reads.Asked, word-reads.Learnt, read-leaves-reads.Asked, read-leaves-reads.Learnt, copy-name-reads.Asked, copy-name-reads.Learnt, of-pair-below t, of-pair.Post, of-first-below t, of-first.Post, of-second-below t, of-second.Post, of-let-below t, of-let.Post, of-feedback-below t, of-feedback.Post, of-if-below t, of-if.Post, of-delay-below t, of-delay.Post)
 
+abbrev eval-from-claims : ℕ → eval-from-lts.Claims
+eval-from-claims t = (chain-end-reads.Asked, chain-end-reads.Learnt, word-reads.Asked, word-reads.Learnt, copy-name-part-reads.Asked, copy-name-part-reads.Learnt, room-reads.Asked, room-reads.Learnt, eval-part-below t, eval-part.Post, put-reads.Asked, put-reads.Learnt)
+
 abbrev eval-part-claims : ℕ → eval-part-lts.Claims
 eval-part-claims t = (word-reads.Asked, word-reads.Learnt, read-leaves-reads.Asked, read-leaves-reads.Learnt, copy-name-reads.Asked, copy-name-reads.Learnt, eval-below t, eval.Post)
 
@@ -199,7 +218,7 @@ abbrev of-feedback-claims : ℕ → of-feedback-lts.Claims
 of-feedback-claims t = (word-reads.Asked, word-reads.Learnt, room-reads.Asked, room-reads.Learnt, enter-value-reads.Asked, enter-value-reads.Learnt, hold-settled-below t, hold-settled.Post, eval-part-below t, eval-part.Post)
 
 abbrev of-first-claims : ℕ → of-first-lts.Claims
-of-first-claims t = (word-reads.Asked, word-reads.Learnt, room-reads.Asked, room-reads.Learnt, eval-part-below t, eval-part.Post, put-reads.Asked, put-reads.Learnt)
+of-first-claims t = (word-reads.Asked, word-reads.Learnt, eval-from-below t, eval-from.Post)
 
 abbrev of-if-claims : ℕ → of-if-lts.Claims
 of-if-claims t = (word-reads.Asked, word-reads.Learnt, room-reads.Asked, room-reads.Learnt, eval-part-below t, eval-part.Post, choose-value-reads.Asked, choose-value-reads.Learnt)
@@ -211,7 +230,7 @@ abbrev of-pair-claims : ℕ → of-pair-lts.Claims
 of-pair-claims t = (word-reads.Asked, word-reads.Learnt, eval-part-below t, eval-part.Post)
 
 abbrev of-second-claims : ℕ → of-second-lts.Claims
-of-second-claims t = (word-reads.Asked, word-reads.Learnt, room-reads.Asked, room-reads.Learnt, eval-part-below t, eval-part.Post, put-reads.Asked, put-reads.Learnt)
+of-second-claims t = (word-reads.Asked, word-reads.Learnt, eval-from-below t, eval-from.Post)
 
 abbrev settle-claims : ℕ → settle-lts.Claims
 settle-claims t = (eval-part-below t, eval-part.Post, stands-at-reads.Asked, stands-at-reads.Learnt, enter-value-reads.Asked, enter-value-reads.Learnt, all-defined-reads.Asked, all-defined-reads.Learnt, settle-below t, settle.Post)
@@ -326,6 +345,69 @@ eval-same-length-17 t c = search needs
 
 eval-returns-9 : (t : ℕ) → eval-lts.Need-returns-9 (eval-claims t) (eval-at t) eval.Post
 eval-returns-9 t c = c .before .before .before .before .of-delay .ensures
+
+eval-from-chain-end-requires : (t : ℕ) → eval-from-lts.Need-chain-end-requires (eval-from-claims t) (eval-from-at t) eval-from.Post
+eval-from-chain-end-requires t c κs = let f = (c .before .before .before .pre .1 .1) .fits in ((_, _, _, _, (c .before .before .before .pre .1 .1) .evaluating), omega arith)
+
+eval-from-word-requires : (t : ℕ) → eval-from-lts.Need-word-requires (eval-from-claims t) (eval-from-at t) eval-from.Post
+eval-from-word-requires t c κs = ((c .before .before .before .before .pre .1 .1 .evaluating .at-hand) .sized, end-there (c .before .before .before .before .pre .1 .1) (c .chain-end .ensures), omega arith)
+
+eval-from-copy-name-part-requires : (t : ℕ) → eval-from-lts.Need-copy-name-part-requires (eval-from-claims t) (eval-from-at t) eval-from.Post
+eval-from-copy-name-part-requires t c κs = ((_, end-part-ready (c .before .before .before .before .before .before .before .before .pre .1 .1) (c .before .before .before .before .chain-end .ensures)), numbered _ _ _ 33 (expression name) (c .before .before .before .word .ensures .0) (c .before .before .if1 .taken) (unfold kindOf in refl))
+
+eval-from-same-length : (t : ℕ) → eval-from-lts.Need-same-length (eval-from-claims t) (eval-from-at t) eval-from.Post
+eval-from-same-length t c = search needs
+
+eval-from-same-length-2 : (t : ℕ) → eval-from-lts.Need-same-length-2 (eval-from-claims t) (eval-from-at t) eval-from.Post
+eval-from-same-length-2 t c = search needs
+
+eval-from-returns : (t : ℕ) → eval-from-lts.Need-returns (eval-from-claims t) (eval-from-at t) eval-from.Post
+eval-from-returns t c = record { done = λ Γ g. in-place-done g (c .before .before .before .before .before .before .before .chain-end .ensures) (c .before .before .copy-name-part .ensures (c .before .before .before .before .before .before .before .before .before .before .before .args .whole) (now (c .before .before .before .before .before .before .before .before .before .before .before .args .held)) (now (c .before .before .before .before .before .before .before .before .before .before .before .args .fired))) }
+
+eval-from-element-copy-out-w : (t : ℕ) → eval-from-lts.Need-element-copy-out-w (eval-from-claims t) (eval-from-at t) eval-from.Post
+eval-from-element-copy-out-w t c = end-low (c .before .before .before .before .before .before .pre .1 .1) (c .before .before .chain-end .ensures)
+
+eval-from-cast-w : (t : ℕ) → eval-from-lts.Need-cast-w (eval-from-claims t) (eval-from-at t) eval-from.Post
+eval-from-cast-w t c = let f = end-few-leaves (c .before .before .before .before .before .before .before .pre .1 .1) (c .before .before .before .chain-end .ensures) in omega arith
+
+eval-from-room-requires : (t : ℕ) → eval-from-lts.Need-room-requires (eval-from-claims t) (eval-from-at t) eval-from.Post
+eval-from-room-requires t c κs = tt
+
+eval-from-sub-eval-part : (t : ℕ) → eval-from-lts.Need-sub-eval-part (eval-from-claims t) (eval-from-at t) eval-from.Post
+eval-from-sub-eval-part t c = from-zero _
+
+eval-from-part-value-start : (t : ℕ) → eval-from-lts.Need-part-value-start (eval-from-claims t) (eval-from-at t) eval-from.Post
+eval-from-part-value-start t c = from-zero _
+
+eval-from-part-value-end : (t : ℕ) → eval-from-lts.Need-part-value-end (eval-from-claims t) (eval-from-at t) eval-from.Post
+eval-from-part-value-end t c = end-in-room (c .before .before .before .before .before .before .before .before .before .before .pre .1 .1) (c .before .before .before .before .before .before .chain-end .ensures) refl (c .before .before .room .ensures)
+
+eval-from-eval-part-requires : (t : ℕ) → eval-from-lts.Need-eval-part-requires (eval-from-claims t) (eval-from-at t) eval-from.Post
+eval-from-eval-part-requires t c κs = let k = the-chain (c .before .before .before .before .before .before .before .before .before .before .before .before .pre .1 .1) (c .before .before .before .before .before .before .before .before .chain-end .ensures) .higher in let e = end-there (c .before .before .before .before .before .before .before .before .before .before .before .before .pre .1 .1) (c .before .before .before .before .before .before .before .before .chain-end .ensures) in (omega (arith, c .before .before .before .before .before .before .before .before .before .before .before .before .pre .0, k, e), (_, room-ready ((c .before .before .before .before .before .before .before .before .before .before .before .before .pre .1 .1) .evaluating) (the-chain (c .before .before .before .before .before .before .before .before .before .before .before .before .pre .1 .1) (c .before .before .before .before .before .before .before .before .chain-end .ensures) .scope) refl (c .before .before .before .before .room .ensures)))
+
+eval-from-add-put : (t : ℕ) → eval-from-lts.Need-add-put (eval-from-claims t) (eval-from-at t) eval-from.Post
+eval-from-add-put t c = let f = to-few (c .before .before .before .before .before .before .before .before .before .before .before .before .before .before .before .before .pre .1 .1) (c .before .before .before .before .before .before .before .before .before .before .before .before .chain-end .ensures) in omega arith
+
+eval-from-sub-put : (t : ℕ) → eval-from-lts.Need-sub-put (eval-from-claims t) (eval-from-at t) eval-from.Post
+eval-from-sub-put t c = let f = to-few (c .before .before .before .before .before .before .before .before .before .before .before .before .before .before .before .before .pre .1 .1) (c .before .before .before .before .before .before .before .before .before .before .before .before .chain-end .ensures) in omega arith
+
+eval-from-part-put-start : (t : ℕ) → eval-from-lts.Need-part-put-start (eval-from-claims t) (eval-from-at t) eval-from.Post
+eval-from-part-put-start t c = let f = to-few (c .before .before .before .before .before .before .before .before .before .before .before .before .before .before .before .before .before .pre .1 .1) (c .before .before .before .before .before .before .before .before .before .before .before .before .before .chain-end .ensures) in omega arith
+
+eval-from-part-put-end : (t : ℕ) → eval-from-lts.Need-part-put-end (eval-from-claims t) (eval-from-at t) eval-from.Post
+eval-from-part-put-end t c = part-in-room (c .before .before .before .before .before .before .before .before .before .before .before .before .before .before .before .before .before .pre .1 .1) (c .before .before .before .before .before .before .before .before .before .before .before .before .before .chain-end .ensures) refl (c .before .before .before .before .before .before .before .before .before .room .ensures) (c .before .before .before .before .eval-part .ensures)
+
+eval-from-put-requires : (t : ℕ) → eval-from-lts.Need-put-requires (eval-from-claims t) (eval-from-at t) eval-from.Post
+eval-from-put-requires t c κs = let l = piece-fits (c .before .before .before .before .before .before .before .before .before .before .before .before .before .before .before .before .before .before .before .pre .1 .1) (c .before .before .before .before .before .before .before .before .before .before .before .before .before .before .before .chain-end .ensures) refl (c .before .before .before .before .before .before .before .before .before .before .before .room .ensures) (c .before .before .before .before .before .before .eval-part .ensures) in omega arith
+
+eval-from-same-length-3 : (t : ℕ) → eval-from-lts.Need-same-length-3 (eval-from-claims t) (eval-from-at t) eval-from.Post
+eval-from-same-length-3 t c = search needs
+
+eval-from-same-length-4 : (t : ℕ) → eval-from-lts.Need-same-length-4 (eval-from-claims t) (eval-from-at t) eval-from.Post
+eval-from-same-length-4 t c = search needs
+
+eval-from-returns-2 : (t : ℕ) → eval-from-lts.Need-returns-2 (eval-from-claims t) (eval-from-at t) eval-from.Post
+eval-from-returns-2 t c = record { done = λ Γ g. from-room-done g (c .before .before .before .before .before .before .before .before .before .before .before .before .before .before .before .before .before .before .chain-end .ensures) refl (c .before .before .before .before .before .before .before .before .before .before .before .before .before .before .room .ensures) (c .before .before .before .before .before .before .before .before .before .eval-part .ensures) (c .before .before .put .ensures) }
 
 eval-part-word-requires : (t : ℕ) → eval-part-lts.Need-word-requires (eval-part-claims t) (eval-part-at t) eval-part.Post
 eval-part-word-requires t c κs = ready-word (c .before .before .before .pre .1 .1 .at-hand) (omega arith)
@@ -483,38 +565,8 @@ of-feedback-returns t c = record { done = λ Γ r. feedback-done r (c .before .b
 of-first-word-requires : (t : ℕ) → of-first-lts.Need-word-requires (of-first-claims t) (of-first-at t) of-first.Post
 of-first-word-requires t c κs = ready-word (c .before .before .before .pre .1 .0 .1 .at-hand) (omega arith)
 
-of-first-element-copy-out-w : (t : ℕ) → of-first-lts.Need-element-copy-out-w (of-first-claims t) (of-first-at t) of-first.Post
-of-first-element-copy-out-w t c = entry-there (c .before .before .before .before .pre .1 .0 .1 .at-hand) first (c .before .before .before .before .pre .1 .1) 2 refl (unfold askOfKind in refl) (c .word .ensures .0)
-
-of-first-cast-w : (t : ℕ) → of-first-lts.Need-cast-w (of-first-claims t) (of-first-at t) of-first.Post
-of-first-cast-w t c = let f = entry-few (c .before .before .before .before .before .pre .1 .0 .1 .at-hand) (first-scope (c .before .before .before .before .before .pre .1 .0 .1 .at-hand) (c .before .before .before .before .before .pre .1 .1) (c .before .word .ensures .0)) in omega arith
-
-of-first-room-requires : (t : ℕ) → of-first-lts.Need-room-requires (of-first-claims t) (of-first-at t) of-first.Post
-of-first-room-requires t c κs = tt
-
-of-first-sub-eval-part : (t : ℕ) → of-first-lts.Need-sub-eval-part (of-first-claims t) (of-first-at t) of-first.Post
-of-first-sub-eval-part t c = from-zero _
-
-of-first-part-pair-start : (t : ℕ) → of-first-lts.Need-part-pair-start (of-first-claims t) (of-first-at t) of-first.Post
-of-first-part-pair-start t c = from-zero _
-
-of-first-part-pair-end : (t : ℕ) → of-first-lts.Need-part-pair-end (of-first-claims t) (of-first-at t) of-first.Post
-of-first-part-pair-end t c = fits-room (c .before .before .before .before .before .before .before .before .pre .1 .0 .1 .at-hand) (first-scope (c .before .before .before .before .before .before .before .before .pre .1 .0 .1 .at-hand) (c .before .before .before .before .before .before .before .before .pre .1 .1) (c .before .before .before .before .word .ensures .0)) refl (c .before .before .room .ensures)
-
-of-first-eval-part-requires : (t : ℕ) → of-first-lts.Need-eval-part-requires (of-first-claims t) (of-first-at t) of-first.Post
-of-first-eval-part-requires t c κs = let h = (part-higher (c .before .before .before .before .before .before .before .before .before .before .pre .1 .0 .1 .at-hand) first (c .before .before .before .before .before .before .before .before .before .before .pre .1 .1) 2 refl (unfold askOfKind in refl) (c .before .before .before .before .before .before .word .ensures .0)) in (omega (arith, c .before .before .before .before .before .before .before .before .before .before .pre .0, h .0, h .1), (c .before .before .before .before .before .before .before .before .before .before .pre .1 .0 .0, room-ready (c .before .before .before .before .before .before .before .before .before .before .pre .1 .0 .1) (first-scope (c .before .before .before .before .before .before .before .before .before .before .pre .1 .0 .1 .at-hand) (c .before .before .before .before .before .before .before .before .before .before .pre .1 .1) (c .before .before .before .before .before .before .word .ensures .0)) refl (c .before .before .before .before .room .ensures)))
-
-of-first-sub-put : (t : ℕ) → of-first-lts.Need-sub-put (of-first-claims t) (of-first-at t) of-first.Post
-of-first-sub-put t c = from-zero _
-
-of-first-part-put-start : (t : ℕ) → of-first-lts.Need-part-put-start (of-first-claims t) (of-first-at t) of-first.Post
-of-first-part-put-start t c = from-zero _
-
-of-first-part-put-end : (t : ℕ) → of-first-lts.Need-part-put-end (of-first-claims t) (of-first-at t) of-first.Post
-of-first-part-put-end t c = first-inside (c .before .before .before .before .before .before .before .before .before .before .before .before .before .before .before .pre .1 .0 .1) (c .before .before .before .before .before .before .before .before .before .before .before .before .before .before .before .pre .1 .1) (c .before .before .before .before .before .before .before .before .before .before .before .word .ensures .0) refl (c .before .before .before .before .before .before .before .before .before .room .ensures) (c .before .before .before .before .eval-part .ensures)
-
-of-first-put-requires : (t : ℕ) → of-first-lts.Need-put-requires (of-first-claims t) (of-first-at t) of-first.Post
-of-first-put-requires t c κs = let l = first-fits (c .before .before .before .before .before .before .before .before .before .before .before .before .before .before .before .before .before .pre .1 .0 .1) (c .before .before .before .before .before .before .before .before .before .before .before .before .before .before .before .before .before .pre .1 .1) (c .before .before .before .before .before .before .before .before .before .before .before .before .before .word .ensures .0) refl (c .before .before .before .before .before .before .before .before .before .before .before .room .ensures) (c .before .before .before .before .before .before .eval-part .ensures) in omega arith
+of-first-eval-from-requires : (t : ℕ) → of-first-lts.Need-eval-from-requires (of-first-claims t) (of-first-at t) of-first.Post
+of-first-eval-from-requires t c κs = let h = (part-higher (c .before .before .before .before .before .before .before .before .pre .1 .0 .1 .at-hand) first (c .before .before .before .before .before .before .before .before .pre .1 .1) 2 refl (unfold askOfKind in refl) (c .before .before .before .before .word .ensures .0)) in (omega (arith, c .before .before .before .before .before .before .before .before .pre .0, h .0, h .1), (c .before .before .before .before .before .before .before .before .pre .1 .0 .0, first-asked (c .before .before .before .before .before .before .before .before .pre .1 .0 .1) (c .before .before .before .before .before .before .before .before .pre .1 .1) (c .before .before .before .before .word .ensures .0)))
 
 of-first-same-length : (t : ℕ) → of-first-lts.Need-same-length (of-first-claims t) (of-first-at t) of-first.Post
 of-first-same-length t c = search needs
@@ -523,7 +575,7 @@ of-first-same-length-2 : (t : ℕ) → of-first-lts.Need-same-length-2 (of-first
 of-first-same-length-2 t c = search needs
 
 of-first-returns : (t : ℕ) → of-first-lts.Need-returns (of-first-claims t) (of-first-at t) of-first.Post
-of-first-returns t c = record { done = λ Γ r. first-done r (c .before .before .before .before .before .before .before .before .before .before .before .before .before .before .before .before .before .before .before .before .pre .1 .1) (c .before .before .before .before .before .before .before .before .before .before .before .before .before .before .before .before .word .ensures .0) refl (c .before .before .before .before .before .before .before .before .before .before .before .before .before .before .room .ensures) (c .before .before .before .before .before .before .before .before .before .eval-part .ensures) (c .before .before .put .ensures) }
+of-first-returns t c = record { done = λ Γ r. first-done r (c .before .before .before .before .before .before .before .before .before .before .before .before .before .pre .1 .1) (c .before .before .before .before .before .before .before .before .before .word .ensures .0) (c .before .before .before .before .eval-from .ensures) }
 
 of-if-word-requires : (t : ℕ) → of-if-lts.Need-word-requires (of-if-claims t) (of-if-at t) of-if.Post
 of-if-word-requires t c κs = ready-word (c .before .before .before .pre .1 .0 .1 .at-hand) (omega arith)
@@ -726,41 +778,23 @@ of-pair-returns t c = record { done = λ Γ r. pair-done r (c .before .before .b
 of-second-word-requires : (t : ℕ) → of-second-lts.Need-word-requires (of-second-claims t) (of-second-at t) of-second.Post
 of-second-word-requires t c κs = ready-word (c .before .before .before .pre .1 .0 .1 .at-hand) (omega arith)
 
-of-second-element-copy-out-w : (t : ℕ) → of-second-lts.Need-element-copy-out-w (of-second-claims t) (of-second-at t) of-second.Post
-of-second-element-copy-out-w t c = entry-there (c .before .before .before .before .pre .1 .0 .1 .at-hand) second (c .before .before .before .before .pre .1 .1) 2 refl (unfold askOfKind in refl) (c .word .ensures .0)
+of-second-element-copy-out-from : (t : ℕ) → of-second-lts.Need-element-copy-out-from (of-second-claims t) (of-second-at t) of-second.Post
+of-second-element-copy-out-from t c = entry-there (c .before .before .before .before .pre .1 .0 .1 .at-hand) second (c .before .before .before .before .pre .1 .1) 2 refl (unfold askOfKind in refl) (c .word .ensures .0)
 
-of-second-cast-w : (t : ℕ) → of-second-lts.Need-cast-w (of-second-claims t) (of-second-at t) of-second.Post
-of-second-cast-w t c = let f = entry-few (c .before .before .before .before .before .pre .1 .0 .1 .at-hand) (second-scope (c .before .before .before .before .before .pre .1 .0 .1 .at-hand) (c .before .before .before .before .before .pre .1 .1) (c .before .word .ensures .0)) in omega arith
+of-second-cast-from : (t : ℕ) → of-second-lts.Need-cast-from (of-second-claims t) (of-second-at t) of-second.Post
+of-second-cast-from t c = let f = entry-few (c .before .before .before .before .before .pre .1 .0 .1 .at-hand) (second-scope (c .before .before .before .before .before .pre .1 .0 .1 .at-hand) (c .before .before .before .before .before .pre .1 .1) (c .before .word .ensures .0)) in omega arith
 
-of-second-room-requires : (t : ℕ) → of-second-lts.Need-room-requires (of-second-claims t) (of-second-at t) of-second.Post
-of-second-room-requires t c κs = tt
+of-second-element-copy-out-from-2 : (t : ℕ) → of-second-lts.Need-element-copy-out-from-2 (of-second-claims t) (of-second-at t) of-second.Post
+of-second-element-copy-out-from-2 t c = ready-low (c .before .before .before .before .before .pre .1 .0 .1 .at-hand)
 
-of-second-sub-eval-part : (t : ℕ) → of-second-lts.Need-sub-eval-part (of-second-claims t) (of-second-at t) of-second.Post
-of-second-sub-eval-part t c = from-zero _
+of-second-cast-from-2 : (t : ℕ) → of-second-lts.Need-cast-from-2 (of-second-claims t) (of-second-at t) of-second.Post
+of-second-cast-from-2 t c = let f = entry-few (c .before .before .before .before .before .before .pre .1 .0 .1 .at-hand) ((c .before .before .before .before .before .before .pre .1 .0 .1 .at-hand) .scope) in omega arith
 
-of-second-part-pair-start : (t : ℕ) → of-second-lts.Need-part-pair-start (of-second-claims t) (of-second-at t) of-second.Post
-of-second-part-pair-start t c = from-zero _
+of-second-sub-from : (t : ℕ) → of-second-lts.Need-sub-from (of-second-claims t) (of-second-at t) of-second.Post
+of-second-sub-from t c = second-narrow (c .before .before .before .before .before .before .pre .1 .0 .1) (c .before .before .before .before .before .before .pre .1 .1) (c .before .before .word .ensures .0)
 
-of-second-part-pair-end : (t : ℕ) → of-second-lts.Need-part-pair-end (of-second-claims t) (of-second-at t) of-second.Post
-of-second-part-pair-end t c = fits-room (c .before .before .before .before .before .before .before .before .pre .1 .0 .1 .at-hand) (second-scope (c .before .before .before .before .before .before .before .before .pre .1 .0 .1 .at-hand) (c .before .before .before .before .before .before .before .before .pre .1 .1) (c .before .before .before .before .word .ensures .0)) refl (c .before .before .room .ensures)
-
-of-second-eval-part-requires : (t : ℕ) → of-second-lts.Need-eval-part-requires (of-second-claims t) (of-second-at t) of-second.Post
-of-second-eval-part-requires t c κs = let h = (part-higher (c .before .before .before .before .before .before .before .before .before .before .pre .1 .0 .1 .at-hand) second (c .before .before .before .before .before .before .before .before .before .before .pre .1 .1) 2 refl (unfold askOfKind in refl) (c .before .before .before .before .before .before .word .ensures .0)) in (omega (arith, c .before .before .before .before .before .before .before .before .before .before .pre .0, h .0, h .1), (c .before .before .before .before .before .before .before .before .before .before .pre .1 .0 .0, room-ready (c .before .before .before .before .before .before .before .before .before .before .pre .1 .0 .1) (second-scope (c .before .before .before .before .before .before .before .before .before .before .pre .1 .0 .1 .at-hand) (c .before .before .before .before .before .before .before .before .before .before .pre .1 .1) (c .before .before .before .before .before .before .word .ensures .0)) refl (c .before .before .before .before .room .ensures)))
-
-of-second-sub-put : (t : ℕ) → of-second-lts.Need-sub-put (of-second-claims t) (of-second-at t) of-second.Post
-of-second-sub-put t c = second-few (c .before .before .before .before .before .before .before .before .before .before .before .before .before .before .pre .1 .0 .1) (c .before .before .before .before .before .before .before .before .before .before .before .before .before .before .pre .1 .1) (c .before .before .before .before .before .before .before .before .before .before .word .ensures .0) refl (c .before .before .before .before .before .before .before .before .room .ensures) (c .before .before .before .eval-part .ensures)
-
-of-second-sub-put-2 : (t : ℕ) → of-second-lts.Need-sub-put-2 (of-second-claims t) (of-second-at t) of-second.Post
-of-second-sub-put-2 t c = second-from (c .before .before .before .before .before .before .before .before .before .before .before .before .before .before .pre .1 .0 .1) (c .before .before .before .before .before .before .before .before .before .before .before .before .before .before .pre .1 .1) (c .before .before .before .before .before .before .before .before .before .before .word .ensures .0) refl (c .before .before .before .before .before .before .before .before .room .ensures) (c .before .before .before .eval-part .ensures)
-
-of-second-part-put-start : (t : ℕ) → of-second-lts.Need-part-put-start (of-second-claims t) (of-second-at t) of-second.Post
-of-second-part-put-start t c = second-from (c .before .before .before .before .before .before .before .before .before .before .before .before .before .before .before .pre .1 .0 .1) (c .before .before .before .before .before .before .before .before .before .before .before .before .before .before .before .pre .1 .1) (c .before .before .before .before .before .before .before .before .before .before .before .word .ensures .0) refl (c .before .before .before .before .before .before .before .before .before .room .ensures) (c .before .before .before .before .eval-part .ensures)
-
-of-second-part-put-end : (t : ℕ) → of-second-lts.Need-part-put-end (of-second-claims t) (of-second-at t) of-second.Post
-of-second-part-put-end t c = second-inside (c .before .before .before .before .before .before .before .before .before .before .before .before .before .before .before .pre .1 .0 .1) (c .before .before .before .before .before .before .before .before .before .before .before .before .before .before .before .pre .1 .1) (c .before .before .before .before .before .before .before .before .before .before .before .word .ensures .0) refl (c .before .before .before .before .before .before .before .before .before .room .ensures) (c .before .before .before .before .eval-part .ensures)
-
-of-second-put-requires : (t : ℕ) → of-second-lts.Need-put-requires (of-second-claims t) (of-second-at t) of-second.Post
-of-second-put-requires t c κs = let l = second-fits (c .before .before .before .before .before .before .before .before .before .before .before .before .before .before .before .before .before .pre .1 .0 .1) (c .before .before .before .before .before .before .before .before .before .before .before .before .before .before .before .before .before .pre .1 .1) (c .before .before .before .before .before .before .before .before .before .before .before .before .before .word .ensures .0) refl (c .before .before .before .before .before .before .before .before .before .before .before .room .ensures) (c .before .before .before .before .before .before .eval-part .ensures) in omega arith
+of-second-eval-from-requires : (t : ℕ) → of-second-lts.Need-eval-from-requires (of-second-claims t) (of-second-at t) of-second.Post
+of-second-eval-from-requires t c κs = let h = (part-higher (c .before .before .before .before .before .before .before .before .before .before .pre .1 .0 .1 .at-hand) second (c .before .before .before .before .before .before .before .before .before .before .pre .1 .1) 2 refl (unfold askOfKind in refl) (c .before .before .before .before .before .before .word .ensures .0)) in (omega (arith, c .before .before .before .before .before .before .before .before .before .before .pre .0, h .0, h .1), (c .before .before .before .before .before .before .before .before .before .before .pre .1 .0 .0, second-asked (c .before .before .before .before .before .before .before .before .before .before .pre .1 .0 .1) (c .before .before .before .before .before .before .before .before .before .before .pre .1 .1) (c .before .before .before .before .before .before .word .ensures .0) refl))
 
 of-second-same-length : (t : ℕ) → of-second-lts.Need-same-length (of-second-claims t) (of-second-at t) of-second.Post
 of-second-same-length t c = search needs
@@ -769,7 +803,7 @@ of-second-same-length-2 : (t : ℕ) → of-second-lts.Need-same-length-2 (of-sec
 of-second-same-length-2 t c = search needs
 
 of-second-returns : (t : ℕ) → of-second-lts.Need-returns (of-second-claims t) (of-second-at t) of-second.Post
-of-second-returns t c = record { done = λ Γ r. second-done r (c .before .before .before .before .before .before .before .before .before .before .before .before .before .before .before .before .before .before .before .before .pre .1 .1) (c .before .before .before .before .before .before .before .before .before .before .before .before .before .before .before .before .word .ensures .0) refl (c .before .before .before .before .before .before .before .before .before .before .before .before .before .before .room .ensures) (c .before .before .before .before .before .before .before .before .before .eval-part .ensures) (c .before .before .put .ensures) }
+of-second-returns t c = record { done = λ Γ r. second-done r (c .before .before .before .before .before .before .before .before .before .before .before .before .before .before .before .pre .1 .1) (c .before .before .before .before .before .before .before .before .before .before .before .word .ensures .0) refl (c .before .before .before .before .eval-from .ensures) }
 
 settle-add-eval-part : (t : ℕ) → settle-lts.Need-add-eval-part (settle-claims t) (settle-at t) settle.Post
 settle-add-eval-part t c = let f = settle-few (c .before .before .before .before .pre .1 .2) in omega arith
@@ -816,11 +850,12 @@ settle-same-length-6 t c = search needs
 settle-returns-3 : (t : ℕ) → settle-lts.Need-returns-3 (settle-claims t) (settle-at t) settle.Post
 settle-returns-3 t c = record { settled = λ t Γ g. changed-settled g (c .before .before .before .before .before .before .before .before .before .before .before .before .before .before .before .before .before .before .before .before .before .before .before .before .before .eval-part .ensures) (c .before .before .before .before .before .before .before .before .before .before .before .before .before .before .before .before .before .before .stands-at .ensures) (c .before .before .before .before .before .before .before .before .before .before .before .before .before .before .before .before .before .if1 .left) (c .before .before .before .before .before .before .before .before .before .before .before .before .before .before .enter-value .ensures) (c .before .before .before .before .settle .ensures) }
 
-pub +eval+eval-part+hold-settled+of-delay+of-feedback+of-first+of-if+of-let+of-pair+of-second+settle-spec :
+pub +eval+eval-from+eval-part+hold-settled+of-delay+of-feedback+of-first+of-if+of-let+of-pair+of-second+settle-spec :
     {M : Type 1} → statement M
-+eval+eval-part+hold-settled+of-delay+of-feedback+of-first+of-if+of-let+of-pair+of-second+settle-spec =
++eval+eval-from+eval-part+hold-settled+of-delay+of-feedback+of-first+of-if+of-let+of-pair+of-second+settle-spec =
     close
     μ-eval
+    μ-eval-from
     μ-eval-part
     μ-hold-settled
     μ-of-delay
@@ -871,6 +906,30 @@ pub +eval+eval-part+hold-settled+of-delay+of-feedback+of-first+of-if+of-let+of-p
     (eval-same-length-16 t)
     (eval-same-length-17 t)
     (eval-returns-9 t))
+    (λ t. eval-from-lts.spec (eval-from-claims t)
+    (eval-from-at t)
+    eval-from.Post
+    (eval-from-chain-end-requires t)
+    (eval-from-word-requires t)
+    (eval-from-copy-name-part-requires t)
+    (eval-from-same-length t)
+    (eval-from-same-length-2 t)
+    (eval-from-returns t)
+    (eval-from-element-copy-out-w t)
+    (eval-from-cast-w t)
+    (eval-from-room-requires t)
+    (eval-from-sub-eval-part t)
+    (eval-from-part-value-start t)
+    (eval-from-part-value-end t)
+    (eval-from-eval-part-requires t)
+    (eval-from-add-put t)
+    (eval-from-sub-put t)
+    (eval-from-part-put-start t)
+    (eval-from-part-put-end t)
+    (eval-from-put-requires t)
+    (eval-from-same-length-3 t)
+    (eval-from-same-length-4 t)
+    (eval-from-returns-2 t))
     (λ t. eval-part-lts.spec (eval-part-claims t)
     (eval-part-at t)
     eval-part.Post
@@ -938,17 +997,7 @@ pub +eval+eval-part+hold-settled+of-delay+of-feedback+of-first+of-if+of-let+of-p
     (of-first-at t)
     of-first.Post
     (of-first-word-requires t)
-    (of-first-element-copy-out-w t)
-    (of-first-cast-w t)
-    (of-first-room-requires t)
-    (of-first-sub-eval-part t)
-    (of-first-part-pair-start t)
-    (of-first-part-pair-end t)
-    (of-first-eval-part-requires t)
-    (of-first-sub-put t)
-    (of-first-part-put-start t)
-    (of-first-part-put-end t)
-    (of-first-put-requires t)
+    (of-first-eval-from-requires t)
     (of-first-same-length t)
     (of-first-same-length-2 t)
     (of-first-returns t))
@@ -1031,18 +1080,12 @@ pub +eval+eval-part+hold-settled+of-delay+of-feedback+of-first+of-if+of-let+of-p
     (of-second-at t)
     of-second.Post
     (of-second-word-requires t)
-    (of-second-element-copy-out-w t)
-    (of-second-cast-w t)
-    (of-second-room-requires t)
-    (of-second-sub-eval-part t)
-    (of-second-part-pair-start t)
-    (of-second-part-pair-end t)
-    (of-second-eval-part-requires t)
-    (of-second-sub-put t)
-    (of-second-sub-put-2 t)
-    (of-second-part-put-start t)
-    (of-second-part-put-end t)
-    (of-second-put-requires t)
+    (of-second-element-copy-out-from t)
+    (of-second-cast-from t)
+    (of-second-element-copy-out-from-2 t)
+    (of-second-cast-from-2 t)
+    (of-second-sub-from t)
+    (of-second-eval-from-requires t)
     (of-second-same-length t)
     (of-second-same-length-2 t)
     (of-second-returns t))
