@@ -1,6 +1,5 @@
 -- What evaluating a record gives, by its kind, from what evaluating its parts gives: a law a kind, for the value and for the table.
--- A second evaluation of a feedback's part replaces what the first one entered; so the round that finds the value unchanged leaves the
--- table of the settled value. And the circuit's value and table are those of the root.
+-- And the circuit's value and table are those of the root.
 -- Assumes nothing.
 use Prim.Native.Nat.{ℕ, _<_}
 use mathlib.Core.List.{List, [], _∷_, _++_}
@@ -25,7 +24,7 @@ use Rattle.behaviour.specs.Cycle.{outputBy}
 use Rattle.behaviour.specs.Evaluated.{valueAt}
 use Rattle.behaviour.specs.Midway.{storedAt}
 use Rattle.behaviour.proofs.Entries.{put-append}
-use Rattle.behaviour.proofs.Stores.{store-both, store-delay, store-next-again}
+use Rattle.behaviour.proofs.Stores.{store-both, store-delay}
 
 -- the root
 pub root-value : (s i : List ℕ) → outputBy undecidedRule s i ≡ valueAt undecidedRule s (inputs s) (i ∷ []) (wordB s 0)
@@ -36,12 +35,6 @@ pub root-stored : (s i h : List ℕ)
     → store (next undecidedRule (i ∷ []) (circuitTerm s)) h ≡ storedAt undecidedRule s (inputs s) (i ∷ []) (wordB s 0) h
 unfolding storedAt circuitTerm circuit
 root-stored s i h = refl
-
--- a second evaluation of a record replaces what the first one entered
-pub stored-again : (s Γ : List ℕ) (ρ π : List (List ℕ)) (r : ℕ) (h : List ℕ)
-    → storedAt undecidedRule s Γ ρ r (storedAt undecidedRule s Γ π r h) ≡ storedAt undecidedRule s Γ ρ r h
-unfolding storedAt
-stored-again s Γ ρ π r h = store-next-again undecidedRule ρ π (term s Γ (treeAt s r)) h
 
 -- the value of a feedback's name
 abbrev pub settledAt : (sheet Γ : List ℕ) (ρ : List (List ℕ)) → ℕ → List ℕ

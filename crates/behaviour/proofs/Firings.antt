@@ -1,10 +1,8 @@
--- Which alternative fired, by the kind of a record, from what its parts enter: a law a kind. A second evaluation of a record replaces
--- what the first one entered, since both enter at the same IFs; so the round that finds a feedback's value unchanged leaves the numbers
--- of the settled value.
+-- Which alternative fired, by the kind of a record, from what its parts enter: a law a kind.
 -- Assumes nothing.
 use Prim.Native.Nat.{ℕ, _<_}
-use mathlib.Core.List.{List, [], _∷_, _++_}
-use mathlib.Core.Path.{_≡_, refl, sym, ap, ap₂, _∙_}
+use mathlib.Core.List.{List, _∷_}
+use mathlib.Core.Path.{_≡_, refl, _∙_}
 use lib.ListN.{length, set, length-set}
 use Rattle.records.specs.Words.{count, wordA, wordB, wordC, wordD}
 use Rattle.records.specs.Kinds.{
@@ -20,22 +18,7 @@ use Rattle.records.specs.Kinds.{
   delay,
 }
 use Rattle.records.specs.Says.{kindAt}
-use Rattle.records.specs.Trees.{
-  Tree,
-  noExpression,
-  constantOf,
-  nameOf,
-  tupleOf,
-  firstOf,
-  secondOf,
-  letOf,
-  feedbackOf,
-  ifOf,
-  delayOf,
-  alternatives,
-  treeAt,
-  typeRecordOf,
-}
+use Rattle.records.specs.Trees.{alternatives, treeAt, typeRecordOf}
 use Rattle.records.specs.Written.{Written}
 use Rattle.records.proofs.Trees.{tree-of}
 use Rattle.meaning.specs.Undecided.{undecidedRule}
@@ -43,55 +26,12 @@ use Rattle.behaviour.specs.Entries.{enter}
 use Rattle.behaviour.specs.Evaluated.{valueAt}
 use Rattle.behaviour.specs.Firing.{firstYes, firings}
 use Rattle.behaviour.specs.Midway.{firedAt}
-use Rattle.behaviour.proofs.Entries.{placesOf, places-append, put-append, put-leaves}
-use Rattle.behaviour.proofs.Stores.{entered-again}
+use Rattle.behaviour.proofs.Entries.{put-append, put-leaves}
 use Rattle.behaviour.proofs.Evaluated.{settledAt}
-
--- the IFs of a tree, in the order of evaluation
-abbrev ifsOf : Tree → List ℕ
-ifsOf noExpression = []
-ifsOf (constantOf r t ls) = []
-ifsOf (nameOf r k) = []
-ifsOf (tupleOf r a b) = ifsOf a ++ ifsOf b
-ifsOf (firstOf r a) = ifsOf a
-ifsOf (secondOf r a) = ifsOf a
-ifsOf (letOf r a b) = ifsOf a ++ ifsOf b
-ifsOf (feedbackOf r t a b) = ifsOf a ++ ifsOf b
-ifsOf (ifOf r a p b c) = ifsOf a ++ (ifsOf b ++ (ifsOf c ++ (r ∷ [])))
-ifsOf (delayOf r t ls a) = ifsOf a
-
--- the numbers stand there, whatever the names' values are
-pub firing-places : (s Γ : List ℕ) (ρ : List (List ℕ)) (t : Tree) → placesOf (firings undecidedRule s Γ ρ t) ≡ ifsOf t
-firing-places s Γ ρ noExpression = refl
-firing-places s Γ ρ (constantOf r t ls) = refl
-firing-places s Γ ρ (nameOf r k) = refl
-firing-places s Γ ρ (tupleOf r a b) =
-    places-append (firings undecidedRule s Γ ρ a) _ ∙ ap₂ _++_ (firing-places s Γ ρ a) (firing-places s Γ ρ b)
-firing-places s Γ ρ (firstOf r a) = firing-places s Γ ρ a
-firing-places s Γ ρ (secondOf r a) = firing-places s Γ ρ a
-firing-places s Γ ρ (letOf r a b) =
-    places-append (firings undecidedRule s Γ ρ a) _ ∙ ap₂ _++_ (firing-places s Γ ρ a) (firing-places s _ _ b)
-firing-places s Γ ρ (feedbackOf r t a b) =
-    places-append (firings undecidedRule s (t ∷ Γ) _ a) _ ∙ ap₂ _++_ (firing-places s (t ∷ Γ) _ a) (firing-places s (t ∷ Γ) _ b)
-firing-places s Γ ρ (ifOf r a p b c) =
-    places-append (firings undecidedRule s Γ ρ a) _
-    ∙ ap₂ _++_ (firing-places s Γ ρ a)
-    (places-append (firings undecidedRule s Γ ρ b) _
-    ∙ ap₂ _++_ (firing-places s Γ ρ b)
-    (places-append (firings undecidedRule s Γ ρ c) _ ∙ ap (λ ls. ls ++ (r ∷ [])) (firing-places s Γ ρ c)))
-firing-places s Γ ρ (delayOf r t ls a) = firing-places s Γ ρ a
 
 pub fired-long : (s Γ : List ℕ) (ρ : List (List ℕ)) (r : ℕ) (f : List ℕ) → length (firedAt undecidedRule s Γ ρ r f) ≡ length f
 unfolding firedAt
 fired-long s Γ ρ r f = put-leaves enter length (firings undecidedRule s Γ ρ (treeAt s r)) (λ l m v a. length-set a l v) f
-
--- a second evaluation of a record replaces what the first one entered
-pub fired-again : (s Γ : List ℕ) (ρ π : List (List ℕ)) (r : ℕ) (f : List ℕ)
-    → firedAt undecidedRule s Γ ρ r (firedAt undecidedRule s Γ π r f) ≡ firedAt undecidedRule s Γ ρ r f
-unfolding firedAt
-fired-again s Γ ρ π r f =
-    entered-again (firings undecidedRule s Γ ρ (treeAt s r)) (firings undecidedRule s Γ π (treeAt s r)) f
-    (firing-places s Γ ρ (treeAt s r) ∙ sym (firing-places s Γ π (treeAt s r)))
 
 module _ {s : List ℕ} (w : Written s) (Γ : List ℕ) (ρ : List (List ℕ)) {r : ℕ} (b : r < count s) where
   pub constant-fired : kindAt s r ≡ expression constant → (f : List ℕ) → firedAt undecidedRule s Γ ρ r f ≡ f

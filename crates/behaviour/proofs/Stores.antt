@@ -1,6 +1,6 @@
--- A table of delay values: what a term's delays hold, entered twice over one frame, is what was entered last; where no delay of
--- the term stands the table is unchanged; and at distinct places the values are read back. So what is written to a sheet is the
--- table copied at the delays' leaves, and also at any other leaves whose words the table has.
+-- A table of delay values: where no delay of a term stands, entering what its delays hold leaves the table unchanged, and at
+-- distinct places the values are read back. A sheet written twice over one frame is as written last. So what is written to a sheet
+-- is the table copied at the delays' leaves, and also at any other leaves whose words the table has.
 -- Assumes nothing.
 use Prim.Native.Nat.{ℕ, _≤_, _<_}
 use mathlib.Core.Bool.{true, false}
@@ -18,15 +18,13 @@ use Rattle.accepted.proofs.Laws.{well-named, accepted-by-types}
 use Rattle.verdict.specs.Verdict.{verdict}
 use Rattle.answers.specs.declared.Verdict.the-variants.{Accepted}
 use Rattle.meaning.specs.Elaboration.{Term, frame}
-use Rattle.meaning.specs.Evaluation.{next}
-use Rattle.meaning.proofs.NextTyped.{next-frame}
 use Rattle.behaviour.specs.Terms.{circuitTerm}
 use Rattle.behaviour.specs.Delays.{entries, places, store}
 use Rattle.behaviour.specs.Entries.{Entry, assigned, putAll, enter, putWord}
 use Rattle.behaviour.specs.Sheets.{write}
 use Rattle.behaviour.specs.Writable.{Writable}
 use Rattle.behaviour.specs.Copies.{copied}
-use Rattle.behaviour.proofs.Entries.{placesOf, put-append, put-leaves, put-again, put-elsewhere, put-read}
+use Rattle.behaviour.proofs.Entries.{put-append, put-leaves, put-again, put-elsewhere, put-read}
 use Rattle.behaviour.proofs.Cells.{entryAt, InTable, table-cells, InSheet, sheet-cells}
 use Rattle.behaviour.proofs.Members.{member-or-not, Among, Rearranged}
 use Rattle.behaviour.proofs.Frames.{assigned-places, same-places, Reads, ByteEntries, values-small, same-placed, HasPlaces, typed-valued}
@@ -52,19 +50,6 @@ store-delay t ls vs h = put-append enter (entries t) (assigned ls vs) h
 pub store-length : (t : Term) (h : List ℕ) → length (store t h) ≡ length h
 store-length t h = put-leaves enter length (entries t) (λ l m v a. length-set a l v) h
 
--- what is entered at some places replaces what was entered there before
-pub entered-again : (es fs : List Entry) (h : List ℕ) → placesOf es ≡ placesOf fs → putAll enter es (putAll enter fs h) ≡ putAll enter es h
-entered-again es fs h e = put-again table-cells es fs h (λ l m. rw e m)
-
-pub store-again : (t u : Term) (h : List ℕ) → frame t ≡ frame u → store t (store u h) ≡ store t h
-store-again t u h e = entered-again (entries t) (entries u) h (same-places t u e)
-
--- what a second evaluation in another environment enters replaces what a first one entered
-pub store-next-again : (undecided : List ℕ → List ℕ → List ℕ) (ρ π : List (List ℕ)) (t : Term) (h : List ℕ)
-    → store (next undecided ρ t) (store (next undecided π t) h) ≡ store (next undecided ρ t) h
-store-next-again u ρ π t h =
-    store-again (next u ρ t) (next u π t) h (next-frame u ρ t ∙ sym (next-frame u π t))
-
 pub store-elsewhere : (t : Term) (l : ℕ) (h : List ℕ) → (List·Memᴰ l (places t) → ⊥) → getD (store t h) l 0 ≡ getD h l 0
 store-elsewhere t l h n = put-elsewhere table-cells (entries t) l h n
 
@@ -72,7 +57,7 @@ pub store-reads : (t : Term) (h : List ℕ) → Distinct (places t) → ((l : �
     → Reads (entryAt (store t h)) (entries t)
 store-reads t h d room = put-read table-cells (entries t) h d room
 
--- and so for a sheet written twice
+-- a sheet written twice
 pub write-again : (s : List ℕ) (t u : Term) → frame t ≡ frame u → write (write s u) t ≡ write s t
 unfolding write
 write-again s t u e =

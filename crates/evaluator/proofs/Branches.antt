@@ -1,6 +1,7 @@
 -- IFs and delays: an IF evaluates all three parts, and a delay gives the value it holds and next holds its part's value.
 -- Assumes nothing.
 use Prim.Native.Nat.{ℕ, _-_, _*_, _≤_, _<_}
+use mathlib.Core.Bool.{Bool, true, false}
 use mathlib.Core.List.{List, _++_}
 use mathlib.Core.Path.{_≡_, refl, sym, ap, _∙_}
 use native.Mathlib.Omega.{arith}
@@ -26,9 +27,10 @@ use Rattle.behaviour.proofs.Firings.{if-fired, delay-fired}
 use Rattle.values.specs.Chained.{Chained}
 use Rattle.values.specs.Matchings.{Matching, Chosen}
 use Rattle.values.specs.Slots.{frames}
-use Rattle.evaluator.specs.Evaluating.{EvaluatingIn, EvaluatedIn, Evaluated}
+use Rattle.evaluator.specs.Evaluating.{Wanted, EvaluatingIn, EvaluatedIn, Evaluated}
 use Rattle.evaluator.proofs.Readiness.{ready-passes, ready-written, ready-there, ready-value, evaluating-at, in-circuit, entry-is, value-long, same-frames, values-again}
 use Rattle.evaluator.proofs.LentBranches.{own-entry, tested-scope, then-scope, else-scope, then-lent, otherwise-fits, else-lent, otherwise-is, else-inside, otherwise-long, tested-is, test-inside, test-matching}
+use Rattle.evaluator.proofs.Wanted.{wanted-one, wanted-both, wanted-whole, wanted-value}
 use Rattle.evaluator.proofs.Parts.{room-done, room-wide}
 use Rattle.evaluator.proofs.Frames.{lent-long}
 
@@ -47,8 +49,8 @@ module _ {s : List ℕ} {n : ℕ} {W env : List ℕ} {names rec : ℕ} {out Γ :
 
   module _ (e : kindAt s rec ≡ expression ifMatches) {x y z p : ℕ} (ex : x ≡ word s rec 2) (ey : y ≡ word s rec 3) (ez : z ≡ word s rec 4)
       (ep : p ≡ word s rec 5) {c : ℕ} (ec : c ≡ getD W x 0) {R : List ℕ} (eR : R ≡ replicate 64 0)
-      {held fired env₁ held₁ fired₁ o₁ : List ℕ} (p₁ : Evaluated s n W env names x held fired (take (c - 0) R) env₁ held₁ fired₁ o₁) where
-    d₁ : EvaluatedIn s Γ env names x held fired env₁ held₁ fired₁ o₁
+      {whole : Bool} {held fired env₁ held₁ fired₁ o₁ : List ℕ} (p₁ : Evaluated whole s n W env names x held fired (take (c - 0) R) env₁ held₁ fired₁ o₁) where
+    d₁ : EvaluatedIn whole s Γ env names x held fired env₁ held₁ fired₁ o₁
     d₁ = room-done r (tested-scope (r .at-hand) e ex) ec eR p₁
 
     wide₁ : length o₁ ≡ c
@@ -59,8 +61,8 @@ module _ {s : List ℕ} {n : ℕ} {W env : List ℕ} {names rec : ℕ} {out Γ :
         evaluating-at (r .at-hand) (then-scope (r .at-hand) e ey) env₁ names out (r .at-hand .many) (d₁ .wide)
         (then-lent (r .at-hand) e ey) (values-again r env₁ (d₁ .kept))
 
-    module _ {env₂ held₂ fired₂ o₂ : List ℕ} (p₂ : Evaluated s n W env₁ names y held₁ fired₁ out env₂ held₂ fired₂ o₂) where
-      d₂ : EvaluatedIn s Γ env₁ names y held₁ fired₁ env₂ held₂ fired₂ o₂
+    module _ {env₂ held₂ fired₂ o₂ : List ℕ} (p₂ : Evaluated whole s n W env₁ names y held₁ fired₁ out env₂ held₂ fired₂ o₂) where
+      d₂ : EvaluatedIn whole s Γ env₁ names y held₁ fired₁ env₂ held₂ fired₂ o₂
       d₂ = p₂ .done Γ then-ready
 
       f₁ : frames s Γ env₁ ≡ ρ
@@ -85,8 +87,8 @@ module _ {s : List ℕ} {n : ℕ} {W env : List ℕ} {names rec : ℕ} {out Γ :
             evaluating-at (r .at-hand) (else-scope (r .at-hand) e ez) env₂ names (take (length o₂ - 0) Q) (r .at-hand .many) (d₂ .wide)
             (else-lent (r .at-hand) e o₂ then-long eQ ez) (values-again r env₂ kept₂)
 
-        module _ {env₃ held₃ fired₃ o₃ : List ℕ} (p₃ : Evaluated s n W env₂ names z held₂ fired₂ (take (length o₂ - 0) Q) env₃ held₃ fired₃ o₃) where
-          d₃ : EvaluatedIn s Γ env₂ names z held₂ fired₂ env₃ held₃ fired₃ o₃
+        module _ {env₃ held₃ fired₃ o₃ : List ℕ} (p₃ : Evaluated whole s n W env₂ names z held₂ fired₂ (take (length o₂ - 0) Q) env₃ held₃ fired₃ o₃) where
+          d₃ : EvaluatedIn whole s Γ env₂ names z held₂ fired₂ env₃ held₃ fired₃ o₃
           d₃ = p₃ .done Γ else-ready
 
           f₂ : frames s Γ env₂ ≡ ρ
@@ -127,44 +129,29 @@ module _ {s : List ℕ} {n : ℕ} {W env : List ℕ} {names rec : ℕ} {out Γ :
           pub if-wide : length env₃ ≡ length env
           if-wide = d₃ .wide ∙ sym (r .at-hand .wide)
 
-          pub if-done : {out′ : List ℕ} {number : ℕ} → Chosen s p tested otherwise o₂ out′ number
-              → EvaluatedIn s Γ env names rec held fired env₃ held₃ (set fired₃ rec number) out′
-          if-done g =
-              let h₂ : held₂ ≡ storedAt undecidedRule s Γ ρ y held₁ = rw f₁ at (d₂ .stored) in
-              let h₃ : held₃ ≡ storedAt undecidedRule s Γ ρ z held₂ = rw f₂ at (d₃ .stored) in
-              let k₂ : fired₂ ≡ firedAt undecidedRule s Γ ρ y fired₁ = rw f₁ at (d₂ .noted) in
-              let k₃ : fired₃ ≡ firedAt undecidedRule s Γ ρ z fired₂ = rw f₂ at (d₃ .noted) in
+          -- the number is entered where the whole is wanted
+          pub if-done : {out′ fired₄ : List ℕ} {number : ℕ} → Chosen s p tested otherwise o₂ out′ number
+              → Wanted whole (λ f. set f rec number) fired₃ fired₄
+              → EvaluatedIn whole s Γ env names rec held fired env₃ held₃ fired₄ out′
+          if-done g k₄ =
+              let h₂ : Wanted whole (storedAt undecidedRule s Γ ρ y) held₁ held₂ = rw f₁ at (d₂ .stored) in
+              let h₃ : Wanted whole (storedAt undecidedRule s Γ ρ z) held₂ held₃ = rw f₂ at (d₃ .stored) in
+              let k₂ : Wanted whole (firedAt undecidedRule s Γ ρ y) fired₁ fired₂ = rw f₁ at (d₂ .noted) in
+              let k₃ : Wanted whole (firedAt undecidedRule s Γ ρ z) fired₂ fired₃ = rw f₂ at (d₃ .noted) in
               let chosen = rw (test-back, else-back, d₁ .value, then-value, else-value, ex, ey, ez, ep) at (g .chosen) in
               let number-is = rw (test-back, d₁ .value, ex, ep) at (g .tells) in
               record {
                 value = chosen ∙ sym (if-value w Γ ρ b e);
-                stored = h₃ ∙ rw (h₂, d₁ .stored, ex, ey, ez) (sym (if-stored w Γ ρ b e held));
-                noted = rw (number-is, k₃, k₂, d₁ .noted, ex, ey, ez) (sym (if-fired w Γ ρ b e fired));
+                stored = wanted-one (wanted-both (wanted-both (d₁ .stored) h₂) h₃) (rw (ex, ey, ez) (if-stored w Γ ρ b e held));
+                noted = wanted-one (wanted-both (wanted-both (wanted-both (d₁ .noted) k₂) k₃) k₄)
+                    (rw (number-is, ex, ey, ez) (if-fired w Γ ρ b e fired));
                 wide = d₃ .wide;
                 kept = d₃ .kept ∙ kept₂;
               }
 
-  module _ (e : kindAt s rec ≡ expression delay) {x : ℕ} (ex : x ≡ word s rec 4) {l : ℕ} (el : l ≡ word s rec 3) where
-    delayed-scope : Scope s x Γ
-    delayed-scope = rw ex (of-delay e (r .at-hand .scope))
-
-    delayed-type : typeRecordOf s Γ (treeAt s x) ≡ wordA s rec
-    delayed-type =
-        rw ex
-        (eqb-true (typeRecordOf s Γ (treeAt s (wordC s rec))) (wordA s rec)
-        (judged-by-kind (ready-passes (r .at-hand)) (in-circuit (r .at-hand) (r .at-hand .scope)) delay e .2))
-
-    delayed-entry : length out ≡ getD W x 0
-    delayed-entry =
-        own-entry (r .at-hand) ∙ rw (tree-of w rec b (expression delay) e, ← delayed-type) (sym (entry-is (r .at-hand) delayed-scope))
-
-    pub delayed-ready : EvaluatingIn s n W env names x out Γ
-    delayed-ready =
-        evaluating-at (r .at-hand) delayed-scope env names out (r .at-hand .many) (r .at-hand .wide) delayed-entry (r .values)
-
-    pub delay-chained : {held fired env₁ held₁ fired₁ o : List ℕ} → Evaluated s n W env names x held fired out env₁ held₁ fired₁ o → Chained s n l (length o)
-    delay-chained p₁ =
-        let eo = ap length (p₁ .done Γ delayed-ready .value) ∙ value-long (r .at-hand) delayed-scope (r .values) ∙ sym delayed-entry in
+  module _ (e : kindAt s rec ≡ expression delay) {l : ℕ} (el : l ≡ word s rec 3) where
+    chained : (many : ℕ) → many ≡ length out → Chained s n l many
+    chained many eo =
         let q = part-of-kind w rec (expression delay) leafs b e 3 refl (unfold askOfKind in refl) in
         let counted = r .at-hand .sized .counted in
         record {
@@ -178,15 +165,57 @@ module _ {s : List ℕ} {n : ℕ} {W env : List ℕ} {names rec : ℕ} {out Γ :
               ∙ ready-value r ∙ sym eo);
         }
 
-    pub delay-done : {held fired env₁ held₁ fired₁ o₁ held₂ o₂ : List ℕ} → Evaluated s n W env names x held fired out env₁ held₁ fired₁ o₁
-        → held₂ ≡ putAll enter (assigned (chain s l) o₁) held₁ → o₂ ≡ leafValues s (chain s l)
-        → EvaluatedIn s Γ env names rec held fired env₁ held₂ fired₁ o₂
-    delay-done {held} {fired} p₁ h g =
-        let d = p₁ .done Γ delayed-ready in
+    -- where the value alone is wanted, the leaves are read at once
+    pub delay-held : Chained s n l (length out)
+    delay-held = chained (length out) refl
+
+    pub delay-read : {whole : Bool} → whole ≡ false → {held fired o : List ℕ} → o ≡ leafValues s (chain s l)
+        → EvaluatedIn whole s Γ env names rec held fired env held fired o
+    delay-read v g =
         record {
           value = g ∙ rw el (sym (delay-value w Γ ρ b e));
-          stored = h ∙ rw (d .value, d .stored, ex, el) (sym (delay-stored w Γ ρ b e held));
-          noted = d .noted ∙ rw ex (sym (delay-fired w Γ ρ b e fired));
-          wide = d .wide;
-          kept = d .kept;
+          stored = wanted-value v;
+          noted = wanted-value v;
+          wide = r .at-hand .wide;
+          kept = refl;
         }
+
+    -- where the whole is, they next hold the part's value
+    module _ {x : ℕ} (ex : x ≡ word s rec 4) where
+      delayed-scope : Scope s x Γ
+      delayed-scope = rw ex (of-delay e (r .at-hand .scope))
+
+      delayed-type : typeRecordOf s Γ (treeAt s x) ≡ wordA s rec
+      delayed-type =
+          rw ex
+          (eqb-true (typeRecordOf s Γ (treeAt s (wordC s rec))) (wordA s rec)
+          (judged-by-kind (ready-passes (r .at-hand)) (in-circuit (r .at-hand) (r .at-hand .scope)) delay e .2))
+
+      delayed-entry : length out ≡ getD W x 0
+      delayed-entry =
+          own-entry (r .at-hand) ∙ rw (tree-of w rec b (expression delay) e, ← delayed-type) (sym (entry-is (r .at-hand) delayed-scope))
+
+      pub delayed-ready : EvaluatingIn s n W env names x out Γ
+      delayed-ready =
+          evaluating-at (r .at-hand) delayed-scope env names out (r .at-hand .many) (r .at-hand .wide) delayed-entry (r .values)
+
+      pub delay-chained : {whole : Bool} {held fired env₁ held₁ fired₁ o : List ℕ}
+          → Evaluated whole s n W env names x held fired out env₁ held₁ fired₁ o → Chained s n l (length o)
+      delay-chained {o = o} p₁ =
+          chained (length o)
+          (ap length (p₁ .done Γ delayed-ready .value) ∙ value-long (r .at-hand) delayed-scope (r .values) ∙ sym delayed-entry)
+
+      pub delay-done : {whole : Bool} → whole ≡ true → {held fired env₁ held₁ fired₁ o₁ held₂ o₂ : List ℕ}
+          → Evaluated whole s n W env names x held fired out env₁ held₁ fired₁ o₁
+          → held₂ ≡ putAll enter (assigned (chain s l) o₁) held₁ → o₂ ≡ leafValues s (chain s l)
+          → EvaluatedIn whole s Γ env names rec held fired env₁ held₂ fired₁ o₂
+      delay-done v {held} {fired} {o₁ = o₁} p₁ h g =
+          let d = p₁ .done Γ delayed-ready in
+          record {
+            value = g ∙ rw el (sym (delay-value w Γ ρ b e));
+            stored = wanted-one (wanted-both (d .stored) (wanted-whole {f = putAll enter (assigned (chain s l) o₁)} v h))
+                (rw (d .value, ex, el) (delay-stored w Γ ρ b e held));
+            noted = wanted-one (d .noted) (rw ex (delay-fired w Γ ρ b e fired));
+            wide = d .wide;
+            kept = d .kept;
+          }

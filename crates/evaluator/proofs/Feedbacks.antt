@@ -1,6 +1,7 @@
 -- A feedback: settled from undefined, and then its body, with the settled value as its name's.
 -- Assumes nothing.
 use Prim.Native.Nat.{ℕ, _+_, _-_, _*_, _≤_, _<_}
+use mathlib.Core.Bool.{Bool}
 use mathlib.Core.List.{List, _∷_, map}
 use mathlib.Core.Path.{_≡_, refl, sym, ap, ap₂, _∙_}
 use native.Mathlib.Omega.{arith}
@@ -30,8 +31,9 @@ use Rattle.behaviour.proofs.Evaluated.{feedback-value, feedback-stored}
 use Rattle.behaviour.specs.Midway.{firedAt}
 use Rattle.behaviour.proofs.Firings.{feedback-fired}
 use Rattle.values.specs.Slots.{slot, entered, frames}
-use Rattle.evaluator.specs.Evaluating.{EvaluatingIn, EvaluatedIn, Evaluated, SettlingIn, SettledIn, Settled, leadsTo}
+use Rattle.evaluator.specs.Evaluating.{Wanted, EvaluatingIn, EvaluatedIn, Evaluated, SettlingIn, SettledIn, Settled, leadsTo}
 use Rattle.evaluator.proofs.Frames.{front-kept, frames-kept, lent-long, zeros-long, zeros-front}
+use Rattle.evaluator.proofs.Wanted.{wanted-one, wanted-both}
 use Rattle.evaluator.proofs.Readiness.{ready-passes, ready-written, ready-there, ready-value, evaluating-at, in-circuit, names-few, names-small, elaborated, entry-is, entry-few, value-long, room-there, name-wide, name-kept, name-slot, name-frames}
 
 module _ {s : List ℕ} {n : ℕ} {W env : List ℕ} {names rec : ℕ} {out Γ : List ℕ} (r : EvaluatingIn s n W env names rec out Γ)
@@ -82,12 +84,12 @@ module _ {s : List ℕ} {n : ℕ} {W env : List ℕ} {names rec : ℕ} {out Γ :
     few-around : length (t ∷ Γ) ≤ 64
     few-around = names-few (r .at-hand) part-scope
 
-    whole : (k : ℕ) → k - 0 ≡ k
-    whole k = omega arith
+    from-front : (k : ℕ) → k - 0 ≡ k
+    from-front k = omega arith
 
     -- the room is undefined in every leaf
     start : take (c - 0) R ≡ undefined τ
-    start = rw (whole c, eR) (zeros-front c 64 (let f = feedback-small in let i = entry in omega arith) ∙ rw entry refl)
+    start = rw (from-front c, eR) (zeros-front c 64 (let f = feedback-small in let i = entry in omega arith) ∙ rw entry refl)
 
     start-leaves : length (undefined τ) ≡ leaves τ
     start-leaves = value-length τ (undefined-typed τ)
@@ -146,8 +148,8 @@ module _ {s : List ℕ} {n : ℕ} {W env : List ℕ} {names rec : ℕ} {out Γ :
           let f = feedback-small in
           omega arith
 
-      module _ {held fired env₂ held₁ fired₁ : List ℕ} (p : Settled s n W env₁ names d held fired (take (c - 0) R) env₂ held₁ fired₁) where
-        f₁ : SettledIn s t Γ env₁ names d held fired env₂ held₁ fired₁
+      module _ {whole : Bool} {held fired env₂ held₁ fired₁ : List ℕ} (p : Settled whole s n W env₁ names d held fired (take (c - 0) R) env₂ held₁ fired₁) where
+        f₁ : SettledIn whole s t Γ env₁ names d held fired env₂ held₁ fired₁
         f₁ = p .settled t Γ feedback-settling
 
         abbrev u : List ℕ
@@ -182,18 +184,18 @@ module _ {s : List ℕ} {n : ℕ} {W env : List ℕ} {names rec : ℕ} {out Γ :
             ∙ value-long (r .at-hand) body-scope body-values)
             body-values
 
-        pub feedback-done : {env₃ held₂ fired₂ o : List ℕ} → Evaluated s n W env₂ (names + 1) y held₁ fired₁ out env₃ held₂ fired₂ o
-            → EvaluatedIn s Γ env names rec held fired env₃ held₂ fired₂ o
+        pub feedback-done : {env₃ held₂ fired₂ o : List ℕ} → Evaluated whole s n W env₂ (names + 1) y held₁ fired₁ out env₃ held₂ fired₂ o
+            → EvaluatedIn whole s Γ env names rec held fired env₃ held₂ fired₂ o
         feedback-done {env₃} {held₂} {fired₂} q =
             let d₂ = q .done (t ∷ Γ) feedback-body-ready in
-            let h₁ : held₁ ≡ storedAt undecidedRule s (t ∷ Γ) (u ∷ π) d held = rw (leads, ρ₁) at (f₁ .stored) in
-            let h₂ : held₂ ≡ storedAt undecidedRule s (t ∷ Γ) (u ∷ π) y held₁ = rw framed₂ at (d₂ .stored) in
-            let k₁ : fired₁ ≡ firedAt undecidedRule s (t ∷ Γ) (u ∷ π) d fired = rw (leads, ρ₁) at (f₁ .noted) in
-            let k₂ : fired₂ ≡ firedAt undecidedRule s (t ∷ Γ) (u ∷ π) y fired₁ = rw framed₂ at (d₂ .noted) in
+            let h₁ : Wanted whole (storedAt undecidedRule s (t ∷ Γ) (u ∷ π) d) held held₁ = rw (leads, ρ₁) at (f₁ .stored) in
+            let h₂ : Wanted whole (storedAt undecidedRule s (t ∷ Γ) (u ∷ π) y) held₁ held₂ = rw framed₂ at (d₂ .stored) in
+            let k₁ : Wanted whole (firedAt undecidedRule s (t ∷ Γ) (u ∷ π) d) fired fired₁ = rw (leads, ρ₁) at (f₁ .noted) in
+            let k₂ : Wanted whole (firedAt undecidedRule s (t ∷ Γ) (u ∷ π) y) fired₁ fired₂ = rw framed₂ at (d₂ .noted) in
             record {
               value = d₂ .value ∙ sym body-value;
-              stored = h₂ ∙ rw (h₁, ed, ey) (sym (feedback-stored w Γ π b e held));
-              noted = k₂ ∙ rw (k₁, ed, ey) (sym (feedback-fired w Γ π b e fired));
+              stored = wanted-one (wanted-both h₁ h₂) (rw (ed, ey) (feedback-stored w Γ π b e held));
+              noted = wanted-one (wanted-both k₁ k₂) (rw (ed, ey) (feedback-fired w Γ π b e fired));
               wide = d₂ .wide;
               kept = front-kept (64 * names) (64 * (names + 1)) env₃ env₂ (omega arith) (d₂ .kept) ∙ kept₂;
             }

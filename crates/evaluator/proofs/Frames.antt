@@ -12,7 +12,7 @@ use Rattle.picoella.specs.Language.{leaves}
 use Rattle.records.specs.Trees.{typeAt}
 use Rattle.values.specs.Slots.{slot, entered, frames}
 
-middle : (a w : ℕ) (l : List ℕ) → take w (drop a l) ≡ drop a (take (a + w) l)
+pub middle : (a w : ℕ) (l : List ℕ) → take w (drop a l) ≡ drop a (take (a + w) l)
 middle zero w l = rw zero-add refl
 middle (suc a) w [] = rw suc-add (take-nil w)
 middle (suc a) w (x ∷ l) = rw suc-add (middle a w l)

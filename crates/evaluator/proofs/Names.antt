@@ -1,6 +1,7 @@
 -- Names and LETs: the value of a name stands in its slot, and a LET's body is evaluated with one name more.
 -- Assumes nothing.
 use Prim.Native.Nat.{ℕ, _+_, _-_, _*_, _≤_, _<_}
+use mathlib.Core.Bool.{Bool}
 use mathlib.Core.List.{List, [], _∷_, _++_, map}
 use mathlib.Core.Path.{_≡_, refl, sym, _∙_}
 use lib.ListN.{length, getD, take, drop, replicate}
@@ -19,8 +20,9 @@ use Rattle.behaviour.proofs.Evaluated.{name-value, name-stored, let-value, let-
 use Rattle.behaviour.specs.Midway.{firedAt}
 use Rattle.behaviour.proofs.Firings.{name-fired, let-fired}
 use Rattle.values.specs.Slots.{slot, entered, frames}
-use Rattle.evaluator.specs.Evaluating.{EvaluatingIn, EvaluatedIn, Evaluated}
+use Rattle.evaluator.specs.Evaluating.{Wanted, EvaluatingIn, EvaluatedIn, Evaluated}
 use Rattle.evaluator.proofs.Readiness.{ready-written, ready-there, value-typed}
+use Rattle.evaluator.proofs.Wanted.{wanted-none, wanted-one, wanted-both}
 use Rattle.evaluator.proofs.LentNames.{name-stands, defining-scope, defined-inside, defined-room, body-frames, body-at-hand, kept-by-body}
 use Rattle.evaluator.proofs.Parts.{room-done, room-wide}
 
@@ -34,27 +36,27 @@ module _ {s : List ℕ} {n : ℕ} {W env : List ℕ} {names rec : ℕ} {out Γ :
   b : rec < count s
   b = ready-there (r .at-hand)
 
-  pub name-done : kindAt s rec ≡ expression name → {k : ℕ} → k ≡ word s rec 2 → {held fired out′ : List ℕ}
-      → out′ ≡ slot (names - 1 - k) (length out) env → EvaluatedIn s Γ env names rec held fired env held fired out′
-  name-done e {k} ek {held} {fired} g =
+  pub name-done : kindAt s rec ≡ expression name → {k : ℕ} → k ≡ word s rec 2 → {whole : Bool} {held fired out′ : List ℕ}
+      → out′ ≡ slot (names - 1 - k) (length out) env → EvaluatedIn whole s Γ env names rec held fired env held fired out′
+  name-done e {k} ek {whole} {held} {fired} g =
       record {
         value = g ∙ name-stands (r .at-hand) e ek ∙ rw ek (sym (name-value w Γ ρ b e));
-        stored = sym (name-stored w Γ ρ b e held);
-        noted = sym (name-fired w Γ ρ b e fired);
+        stored = wanted-none (name-stored w Γ ρ b e held);
+        noted = wanted-none (name-fired w Γ ρ b e fired);
         wide = r .at-hand .wide;
         kept = refl;
       }
 
   module _ (e : kindAt s rec ≡ expression letIn) {x y : ℕ} (ex : x ≡ word s rec 2) (ey : y ≡ word s rec 3) {c : ℕ} (ec : c ≡ getD W x 0)
-      {R : List ℕ} (eR : R ≡ replicate 64 0) {held fired env₁ held₁ fired₁ o₁ : List ℕ}
-      (p₁ : Evaluated s n W env names x held fired (take (c - 0) R) env₁ held₁ fired₁ o₁) where
+      {R : List ℕ} (eR : R ≡ replicate 64 0) {whole : Bool} {held fired env₁ held₁ fired₁ o₁ : List ℕ}
+      (p₁ : Evaluated whole s n W env names x held fired (take (c - 0) R) env₁ held₁ fired₁ o₁) where
     scope : Scope s x Γ
     scope = defining-scope (r .at-hand) e ex
 
     abbrev t : ℕ
     t = typeRecordOf s Γ (treeAt s x)
 
-    d₁ : EvaluatedIn s Γ env names x held fired env₁ held₁ fired₁ o₁
+    d₁ : EvaluatedIn whole s Γ env names x held fired env₁ held₁ fired₁ o₁
     d₁ = room-done r scope ec eR p₁
 
     long : length o₁ ≡ c
@@ -86,17 +88,18 @@ module _ {s : List ℕ} {n : ℕ} {W env : List ℕ} {names rec : ℕ} {out Γ :
       let-body-ready =
           record { at-hand = body-at-hand (r .at-hand) e ex ec eR o₁ long ey env₁ (d₁ .wide) (d₁ .kept) g; values = body-values }
 
-      pub let-done : {env₃ held₂ fired₂ o₂ : List ℕ} → Evaluated s n W env₂ (names + 1) y held₁ fired₁ out env₃ held₂ fired₂ o₂
-          → EvaluatedIn s Γ env names rec held fired env₃ held₂ fired₂ o₂
+      pub let-done : {env₃ held₂ fired₂ o₂ : List ℕ} → Evaluated whole s n W env₂ (names + 1) y held₁ fired₁ out env₃ held₂ fired₂ o₂
+          → EvaluatedIn whole s Γ env names rec held fired env₃ held₂ fired₂ o₂
       let-done {env₃} {held₂} {fired₂} p₂ =
           let d₂ = p₂ .done (t ∷ Γ) let-body-ready in
-          let h₂ : held₂ ≡ storedAt undecidedRule s (t ∷ Γ) (valueAt undecidedRule s Γ ρ x ∷ ρ) y held₁ =
+          let h₂ : Wanted whole (storedAt undecidedRule s (t ∷ Γ) (valueAt undecidedRule s Γ ρ x ∷ ρ) y) held₁ held₂ =
           rw framed at (d₂ .stored) in
-          let k₂ : fired₂ ≡ firedAt undecidedRule s (t ∷ Γ) (valueAt undecidedRule s Γ ρ x ∷ ρ) y fired₁ = rw framed at (d₂ .noted) in
+          let k₂ : Wanted whole (firedAt undecidedRule s (t ∷ Γ) (valueAt undecidedRule s Γ ρ x ∷ ρ) y) fired₁ fired₂ =
+          rw framed at (d₂ .noted) in
           record {
             value = d₂ .value ∙ sym body-value;
-            stored = h₂ ∙ rw (d₁ .stored, ex, ey) (sym (let-stored w Γ ρ b e held));
-            noted = k₂ ∙ rw (d₁ .noted, ex, ey) (sym (let-fired w Γ ρ b e fired));
+            stored = wanted-one (wanted-both (d₁ .stored) h₂) (rw (ex, ey) (let-stored w Γ ρ b e held));
+            noted = wanted-one (wanted-both (d₁ .noted) k₂) (rw (ex, ey) (let-fired w Γ ρ b e fired));
             wide = d₂ .wide;
             kept = kept-by-body (r .at-hand) e ex ec eR o₁ long ey env₁ (d₁ .wide) (d₁ .kept) g env₃ (d₂ .kept);
           }

@@ -1,15 +1,15 @@
--- Constants, names, pairs and their parts: from what evaluating the parts gives.
+-- Constants and pairs, from what evaluating the parts gives, and a part evaluated into some room.
 -- Assumes nothing.
 use Prim.Native.Nat.{ℕ, _-_, _≤_, _<_}
+use mathlib.Core.Bool.{Bool}
 use mathlib.Core.List.{List, _++_}
 use mathlib.Core.Path.{_≡_, refl, sym, ap, _∙_}
 use native.Mathlib.Omega.{arith}
 use lib.ListN.{length, getD, take, drop, replicate, length-map}
-use Rattle.picoella.specs.Language.{leaves}
 use Rattle.records.specs.Words.{word, wordA, wordB, count}
-use Rattle.records.specs.Kinds.{expression, constant, tuple, first, second, leafs, part}
+use Rattle.records.specs.Kinds.{expression, constant, tuple, leafs, part}
 use Rattle.records.specs.Says.{kindAt}
-use Rattle.records.specs.Trees.{typeAt, treeAt, chain, typeRecordOf}
+use Rattle.records.specs.Trees.{chain}
 use Rattle.records.specs.Decoding.{leafValues}
 use Rattle.records.specs.Written.{Written}
 use Rattle.records.proofs.Table.{askOfKind}
@@ -18,14 +18,15 @@ use Rattle.verdict.specs.Scopes.{Scope}
 use Rattle.meaning.specs.Undecided.{undecidedRule}
 use Rattle.behaviour.specs.Evaluated.{valueAt}
 use Rattle.behaviour.specs.Midway.{storedAt}
-use Rattle.behaviour.proofs.Evaluated.{constant-value, constant-stored, tuple-value, tuple-stored, first-value, first-stored, second-value, second-stored}
+use Rattle.behaviour.proofs.Evaluated.{constant-value, constant-stored, tuple-value, tuple-stored}
 use Rattle.behaviour.specs.Midway.{firedAt}
-use Rattle.behaviour.proofs.Firings.{constant-fired, tuple-fired, first-fired, second-fired}
+use Rattle.behaviour.proofs.Firings.{constant-fired, tuple-fired}
 use Rattle.values.specs.Chained.{Chained}
 use Rattle.values.specs.Slots.{frames}
-use Rattle.evaluator.specs.Evaluating.{EvaluatingIn, EvaluatedIn, Evaluated}
+use Rattle.evaluator.specs.Evaluating.{Wanted, EvaluatingIn, EvaluatedIn, Evaluated}
 use Rattle.evaluator.proofs.Readiness.{ready-written, ready-there, ready-value, evaluating-at, value-long, same-frames, values-again}
-use Rattle.evaluator.proofs.LentParts.{left-scope, right-scope, left-inside, left-lent, right-inside, right-lent, both-stand, first-scope, second-scope, room-lent, stands-wide, whole-inside, front-in-room, front-fits, front-stands, end-narrow, end-fits, end-stands}
+use Rattle.evaluator.proofs.Wanted.{wanted-none, wanted-one, wanted-both}
+use Rattle.evaluator.proofs.LentParts.{left-scope, right-scope, left-inside, left-lent, right-inside, right-lent, both-stand, room-lent, stands-wide}
 
 module _ {s : List ℕ} {n : ℕ} {W env : List ℕ} {names rec : ℕ} {out Γ : List ℕ} (r : EvaluatingIn s n W env names rec out Γ) where
   abbrev ρ : List (List ℕ)
@@ -61,13 +62,13 @@ module _ {s : List ℕ} {n : ℕ} {W env : List ℕ} {names rec : ℕ} {out Γ :
         as-many : (ls : List ℕ) → length (leafValues s ls) ≡ length ls
         as-many ls = length-map ls (wordA s)
 
-    pub constant-done : {x : ℕ} → x ≡ word s rec 3 → {held fired out′ : List ℕ} → out′ ≡ leafValues s (chain s x)
-        → EvaluatedIn s Γ env names rec held fired env held fired out′
-    constant-done ex {held} {fired} g =
+    pub constant-done : {x : ℕ} → x ≡ word s rec 3 → {whole : Bool} {held fired out′ : List ℕ} → out′ ≡ leafValues s (chain s x)
+        → EvaluatedIn whole s Γ env names rec held fired env held fired out′
+    constant-done ex {whole} {held} {fired} g =
         record {
           value = g ∙ rw ex (sym (constant-value sheet-written Γ ρ record-there e));
-          stored = sym (constant-stored sheet-written Γ ρ record-there e held);
-          noted = sym (constant-fired sheet-written Γ ρ record-there e fired);
+          stored = wanted-none (constant-stored sheet-written Γ ρ record-there e held);
+          noted = wanted-none (constant-fired sheet-written Γ ρ record-there e fired);
           wide = r .at-hand .wide;
           kept = refl;
         }
@@ -90,8 +91,8 @@ module _ {s : List ℕ} {n : ℕ} {W env : List ℕ} {names rec : ℕ} {out Γ :
         evaluating-at (r .at-hand) scope-a env names (take (w - 0) out) (r .at-hand .many) (r .at-hand .wide)
         (left-lent (r .at-hand) val long scope-a scope-b parts ew) (r .values)
 
-    module _ {held fired env₁ held₁ fired₁ o₁ : List ℕ} (p₁ : Evaluated s n W env names x held fired (take (w - 0) out) env₁ held₁ fired₁ o₁) where
-      d₁ : EvaluatedIn s Γ env names x held fired env₁ held₁ fired₁ o₁
+    module _ {whole : Bool} {held fired env₁ held₁ fired₁ o₁ : List ℕ} (p₁ : Evaluated whole s n W env names x held fired (take (w - 0) out) env₁ held₁ fired₁ o₁) where
+      d₁ : EvaluatedIn whole s Γ env names x held fired env₁ held₁ fired₁ o₁
       d₁ = p₁ .done Γ pair-first-ready
 
       pub pair-rest : w ≤ length (o₁ ++ drop (w - 0) out)
@@ -105,20 +106,20 @@ module _ {s : List ℕ} {n : ℕ} {W env : List ℕ} {names rec : ℕ} {out Γ :
           evaluating-at (r .at-hand) scope-b env₁ names rest (r .at-hand .many) (d₁ .wide)
           (right-lent (r .at-hand) val long scope-a scope-b parts ew (d₁ .value)) (values-again r env₁ (d₁ .kept))
 
-      pub pair-done : {env₂ held₂ fired₂ o₂ : List ℕ} → Evaluated s n W env₁ names y held₁ fired₁ rest env₂ held₂ fired₂ o₂
-          → EvaluatedIn s Γ env names rec held fired env₂ held₂ fired₂
+      pub pair-done : {env₂ held₂ fired₂ o₂ : List ℕ} → Evaluated whole s n W env₁ names y held₁ fired₁ rest env₂ held₂ fired₂ o₂
+          → EvaluatedIn whole s Γ env names rec held fired env₂ held₂ fired₂
           (take w (o₁ ++ drop (w - 0) out)
           ++ (o₂ ++ drop (length (o₁ ++ drop (w - 0) out) - w) (drop w (o₁ ++ drop (w - 0) out))))
       pair-done {env₂} {held₂} {fired₂} {o₂} p₂ =
           let d₂ = p₂ .done Γ pair-second-ready in
           let f = same-frames (r .at-hand) env₁ (d₁ .kept) in
           let v₂ : o₂ ≡ val y = rw f at (d₂ .value) in
-          let h₂ : held₂ ≡ storedAt undecidedRule s Γ ρ y held₁ = rw f at (d₂ .stored) in
-          let k₂ : fired₂ ≡ firedAt undecidedRule s Γ ρ y fired₁ = rw f at (d₂ .noted) in
+          let h₂ : Wanted whole (storedAt undecidedRule s Γ ρ y) held₁ held₂ = rw f at (d₂ .stored) in
+          let k₂ : Wanted whole (firedAt undecidedRule s Γ ρ y) fired₁ fired₂ = rw f at (d₂ .noted) in
           record {
             value = both-stand (r .at-hand) val long scope-a scope-b parts ew (d₁ .value) v₂;
-            stored = h₂ ∙ rw (d₁ .stored, ex, ey) (sym (tuple-stored sheet-written Γ ρ record-there e held));
-            noted = k₂ ∙ rw (d₁ .noted, ex, ey) (sym (tuple-fired sheet-written Γ ρ record-there e fired));
+            stored = wanted-one (wanted-both (d₁ .stored) h₂) (rw (ex, ey) (tuple-stored sheet-written Γ ρ record-there e held));
+            noted = wanted-one (wanted-both (d₁ .noted) k₂) (rw (ex, ey) (tuple-fired sheet-written Γ ρ record-there e fired));
             wide = d₂ .wide;
             kept = d₂ .kept ∙ d₁ .kept;
           }
@@ -130,79 +131,9 @@ module _ {s : List ℕ} {n : ℕ} {W env : List ℕ} {names rec : ℕ} {out Γ :
         evaluating-at (r .at-hand) c env names (take (w - 0) R) (r .at-hand .many) (r .at-hand .wide) (room-lent (r .at-hand) c ew eR)
         (r .values)
 
-    module _ {held fired env₁ held₁ fired₁ o₁ : List ℕ} (p₁ : Evaluated s n W env names x held fired (take (w - 0) R) env₁ held₁ fired₁ o₁) where
-      pub room-done : EvaluatedIn s Γ env names x held fired env₁ held₁ fired₁ o₁
+    module _ {whole : Bool} {held fired env₁ held₁ fired₁ o₁ : List ℕ} (p₁ : Evaluated whole s n W env names x held fired (take (w - 0) R) env₁ held₁ fired₁ o₁) where
+      pub room-done : EvaluatedIn whole s Γ env names x held fired env₁ held₁ fired₁ o₁
       room-done = p₁ .done Γ room-ready
 
       pub room-wide : length o₁ ≡ w
       room-wide = stands-wide (r .at-hand) val long c ew eR (room-done .value)
-
-  abbrev cut : ℕ
-  cut = leaves (typeAt s (wordA s (typeRecordOf s Γ (treeAt s (wordA s rec)))))
-
-  module _ (e : kindAt s rec ≡ expression first) {x : ℕ} (ex : x ≡ word s rec 2) {w : ℕ} (ew : w ≡ getD W x 0) {R : List ℕ}
-      (eR : R ≡ replicate 64 0) {held fired env₁ held₁ fired₁ o₁ : List ℕ}
-      (p₁ : Evaluated s n W env names x held fired (take (w - 0) R) env₁ held₁ fired₁ o₁) where
-    scope : Scope s x Γ
-    scope = first-scope (r .at-hand) e ex
-
-    d : EvaluatedIn s Γ env names x held fired env₁ held₁ fired₁ o₁
-    d = room-done scope ew eR p₁
-
-    front : val rec ≡ take cut (val x)
-    front = rw ex (first-value sheet-written Γ ρ record-there e)
-
-    pub first-inside : length out ≤ length (o₁ ++ drop (w - 0) R)
-    first-inside = front-in-room (r .at-hand) val long scope ew eR (d .value) cut front
-
-    pub first-fits : length (take (length out - 0) (o₁ ++ drop (w - 0) R)) ≡ length out
-    first-fits = front-fits (r .at-hand) val long scope ew eR (d .value) cut front
-
-    pub first-done : {out′ : List ℕ}
-        → out′ ≡ take (length out - 0) (o₁ ++ drop (w - 0) R) ++ drop (length (take (length out - 0) (o₁ ++ drop (w - 0) R))) out
-        → EvaluatedIn s Γ env names rec held fired env₁ held₁ fired₁ out′
-    first-done g =
-        record {
-          value = front-stands (r .at-hand) val long scope ew eR (d .value) cut front g;
-          stored = d .stored ∙ rw ex (sym (first-stored sheet-written Γ ρ record-there e held));
-          noted = d .noted ∙ rw ex (sym (first-fired sheet-written Γ ρ record-there e fired));
-          wide = d .wide;
-          kept = d .kept;
-        }
-
-  module _ (e : kindAt s rec ≡ expression second) {x : ℕ} (ex : x ≡ word s rec 2) {w : ℕ} (ew : w ≡ getD W x 0) {R : List ℕ}
-      (eR : R ≡ replicate 64 0) {held fired env₁ held₁ fired₁ o₁ : List ℕ}
-      (p₁ : Evaluated s n W env names x held fired (take (w - 0) R) env₁ held₁ fired₁ o₁) where
-    scope′ : Scope s x Γ
-    scope′ = second-scope (r .at-hand) e ex
-
-    d′ : EvaluatedIn s Γ env names x held fired env₁ held₁ fired₁ o₁
-    d′ = room-done scope′ ew eR p₁
-
-    end : val rec ≡ drop cut (val x)
-    end = rw ex (second-value sheet-written Γ ρ record-there e)
-
-    pub second-few : length out ≤ w
-    second-few = end-narrow (r .at-hand) val long scope′ ew eR (d′ .value) cut end
-
-    pub second-from : w - length out ≤ w
-    second-from = omega arith
-
-    pub second-inside : w ≤ length (o₁ ++ drop (w - 0) R)
-    second-inside = whole-inside (r .at-hand) val long scope′ ew eR (d′ .value)
-
-    abbrev piece : List ℕ
-    piece = take (w - (w - length out)) (drop (w - length out) (o₁ ++ drop (w - 0) R))
-
-    pub second-fits : length piece ≡ length out
-    second-fits = end-fits (r .at-hand) val long scope′ ew eR (d′ .value) cut end
-
-    pub second-done : {out′ : List ℕ} → out′ ≡ piece ++ drop (length piece) out → EvaluatedIn s Γ env names rec held fired env₁ held₁ fired₁ out′
-    second-done g =
-        record {
-          value = end-stands (r .at-hand) val long scope′ ew eR (d′ .value) cut end g;
-          stored = d′ .stored ∙ rw ex (sym (second-stored sheet-written Γ ρ record-there e held));
-          noted = d′ .noted ∙ rw ex (sym (second-fired sheet-written Γ ρ record-there e fired));
-          wide = d′ .wide;
-          kept = d′ .kept;
-        }

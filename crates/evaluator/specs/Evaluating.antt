@@ -2,6 +2,7 @@
 -- names' values stand in the slots of the environment, the outermost in the first.
 use Prim.Native.Nat.{ℕ, _+_, _*_}
 use mathlib.Core.Path.{_≡_}
+use mathlib.Core.Bool.{Bool, true, false}
 use mathlib.Core.List.{List, _∷_, map}
 use lib.ListN.{length, getD, take}
 use Rattle.records.specs.Limits.{environmentBytes}
@@ -37,11 +38,17 @@ pub record EvaluatingIn (s : List ℕ) (n : ℕ) (widths env : List ℕ) (names 
   pub at-hand : Ready s n widths env names rec out Γ
   pub values : ValuesOf (map (typeAt s) Γ) (frames s Γ env)
 
--- what comes of it: the value, the table of the delays' next values, the numbers of its IFs, and an environment with the same names
-pub record EvaluatedIn (s Γ env : List ℕ) (names rec : ℕ) (held fired env′ held′ fired′ out′ : List ℕ) : Type 0 where
+-- a table after an evaluation: with what is entered where the whole of it is wanted, and as it was where its value alone is
+pub record Wanted (whole : Bool) (entering : List ℕ → List ℕ) (table table′ : List ℕ) : Type 0 where
+  pub if-whole : whole ≡ true → table′ ≡ entering table
+  pub if-value : whole ≡ false → table′ ≡ table
+
+-- what comes of it: the value, and an environment with the same names; where the whole is wanted, the delays' next values in their
+-- table and the numbers of its IFs in theirs
+pub record EvaluatedIn (whole : Bool) (s Γ env : List ℕ) (names rec : ℕ) (held fired env′ held′ fired′ out′ : List ℕ) : Type 0 where
   pub value : out′ ≡ valueAt undecidedRule s Γ (frames s Γ env) rec
-  pub stored : held′ ≡ storedAt undecidedRule s Γ (frames s Γ env) rec held
-  pub noted : fired′ ≡ firedAt undecidedRule s Γ (frames s Γ env) rec fired
+  pub stored : Wanted whole (storedAt undecidedRule s Γ (frames s Γ env) rec) held held′
+  pub noted : Wanted whole (firedAt undecidedRule s Γ (frames s Γ env) rec) fired fired′
   pub wide : length env′ ≡ environmentBytes
   pub kept : take (64 * names) env′ ≡ take (64 * names) env
 
@@ -63,15 +70,17 @@ pub record SettlingIn (s : List ℕ) (n : ℕ) (widths env : List ℕ) (names d 
       : Both (bounds (typeAt s t)) (approximation s t names env)
       (valueAt undecidedRule s (t ∷ Γ) (frames s (t ∷ Γ) env) d)
 
-pub record SettledIn (s : List ℕ) (t : ℕ) (Γ env : List ℕ) (names d : ℕ) (held fired env′ held′ fired′ : List ℕ) : Type 0 where
+-- the settled value stands there; next values and numbers are those of the defining part at that value
+pub record SettledIn (whole : Bool) (s : List ℕ) (t : ℕ) (Γ env : List ℕ) (names d : ℕ) (held fired env′ held′ fired′ : List ℕ) : Type 0 where
   pub reached : approximation s t names env′ ≡ leadsTo s t Γ d names env
-  pub stored : held′ ≡ storedAt undecidedRule s (t ∷ Γ) (leadsTo s t Γ d names env ∷ frames s Γ env) d held
-  pub noted : fired′ ≡ firedAt undecidedRule s (t ∷ Γ) (leadsTo s t Γ d names env ∷ frames s Γ env) d fired
+  pub stored : Wanted whole (storedAt undecidedRule s (t ∷ Γ) (leadsTo s t Γ d names env ∷ frames s Γ env) d) held held′
+  pub noted : Wanted whole (firedAt undecidedRule s (t ∷ Γ) (leadsTo s t Γ d names env ∷ frames s Γ env) d) fired fired′
   pub wide : length env′ ≡ environmentBytes
   pub kept : take (64 * names) env′ ≡ take (64 * names) env
 
 -- The contracts: for every list of names in scope with which the call is ready.
 pub record Evaluated
+    (whole : Bool)
     (s : List ℕ)
     (n : ℕ)
     (widths env : List ℕ)
@@ -80,9 +89,10 @@ pub record Evaluated
     : Type 0
   where
     pub done : (Γ : List ℕ) → EvaluatingIn s n widths env names rec out Γ
-        → EvaluatedIn s Γ env names rec held fired env′ held′ fired′ out′
+        → EvaluatedIn whole s Γ env names rec held fired env′ held′ fired′ out′
 
 pub record Settled
+    (whole : Bool)
     (s : List ℕ)
     (n : ℕ)
     (widths env : List ℕ)
@@ -91,4 +101,4 @@ pub record Settled
     : Type 0
   where
     pub settled : (t : ℕ) (Γ : List ℕ) → SettlingIn s n widths env names d value t Γ
-        → SettledIn s t Γ env names d held fired env′ held′ fired′
+        → SettledIn whole s t Γ env names d held fired env′ held′ fired′

@@ -75,6 +75,7 @@ fn tell_fired(
         input,
         sheet,
         &mut out[0..wo],
+        true,
     );
     copy_words(&table, words);
 }

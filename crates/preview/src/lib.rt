@@ -41,6 +41,7 @@ fn show(sheet: &[u8], n: usize, widths: &WidthTable, input: &[u8], out: &mut [u8
         input,
         sheet,
         out,
+        false,
     );
 }
 

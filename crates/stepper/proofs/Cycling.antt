@@ -2,6 +2,7 @@
 -- delays' chains makes the sheet after the cycle.
 -- Assumes nothing.
 use Prim.Native.Nat.{ℕ, zero, suc, _+_, _*_, _≤_, _<_}
+use mathlib.Core.Bool.{Bool, true}
 use mathlib.Core.List.{List, [], _∷_, _++_, List·Memᴰ}
 use mathlib.Core.Path.{_≡_, refl, sym, ap, ap₂, _∙_}
 use native.Mathlib.Omega.{arith}
@@ -32,14 +33,15 @@ use Rattle.behaviour.specs.Delays.{store}
 use Rattle.behaviour.specs.Copies.{copied, leavesByKind, delayChains}
 use Rattle.behaviour.specs.Cycle.{output, sheetAfterCycle, afterBy}
 use Rattle.behaviour.specs.Evaluated.{valueAt}
-use Rattle.behaviour.specs.Midway.{firedAt}
+use Rattle.behaviour.specs.Midway.{storedAt, firedAt}
 use Rattle.behaviour.proofs.Firings.{fired-long}
 use Rattle.behaviour.proofs.Evaluated.{root-value, root-stored}
 use Rattle.behaviour.proofs.Cycle.{cycle-writable}
 use Rattle.behaviour.proofs.Stores.{leaves-in-table, store-length}
 use Rattle.behaviour.proofs.DelayRecords.{write-copied-chains}
 use Rattle.values.specs.Slots.{entered, frames}
-use Rattle.evaluator.specs.Evaluating.{EvaluatingIn, Evaluated}
+use Rattle.evaluator.specs.Evaluating.{Wanted, EvaluatingIn, Evaluated}
+use Rattle.evaluator.proofs.Wanted.{wanted-one, wanted-long}
 use Rattle.evaluator.proofs.Frames.{entered-slot, entered-long}
 use Rattle.stepper.specs.Cycling.{Copying, Cycling, Looked, Cycled}
 use Rattle.stepper.proofs.WidthsAgain.{sized-again, widths-again}
@@ -111,22 +113,24 @@ module _ {s : List ℕ} {n : ℕ} {W env held input current out : List ℕ} (g :
           values = rw framed (more-values input-typed no-values);
         }
 
-    pub look-done : {fired env₂ held₁ fired₁ o₁ : List ℕ} → Evaluated current n W env₁ 1 x held fired out env₂ held₁ fired₁ o₁
-        → Looked input current held fired env₂ held₁ fired₁ o₁
-    look-done {fired} {held₁ = held₁} {fired₁} {o₁} p =
+    pub look-done : {whole : Bool} {fired env₂ held₁ fired₁ o₁ : List ℕ}
+        → Evaluated whole current n W env₁ 1 x held fired out env₂ held₁ fired₁ o₁
+        → Looked whole input current held fired env₂ held₁ fired₁ o₁
+    look-done {whole} {fired} {held₁ = held₁} {fired₁} {o₁} p =
         let d = p .done (inputs current) root-evaluating in
         let v : o₁ ≡ valueAt undecidedRule current (inputs current) (input ∷ []) (wordB current 0) = rw (framed, at-root) at (d .value) in
-        let h : held₁ ≡ store (next undecidedRule (input ∷ []) (circuitTerm current)) held =
-        rw (framed, at-root) at (d .stored) ∙ sym (root-stored current input held) in
-        let f : fired₁ ≡ firedAt undecidedRule current (inputs current) (input ∷ []) (wordB current 0) fired =
+        let h : Wanted whole (storedAt undecidedRule current (inputs current) (input ∷ []) (wordB current 0)) held held₁ =
+        rw (framed, at-root) at (d .stored) in
+        let f : Wanted whole (firedAt undecidedRule current (inputs current) (input ∷ []) (wordB current 0)) fired fired₁ =
         rw (framed, at-root) at (d .noted) in
+        let next-values = wanted-one h (root-stored current input held) in
         record {
           wide = d .wide;
-          long = rw h (store-length (next undecidedRule (input ∷ []) (circuitTerm current)) held ∙ g .long);
+          long = wanted-long next-values (store-length (next undecidedRule (input ∷ []) (circuitTerm current)) held) ∙ g .long;
           value = v ∙ sym (root-value current input);
-          stored = h;
+          stored = next-values;
           noted = f;
-          same-size = rw f (fired-long current (inputs current) (input ∷ []) (wordB current 0) fired);
+          same-size = wanted-long f (fired-long current (inputs current) (input ∷ []) (wordB current 0) fired);
         }
 
   -- the chains are where they were
@@ -150,7 +154,7 @@ module _ {s : List ℕ} {n : ℕ} {W env held input current out : List ℕ} (g :
       write-copied-chains (g .again) (next undecidedRule (input ∷ []) (circuitTerm current))
       (cycle-writable rule-lawful (g .again) input-typed) held room
 
-  pub cycle-done : {fired env₂ held₁ fired₁ o₁ : List ℕ} → Looked input current held fired env₂ held₁ fired₁ o₁
+  pub cycle-done : {fired env₂ held₁ fired₁ o₁ : List ℕ} → Looked true input current held fired env₂ held₁ fired₁ o₁
       → {current′ : List ℕ} → current′ ≡ copied held₁ (delayChains s n) current → Cycled input current env₂ held₁ current′ o₁
   cycle-done l c =
       let counted : n ≡ count current = sized-again o (g .sized) .counted in
@@ -158,5 +162,5 @@ module _ {s : List ℕ} {n : ℕ} {W env held input current out : List ℕ} (g :
         wide = l .wide;
         long = l .long;
         value = l .value;
-        next = c ∙ rw (l .stored, same-chains n, counted) (sym written-after);
+        next = c ∙ rw (l .stored .if-whole refl, same-chains n, counted) (sym written-after);
       }

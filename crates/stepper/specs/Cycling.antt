@@ -2,6 +2,7 @@
 -- alone, or in labels too, and are accepted with the same type.
 use Prim.Native.Nat.{ℕ}
 use mathlib.Core.Path.{_≡_}
+use mathlib.Core.Bool.{Bool}
 use mathlib.Core.List.{List, [], _∷_}
 use lib.ListN.{length}
 use Rattle.records.specs.Limits.{mostRecords, environmentBytes}
@@ -21,6 +22,7 @@ use Rattle.behaviour.specs.Terms.{circuitTerm}
 use Rattle.behaviour.specs.Delays.{store}
 use Rattle.behaviour.specs.Midway.{firedAt}
 use Rattle.behaviour.specs.Cycle.{output, sheetAfterCycle}
+use Rattle.evaluator.specs.Evaluating.{Wanted}
 
 -- a table is copied to a sheet, along chains of the first one
 pub record Copying (first : List ℕ) (n : ℕ) (current : List ℕ) : Type 0 where
@@ -41,12 +43,12 @@ pub record Cycling (first : List ℕ) (n : ℕ) (widths env held input current o
   pub typed : OfType (typeAt first (wordA first 0)) input
   pub room : length out ≡ leaves (typeAt first type)
 
--- the root is evaluated: the output, the delays' next values in their table, and the numbers of the IFs in theirs; the sheet is only
--- read
-pub record Looked (input current held fired env′ held′ fired′ out′ : List ℕ) : Type 0 where
+-- the root is evaluated: the output and, where the whole is wanted, the delays' next values in their table and the numbers of the
+-- IFs in theirs; the sheet is only read
+pub record Looked (whole : Bool) (input current held fired env′ held′ fired′ out′ : List ℕ) : Type 0 where
   pub value : out′ ≡ output current input
-  pub stored : held′ ≡ store (next undecidedRule (input ∷ []) (circuitTerm current)) held
-  pub noted : fired′ ≡ firedAt undecidedRule current (inputs current) (input ∷ []) (wordB current 0) fired
+  pub stored : Wanted whole (store (next undecidedRule (input ∷ []) (circuitTerm current))) held held′
+  pub noted : Wanted whole (firedAt undecidedRule current (inputs current) (input ∷ []) (wordB current 0)) fired fired′
   pub wide : length env′ ≡ environmentBytes
   pub long : length held′ ≡ mostRecords
   pub same-size : length fired′ ≡ length fired

@@ -57,8 +57,9 @@ fn copy_all(sheet: &[u8], n: usize, held: &NextValues, current: &mut [u8])
     }
 }
 
-// The evaluating half of a cycle from the sheet in `current`: the output goes to `out`, the delays' next values to `held`, and the
-// numbers of the IFs to `fired`. The sheet that was checked is read for its records alone; `env` is room.
+// The evaluating half of a cycle from the sheet in `current`: the output goes to `out` and, where `whole` is true, the delays' next
+// values to `held` and the numbers of the IFs to `fired`; otherwise these two stay as they are. The sheet that was checked is read
+// for its records alone; `env` is room.
 pub fn look(
     sheet: &[u8],
     n: usize,
@@ -69,13 +70,14 @@ pub fn look(
     input: &[u8],
     current: &[u8],
     out: &mut [u8],
+    whole: bool,
 )
     requires { ⌜ Cycling (now sheet) n (now widths) (now env) (now held) (now input) (now current) (now out) ⌝ }
-    ensures { λ _. ⌜ Looked (now (input .entry)) (now (current .entry)) (now (held .entry)) (now (fired .entry)) (now (env .exit)) (now (held .exit)) (now (fired .exit)) (now (out .exit)) ⌝ }
+    ensures { λ _. ⌜ Looked whole (now (input .entry)) (now (current .entry)) (now (held .entry)) (now (fired .entry)) (now (env .exit)) (now (held .exit)) (now (fired .exit)) (now (out .exit)) ⌝ }
 {
     enter_value(env, 0, input);
     let root = word(sheet, n, 0, WORD_B);
-    eval(current, n, widths, env, 1, held, root, out, fired);
+    eval(current, n, widths, env, 1, held, root, out, fired, whole);
 }
 
 // One cycle from the sheet in `current`: the output goes to `out`, and the sheet after the cycle to `current`.
@@ -93,6 +95,17 @@ pub fn cycle(
     requires { ⌜ Cycling (now sheet) n (now widths) (now env) (now held) (now input) (now current) (now out) ⌝ }
     ensures { λ _. ⌜ Cycled (now (input .entry)) (now (current .entry)) (now (env .exit)) (now (held .exit)) (now (current .exit)) (now (out .exit)) ⌝ }
 {
-    look(sheet, n, widths, env, held, fired, input, current, out);
+    look(
+        sheet,
+        n,
+        widths,
+        env,
+        held,
+        fired,
+        input,
+        current,
+        out,
+        true,
+    );
     copy_all(sheet, n, held, current);
 }

@@ -1,4 +1,4 @@
--- A value copied to the front of a slot, and held against it; a constructor held against a leaf.
+-- A value copied to the front of a slot, held against it, and looked at for undefined leaves; a constructor held against a leaf.
 -- Assumes nothing.
 use Prim.Native.Nat.{ℕ, zero, suc, _+_, _-_, _≤_, _<_}
 use mathlib.Core.Bool.{Bool, true, false}
@@ -6,6 +6,7 @@ use mathlib.Core.List.{List, [], _++_, append-nil}
 use mathlib.Core.Path.{_≡_, refl, sym, ap, _∙_}
 use mathlib.Core.Logic.{_≢_}
 use native.Mathlib.Omega.{arith}
+use native.Mathlib.Decide.{ℕ-discrete}
 use native.Mathlib.Numerals.{add-one}
 use borrow.Author.Tests.{eq-eqb, ne-eqb}
 use lib.Dec.{eqb}
@@ -15,7 +16,7 @@ use Rattle.records.proofs.Tests.{never-both}
 use Rattle.meaning.specs.Decisions.{Yes, No, constructorDecision, pairDecision}
 use Rattle.meaning.specs.Evaluation.{choose}
 use Rattle.meaning.specs.Undecided.{undecidedRule}
-use Rattle.values.specs.MatchAnswers.{decisionOf, told, Own, ValuesCompared}
+use Rattle.values.specs.MatchAnswers.{decisionOf, told, Own, ValuesCompared, LeavesDefined}
 use Rattle.values.specs.declared.Match.{Match}
 use Rattle.values.specs.declared.Match.the-variants as Matches
 
@@ -72,6 +73,29 @@ module _ (value slot : List ℕ) (room : length value ≤ length slot) where
         same = λ e. absurd (never-both false e refl);
         other = λ _ e. d (sym (ap (λ v. getD v i 0) e ∙ getD-take (length value) slot i 0 h));
       }
+
+-- the first i leaves of a value are defined
+module _ (value : List ℕ) where
+  pub record DefinedTo (i : ℕ) : Type 0 where
+    pub few : i ≤ length value
+    pub so-far : (j : ℕ) → j < i → getD value j 0 ≢ 0
+
+  pub none-to-define : DefinedTo 0
+  none-to-define = record { few = omega arith; so-far = λ j h. absurd (omega arith) }
+
+  pub define-next : (i : ℕ) → i < length value → DefinedTo i → getD value i 0 ≢ 0 → DefinedTo (i + 1)
+  define-next i h c d = record { few = omega arith; so-far = λ j k. go j k (ℕ-discrete j i) }
+    where
+      go : (j : ℕ) → j < i + 1 → Dec (j ≡ i) → getD value j 0 ≢ 0
+      go j k (yes e) = rw e d
+      go j k (no n) = c .so-far j (omega arith)
+
+  pub defined-everywhere : (i : ℕ) → length value ≤ i → DefinedTo i → LeavesDefined value true
+  defined-everywhere i h c =
+      record { every = λ _ j k. c .so-far j (omega arith); not-every = λ e. absurd (never-both true refl e) }
+
+  pub undefined-at : (i : ℕ) → i < length value → getD value i 0 ≡ 0 → LeavesDefined value false
+  undefined-at i h z = record { every = λ e. absurd (never-both false e refl); not-every = λ _. (i, h, z) }
 
 -- the answer of constructor k at record p on a leaf
 module _ (p k v : ℕ) where

@@ -1,8 +1,10 @@
 -- The answers of tests on values.
-use Prim.Native.Nat.{ℕ}
+use Prim.Native.Nat.{ℕ, _<_}
 use mathlib.Core.Path.{_≡_}
 use mathlib.Core.Bool.{Bool, true, false}
 use mathlib.Core.List.{List}
+use mathlib.Core.Logic.{_≢_}
+use lib.ListN.{length, getD}
 use Rattle.meaning.specs.Decisions.{Decision}
 use Rattle.meaning.specs.Decisions as Decisions
 use Rattle.behaviour.specs.Firing.{orAfter}
@@ -29,3 +31,8 @@ pub record Own (p : ℕ) (answer : Match) (decision : Decision) : Type 0 where
 pub record ValuesCompared (v w : List ℕ) (answer : Bool) : Type 0 where
   pub same : answer ≡ true → v ≡ w
   pub other : answer ≡ false → v ≡ w → ⊥
+
+-- a test of whether a value is defined in every leaf
+pub record LeavesDefined (v : List ℕ) (answer : Bool) : Type 0 where
+  pub every : answer ≡ true → (i : ℕ) → i < length v → getD v i 0 ≢ 0
+  pub not-every : answer ≡ false → (i : ℕ) × (i < length v) × (getD v i 0 ≡ 0)

@@ -9,7 +9,7 @@ ghost use Rattle.behaviour.specs.Entries.{assigned, putAll, enter};
 ghost use mathlib.Core.List.{List, [], _∷_, _++_};
 ghost use Rattle.meaning.specs.Decisions.{constructorDecision, pairDecision, chainDecision};
 ghost use Rattle.values.specs.Chained.{Chained};
-ghost use Rattle.values.specs.MatchAnswers.{decisionOf, told, Own, ValuesCompared};
+ghost use Rattle.values.specs.MatchAnswers.{decisionOf, told, Own, ValuesCompared, LeavesDefined};
 ghost use Rattle.values.specs.Matchings.{Matching, MatchedAll, MatchedOne, Chosen};
 ghost use Rattle.values.specs.Slots.{slot, entered};
 ghost use Rattle.meaning.specs.Evaluation.{choose};
@@ -98,6 +98,15 @@ pub fn look_up(env: &[u8], level: usize, w: usize) -> &[u8]
     &env[at..at + w]
 }
 
+// A part of the value of the name at this level, in the lent environment: w bytes from the value's byte `from` on.
+pub fn look_up_part(env: &[u8], level: usize, from: usize, w: usize) -> &[u8]
+    requires { ⌜ (mostLeaves * level + from + w ≤ length (now env)) × (length (now env) ≤ environmentBytes) ⌝ }
+    ensures { λ r. ⌜ now r ≡ take w (drop (mostLeaves * level + from) (now (env .entry))) ⌝ }
+{
+    let at = VALUE_BYTES * level + from;
+    &env[at..at + w]
+}
+
 // Copies a value into the front of a slot.
 pub fn put(value: &[u8], slot: &mut [u8])
     requires { ⌜ length (now value) ≤ length (now slot) ⌝ }
@@ -120,6 +129,21 @@ pub fn stands(value: &[u8], slot: &[u8]) -> bool
     let mut i = 0;
     while i < all {
         if slot[i] != value[i] {
+            return false;
+        }
+        i += 1;
+    }
+    true
+}
+
+// Whether a value is defined in every leaf.
+pub fn all_defined(value: &[u8]) -> bool
+    ensures { λ r. ⌜ LeavesDefined (now (value .entry)) r ⌝ }
+{
+    let all = value.len();
+    let mut i = 0;
+    while i < all {
+        if value[i] == 0 {
             return false;
         }
         i += 1;
@@ -150,6 +174,14 @@ pub fn copy_value(env: &[u8], level: usize, out: &mut [u8])
     ensures { λ _. ⌜ now (out .exit) ≡ slot level (length (now (out .entry))) (now (env .entry)) ⌝ }
 {
     put(look_up(env, level, out.len()), out);
+}
+
+// Copies a part of the value of the name at this level, from the value's byte `from` on.
+pub fn copy_part(env: &[u8], level: usize, from: usize, out: &mut [u8])
+    requires { ⌜ (mostLeaves * level + from + length (now out) ≤ length (now env)) × (length (now env) ≤ environmentBytes) ⌝ }
+    ensures { λ _. ⌜ now (out .exit) ≡ take (length (now (out .entry))) (drop (mostLeaves * level + from) (now (env .entry))) ⌝ }
+{
+    put(look_up_part(env, level, from, out.len()), out);
 }
 
 // Room for a value, undefined in every leaf.

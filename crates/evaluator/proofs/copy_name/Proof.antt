@@ -23,7 +23,7 @@ same-length : tie.Need-same-length
 same-length c = search needs
 
 returns : tie.Need-returns
-returns c = λ held fired. record { done = λ Γ r. name-done r (c .before .before .before .before .before .before .before .before .pre .1) (c .before .before .before .before .word .ensures .0) (c .before .before .copy-value .ensures) }
+returns c = λ whole held fired. record { done = λ Γ r. name-done r (c .before .before .before .before .before .before .before .before .pre .1) (c .before .before .before .before .word .ensures .0) (c .before .before .copy-value .ensures) }
 
 pub copy-name-spec : {M : Type 1} → statement M
 copy-name-spec =

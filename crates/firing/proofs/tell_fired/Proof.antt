@@ -1,4 +1,5 @@
 -- Assumes nothing.
+use mathlib.Core.Path.{refl}
 use native.Mathlib.Omega.{arith}
 use Rattle.stepper.proofs.CallCycles.{output-there, output-few}
 use Rattle.firing.proofs.Telling.{told-looking, told-words}
@@ -52,7 +53,7 @@ same-length : tie.Need-same-length
 same-length c = search needs
 
 returns : tie.Need-returns
-returns c = told-words (c .before .before .before .before .before .before .before .before .before .before .before .before .before .before .before .before .before .before .before .before .pre) _ _ _ (c .before .before .before .before .before .before .before .before .before .before .before .before .before .before .none-fired .ensures) (c .before .before .before .before .before .before .before .look .ensures .noted) (c .before .before .copy-words .ensures)
+returns c = told-words (c .before .before .before .before .before .before .before .before .before .before .before .before .before .before .before .before .before .before .before .before .pre) _ _ _ (c .before .before .before .before .before .before .before .before .before .before .before .before .before .before .none-fired .ensures) (c .before .before .before .before .before .before .before .look .ensures .noted .if-whole refl) (c .before .before .copy-words .ensures)
 
 pub tell-fired-spec : {M : Type 1} → statement M
 tell-fired-spec =

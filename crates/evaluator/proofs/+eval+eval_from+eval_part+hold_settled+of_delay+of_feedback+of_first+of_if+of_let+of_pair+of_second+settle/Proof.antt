@@ -6,36 +6,45 @@ use borrow.Fn.Kinds.{In}
 use borrow.Fn.PlainCycle.{Measures, is, falls, and}
 use Rattle.evaluator.proofs.eval.Reads as eval
 use Rattle.evaluator.proofs.eval.Kinds as eval-kinds
-use Rattle.evaluator.proofs.+eval+eval_part+of_delay+of_feedback+of_first+of_if+of_let+of_pair+of_second+settle.Lts-eval as eval-lts
+use Rattle.evaluator.proofs.+eval+eval_from+eval_part+hold_settled+of_delay+of_feedback+of_first+of_if+of_let+of_pair+of_second+settle.Lts-eval as eval-lts
+use Rattle.evaluator.proofs.eval_from.Reads as eval-from
+use Rattle.evaluator.proofs.eval_from.Kinds as eval-from-kinds
+use Rattle.evaluator.proofs.+eval+eval_from+eval_part+hold_settled+of_delay+of_feedback+of_first+of_if+of_let+of_pair+of_second+settle.Lts-eval_from as eval-from-lts
 use Rattle.evaluator.proofs.eval_part.Reads as eval-part
 use Rattle.evaluator.proofs.eval_part.Kinds as eval-part-kinds
-use Rattle.evaluator.proofs.+eval+eval_part+of_delay+of_feedback+of_first+of_if+of_let+of_pair+of_second+settle.Lts-eval_part as eval-part-lts
+use Rattle.evaluator.proofs.+eval+eval_from+eval_part+hold_settled+of_delay+of_feedback+of_first+of_if+of_let+of_pair+of_second+settle.Lts-eval_part as eval-part-lts
+use Rattle.evaluator.proofs.hold_settled.Reads as hold-settled
+use Rattle.evaluator.proofs.hold_settled.Kinds as hold-settled-kinds
+use Rattle.evaluator.proofs.+eval+eval_from+eval_part+hold_settled+of_delay+of_feedback+of_first+of_if+of_let+of_pair+of_second+settle.Lts-hold_settled as hold-settled-lts
 use Rattle.evaluator.proofs.of_delay.Reads as of-delay
 use Rattle.evaluator.proofs.of_delay.Kinds as of-delay-kinds
-use Rattle.evaluator.proofs.+eval+eval_part+of_delay+of_feedback+of_first+of_if+of_let+of_pair+of_second+settle.Lts-of_delay as of-delay-lts
+use Rattle.evaluator.proofs.+eval+eval_from+eval_part+hold_settled+of_delay+of_feedback+of_first+of_if+of_let+of_pair+of_second+settle.Lts-of_delay as of-delay-lts
 use Rattle.evaluator.proofs.of_feedback.Reads as of-feedback
 use Rattle.evaluator.proofs.of_feedback.Kinds as of-feedback-kinds
-use Rattle.evaluator.proofs.+eval+eval_part+of_delay+of_feedback+of_first+of_if+of_let+of_pair+of_second+settle.Lts-of_feedback as of-feedback-lts
+use Rattle.evaluator.proofs.+eval+eval_from+eval_part+hold_settled+of_delay+of_feedback+of_first+of_if+of_let+of_pair+of_second+settle.Lts-of_feedback as of-feedback-lts
 use Rattle.evaluator.proofs.of_first.Reads as of-first
 use Rattle.evaluator.proofs.of_first.Kinds as of-first-kinds
-use Rattle.evaluator.proofs.+eval+eval_part+of_delay+of_feedback+of_first+of_if+of_let+of_pair+of_second+settle.Lts-of_first as of-first-lts
+use Rattle.evaluator.proofs.+eval+eval_from+eval_part+hold_settled+of_delay+of_feedback+of_first+of_if+of_let+of_pair+of_second+settle.Lts-of_first as of-first-lts
 use Rattle.evaluator.proofs.of_if.Reads as of-if
 use Rattle.evaluator.proofs.of_if.Kinds as of-if-kinds
-use Rattle.evaluator.proofs.+eval+eval_part+of_delay+of_feedback+of_first+of_if+of_let+of_pair+of_second+settle.Lts-of_if as of-if-lts
+use Rattle.evaluator.proofs.+eval+eval_from+eval_part+hold_settled+of_delay+of_feedback+of_first+of_if+of_let+of_pair+of_second+settle.Lts-of_if as of-if-lts
 use Rattle.evaluator.proofs.of_let.Reads as of-let
 use Rattle.evaluator.proofs.of_let.Kinds as of-let-kinds
-use Rattle.evaluator.proofs.+eval+eval_part+of_delay+of_feedback+of_first+of_if+of_let+of_pair+of_second+settle.Lts-of_let as of-let-lts
+use Rattle.evaluator.proofs.+eval+eval_from+eval_part+hold_settled+of_delay+of_feedback+of_first+of_if+of_let+of_pair+of_second+settle.Lts-of_let as of-let-lts
 use Rattle.evaluator.proofs.of_pair.Reads as of-pair
 use Rattle.evaluator.proofs.of_pair.Kinds as of-pair-kinds
-use Rattle.evaluator.proofs.+eval+eval_part+of_delay+of_feedback+of_first+of_if+of_let+of_pair+of_second+settle.Lts-of_pair as of-pair-lts
+use Rattle.evaluator.proofs.+eval+eval_from+eval_part+hold_settled+of_delay+of_feedback+of_first+of_if+of_let+of_pair+of_second+settle.Lts-of_pair as of-pair-lts
 use Rattle.evaluator.proofs.of_second.Reads as of-second
 use Rattle.evaluator.proofs.of_second.Kinds as of-second-kinds
-use Rattle.evaluator.proofs.+eval+eval_part+of_delay+of_feedback+of_first+of_if+of_let+of_pair+of_second+settle.Lts-of_second as of-second-lts
+use Rattle.evaluator.proofs.+eval+eval_from+eval_part+hold_settled+of_delay+of_feedback+of_first+of_if+of_let+of_pair+of_second+settle.Lts-of_second as of-second-lts
 use Rattle.evaluator.proofs.settle.Reads as settle
 use Rattle.evaluator.proofs.settle.Kinds as settle-kinds
-use Rattle.evaluator.proofs.+eval+eval_part+of_delay+of_feedback+of_first+of_if+of_let+of_pair+of_second+settle.Lts-settle as settle-lts
+use Rattle.evaluator.proofs.+eval+eval_from+eval_part+hold_settled+of_delay+of_feedback+of_first+of_if+of_let+of_pair+of_second+settle.Lts-settle as settle-lts
+use Rattle.evaluator.proofs.chain_end.Reads as chain-end-reads
 use Rattle.evaluator.proofs.copy_name.Reads as copy-name-reads
+use Rattle.evaluator.proofs.copy_name_part.Reads as copy-name-part-reads
 use Rattle.records.proofs.word.Reads as word-reads
+use Rattle.values.proofs.all_defined.Reads as all-defined-reads
 use Rattle.values.proofs.choose_value.Reads as choose-value-reads
 use Rattle.values.proofs.enter_value.Reads as enter-value-reads
 use Rattle.values.proofs.hold_leaves.Reads as hold-leaves-reads
@@ -43,13 +52,14 @@ use Rattle.values.proofs.put.Reads as put-reads
 use Rattle.values.proofs.read_leaves.Reads as read-leaves-reads
 use Rattle.values.proofs.room.Reads as room-reads
 use Rattle.values.proofs.stands_at.Reads as stands-at-reads
-use Rattle.evaluator.proofs.+eval+eval_part+of_delay+of_feedback+of_first+of_if+of_let+of_pair+of_second+settle.{
+use Rattle.evaluator.proofs.+eval+eval_from+eval_part+hold_settled+of_delay+of_feedback+of_first+of_if+of_let+of_pair+of_second+settle.{
   statement,
 }
-use Rattle.evaluator.proofs.+eval+eval_part+of_delay+of_feedback+of_first+of_if+of_let+of_pair+of_second+settle.Tie.{
+use Rattle.evaluator.proofs.+eval+eval_from+eval_part+hold_settled+of_delay+of_feedback+of_first+of_if+of_let+of_pair+of_second+settle.Tie.{
   close,
 }
 use borrow.Author.Needs.{needs}
+use borrow.Author.Tests.{not-true, not-false}
 use native.Mathlib.Omega.{arith}
 use Prim.Native.Nat.{ℕ, _+_, _*_, _-_, _<_}
 use mathlib.Core.Path.{refl}
@@ -62,44 +72,52 @@ use Rattle.records.proofs.Table.{askOfKind}
 use Rattle.accepted.proofs.Laws.{numbered, last-kind}
 use Rattle.evaluator.proofs.Frames.{from-zero, to-the-end}
 use Rattle.evaluator.proofs.Readiness.{ready-word, ready-low, ready-few, in-circuit, entry-few, entry-there, part-higher}
-use Rattle.evaluator.proofs.LentParts.{pair-width-small, fits-room, first-scope, second-scope}
+use Rattle.evaluator.proofs.LentParts.{pair-width-small, fits-room, second-scope}
 use Rattle.evaluator.proofs.LentNames.{defining-scope}
 use Rattle.evaluator.proofs.LentBranches.{tested-scope}
-use Rattle.evaluator.proofs.Parts.{constant-chained, constant-done, pair-cut, pair-first-ready, pair-rest, pair-second-ready, pair-done, room-ready, first-fits, first-inside, first-done, second-few, second-from, second-inside, second-fits, second-done}
+use Rattle.evaluator.proofs.Parts.{constant-chained, constant-done, pair-cut, pair-first-ready, pair-rest, pair-second-ready, pair-done, room-ready}
+use Rattle.evaluator.proofs.Chains.{first-asked, first-done, second-narrow, second-asked, second-done, the-chain, end-there, end-low, end-few-leaves, to-few, end-part-ready, in-place-done, end-in-room, part-in-room, piece-fits, from-room-done}
 use Rattle.evaluator.proofs.Names.{let-inside, let-room, let-body-ready, let-done}
-use Rattle.evaluator.proofs.Settling.{settle-few, settle-room, unchanged-settled, settling-again, fewer-undefined, changed-settled}
+use Rattle.evaluator.proofs.Settling.{settle-few, settle-room, unchanged-settled, defined-settled, settled-ready, settled-value, settled-whole, settling-again, fewer-undefined, changed-settled}
 use Rattle.evaluator.proofs.Feedbacks.{part-scope, feedback-fits, start-room, feedback-settling, few-undefined, feedback-body-ready, feedback-done}
-use Rattle.evaluator.proofs.Branches.{then-ready, else-fits, else-ready, tested-inside, otherwise-inside, as-long, pattern-matching, if-wide, if-done, delayed-ready, delay-chained, delay-done}
+use Rattle.evaluator.proofs.Branches.{then-ready, else-fits, else-ready, tested-inside, otherwise-inside, as-long, pattern-matching, if-wide, if-done, delay-held, delay-read, delayed-ready, delay-chained, delay-done}
+use Rattle.evaluator.proofs.Wanted.{wanted-whole, wanted-value}
 
 abbrev μ-eval : Measures 6 eval-kinds.ps ℕ
-μ-eval κs a = 68 * (a .1 .0 - a .1 .1 .1 .1 .1 .1 .0) + 1
+μ-eval κs a = 69 * (a .1 .0 - a .1 .1 .1 .1 .1 .1 .0) + 1
+
+abbrev μ-eval-from : Measures 6 eval-from-kinds.ps ℕ
+μ-eval-from κs a = 69 * (a .1 .0 - a .1 .1 .1 .1 .1 .1 .0) + 3
 
 abbrev μ-eval-part : Measures 6 eval-part-kinds.ps ℕ
-μ-eval-part κs a = 68 * (a .1 .0 - a .1 .1 .1 .1 .1 .1 .0) + 2
+μ-eval-part κs a = 69 * (a .1 .0 - a .1 .1 .1 .1 .1 .1 .0) + 2
+
+abbrev μ-hold-settled : Measures 6 hold-settled-kinds.ps ℕ
+μ-hold-settled κs a = 69 * (a .1 .0 - a .1 .1 .1 .1 .1 .1 .0) + 4 + zeros (slot (a .1 .1 .1 .1 .0) (length (now (a .1 .1 .1 .1 .1 .1 .1 .0))) (now (a .1 .1 .1 .0)))
 
 abbrev μ-of-delay : Measures 6 of-delay-kinds.ps ℕ
-μ-of-delay κs a = 68 * (a .1 .0 - a .1 .1 .1 .1 .1 .1 .0)
+μ-of-delay κs a = 69 * (a .1 .0 - a .1 .1 .1 .1 .1 .1 .0)
 
 abbrev μ-of-feedback : Measures 6 of-feedback-kinds.ps ℕ
-μ-of-feedback κs a = 68 * (a .1 .0 - a .1 .1 .1 .1 .1 .1 .0)
+μ-of-feedback κs a = 69 * (a .1 .0 - a .1 .1 .1 .1 .1 .1 .0)
 
 abbrev μ-of-first : Measures 6 of-first-kinds.ps ℕ
-μ-of-first κs a = 68 * (a .1 .0 - a .1 .1 .1 .1 .1 .1 .0)
+μ-of-first κs a = 69 * (a .1 .0 - a .1 .1 .1 .1 .1 .1 .0)
 
 abbrev μ-of-if : Measures 6 of-if-kinds.ps ℕ
-μ-of-if κs a = 68 * (a .1 .0 - a .1 .1 .1 .1 .1 .1 .0)
+μ-of-if κs a = 69 * (a .1 .0 - a .1 .1 .1 .1 .1 .1 .0)
 
 abbrev μ-of-let : Measures 6 of-let-kinds.ps ℕ
-μ-of-let κs a = 68 * (a .1 .0 - a .1 .1 .1 .1 .1 .1 .0)
+μ-of-let κs a = 69 * (a .1 .0 - a .1 .1 .1 .1 .1 .1 .0)
 
 abbrev μ-of-pair : Measures 6 of-pair-kinds.ps ℕ
-μ-of-pair κs a = 68 * (a .1 .0 - a .1 .1 .1 .1 .1 .1 .0)
+μ-of-pair κs a = 69 * (a .1 .0 - a .1 .1 .1 .1 .1 .1 .0)
 
 abbrev μ-of-second : Measures 6 of-second-kinds.ps ℕ
-μ-of-second κs a = 68 * (a .1 .0 - a .1 .1 .1 .1 .1 .1 .0)
+μ-of-second κs a = 69 * (a .1 .0 - a .1 .1 .1 .1 .1 .1 .0)
 
 abbrev μ-settle : Measures 6 settle-kinds.ps ℕ
-μ-settle κs a = 68 * (a .1 .0 - a .1 .1 .1 .1 .1 .1 .0) + 3 + zeros (slot (a .1 .1 .1 .1 .0) (length (now (a .1 .1 .1 .1 .1 .1 .1 .0))) (now (a .1 .1 .1 .0)))
+μ-settle κs a = 69 * (a .1 .0 - a .1 .1 .1 .1 .1 .1 .0) + 3 + zeros (slot (a .1 .1 .1 .1 .0) (length (now (a .1 .1 .1 .1 .1 .1 .1 .0))) (now (a .1 .1 .1 .0)))
 
 abbrev eval-at : ℕ → In 6 eval-kinds.ps
 eval-at t = and 6 eval-kinds.ps (is 6 eval-kinds.ps μ-eval t) eval.Pre
@@ -107,11 +125,26 @@ eval-at t = and 6 eval-kinds.ps (is 6 eval-kinds.ps μ-eval t) eval.Pre
 abbrev eval-below : ℕ → In 6 eval-kinds.ps
 eval-below t = and 6 eval-kinds.ps (falls 6 eval-kinds.ps _<_ μ-eval t) eval.Pre
 
+abbrev eval-from-at : ℕ → In 6 eval-from-kinds.ps
+eval-from-at t = and 6 eval-from-kinds.ps (is 6 eval-from-kinds.ps μ-eval-from t) eval-from.Pre
+
+abbrev eval-from-below : ℕ → In 6 eval-from-kinds.ps
+eval-from-below t =
+    and 6 eval-from-kinds.ps (falls 6 eval-from-kinds.ps _<_ μ-eval-from t) eval-from.Pre
+
 abbrev eval-part-at : ℕ → In 6 eval-part-kinds.ps
 eval-part-at t = and 6 eval-part-kinds.ps (is 6 eval-part-kinds.ps μ-eval-part t) eval-part.Pre
 
 abbrev eval-part-below : ℕ → In 6 eval-part-kinds.ps
 eval-part-below t = and 6 eval-part-kinds.ps (falls 6 eval-part-kinds.ps _<_ μ-eval-part t) eval-part.Pre
+
+abbrev hold-settled-at : ℕ → In 6 hold-settled-kinds.ps
+hold-settled-at t =
+    and 6 hold-settled-kinds.ps (is 6 hold-settled-kinds.ps μ-hold-settled t) hold-settled.Pre
+
+abbrev hold-settled-below : ℕ → In 6 hold-settled-kinds.ps
+hold-settled-below t =
+    and 6 hold-settled-kinds.ps (falls 6 hold-settled-kinds.ps _<_ μ-hold-settled t) hold-settled.Pre
 
 abbrev of-delay-at : ℕ → In 6 of-delay-kinds.ps
 of-delay-at t = and 6 of-delay-kinds.ps (is 6 of-delay-kinds.ps μ-of-delay t) of-delay.Pre
@@ -169,17 +202,23 @@ settle-below t = and 6 settle-kinds.ps (falls 6 settle-kinds.ps _<_ μ-settle t)
 abbrev eval-claims : ℕ → eval-lts.Claims
 eval-claims t = (word-reads.Asked, word-reads.Learnt, read-leaves-reads.Asked, read-leaves-reads.Learnt, copy-name-reads.Asked, copy-name-reads.Learnt, of-pair-below t, of-pair.Post, of-first-below t, of-first.Post, of-second-below t, of-second.Post, of-let-below t, of-let.Post, of-feedback-below t, of-feedback.Post, of-if-below t, of-if.Post, of-delay-below t, of-delay.Post)
 
+abbrev eval-from-claims : ℕ → eval-from-lts.Claims
+eval-from-claims t = (chain-end-reads.Asked, chain-end-reads.Learnt, word-reads.Asked, word-reads.Learnt, copy-name-part-reads.Asked, copy-name-part-reads.Learnt, room-reads.Asked, room-reads.Learnt, eval-part-below t, eval-part.Post, put-reads.Asked, put-reads.Learnt)
+
 abbrev eval-part-claims : ℕ → eval-part-lts.Claims
 eval-part-claims t = (word-reads.Asked, word-reads.Learnt, read-leaves-reads.Asked, read-leaves-reads.Learnt, copy-name-reads.Asked, copy-name-reads.Learnt, eval-below t, eval.Post)
 
+abbrev hold-settled-claims : ℕ → hold-settled-lts.Claims
+hold-settled-claims t = (settle-below t, settle.Post, eval-part-below t, eval-part.Post)
+
 abbrev of-delay-claims : ℕ → of-delay-lts.Claims
-of-delay-claims t = (word-reads.Asked, word-reads.Learnt, eval-part-below t, eval-part.Post, hold-leaves-reads.Asked, hold-leaves-reads.Learnt, read-leaves-reads.Asked, read-leaves-reads.Learnt)
+of-delay-claims t = (word-reads.Asked, word-reads.Learnt, read-leaves-reads.Asked, read-leaves-reads.Learnt, eval-part-below t, eval-part.Post, hold-leaves-reads.Asked, hold-leaves-reads.Learnt)
 
 abbrev of-feedback-claims : ℕ → of-feedback-lts.Claims
-of-feedback-claims t = (word-reads.Asked, word-reads.Learnt, room-reads.Asked, room-reads.Learnt, enter-value-reads.Asked, enter-value-reads.Learnt, settle-below t, settle.Post, eval-part-below t, eval-part.Post)
+of-feedback-claims t = (word-reads.Asked, word-reads.Learnt, room-reads.Asked, room-reads.Learnt, enter-value-reads.Asked, enter-value-reads.Learnt, hold-settled-below t, hold-settled.Post, eval-part-below t, eval-part.Post)
 
 abbrev of-first-claims : ℕ → of-first-lts.Claims
-of-first-claims t = (word-reads.Asked, word-reads.Learnt, room-reads.Asked, room-reads.Learnt, eval-part-below t, eval-part.Post, put-reads.Asked, put-reads.Learnt)
+of-first-claims t = (word-reads.Asked, word-reads.Learnt, eval-from-below t, eval-from.Post)
 
 abbrev of-if-claims : ℕ → of-if-lts.Claims
 of-if-claims t = (word-reads.Asked, word-reads.Learnt, room-reads.Asked, room-reads.Learnt, eval-part-below t, eval-part.Post, choose-value-reads.Asked, choose-value-reads.Learnt)
@@ -191,10 +230,10 @@ abbrev of-pair-claims : ℕ → of-pair-lts.Claims
 of-pair-claims t = (word-reads.Asked, word-reads.Learnt, eval-part-below t, eval-part.Post)
 
 abbrev of-second-claims : ℕ → of-second-lts.Claims
-of-second-claims t = (word-reads.Asked, word-reads.Learnt, room-reads.Asked, room-reads.Learnt, eval-part-below t, eval-part.Post, put-reads.Asked, put-reads.Learnt)
+of-second-claims t = (word-reads.Asked, word-reads.Learnt, eval-from-below t, eval-from.Post)
 
 abbrev settle-claims : ℕ → settle-lts.Claims
-settle-claims t = (eval-part-below t, eval-part.Post, stands-at-reads.Asked, stands-at-reads.Learnt, enter-value-reads.Asked, enter-value-reads.Learnt, settle-below t, settle.Post)
+settle-claims t = (eval-part-below t, eval-part.Post, stands-at-reads.Asked, stands-at-reads.Learnt, enter-value-reads.Asked, enter-value-reads.Learnt, all-defined-reads.Asked, all-defined-reads.Learnt, settle-below t, settle.Post)
 
 eval-word-requires : (t : ℕ) → eval-lts.Need-word-requires (eval-claims t) (eval-at t) eval.Post
 eval-word-requires t c κs = ready-word (c .before .before .before .pre .1 .1 .at-hand) (omega arith)
@@ -221,7 +260,7 @@ eval-same-length-3 : (t : ℕ) → eval-lts.Need-same-length-3 (eval-claims t) (
 eval-same-length-3 t c = search needs
 
 eval-returns-2 : (t : ℕ) → eval-lts.Need-returns-2 (eval-claims t) (eval-at t) eval.Post
-eval-returns-2 t c = c .before .before .copy-name .ensures (now (c .before .before .before .before .before .before .before .before .before .before .before .args .held)) (now (c .before .before .before .before .before .before .before .before .before .before .before .args .fired))
+eval-returns-2 t c = c .before .before .copy-name .ensures (c .before .before .before .before .before .before .before .before .before .before .before .args .whole) (now (c .before .before .before .before .before .before .before .before .before .before .before .args .held)) (now (c .before .before .before .before .before .before .before .before .before .before .before .args .fired))
 
 eval-of-pair-requires : (t : ℕ) → eval-lts.Need-of-pair-requires (eval-claims t) (eval-at t) eval.Post
 eval-of-pair-requires t c κs = (omega (arith, c .before .before .before .before .before .before .before .before .before .before .before .pre .0), (c .before .before .before .before .before .before .before .before .before .before .before .pre .1, (numbered _ _ _ 34 (expression tuple) (c .before .before .before .before .before .before .before .word .ensures .0) (c .before .before .before .before .if3 .taken) (unfold kindOf in refl))))
@@ -307,6 +346,69 @@ eval-same-length-17 t c = search needs
 eval-returns-9 : (t : ℕ) → eval-lts.Need-returns-9 (eval-claims t) (eval-at t) eval.Post
 eval-returns-9 t c = c .before .before .before .before .of-delay .ensures
 
+eval-from-chain-end-requires : (t : ℕ) → eval-from-lts.Need-chain-end-requires (eval-from-claims t) (eval-from-at t) eval-from.Post
+eval-from-chain-end-requires t c κs = let f = (c .before .before .before .pre .1 .1) .fits in ((_, _, _, _, (c .before .before .before .pre .1 .1) .evaluating), omega arith)
+
+eval-from-word-requires : (t : ℕ) → eval-from-lts.Need-word-requires (eval-from-claims t) (eval-from-at t) eval-from.Post
+eval-from-word-requires t c κs = ((c .before .before .before .before .pre .1 .1 .evaluating .at-hand) .sized, end-there (c .before .before .before .before .pre .1 .1) (c .chain-end .ensures), omega arith)
+
+eval-from-copy-name-part-requires : (t : ℕ) → eval-from-lts.Need-copy-name-part-requires (eval-from-claims t) (eval-from-at t) eval-from.Post
+eval-from-copy-name-part-requires t c κs = ((_, end-part-ready (c .before .before .before .before .before .before .before .before .pre .1 .1) (c .before .before .before .before .chain-end .ensures)), numbered _ _ _ 33 (expression name) (c .before .before .before .word .ensures .0) (c .before .before .if1 .taken) (unfold kindOf in refl))
+
+eval-from-same-length : (t : ℕ) → eval-from-lts.Need-same-length (eval-from-claims t) (eval-from-at t) eval-from.Post
+eval-from-same-length t c = search needs
+
+eval-from-same-length-2 : (t : ℕ) → eval-from-lts.Need-same-length-2 (eval-from-claims t) (eval-from-at t) eval-from.Post
+eval-from-same-length-2 t c = search needs
+
+eval-from-returns : (t : ℕ) → eval-from-lts.Need-returns (eval-from-claims t) (eval-from-at t) eval-from.Post
+eval-from-returns t c = record { done = λ Γ g. in-place-done g (c .before .before .before .before .before .before .before .chain-end .ensures) (c .before .before .copy-name-part .ensures (c .before .before .before .before .before .before .before .before .before .before .before .args .whole) (now (c .before .before .before .before .before .before .before .before .before .before .before .args .held)) (now (c .before .before .before .before .before .before .before .before .before .before .before .args .fired))) }
+
+eval-from-element-copy-out-w : (t : ℕ) → eval-from-lts.Need-element-copy-out-w (eval-from-claims t) (eval-from-at t) eval-from.Post
+eval-from-element-copy-out-w t c = end-low (c .before .before .before .before .before .before .pre .1 .1) (c .before .before .chain-end .ensures)
+
+eval-from-cast-w : (t : ℕ) → eval-from-lts.Need-cast-w (eval-from-claims t) (eval-from-at t) eval-from.Post
+eval-from-cast-w t c = let f = end-few-leaves (c .before .before .before .before .before .before .before .pre .1 .1) (c .before .before .before .chain-end .ensures) in omega arith
+
+eval-from-room-requires : (t : ℕ) → eval-from-lts.Need-room-requires (eval-from-claims t) (eval-from-at t) eval-from.Post
+eval-from-room-requires t c κs = tt
+
+eval-from-sub-eval-part : (t : ℕ) → eval-from-lts.Need-sub-eval-part (eval-from-claims t) (eval-from-at t) eval-from.Post
+eval-from-sub-eval-part t c = from-zero _
+
+eval-from-part-value-start : (t : ℕ) → eval-from-lts.Need-part-value-start (eval-from-claims t) (eval-from-at t) eval-from.Post
+eval-from-part-value-start t c = from-zero _
+
+eval-from-part-value-end : (t : ℕ) → eval-from-lts.Need-part-value-end (eval-from-claims t) (eval-from-at t) eval-from.Post
+eval-from-part-value-end t c = end-in-room (c .before .before .before .before .before .before .before .before .before .before .pre .1 .1) (c .before .before .before .before .before .before .chain-end .ensures) refl (c .before .before .room .ensures)
+
+eval-from-eval-part-requires : (t : ℕ) → eval-from-lts.Need-eval-part-requires (eval-from-claims t) (eval-from-at t) eval-from.Post
+eval-from-eval-part-requires t c κs = let k = the-chain (c .before .before .before .before .before .before .before .before .before .before .before .before .pre .1 .1) (c .before .before .before .before .before .before .before .before .chain-end .ensures) .higher in let e = end-there (c .before .before .before .before .before .before .before .before .before .before .before .before .pre .1 .1) (c .before .before .before .before .before .before .before .before .chain-end .ensures) in (omega (arith, c .before .before .before .before .before .before .before .before .before .before .before .before .pre .0, k, e), (_, room-ready ((c .before .before .before .before .before .before .before .before .before .before .before .before .pre .1 .1) .evaluating) (the-chain (c .before .before .before .before .before .before .before .before .before .before .before .before .pre .1 .1) (c .before .before .before .before .before .before .before .before .chain-end .ensures) .scope) refl (c .before .before .before .before .room .ensures)))
+
+eval-from-add-put : (t : ℕ) → eval-from-lts.Need-add-put (eval-from-claims t) (eval-from-at t) eval-from.Post
+eval-from-add-put t c = let f = to-few (c .before .before .before .before .before .before .before .before .before .before .before .before .before .before .before .before .pre .1 .1) (c .before .before .before .before .before .before .before .before .before .before .before .before .chain-end .ensures) in omega arith
+
+eval-from-sub-put : (t : ℕ) → eval-from-lts.Need-sub-put (eval-from-claims t) (eval-from-at t) eval-from.Post
+eval-from-sub-put t c = let f = to-few (c .before .before .before .before .before .before .before .before .before .before .before .before .before .before .before .before .pre .1 .1) (c .before .before .before .before .before .before .before .before .before .before .before .before .chain-end .ensures) in omega arith
+
+eval-from-part-put-start : (t : ℕ) → eval-from-lts.Need-part-put-start (eval-from-claims t) (eval-from-at t) eval-from.Post
+eval-from-part-put-start t c = let f = to-few (c .before .before .before .before .before .before .before .before .before .before .before .before .before .before .before .before .before .pre .1 .1) (c .before .before .before .before .before .before .before .before .before .before .before .before .before .chain-end .ensures) in omega arith
+
+eval-from-part-put-end : (t : ℕ) → eval-from-lts.Need-part-put-end (eval-from-claims t) (eval-from-at t) eval-from.Post
+eval-from-part-put-end t c = part-in-room (c .before .before .before .before .before .before .before .before .before .before .before .before .before .before .before .before .before .pre .1 .1) (c .before .before .before .before .before .before .before .before .before .before .before .before .before .chain-end .ensures) refl (c .before .before .before .before .before .before .before .before .before .room .ensures) (c .before .before .before .before .eval-part .ensures)
+
+eval-from-put-requires : (t : ℕ) → eval-from-lts.Need-put-requires (eval-from-claims t) (eval-from-at t) eval-from.Post
+eval-from-put-requires t c κs = let l = piece-fits (c .before .before .before .before .before .before .before .before .before .before .before .before .before .before .before .before .before .before .before .pre .1 .1) (c .before .before .before .before .before .before .before .before .before .before .before .before .before .before .before .chain-end .ensures) refl (c .before .before .before .before .before .before .before .before .before .before .before .room .ensures) (c .before .before .before .before .before .before .eval-part .ensures) in omega arith
+
+eval-from-same-length-3 : (t : ℕ) → eval-from-lts.Need-same-length-3 (eval-from-claims t) (eval-from-at t) eval-from.Post
+eval-from-same-length-3 t c = search needs
+
+eval-from-same-length-4 : (t : ℕ) → eval-from-lts.Need-same-length-4 (eval-from-claims t) (eval-from-at t) eval-from.Post
+eval-from-same-length-4 t c = search needs
+
+eval-from-returns-2 : (t : ℕ) → eval-from-lts.Need-returns-2 (eval-from-claims t) (eval-from-at t) eval-from.Post
+eval-from-returns-2 t c = record { done = λ Γ g. from-room-done g (c .before .before .before .before .before .before .before .before .before .before .before .before .before .before .before .before .before .before .chain-end .ensures) refl (c .before .before .before .before .before .before .before .before .before .before .before .before .before .before .room .ensures) (c .before .before .before .before .before .before .before .before .before .eval-part .ensures) (c .before .before .put .ensures) }
+
 eval-part-word-requires : (t : ℕ) → eval-part-lts.Need-word-requires (eval-part-claims t) (eval-part-at t) eval-part.Post
 eval-part-word-requires t c κs = ready-word (c .before .before .before .pre .1 .1 .at-hand) (omega arith)
 
@@ -332,7 +434,7 @@ eval-part-same-length-3 : (t : ℕ) → eval-part-lts.Need-same-length-3 (eval-p
 eval-part-same-length-3 t c = search needs
 
 eval-part-returns-2 : (t : ℕ) → eval-part-lts.Need-returns-2 (eval-part-claims t) (eval-part-at t) eval-part.Post
-eval-part-returns-2 t c = c .before .before .copy-name .ensures (now (c .before .before .before .before .before .before .before .before .before .before .before .args .held)) (now (c .before .before .before .before .before .before .before .before .before .before .before .args .fired))
+eval-part-returns-2 t c = c .before .before .copy-name .ensures (c .before .before .before .before .before .before .before .before .before .before .before .args .whole) (now (c .before .before .before .before .before .before .before .before .before .before .before .args .held)) (now (c .before .before .before .before .before .before .before .before .before .before .before .args .fired))
 
 eval-part-eval-requires : (t : ℕ) → eval-part-lts.Need-eval-requires (eval-part-claims t) (eval-part-at t) eval-part.Post
 eval-part-eval-requires t c κs = (omega (arith, c .before .before .before .before .before .before .before .before .before .before .pre .0), c .before .before .before .before .before .before .before .before .before .before .pre .1)
@@ -346,29 +448,65 @@ eval-part-same-length-5 t c = search needs
 eval-part-returns-3 : (t : ℕ) → eval-part-lts.Need-returns-3 (eval-part-claims t) (eval-part-at t) eval-part.Post
 eval-part-returns-3 t c = c .before .before .before .before .eval .ensures
 
+hold-settled-settle-requires : (t : ℕ) → hold-settled-lts.Need-settle-requires (hold-settled-claims t) (hold-settled-at t) hold-settled.Post
+hold-settled-settle-requires t c κs = (omega (arith, c .before .before .before .before .before .before .before .pre .0), c .before .before .before .before .before .before .before .pre .1)
+
+hold-settled-add-eval-part : (t : ℕ) → hold-settled-lts.Need-add-eval-part (hold-settled-claims t) (hold-settled-at t) hold-settled.Post
+hold-settled-add-eval-part t c = let f = settle-few (c .before .before .before .before .before .before .before .before .before .before .before .before .before .before .pre .1 .2) in omega arith
+
+hold-settled-eval-part-requires : (t : ℕ) → hold-settled-lts.Need-eval-part-requires (hold-settled-claims t) (hold-settled-at t) hold-settled.Post
+hold-settled-eval-part-requires t c κs = (omega (arith, c .before .before .before .before .before .before .before .before .before .before .before .before .before .before .before .before .before .pre .0), (_, settled-ready (c .before .before .before .before .before .before .before .before .before .before .before .before .before .before .before .before .before .pre .1 .2) (c .before .before .before .before .before .before .before .before .before .settle .ensures) _ (search needs)))
+
+hold-settled-same-length : (t : ℕ) → hold-settled-lts.Need-same-length (hold-settled-claims t) (hold-settled-at t) hold-settled.Post
+hold-settled-same-length t c = search needs
+
+hold-settled-same-length-2 : (t : ℕ) → hold-settled-lts.Need-same-length-2 (hold-settled-claims t) (hold-settled-at t) hold-settled.Post
+hold-settled-same-length-2 t c = search needs
+
+hold-settled-returns : (t : ℕ) → hold-settled-lts.Need-returns (hold-settled-claims t) (hold-settled-at t) hold-settled.Post
+hold-settled-returns t c = record { settled = λ t Γ g. settled-whole g (c .before .before .before .before .before .before .before .before .before .before .before .before .before .before .settle .ensures) (c .before .before .before .before .before .before .before .before .before .if1 .taken) (search needs) (c .before .before .before .before .eval-part .ensures) }
+
+hold-settled-same-length-3 : (t : ℕ) → hold-settled-lts.Need-same-length-3 (hold-settled-claims t) (hold-settled-at t) hold-settled.Post
+hold-settled-same-length-3 t c = search needs
+
+hold-settled-same-length-4 : (t : ℕ) → hold-settled-lts.Need-same-length-4 (hold-settled-claims t) (hold-settled-at t) hold-settled.Post
+hold-settled-same-length-4 t c = search needs
+
+hold-settled-returns-2 : (t : ℕ) → hold-settled-lts.Need-returns-2 (hold-settled-claims t) (hold-settled-at t) hold-settled.Post
+hold-settled-returns-2 t c = record { settled = λ t Γ g. settled-value g (c .before .before .before .before .before .settle .ensures) (c .if1 .left) }
+
 of-delay-word-requires : (t : ℕ) → of-delay-lts.Need-word-requires (of-delay-claims t) (of-delay-at t) of-delay.Post
 of-delay-word-requires t c κs = ready-word (c .before .before .before .pre .1 .0 .1 .at-hand) (omega arith)
 
-of-delay-eval-part-requires : (t : ℕ) → of-delay-lts.Need-eval-part-requires (of-delay-claims t) (of-delay-at t) of-delay.Post
-of-delay-eval-part-requires t c κs = let h = (part-higher (c .before .before .before .before .before .before .before .before .pre .1 .0 .1 .at-hand) delay (c .before .before .before .before .before .before .before .before .pre .1 .1) 4 refl (unfold askOfKind in refl) (c .before .before .before .before .word .ensures .0)) in (omega (arith, c .before .before .before .before .before .before .before .before .pre .0, h .0, h .1), (c .before .before .before .before .before .before .before .before .pre .1 .0 .0, delayed-ready (c .before .before .before .before .before .before .before .before .pre .1 .0 .1) (c .before .before .before .before .before .before .before .before .pre .1 .1) (c .before .before .before .before .word .ensures .0) refl))
-
-of-delay-word-requires-2 : (t : ℕ) → of-delay-lts.Need-word-requires-2 (of-delay-claims t) (of-delay-at t) of-delay.Post
-of-delay-word-requires-2 t c κs = ready-word (c .before .before .before .before .before .before .before .before .before .before .before .before .before .pre .1 .0 .1 .at-hand) (omega arith)
-
-of-delay-hold-leaves-requires : (t : ℕ) → of-delay-lts.Need-hold-leaves-requires (of-delay-claims t) (of-delay-at t) of-delay.Post
-of-delay-hold-leaves-requires t c κs = delay-chained (c .before .before .before .before .before .before .before .before .before .before .before .before .before .before .before .before .pre .1 .0 .1) (c .before .before .before .before .before .before .before .before .before .before .before .before .before .before .before .before .pre .1 .1) (c .before .before .before .before .before .before .before .before .before .before .before .before .word .ensures .0) (c .before .before .word2 .ensures .0) (c .before .before .before .before .before .before .before .eval-part .ensures)
-
 of-delay-read-leaves-requires : (t : ℕ) → of-delay-lts.Need-read-leaves-requires (of-delay-claims t) (of-delay-at t) of-delay.Post
-of-delay-read-leaves-requires t c κs = delay-chained (c .before .before .before .before .before .before .before .before .before .before .before .before .before .before .before .before .before .before .pre .1 .0 .1) (c .before .before .before .before .before .before .before .before .before .before .before .before .before .before .before .before .before .before .pre .1 .1) (c .before .before .before .before .before .before .before .before .before .before .before .before .before .before .word .ensures .0) (c .before .before .before .before .word2 .ensures .0) (c .before .before .before .before .before .before .before .before .before .eval-part .ensures)
+of-delay-read-leaves-requires t c κs = delay-held (c .before .before .before .before .before .before .pre .1 .0 .1) (c .before .before .before .before .before .before .pre .1 .1) (c .before .before .word .ensures .0)
 
 of-delay-same-length : (t : ℕ) → of-delay-lts.Need-same-length (of-delay-claims t) (of-delay-at t) of-delay.Post
 of-delay-same-length t c = search needs
 
+of-delay-returns : (t : ℕ) → of-delay-lts.Need-returns (of-delay-claims t) (of-delay-at t) of-delay.Post
+of-delay-returns t c = record { done = λ Γ r. delay-read r (c .before .before .before .before .before .before .before .before .before .pre .1 .1) (c .before .before .before .before .before .word .ensures .0) (not-true _ (c .before .before .before .before .if1 .taken)) (c .before .before .read-leaves .ensures) }
+
+of-delay-word-requires-2 : (t : ℕ) → of-delay-lts.Need-word-requires-2 (of-delay-claims t) (of-delay-at t) of-delay.Post
+of-delay-word-requires-2 t c κs = ready-word (c .before .before .before .before .before .pre .1 .0 .1 .at-hand) (omega arith)
+
+of-delay-eval-part-requires : (t : ℕ) → of-delay-lts.Need-eval-part-requires (of-delay-claims t) (of-delay-at t) of-delay.Post
+of-delay-eval-part-requires t c κs = let h = (part-higher (c .before .before .before .before .before .before .before .before .before .before .pre .1 .0 .1 .at-hand) delay (c .before .before .before .before .before .before .before .before .before .before .pre .1 .1) 4 refl (unfold askOfKind in refl) (c .before .before .before .before .word2 .ensures .0)) in (omega (arith, c .before .before .before .before .before .before .before .before .before .before .pre .0, h .0, h .1), (c .before .before .before .before .before .before .before .before .before .before .pre .1 .0 .0, delayed-ready (c .before .before .before .before .before .before .before .before .before .before .pre .1 .0 .1) (c .before .before .before .before .before .before .before .before .before .before .pre .1 .1) (c .before .before .before .before .before .before .word .ensures .0) (c .before .before .before .before .word2 .ensures .0)))
+
+of-delay-hold-leaves-requires : (t : ℕ) → of-delay-lts.Need-hold-leaves-requires (of-delay-claims t) (of-delay-at t) of-delay.Post
+of-delay-hold-leaves-requires t c κs = delay-chained (c .before .before .before .before .before .before .before .before .before .before .before .before .before .before .before .before .before .pre .1 .0 .1) (c .before .before .before .before .before .before .before .before .before .before .before .before .before .before .before .before .before .pre .1 .1) (c .before .before .before .before .before .before .before .before .before .before .before .before .before .word .ensures .0) (c .before .before .before .before .before .before .before .before .before .before .before .word2 .ensures .0) (c .before .before .before .before .before .before .eval-part .ensures)
+
+of-delay-read-leaves-requires-2 : (t : ℕ) → of-delay-lts.Need-read-leaves-requires-2 (of-delay-claims t) (of-delay-at t) of-delay.Post
+of-delay-read-leaves-requires-2 t c κs = delay-chained (c .before .before .before .before .before .before .before .before .before .before .before .before .before .before .before .before .before .before .before .pre .1 .0 .1) (c .before .before .before .before .before .before .before .before .before .before .before .before .before .before .before .before .before .before .before .pre .1 .1) (c .before .before .before .before .before .before .before .before .before .before .before .before .before .before .before .word .ensures .0) (c .before .before .before .before .before .before .before .before .before .before .before .before .before .word2 .ensures .0) (c .before .before .before .before .before .before .before .before .eval-part .ensures)
+
 of-delay-same-length-2 : (t : ℕ) → of-delay-lts.Need-same-length-2 (of-delay-claims t) (of-delay-at t) of-delay.Post
 of-delay-same-length-2 t c = search needs
 
-of-delay-returns : (t : ℕ) → of-delay-lts.Need-returns (of-delay-claims t) (of-delay-at t) of-delay.Post
-of-delay-returns t c = record { done = λ Γ r. delay-done r (c .before .before .before .before .before .before .before .before .before .before .before .before .before .before .before .before .before .before .before .before .before .pre .1 .1) (c .before .before .before .before .before .before .before .before .before .before .before .before .before .before .before .before .before .word .ensures .0) (c .before .before .before .before .before .before .before .word2 .ensures .0) (c .before .before .before .before .before .before .before .before .before .before .before .before .eval-part .ensures) (c .before .before .before .before .hold-leaves .ensures) (c .before .before .read-leaves .ensures) }
+of-delay-same-length-3 : (t : ℕ) → of-delay-lts.Need-same-length-3 (of-delay-claims t) (of-delay-at t) of-delay.Post
+of-delay-same-length-3 t c = search needs
+
+of-delay-returns-2 : (t : ℕ) → of-delay-lts.Need-returns-2 (of-delay-claims t) (of-delay-at t) of-delay.Post
+of-delay-returns-2 t c = record { done = λ Γ r. delay-done r (c .before .before .before .before .before .before .before .before .before .before .before .before .before .before .before .before .before .before .before .before .before .before .pre .1 .1) (c .before .before .before .before .before .before .before .before .before .before .before .before .before .before .before .before .before .before .word .ensures .0) (c .before .before .before .before .before .before .before .before .before .before .before .before .before .before .before .before .word2 .ensures .0) (not-false _ (c .before .before .before .before .before .before .before .before .before .before .before .before .before .before .before .before .before .if1 .left)) (c .before .before .before .before .before .before .before .before .before .before .before .eval-part .ensures) (c .before .before .before .before .hold-leaves .ensures) (c .before .before .read-leaves2 .ensures) }
 
 of-feedback-word-requires : (t : ℕ) → of-feedback-lts.Need-word-requires (of-feedback-claims t) (of-feedback-at t) of-feedback.Post
 of-feedback-word-requires t c κs = ready-word (c .before .before .before .pre .1 .0 .1 .at-hand) (omega arith)
@@ -394,8 +532,8 @@ of-feedback-part-enter-value-end t c = feedback-fits (c .before .before .before 
 of-feedback-enter-value-requires : (t : ℕ) → of-feedback-lts.Need-enter-value-requires (of-feedback-claims t) (of-feedback-at t) of-feedback.Post
 of-feedback-enter-value-requires t c κs = start-room (c .before .before .before .before .before .before .before .before .before .pre .1 .0 .1) (c .before .before .before .before .before .before .before .before .before .pre .1 .1) (c .before .before .before .before .before .word .ensures .0) refl refl (c .before .before .before .room .ensures)
 
-of-feedback-sub-settle : (t : ℕ) → of-feedback-lts.Need-sub-settle (of-feedback-claims t) (of-feedback-at t) of-feedback.Post
-of-feedback-sub-settle t c = from-zero _
+of-feedback-sub-hold-settled : (t : ℕ) → of-feedback-lts.Need-sub-hold-settled (of-feedback-claims t) (of-feedback-at t) of-feedback.Post
+of-feedback-sub-hold-settled t c = from-zero _
 
 of-feedback-part-settled-start : (t : ℕ) → of-feedback-lts.Need-part-settled-start (of-feedback-claims t) (of-feedback-at t) of-feedback.Post
 of-feedback-part-settled-start t c = from-zero _
@@ -403,8 +541,8 @@ of-feedback-part-settled-start t c = from-zero _
 of-feedback-part-settled-end : (t : ℕ) → of-feedback-lts.Need-part-settled-end (of-feedback-claims t) (of-feedback-at t) of-feedback.Post
 of-feedback-part-settled-end t c = feedback-fits (c .before .before .before .before .before .before .before .before .before .before .before .before .before .before .pre .1 .0 .1) (c .before .before .before .before .before .before .before .before .before .before .before .before .before .before .pre .1 .1) (c .before .before .before .before .before .before .before .before .before .before .word .ensures .0) refl refl (c .before .before .before .before .before .before .before .before .room .ensures)
 
-of-feedback-settle-requires : (t : ℕ) → of-feedback-lts.Need-settle-requires (of-feedback-claims t) (of-feedback-at t) of-feedback.Post
-of-feedback-settle-requires t c κs = let h = (part-higher (c .before .before .before .before .before .before .before .before .before .before .before .before .before .before .before .before .pre .1 .0 .1 .at-hand) feedback (c .before .before .before .before .before .before .before .before .before .before .before .before .before .before .before .before .pre .1 .1) 3 refl (unfold askOfKind in refl) (c .before .before .before .before .before .before .before .before .before .before .before .before .word .ensures .0)) in let z = few-undefined (c .before .before .before .before .before .before .before .before .before .before .before .before .before .before .before .before .pre .1 .0 .1) (c .before .before .before .before .before .before .before .before .before .before .before .before .before .before .before .before .pre .1 .1) (c .before .before .before .before .before .before .before .before .before .before .before .before .word .ensures .0) refl refl (c .before .before .before .before .before .before .before .before .before .before .room .ensures) (c .before .before .before .before .before .before .enter-value .ensures) in (omega (arith, c .before .before .before .before .before .before .before .before .before .before .before .before .before .before .before .before .pre .0, h .0, h .1), (_, _, feedback-settling (c .before .before .before .before .before .before .before .before .before .before .before .before .before .before .before .before .pre .1 .0 .1) (c .before .before .before .before .before .before .before .before .before .before .before .before .before .before .before .before .pre .1 .1) (c .before .before .before .before .before .before .before .before .before .before .before .before .word .ensures .0) refl refl (c .before .before .before .before .before .before .before .before .before .before .room .ensures) (c .before .before .before .before .before .before .enter-value .ensures)))
+of-feedback-hold-settled-requires : (t : ℕ) → of-feedback-lts.Need-hold-settled-requires (of-feedback-claims t) (of-feedback-at t) of-feedback.Post
+of-feedback-hold-settled-requires t c κs = let h = (part-higher (c .before .before .before .before .before .before .before .before .before .before .before .before .before .before .before .before .pre .1 .0 .1 .at-hand) feedback (c .before .before .before .before .before .before .before .before .before .before .before .before .before .before .before .before .pre .1 .1) 3 refl (unfold askOfKind in refl) (c .before .before .before .before .before .before .before .before .before .before .before .before .word .ensures .0)) in let z = few-undefined (c .before .before .before .before .before .before .before .before .before .before .before .before .before .before .before .before .pre .1 .0 .1) (c .before .before .before .before .before .before .before .before .before .before .before .before .before .before .before .before .pre .1 .1) (c .before .before .before .before .before .before .before .before .before .before .before .before .word .ensures .0) refl refl (c .before .before .before .before .before .before .before .before .before .before .room .ensures) (c .before .before .before .before .before .before .enter-value .ensures) in (omega (arith, c .before .before .before .before .before .before .before .before .before .before .before .before .before .before .before .before .pre .0, h .0, h .1), (_, _, feedback-settling (c .before .before .before .before .before .before .before .before .before .before .before .before .before .before .before .before .pre .1 .0 .1) (c .before .before .before .before .before .before .before .before .before .before .before .before .before .before .before .before .pre .1 .1) (c .before .before .before .before .before .before .before .before .before .before .before .before .word .ensures .0) refl refl (c .before .before .before .before .before .before .before .before .before .before .room .ensures) (c .before .before .before .before .before .before .enter-value .ensures)))
 
 of-feedback-word-requires-2 : (t : ℕ) → of-feedback-lts.Need-word-requires-2 (of-feedback-claims t) (of-feedback-at t) of-feedback.Post
 of-feedback-word-requires-2 t c κs = ready-word (c .before .before .before .before .before .before .before .before .before .before .before .before .before .before .before .before .before .before .before .before .pre .1 .0 .1 .at-hand) (omega arith)
@@ -413,7 +551,7 @@ of-feedback-add-eval-part : (t : ℕ) → of-feedback-lts.Need-add-eval-part (of
 of-feedback-add-eval-part t c = let f = ready-few (c .before .before .before .before .before .before .before .before .before .before .before .before .before .before .before .before .before .before .before .before .before .before .pre .1 .0 .1 .at-hand) in omega arith
 
 of-feedback-eval-part-requires : (t : ℕ) → of-feedback-lts.Need-eval-part-requires (of-feedback-claims t) (of-feedback-at t) of-feedback.Post
-of-feedback-eval-part-requires t c κs = let h = (part-higher (c .before .before .before .before .before .before .before .before .before .before .before .before .before .before .before .before .before .before .before .before .before .before .before .before .before .pre .1 .0 .1 .at-hand) feedback (c .before .before .before .before .before .before .before .before .before .before .before .before .before .before .before .before .before .before .before .before .before .before .before .before .before .pre .1 .1) 4 refl (unfold askOfKind in refl) (c .before .before .before .before .word2 .ensures .0)) in (omega (arith, c .before .before .before .before .before .before .before .before .before .before .before .before .before .before .before .before .before .before .before .before .before .before .before .before .before .pre .0, h .0, h .1), (_, feedback-body-ready (c .before .before .before .before .before .before .before .before .before .before .before .before .before .before .before .before .before .before .before .before .before .before .before .before .before .pre .1 .0 .1) (c .before .before .before .before .before .before .before .before .before .before .before .before .before .before .before .before .before .before .before .before .before .before .before .before .before .pre .1 .1) (c .before .before .before .before .before .before .before .before .before .before .before .before .before .before .before .before .before .before .before .before .before .word .ensures .0) (c .before .before .before .before .word2 .ensures .0) refl (c .before .before .before .before .before .before .before .before .before .before .before .before .before .before .before .before .before .before .before .room .ensures) (c .before .before .before .before .before .before .before .before .before .before .before .before .before .before .before .enter-value .ensures) (c .before .before .before .before .before .before .before .before .settle .ensures)))
+of-feedback-eval-part-requires t c κs = let h = (part-higher (c .before .before .before .before .before .before .before .before .before .before .before .before .before .before .before .before .before .before .before .before .before .before .before .before .before .pre .1 .0 .1 .at-hand) feedback (c .before .before .before .before .before .before .before .before .before .before .before .before .before .before .before .before .before .before .before .before .before .before .before .before .before .pre .1 .1) 4 refl (unfold askOfKind in refl) (c .before .before .before .before .word2 .ensures .0)) in (omega (arith, c .before .before .before .before .before .before .before .before .before .before .before .before .before .before .before .before .before .before .before .before .before .before .before .before .before .pre .0, h .0, h .1), (_, feedback-body-ready (c .before .before .before .before .before .before .before .before .before .before .before .before .before .before .before .before .before .before .before .before .before .before .before .before .before .pre .1 .0 .1) (c .before .before .before .before .before .before .before .before .before .before .before .before .before .before .before .before .before .before .before .before .before .before .before .before .before .pre .1 .1) (c .before .before .before .before .before .before .before .before .before .before .before .before .before .before .before .before .before .before .before .before .before .word .ensures .0) (c .before .before .before .before .word2 .ensures .0) refl (c .before .before .before .before .before .before .before .before .before .before .before .before .before .before .before .before .before .before .before .room .ensures) (c .before .before .before .before .before .before .before .before .before .before .before .before .before .before .before .enter-value .ensures) (c .before .before .before .before .before .before .before .before .hold-settled .ensures)))
 
 of-feedback-same-length : (t : ℕ) → of-feedback-lts.Need-same-length (of-feedback-claims t) (of-feedback-at t) of-feedback.Post
 of-feedback-same-length t c = search needs
@@ -422,43 +560,13 @@ of-feedback-same-length-2 : (t : ℕ) → of-feedback-lts.Need-same-length-2 (of
 of-feedback-same-length-2 t c = search needs
 
 of-feedback-returns : (t : ℕ) → of-feedback-lts.Need-returns (of-feedback-claims t) (of-feedback-at t) of-feedback.Post
-of-feedback-returns t c = record { done = λ Γ r. feedback-done r (c .before .before .before .before .before .before .before .before .before .before .before .before .before .before .before .before .before .before .before .before .before .before .before .before .before .before .before .before .before .before .pre .1 .1) (c .before .before .before .before .before .before .before .before .before .before .before .before .before .before .before .before .before .before .before .before .before .before .before .before .before .before .word .ensures .0) (c .before .before .before .before .before .before .before .before .before .word2 .ensures .0) refl (c .before .before .before .before .before .before .before .before .before .before .before .before .before .before .before .before .before .before .before .before .before .before .before .before .room .ensures) (c .before .before .before .before .before .before .before .before .before .before .before .before .before .before .before .before .before .before .before .before .enter-value .ensures) (c .before .before .before .before .before .before .before .before .before .before .before .before .before .settle .ensures) (c .before .before .before .before .eval-part .ensures) }
+of-feedback-returns t c = record { done = λ Γ r. feedback-done r (c .before .before .before .before .before .before .before .before .before .before .before .before .before .before .before .before .before .before .before .before .before .before .before .before .before .before .before .before .before .before .pre .1 .1) (c .before .before .before .before .before .before .before .before .before .before .before .before .before .before .before .before .before .before .before .before .before .before .before .before .before .before .word .ensures .0) (c .before .before .before .before .before .before .before .before .before .word2 .ensures .0) refl (c .before .before .before .before .before .before .before .before .before .before .before .before .before .before .before .before .before .before .before .before .before .before .before .before .room .ensures) (c .before .before .before .before .before .before .before .before .before .before .before .before .before .before .before .before .before .before .before .before .enter-value .ensures) (c .before .before .before .before .before .before .before .before .before .before .before .before .before .hold-settled .ensures) (c .before .before .before .before .eval-part .ensures) }
 
 of-first-word-requires : (t : ℕ) → of-first-lts.Need-word-requires (of-first-claims t) (of-first-at t) of-first.Post
 of-first-word-requires t c κs = ready-word (c .before .before .before .pre .1 .0 .1 .at-hand) (omega arith)
 
-of-first-element-copy-out-w : (t : ℕ) → of-first-lts.Need-element-copy-out-w (of-first-claims t) (of-first-at t) of-first.Post
-of-first-element-copy-out-w t c = entry-there (c .before .before .before .before .pre .1 .0 .1 .at-hand) first (c .before .before .before .before .pre .1 .1) 2 refl (unfold askOfKind in refl) (c .word .ensures .0)
-
-of-first-cast-w : (t : ℕ) → of-first-lts.Need-cast-w (of-first-claims t) (of-first-at t) of-first.Post
-of-first-cast-w t c = let f = entry-few (c .before .before .before .before .before .pre .1 .0 .1 .at-hand) (first-scope (c .before .before .before .before .before .pre .1 .0 .1 .at-hand) (c .before .before .before .before .before .pre .1 .1) (c .before .word .ensures .0)) in omega arith
-
-of-first-room-requires : (t : ℕ) → of-first-lts.Need-room-requires (of-first-claims t) (of-first-at t) of-first.Post
-of-first-room-requires t c κs = tt
-
-of-first-sub-eval-part : (t : ℕ) → of-first-lts.Need-sub-eval-part (of-first-claims t) (of-first-at t) of-first.Post
-of-first-sub-eval-part t c = from-zero _
-
-of-first-part-whole-start : (t : ℕ) → of-first-lts.Need-part-whole-start (of-first-claims t) (of-first-at t) of-first.Post
-of-first-part-whole-start t c = from-zero _
-
-of-first-part-whole-end : (t : ℕ) → of-first-lts.Need-part-whole-end (of-first-claims t) (of-first-at t) of-first.Post
-of-first-part-whole-end t c = fits-room (c .before .before .before .before .before .before .before .before .pre .1 .0 .1 .at-hand) (first-scope (c .before .before .before .before .before .before .before .before .pre .1 .0 .1 .at-hand) (c .before .before .before .before .before .before .before .before .pre .1 .1) (c .before .before .before .before .word .ensures .0)) refl (c .before .before .room .ensures)
-
-of-first-eval-part-requires : (t : ℕ) → of-first-lts.Need-eval-part-requires (of-first-claims t) (of-first-at t) of-first.Post
-of-first-eval-part-requires t c κs = let h = (part-higher (c .before .before .before .before .before .before .before .before .before .before .pre .1 .0 .1 .at-hand) first (c .before .before .before .before .before .before .before .before .before .before .pre .1 .1) 2 refl (unfold askOfKind in refl) (c .before .before .before .before .before .before .word .ensures .0)) in (omega (arith, c .before .before .before .before .before .before .before .before .before .before .pre .0, h .0, h .1), (c .before .before .before .before .before .before .before .before .before .before .pre .1 .0 .0, room-ready (c .before .before .before .before .before .before .before .before .before .before .pre .1 .0 .1) (first-scope (c .before .before .before .before .before .before .before .before .before .before .pre .1 .0 .1 .at-hand) (c .before .before .before .before .before .before .before .before .before .before .pre .1 .1) (c .before .before .before .before .before .before .word .ensures .0)) refl (c .before .before .before .before .room .ensures)))
-
-of-first-sub-put : (t : ℕ) → of-first-lts.Need-sub-put (of-first-claims t) (of-first-at t) of-first.Post
-of-first-sub-put t c = from-zero _
-
-of-first-part-put-start : (t : ℕ) → of-first-lts.Need-part-put-start (of-first-claims t) (of-first-at t) of-first.Post
-of-first-part-put-start t c = from-zero _
-
-of-first-part-put-end : (t : ℕ) → of-first-lts.Need-part-put-end (of-first-claims t) (of-first-at t) of-first.Post
-of-first-part-put-end t c = first-inside (c .before .before .before .before .before .before .before .before .before .before .before .before .before .before .before .pre .1 .0 .1) (c .before .before .before .before .before .before .before .before .before .before .before .before .before .before .before .pre .1 .1) (c .before .before .before .before .before .before .before .before .before .before .before .word .ensures .0) refl (c .before .before .before .before .before .before .before .before .before .room .ensures) (c .before .before .before .before .eval-part .ensures)
-
-of-first-put-requires : (t : ℕ) → of-first-lts.Need-put-requires (of-first-claims t) (of-first-at t) of-first.Post
-of-first-put-requires t c κs = let l = first-fits (c .before .before .before .before .before .before .before .before .before .before .before .before .before .before .before .before .before .pre .1 .0 .1) (c .before .before .before .before .before .before .before .before .before .before .before .before .before .before .before .before .before .pre .1 .1) (c .before .before .before .before .before .before .before .before .before .before .before .before .before .word .ensures .0) refl (c .before .before .before .before .before .before .before .before .before .before .before .room .ensures) (c .before .before .before .before .before .before .eval-part .ensures) in omega arith
+of-first-eval-from-requires : (t : ℕ) → of-first-lts.Need-eval-from-requires (of-first-claims t) (of-first-at t) of-first.Post
+of-first-eval-from-requires t c κs = let h = (part-higher (c .before .before .before .before .before .before .before .before .pre .1 .0 .1 .at-hand) first (c .before .before .before .before .before .before .before .before .pre .1 .1) 2 refl (unfold askOfKind in refl) (c .before .before .before .before .word .ensures .0)) in (omega (arith, c .before .before .before .before .before .before .before .before .pre .0, h .0, h .1), (c .before .before .before .before .before .before .before .before .pre .1 .0 .0, first-asked (c .before .before .before .before .before .before .before .before .pre .1 .0 .1) (c .before .before .before .before .before .before .before .before .pre .1 .1) (c .before .before .before .before .word .ensures .0)))
 
 of-first-same-length : (t : ℕ) → of-first-lts.Need-same-length (of-first-claims t) (of-first-at t) of-first.Post
 of-first-same-length t c = search needs
@@ -467,7 +575,7 @@ of-first-same-length-2 : (t : ℕ) → of-first-lts.Need-same-length-2 (of-first
 of-first-same-length-2 t c = search needs
 
 of-first-returns : (t : ℕ) → of-first-lts.Need-returns (of-first-claims t) (of-first-at t) of-first.Post
-of-first-returns t c = record { done = λ Γ r. first-done r (c .before .before .before .before .before .before .before .before .before .before .before .before .before .before .before .before .before .before .before .before .pre .1 .1) (c .before .before .before .before .before .before .before .before .before .before .before .before .before .before .before .before .word .ensures .0) refl (c .before .before .before .before .before .before .before .before .before .before .before .before .before .before .room .ensures) (c .before .before .before .before .before .before .before .before .before .eval-part .ensures) (c .before .before .put .ensures) }
+of-first-returns t c = record { done = λ Γ r. first-done r (c .before .before .before .before .before .before .before .before .before .before .before .before .before .pre .1 .1) (c .before .before .before .before .before .before .before .before .before .word .ensures .0) (c .before .before .before .before .eval-from .ensures) }
 
 of-if-word-requires : (t : ℕ) → of-if-lts.Need-word-requires (of-if-claims t) (of-if-at t) of-if.Post
 of-if-word-requires t c κs = ready-word (c .before .before .before .pre .1 .0 .1 .at-hand) (omega arith)
@@ -545,19 +653,28 @@ of-if-cast-fired : (t : ℕ) → of-if-lts.Need-cast-fired (of-if-claims t) (of-
 of-if-cast-fired t c = search needs
 
 of-if-mul-fired : (t : ℕ) → of-if-lts.Need-mul-fired (of-if-claims t) (of-if-at t) of-if.Post
-of-if-mul-fired t c = let h = ready-low (c .before .before .before .before .before .before .before .before .before .before .before .before .before .before .before .before .before .before .before .before .before .before .before .before .before .before .before .before .before .before .before .before .before .before .before .before .before .before .before .before .before .before .before .pre .1 .0 .1 .at-hand) in omega arith
+of-if-mul-fired t c = let h = ready-low (c .before .before .before .before .before .before .before .before .before .before .before .before .before .before .before .before .before .before .before .before .before .before .before .before .before .before .before .before .before .before .before .before .before .before .before .before .before .before .before .before .before .before .before .before .pre .1 .0 .1 .at-hand) in omega arith
 
 of-if-element-write-fired : (t : ℕ) → of-if-lts.Need-element-write-fired (of-if-claims t) (of-if-at t) of-if.Post
-of-if-element-write-fired t c = ready-low (c .before .before .before .before .before .before .before .before .before .before .before .before .before .before .before .before .before .before .before .before .before .before .before .before .before .before .before .before .before .before .before .before .before .before .before .before .before .before .before .before .before .before .before .pre .1 .0 .1 .at-hand)
+of-if-element-write-fired t c = ready-low (c .before .before .before .before .before .before .before .before .before .before .before .before .before .before .before .before .before .before .before .before .before .before .before .before .before .before .before .before .before .before .before .before .before .before .before .before .before .before .before .before .before .before .before .before .pre .1 .0 .1 .at-hand)
 
 of-if-same-length : (t : ℕ) → of-if-lts.Need-same-length (of-if-claims t) (of-if-at t) of-if.Post
-of-if-same-length t c = if-wide (c .before .before .before .before .before .before .before .before .before .before .before .before .before .before .before .before .before .before .before .before .before .before .before .before .before .before .before .before .before .before .before .before .before .before .before .before .before .before .before .before .before .before .before .pre .1 .0 .1) (c .before .before .before .before .before .before .before .before .before .before .before .before .before .before .before .before .before .before .before .before .before .before .before .before .before .before .before .before .before .before .before .before .before .before .before .before .before .before .before .before .before .before .before .pre .1 .1) (c .before .before .before .before .before .before .before .before .before .before .before .before .before .before .before .before .before .before .before .before .before .before .before .before .before .before .before .before .before .before .before .before .before .before .before .before .before .before .before .word .ensures .0) (c .before .before .before .before .before .before .before .before .before .before .before .before .before .before .before .before .before .before .before .before .before .before .before .before .before .before .before .before .word2 .ensures .0) (c .before .before .before .before .before .before .before .before .before .before .before .before .before .before .before .before .before .before .word3 .ensures .0) (c .before .before .before .before .before .before .before .before .word4 .ensures .0) refl (c .before .before .before .before .before .before .before .before .before .before .before .before .before .before .before .before .before .before .before .before .before .before .before .before .before .before .before .before .before .before .before .before .before .before .before .before .before .room .ensures) (c .before .before .before .before .before .before .before .before .before .before .before .before .before .before .before .before .before .before .before .before .before .before .before .before .before .before .before .before .before .before .before .before .eval-part .ensures) (c .before .before .before .before .before .before .before .before .before .before .before .before .before .before .before .before .before .before .before .before .before .before .before .eval-part2 .ensures) (c .before .before .before .before .before .before .before .before .before .before .before .before .before .before .before .before .before .room2 .ensures) (c .before .before .before .before .before .before .before .before .before .before .before .before .eval-part3 .ensures)
+of-if-same-length t c = if-wide (c .before .before .before .before .before .before .before .before .before .before .before .before .before .before .before .before .before .before .before .before .before .before .before .before .before .before .before .before .before .before .before .before .before .before .before .before .before .before .before .before .before .before .before .before .pre .1 .0 .1) (c .before .before .before .before .before .before .before .before .before .before .before .before .before .before .before .before .before .before .before .before .before .before .before .before .before .before .before .before .before .before .before .before .before .before .before .before .before .before .before .before .before .before .before .before .pre .1 .1) (c .before .before .before .before .before .before .before .before .before .before .before .before .before .before .before .before .before .before .before .before .before .before .before .before .before .before .before .before .before .before .before .before .before .before .before .before .before .before .before .before .word .ensures .0) (c .before .before .before .before .before .before .before .before .before .before .before .before .before .before .before .before .before .before .before .before .before .before .before .before .before .before .before .before .before .word2 .ensures .0) (c .before .before .before .before .before .before .before .before .before .before .before .before .before .before .before .before .before .before .before .word3 .ensures .0) (c .before .before .before .before .before .before .before .before .before .word4 .ensures .0) refl (c .before .before .before .before .before .before .before .before .before .before .before .before .before .before .before .before .before .before .before .before .before .before .before .before .before .before .before .before .before .before .before .before .before .before .before .before .before .before .room .ensures) (c .before .before .before .before .before .before .before .before .before .before .before .before .before .before .before .before .before .before .before .before .before .before .before .before .before .before .before .before .before .before .before .before .before .eval-part .ensures) (c .before .before .before .before .before .before .before .before .before .before .before .before .before .before .before .before .before .before .before .before .before .before .before .before .eval-part2 .ensures) (c .before .before .before .before .before .before .before .before .before .before .before .before .before .before .before .before .before .before .room2 .ensures) (c .before .before .before .before .before .before .before .before .before .before .before .before .before .eval-part3 .ensures)
 
 of-if-same-length-2 : (t : ℕ) → of-if-lts.Need-same-length-2 (of-if-claims t) (of-if-at t) of-if.Post
 of-if-same-length-2 t c = search needs
 
 of-if-returns : (t : ℕ) → of-if-lts.Need-returns (of-if-claims t) (of-if-at t) of-if.Post
-of-if-returns t c = record { done = λ Γ r. if-done r (c .before .before .before .before .before .before .before .before .before .before .before .before .before .before .before .before .before .before .before .before .before .before .before .before .before .before .before .before .before .before .before .before .before .before .before .before .before .before .before .before .before .before .before .pre .1 .1) (c .before .before .before .before .before .before .before .before .before .before .before .before .before .before .before .before .before .before .before .before .before .before .before .before .before .before .before .before .before .before .before .before .before .before .before .before .before .before .before .word .ensures .0) (c .before .before .before .before .before .before .before .before .before .before .before .before .before .before .before .before .before .before .before .before .before .before .before .before .before .before .before .before .word2 .ensures .0) (c .before .before .before .before .before .before .before .before .before .before .before .before .before .before .before .before .before .before .word3 .ensures .0) (c .before .before .before .before .before .before .before .before .word4 .ensures .0) refl (c .before .before .before .before .before .before .before .before .before .before .before .before .before .before .before .before .before .before .before .before .before .before .before .before .before .before .before .before .before .before .before .before .before .before .before .before .before .room .ensures) (c .before .before .before .before .before .before .before .before .before .before .before .before .before .before .before .before .before .before .before .before .before .before .before .before .before .before .before .before .before .before .before .before .eval-part .ensures) (c .before .before .before .before .before .before .before .before .before .before .before .before .before .before .before .before .before .before .before .before .before .before .before .eval-part2 .ensures) (c .before .before .before .before .before .before .before .before .before .before .before .before .before .before .before .before .before .room2 .ensures) (c .before .before .before .before .before .before .before .before .before .before .before .before .eval-part3 .ensures) (c .before .before .choose-value .ensures) }
+of-if-returns t c = record { done = λ Γ r. if-done r (c .before .before .before .before .before .before .before .before .before .before .before .before .before .before .before .before .before .before .before .before .before .before .before .before .before .before .before .before .before .before .before .before .before .before .before .before .before .before .before .before .before .before .before .before .pre .1 .1) (c .before .before .before .before .before .before .before .before .before .before .before .before .before .before .before .before .before .before .before .before .before .before .before .before .before .before .before .before .before .before .before .before .before .before .before .before .before .before .before .before .word .ensures .0) (c .before .before .before .before .before .before .before .before .before .before .before .before .before .before .before .before .before .before .before .before .before .before .before .before .before .before .before .before .before .word2 .ensures .0) (c .before .before .before .before .before .before .before .before .before .before .before .before .before .before .before .before .before .before .before .word3 .ensures .0) (c .before .before .before .before .before .before .before .before .before .word4 .ensures .0) refl (c .before .before .before .before .before .before .before .before .before .before .before .before .before .before .before .before .before .before .before .before .before .before .before .before .before .before .before .before .before .before .before .before .before .before .before .before .before .before .room .ensures) (c .before .before .before .before .before .before .before .before .before .before .before .before .before .before .before .before .before .before .before .before .before .before .before .before .before .before .before .before .before .before .before .before .before .eval-part .ensures) (c .before .before .before .before .before .before .before .before .before .before .before .before .before .before .before .before .before .before .before .before .before .before .before .before .eval-part2 .ensures) (c .before .before .before .before .before .before .before .before .before .before .before .before .before .before .before .before .before .before .room2 .ensures) (c .before .before .before .before .before .before .before .before .before .before .before .before .before .eval-part3 .ensures) (c .before .before .before .choose-value .ensures) (wanted-whole (c .if1 .taken) refl) }
+
+of-if-same-length-3 : (t : ℕ) → of-if-lts.Need-same-length-3 (of-if-claims t) (of-if-at t) of-if.Post
+of-if-same-length-3 t c = if-wide (c .before .before .before .before .before .before .before .before .before .before .before .before .before .before .before .before .before .before .before .before .before .before .before .before .before .before .before .before .before .before .before .before .before .before .before .before .before .before .before .before .before .before .before .before .pre .1 .0 .1) (c .before .before .before .before .before .before .before .before .before .before .before .before .before .before .before .before .before .before .before .before .before .before .before .before .before .before .before .before .before .before .before .before .before .before .before .before .before .before .before .before .before .before .before .before .pre .1 .1) (c .before .before .before .before .before .before .before .before .before .before .before .before .before .before .before .before .before .before .before .before .before .before .before .before .before .before .before .before .before .before .before .before .before .before .before .before .before .before .before .before .word .ensures .0) (c .before .before .before .before .before .before .before .before .before .before .before .before .before .before .before .before .before .before .before .before .before .before .before .before .before .before .before .before .before .word2 .ensures .0) (c .before .before .before .before .before .before .before .before .before .before .before .before .before .before .before .before .before .before .before .word3 .ensures .0) (c .before .before .before .before .before .before .before .before .before .word4 .ensures .0) refl (c .before .before .before .before .before .before .before .before .before .before .before .before .before .before .before .before .before .before .before .before .before .before .before .before .before .before .before .before .before .before .before .before .before .before .before .before .before .before .room .ensures) (c .before .before .before .before .before .before .before .before .before .before .before .before .before .before .before .before .before .before .before .before .before .before .before .before .before .before .before .before .before .before .before .before .before .eval-part .ensures) (c .before .before .before .before .before .before .before .before .before .before .before .before .before .before .before .before .before .before .before .before .before .before .before .before .eval-part2 .ensures) (c .before .before .before .before .before .before .before .before .before .before .before .before .before .before .before .before .before .before .room2 .ensures) (c .before .before .before .before .before .before .before .before .before .before .before .before .before .eval-part3 .ensures)
+
+of-if-same-length-4 : (t : ℕ) → of-if-lts.Need-same-length-4 (of-if-claims t) (of-if-at t) of-if.Post
+of-if-same-length-4 t c = search needs
+
+of-if-returns-2 : (t : ℕ) → of-if-lts.Need-returns-2 (of-if-claims t) (of-if-at t) of-if.Post
+of-if-returns-2 t c = record { done = λ Γ r. if-done r (c .before .before .before .before .before .before .before .before .before .before .before .before .before .before .before .before .before .before .before .before .before .before .before .before .before .before .before .before .before .before .before .before .before .before .before .before .before .before .before .before .before .before .before .before .pre .1 .1) (c .before .before .before .before .before .before .before .before .before .before .before .before .before .before .before .before .before .before .before .before .before .before .before .before .before .before .before .before .before .before .before .before .before .before .before .before .before .before .before .before .word .ensures .0) (c .before .before .before .before .before .before .before .before .before .before .before .before .before .before .before .before .before .before .before .before .before .before .before .before .before .before .before .before .before .word2 .ensures .0) (c .before .before .before .before .before .before .before .before .before .before .before .before .before .before .before .before .before .before .before .word3 .ensures .0) (c .before .before .before .before .before .before .before .before .before .word4 .ensures .0) refl (c .before .before .before .before .before .before .before .before .before .before .before .before .before .before .before .before .before .before .before .before .before .before .before .before .before .before .before .before .before .before .before .before .before .before .before .before .before .before .room .ensures) (c .before .before .before .before .before .before .before .before .before .before .before .before .before .before .before .before .before .before .before .before .before .before .before .before .before .before .before .before .before .before .before .before .before .eval-part .ensures) (c .before .before .before .before .before .before .before .before .before .before .before .before .before .before .before .before .before .before .before .before .before .before .before .before .eval-part2 .ensures) (c .before .before .before .before .before .before .before .before .before .before .before .before .before .before .before .before .before .before .room2 .ensures) (c .before .before .before .before .before .before .before .before .before .before .before .before .before .eval-part3 .ensures) (c .before .before .before .choose-value .ensures) (wanted-value (c .if1 .left)) }
 
 of-let-word-requires : (t : ℕ) → of-let-lts.Need-word-requires (of-let-claims t) (of-let-at t) of-let.Post
 of-let-word-requires t c κs = ready-word (c .before .before .before .pre .1 .0 .1 .at-hand) (omega arith)
@@ -661,41 +778,23 @@ of-pair-returns t c = record { done = λ Γ r. pair-done r (c .before .before .b
 of-second-word-requires : (t : ℕ) → of-second-lts.Need-word-requires (of-second-claims t) (of-second-at t) of-second.Post
 of-second-word-requires t c κs = ready-word (c .before .before .before .pre .1 .0 .1 .at-hand) (omega arith)
 
-of-second-element-copy-out-w : (t : ℕ) → of-second-lts.Need-element-copy-out-w (of-second-claims t) (of-second-at t) of-second.Post
-of-second-element-copy-out-w t c = entry-there (c .before .before .before .before .pre .1 .0 .1 .at-hand) second (c .before .before .before .before .pre .1 .1) 2 refl (unfold askOfKind in refl) (c .word .ensures .0)
+of-second-element-copy-out-from : (t : ℕ) → of-second-lts.Need-element-copy-out-from (of-second-claims t) (of-second-at t) of-second.Post
+of-second-element-copy-out-from t c = entry-there (c .before .before .before .before .pre .1 .0 .1 .at-hand) second (c .before .before .before .before .pre .1 .1) 2 refl (unfold askOfKind in refl) (c .word .ensures .0)
 
-of-second-cast-w : (t : ℕ) → of-second-lts.Need-cast-w (of-second-claims t) (of-second-at t) of-second.Post
-of-second-cast-w t c = let f = entry-few (c .before .before .before .before .before .pre .1 .0 .1 .at-hand) (second-scope (c .before .before .before .before .before .pre .1 .0 .1 .at-hand) (c .before .before .before .before .before .pre .1 .1) (c .before .word .ensures .0)) in omega arith
+of-second-cast-from : (t : ℕ) → of-second-lts.Need-cast-from (of-second-claims t) (of-second-at t) of-second.Post
+of-second-cast-from t c = let f = entry-few (c .before .before .before .before .before .pre .1 .0 .1 .at-hand) (second-scope (c .before .before .before .before .before .pre .1 .0 .1 .at-hand) (c .before .before .before .before .before .pre .1 .1) (c .before .word .ensures .0)) in omega arith
 
-of-second-room-requires : (t : ℕ) → of-second-lts.Need-room-requires (of-second-claims t) (of-second-at t) of-second.Post
-of-second-room-requires t c κs = tt
+of-second-element-copy-out-from-2 : (t : ℕ) → of-second-lts.Need-element-copy-out-from-2 (of-second-claims t) (of-second-at t) of-second.Post
+of-second-element-copy-out-from-2 t c = ready-low (c .before .before .before .before .before .pre .1 .0 .1 .at-hand)
 
-of-second-sub-eval-part : (t : ℕ) → of-second-lts.Need-sub-eval-part (of-second-claims t) (of-second-at t) of-second.Post
-of-second-sub-eval-part t c = from-zero _
+of-second-cast-from-2 : (t : ℕ) → of-second-lts.Need-cast-from-2 (of-second-claims t) (of-second-at t) of-second.Post
+of-second-cast-from-2 t c = let f = entry-few (c .before .before .before .before .before .before .pre .1 .0 .1 .at-hand) ((c .before .before .before .before .before .before .pre .1 .0 .1 .at-hand) .scope) in omega arith
 
-of-second-part-whole-start : (t : ℕ) → of-second-lts.Need-part-whole-start (of-second-claims t) (of-second-at t) of-second.Post
-of-second-part-whole-start t c = from-zero _
+of-second-sub-from : (t : ℕ) → of-second-lts.Need-sub-from (of-second-claims t) (of-second-at t) of-second.Post
+of-second-sub-from t c = second-narrow (c .before .before .before .before .before .before .pre .1 .0 .1) (c .before .before .before .before .before .before .pre .1 .1) (c .before .before .word .ensures .0)
 
-of-second-part-whole-end : (t : ℕ) → of-second-lts.Need-part-whole-end (of-second-claims t) (of-second-at t) of-second.Post
-of-second-part-whole-end t c = fits-room (c .before .before .before .before .before .before .before .before .pre .1 .0 .1 .at-hand) (second-scope (c .before .before .before .before .before .before .before .before .pre .1 .0 .1 .at-hand) (c .before .before .before .before .before .before .before .before .pre .1 .1) (c .before .before .before .before .word .ensures .0)) refl (c .before .before .room .ensures)
-
-of-second-eval-part-requires : (t : ℕ) → of-second-lts.Need-eval-part-requires (of-second-claims t) (of-second-at t) of-second.Post
-of-second-eval-part-requires t c κs = let h = (part-higher (c .before .before .before .before .before .before .before .before .before .before .pre .1 .0 .1 .at-hand) second (c .before .before .before .before .before .before .before .before .before .before .pre .1 .1) 2 refl (unfold askOfKind in refl) (c .before .before .before .before .before .before .word .ensures .0)) in (omega (arith, c .before .before .before .before .before .before .before .before .before .before .pre .0, h .0, h .1), (c .before .before .before .before .before .before .before .before .before .before .pre .1 .0 .0, room-ready (c .before .before .before .before .before .before .before .before .before .before .pre .1 .0 .1) (second-scope (c .before .before .before .before .before .before .before .before .before .before .pre .1 .0 .1 .at-hand) (c .before .before .before .before .before .before .before .before .before .before .pre .1 .1) (c .before .before .before .before .before .before .word .ensures .0)) refl (c .before .before .before .before .room .ensures)))
-
-of-second-sub-put : (t : ℕ) → of-second-lts.Need-sub-put (of-second-claims t) (of-second-at t) of-second.Post
-of-second-sub-put t c = second-few (c .before .before .before .before .before .before .before .before .before .before .before .before .before .before .pre .1 .0 .1) (c .before .before .before .before .before .before .before .before .before .before .before .before .before .before .pre .1 .1) (c .before .before .before .before .before .before .before .before .before .before .word .ensures .0) refl (c .before .before .before .before .before .before .before .before .room .ensures) (c .before .before .before .eval-part .ensures)
-
-of-second-sub-put-2 : (t : ℕ) → of-second-lts.Need-sub-put-2 (of-second-claims t) (of-second-at t) of-second.Post
-of-second-sub-put-2 t c = second-from (c .before .before .before .before .before .before .before .before .before .before .before .before .before .before .pre .1 .0 .1) (c .before .before .before .before .before .before .before .before .before .before .before .before .before .before .pre .1 .1) (c .before .before .before .before .before .before .before .before .before .before .word .ensures .0) refl (c .before .before .before .before .before .before .before .before .room .ensures) (c .before .before .before .eval-part .ensures)
-
-of-second-part-put-start : (t : ℕ) → of-second-lts.Need-part-put-start (of-second-claims t) (of-second-at t) of-second.Post
-of-second-part-put-start t c = second-from (c .before .before .before .before .before .before .before .before .before .before .before .before .before .before .before .pre .1 .0 .1) (c .before .before .before .before .before .before .before .before .before .before .before .before .before .before .before .pre .1 .1) (c .before .before .before .before .before .before .before .before .before .before .before .word .ensures .0) refl (c .before .before .before .before .before .before .before .before .before .room .ensures) (c .before .before .before .before .eval-part .ensures)
-
-of-second-part-put-end : (t : ℕ) → of-second-lts.Need-part-put-end (of-second-claims t) (of-second-at t) of-second.Post
-of-second-part-put-end t c = second-inside (c .before .before .before .before .before .before .before .before .before .before .before .before .before .before .before .pre .1 .0 .1) (c .before .before .before .before .before .before .before .before .before .before .before .before .before .before .before .pre .1 .1) (c .before .before .before .before .before .before .before .before .before .before .before .word .ensures .0) refl (c .before .before .before .before .before .before .before .before .before .room .ensures) (c .before .before .before .before .eval-part .ensures)
-
-of-second-put-requires : (t : ℕ) → of-second-lts.Need-put-requires (of-second-claims t) (of-second-at t) of-second.Post
-of-second-put-requires t c κs = let l = second-fits (c .before .before .before .before .before .before .before .before .before .before .before .before .before .before .before .before .before .pre .1 .0 .1) (c .before .before .before .before .before .before .before .before .before .before .before .before .before .before .before .before .before .pre .1 .1) (c .before .before .before .before .before .before .before .before .before .before .before .before .before .word .ensures .0) refl (c .before .before .before .before .before .before .before .before .before .before .before .room .ensures) (c .before .before .before .before .before .before .eval-part .ensures) in omega arith
+of-second-eval-from-requires : (t : ℕ) → of-second-lts.Need-eval-from-requires (of-second-claims t) (of-second-at t) of-second.Post
+of-second-eval-from-requires t c κs = let h = (part-higher (c .before .before .before .before .before .before .before .before .before .before .pre .1 .0 .1 .at-hand) second (c .before .before .before .before .before .before .before .before .before .before .pre .1 .1) 2 refl (unfold askOfKind in refl) (c .before .before .before .before .before .before .word .ensures .0)) in (omega (arith, c .before .before .before .before .before .before .before .before .before .before .pre .0, h .0, h .1), (c .before .before .before .before .before .before .before .before .before .before .pre .1 .0 .0, second-asked (c .before .before .before .before .before .before .before .before .before .before .pre .1 .0 .1) (c .before .before .before .before .before .before .before .before .before .before .pre .1 .1) (c .before .before .before .before .before .before .word .ensures .0) refl))
 
 of-second-same-length : (t : ℕ) → of-second-lts.Need-same-length (of-second-claims t) (of-second-at t) of-second.Post
 of-second-same-length t c = search needs
@@ -704,7 +803,7 @@ of-second-same-length-2 : (t : ℕ) → of-second-lts.Need-same-length-2 (of-sec
 of-second-same-length-2 t c = search needs
 
 of-second-returns : (t : ℕ) → of-second-lts.Need-returns (of-second-claims t) (of-second-at t) of-second.Post
-of-second-returns t c = record { done = λ Γ r. second-done r (c .before .before .before .before .before .before .before .before .before .before .before .before .before .before .before .before .before .before .before .before .pre .1 .1) (c .before .before .before .before .before .before .before .before .before .before .before .before .before .before .before .before .word .ensures .0) refl (c .before .before .before .before .before .before .before .before .before .before .before .before .before .before .room .ensures) (c .before .before .before .before .before .before .before .before .before .eval-part .ensures) (c .before .before .put .ensures) }
+of-second-returns t c = record { done = λ Γ r. second-done r (c .before .before .before .before .before .before .before .before .before .before .before .before .before .before .before .pre .1 .1) (c .before .before .before .before .before .before .before .before .before .before .before .word .ensures .0) refl (c .before .before .before .before .eval-from .ensures) }
 
 settle-add-eval-part : (t : ℕ) → settle-lts.Need-add-eval-part (settle-claims t) (settle-at t) settle.Post
 settle-add-eval-part t c = let f = settle-few (c .before .before .before .before .pre .1 .2) in omega arith
@@ -727,8 +826,8 @@ settle-returns t c = record { settled = λ t Γ g. unchanged-settled g (c .befor
 settle-enter-value-requires : (t : ℕ) → settle-lts.Need-enter-value-requires (settle-claims t) (settle-at t) settle.Post
 settle-enter-value-requires t c κs = settle-room (c .before .before .before .before .before .before .before .before .before .before .before .before .before .before .before .before .before .before .pre .1 .2) (c .before .before .before .before .before .before .before .before .before .before .eval-part .ensures)
 
-settle-settle-requires : (t : ℕ) → settle-lts.Need-settle-requires (settle-claims t) (settle-at t) settle.Post
-settle-settle-requires t c κs = let h = fewer-undefined (c .before .before .before .before .before .before .before .before .before .before .before .before .before .before .before .before .before .before .before .before .before .before .before .before .before .pre .1 .2) (c .before .before .before .before .before .before .before .before .before .before .before .before .before .before .before .before .before .eval-part .ensures) (c .before .before .before .before .before .before .before .before .before .before .stands-at .ensures) (c .before .before .before .before .before .before .before .before .before .if1 .left) (c .before .before .before .before .before .before .enter-value .ensures) in (omega (arith, c .before .before .before .before .before .before .before .before .before .before .before .before .before .before .before .before .before .before .before .before .before .before .before .before .before .pre .0, h), (_, _, settling-again (c .before .before .before .before .before .before .before .before .before .before .before .before .before .before .before .before .before .before .before .before .before .before .before .before .before .pre .1 .2) (c .before .before .before .before .before .before .before .before .before .before .before .before .before .before .before .before .before .eval-part .ensures) (c .before .before .before .before .before .before .before .before .before .before .stands-at .ensures) (c .before .before .before .before .before .before .before .before .before .if1 .left) (c .before .before .before .before .before .before .enter-value .ensures)))
+settle-all-defined-requires : (t : ℕ) → settle-lts.Need-all-defined-requires (settle-claims t) (settle-at t) settle.Post
+settle-all-defined-requires t c κs = tt
 
 settle-same-length-3 : (t : ℕ) → settle-lts.Need-same-length-3 (settle-claims t) (settle-at t) settle.Post
 settle-same-length-3 t c = search needs
@@ -737,14 +836,28 @@ settle-same-length-4 : (t : ℕ) → settle-lts.Need-same-length-4 (settle-claim
 settle-same-length-4 t c = search needs
 
 settle-returns-2 : (t : ℕ) → settle-lts.Need-returns-2 (settle-claims t) (settle-at t) settle.Post
-settle-returns-2 t c = record { settled = λ t Γ g. changed-settled g (c .before .before .before .before .before .before .before .before .before .before .before .before .before .before .before .before .before .before .before .before .before .before .eval-part .ensures) (c .before .before .before .before .before .before .before .before .before .before .before .before .before .before .before .stands-at .ensures) (c .before .before .before .before .before .before .before .before .before .before .before .before .before .before .if1 .left) (c .before .before .before .before .before .before .before .before .before .before .before .enter-value .ensures) (c .before .before .before .before .settle .ensures) }
+settle-returns-2 t c = record { settled = λ t Γ g. defined-settled g (c .before .before .before .before .before .before .before .before .before .before .before .before .before .before .before .before .eval-part .ensures) (c .before .before .before .before .before .before .before .before .before .stands-at .ensures) (c .before .before .before .before .before .before .before .before .if1 .left) (c .before .before .before .before .before .enter-value .ensures) (c .before .all-defined .ensures) (c .if2 .taken) }
 
-pub +eval+eval-part+of-delay+of-feedback+of-first+of-if+of-let+of-pair+of-second+settle-spec :
+settle-settle-requires : (t : ℕ) → settle-lts.Need-settle-requires (settle-claims t) (settle-at t) settle.Post
+settle-settle-requires t c κs = let h = fewer-undefined (c .before .before .before .before .before .before .before .before .before .before .before .before .before .before .before .before .before .before .before .before .before .before .before .before .before .before .before .before .pre .1 .2) (c .before .before .before .before .before .before .before .before .before .before .before .before .before .before .before .before .before .before .before .before .eval-part .ensures) (c .before .before .before .before .before .before .before .before .before .before .before .before .before .stands-at .ensures) (c .before .before .before .before .before .before .before .before .before .before .before .before .if1 .left) (c .before .before .before .before .before .before .before .before .before .enter-value .ensures) in (omega (arith, c .before .before .before .before .before .before .before .before .before .before .before .before .before .before .before .before .before .before .before .before .before .before .before .before .before .before .before .before .pre .0, h), (_, _, settling-again (c .before .before .before .before .before .before .before .before .before .before .before .before .before .before .before .before .before .before .before .before .before .before .before .before .before .before .before .before .pre .1 .2) (c .before .before .before .before .before .before .before .before .before .before .before .before .before .before .before .before .before .before .before .before .eval-part .ensures) (c .before .before .before .before .before .before .before .before .before .before .before .before .before .stands-at .ensures) (c .before .before .before .before .before .before .before .before .before .before .before .before .if1 .left) (c .before .before .before .before .before .before .before .before .before .enter-value .ensures)))
+
+settle-same-length-5 : (t : ℕ) → settle-lts.Need-same-length-5 (settle-claims t) (settle-at t) settle.Post
+settle-same-length-5 t c = search needs
+
+settle-same-length-6 : (t : ℕ) → settle-lts.Need-same-length-6 (settle-claims t) (settle-at t) settle.Post
+settle-same-length-6 t c = search needs
+
+settle-returns-3 : (t : ℕ) → settle-lts.Need-returns-3 (settle-claims t) (settle-at t) settle.Post
+settle-returns-3 t c = record { settled = λ t Γ g. changed-settled g (c .before .before .before .before .before .before .before .before .before .before .before .before .before .before .before .before .before .before .before .before .before .before .before .before .before .eval-part .ensures) (c .before .before .before .before .before .before .before .before .before .before .before .before .before .before .before .before .before .before .stands-at .ensures) (c .before .before .before .before .before .before .before .before .before .before .before .before .before .before .before .before .before .if1 .left) (c .before .before .before .before .before .before .before .before .before .before .before .before .before .before .enter-value .ensures) (c .before .before .before .before .settle .ensures) }
+
+pub +eval+eval-from+eval-part+hold-settled+of-delay+of-feedback+of-first+of-if+of-let+of-pair+of-second+settle-spec :
     {M : Type 1} → statement M
-+eval+eval-part+of-delay+of-feedback+of-first+of-if+of-let+of-pair+of-second+settle-spec =
++eval+eval-from+eval-part+hold-settled+of-delay+of-feedback+of-first+of-if+of-let+of-pair+of-second+settle-spec =
     close
     μ-eval
+    μ-eval-from
     μ-eval-part
+    μ-hold-settled
     μ-of-delay
     μ-of-feedback
     μ-of-first
@@ -793,6 +906,30 @@ pub +eval+eval-part+of-delay+of-feedback+of-first+of-if+of-let+of-pair+of-second
     (eval-same-length-16 t)
     (eval-same-length-17 t)
     (eval-returns-9 t))
+    (λ t. eval-from-lts.spec (eval-from-claims t)
+    (eval-from-at t)
+    eval-from.Post
+    (eval-from-chain-end-requires t)
+    (eval-from-word-requires t)
+    (eval-from-copy-name-part-requires t)
+    (eval-from-same-length t)
+    (eval-from-same-length-2 t)
+    (eval-from-returns t)
+    (eval-from-element-copy-out-w t)
+    (eval-from-cast-w t)
+    (eval-from-room-requires t)
+    (eval-from-sub-eval-part t)
+    (eval-from-part-value-start t)
+    (eval-from-part-value-end t)
+    (eval-from-eval-part-requires t)
+    (eval-from-add-put t)
+    (eval-from-sub-put t)
+    (eval-from-part-put-start t)
+    (eval-from-part-put-end t)
+    (eval-from-put-requires t)
+    (eval-from-same-length-3 t)
+    (eval-from-same-length-4 t)
+    (eval-from-returns-2 t))
     (λ t. eval-part-lts.spec (eval-part-claims t)
     (eval-part-at t)
     eval-part.Post
@@ -809,17 +946,32 @@ pub +eval+eval-part+of-delay+of-feedback+of-first+of-if+of-let+of-pair+of-second
     (eval-part-same-length-4 t)
     (eval-part-same-length-5 t)
     (eval-part-returns-3 t))
+    (λ t. hold-settled-lts.spec (hold-settled-claims t)
+    (hold-settled-at t)
+    hold-settled.Post
+    (hold-settled-settle-requires t)
+    (hold-settled-add-eval-part t)
+    (hold-settled-eval-part-requires t)
+    (hold-settled-same-length t)
+    (hold-settled-same-length-2 t)
+    (hold-settled-returns t)
+    (hold-settled-same-length-3 t)
+    (hold-settled-same-length-4 t)
+    (hold-settled-returns-2 t))
     (λ t. of-delay-lts.spec (of-delay-claims t)
     (of-delay-at t)
     of-delay.Post
     (of-delay-word-requires t)
-    (of-delay-eval-part-requires t)
-    (of-delay-word-requires-2 t)
-    (of-delay-hold-leaves-requires t)
     (of-delay-read-leaves-requires t)
     (of-delay-same-length t)
+    (of-delay-returns t)
+    (of-delay-word-requires-2 t)
+    (of-delay-eval-part-requires t)
+    (of-delay-hold-leaves-requires t)
+    (of-delay-read-leaves-requires-2 t)
     (of-delay-same-length-2 t)
-    (of-delay-returns t))
+    (of-delay-same-length-3 t)
+    (of-delay-returns-2 t))
     (λ t. of-feedback-lts.spec (of-feedback-claims t)
     (of-feedback-at t)
     of-feedback.Post
@@ -831,10 +983,10 @@ pub +eval+eval-part+of-delay+of-feedback+of-first+of-if+of-let+of-pair+of-second
     (of-feedback-part-enter-value-start t)
     (of-feedback-part-enter-value-end t)
     (of-feedback-enter-value-requires t)
-    (of-feedback-sub-settle t)
+    (of-feedback-sub-hold-settled t)
     (of-feedback-part-settled-start t)
     (of-feedback-part-settled-end t)
-    (of-feedback-settle-requires t)
+    (of-feedback-hold-settled-requires t)
     (of-feedback-word-requires-2 t)
     (of-feedback-add-eval-part t)
     (of-feedback-eval-part-requires t)
@@ -845,17 +997,7 @@ pub +eval+eval-part+of-delay+of-feedback+of-first+of-if+of-let+of-pair+of-second
     (of-first-at t)
     of-first.Post
     (of-first-word-requires t)
-    (of-first-element-copy-out-w t)
-    (of-first-cast-w t)
-    (of-first-room-requires t)
-    (of-first-sub-eval-part t)
-    (of-first-part-whole-start t)
-    (of-first-part-whole-end t)
-    (of-first-eval-part-requires t)
-    (of-first-sub-put t)
-    (of-first-part-put-start t)
-    (of-first-part-put-end t)
-    (of-first-put-requires t)
+    (of-first-eval-from-requires t)
     (of-first-same-length t)
     (of-first-same-length-2 t)
     (of-first-returns t))
@@ -891,7 +1033,10 @@ pub +eval+eval-part+of-delay+of-feedback+of-first+of-if+of-let+of-pair+of-second
     (of-if-element-write-fired t)
     (of-if-same-length t)
     (of-if-same-length-2 t)
-    (of-if-returns t))
+    (of-if-returns t)
+    (of-if-same-length-3 t)
+    (of-if-same-length-4 t)
+    (of-if-returns-2 t))
     (λ t. of-let-lts.spec (of-let-claims t)
     (of-let-at t)
     of-let.Post
@@ -913,8 +1058,7 @@ pub +eval+eval-part+of-delay+of-feedback+of-first+of-if+of-let+of-pair+of-second
     (of-let-same-length t)
     (of-let-same-length-2 t)
     (of-let-returns t))
-    (λ t. of-pair-lts.spec
-    (of-pair-claims t)
+    (λ t. of-pair-lts.spec (of-pair-claims t)
     (of-pair-at t)
     of-pair.Post
     (of-pair-word-requires t)
@@ -932,22 +1076,16 @@ pub +eval+eval-part+of-delay+of-feedback+of-first+of-if+of-let+of-pair+of-second
     (of-pair-same-length t)
     (of-pair-same-length-2 t)
     (of-pair-returns t))
-    (λ t. of-second-lts.spec (of-first-claims t)
+    (λ t. of-second-lts.spec (of-second-claims t)
     (of-second-at t)
     of-second.Post
     (of-second-word-requires t)
-    (of-second-element-copy-out-w t)
-    (of-second-cast-w t)
-    (of-second-room-requires t)
-    (of-second-sub-eval-part t)
-    (of-second-part-whole-start t)
-    (of-second-part-whole-end t)
-    (of-second-eval-part-requires t)
-    (of-second-sub-put t)
-    (of-second-sub-put-2 t)
-    (of-second-part-put-start t)
-    (of-second-part-put-end t)
-    (of-second-put-requires t)
+    (of-second-element-copy-out-from t)
+    (of-second-cast-from t)
+    (of-second-element-copy-out-from-2 t)
+    (of-second-cast-from-2 t)
+    (of-second-sub-from t)
+    (of-second-eval-from-requires t)
     (of-second-same-length t)
     (of-second-same-length-2 t)
     (of-second-returns t))
@@ -961,7 +1099,11 @@ pub +eval+eval-part+of-delay+of-feedback+of-first+of-if+of-let+of-pair+of-second
     (settle-same-length-2 t)
     (settle-returns t)
     (settle-enter-value-requires t)
-    (settle-settle-requires t)
+    (settle-all-defined-requires t)
     (settle-same-length-3 t)
     (settle-same-length-4 t)
     (settle-returns-2 t)
+    (settle-settle-requires t)
+    (settle-same-length-5 t)
+    (settle-same-length-6 t)
+    (settle-returns-3 t)
