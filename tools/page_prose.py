@@ -1,10 +1,14 @@
-"""How the pages are written: prose lines of at most 100 characters, plain words, and notes of at
-most 15 lines in docs/LANDINGS.md. Tables and code, indented or fenced, are no prose."""
+"""How the pages are written: prose lines of at most 100 characters, plain words, notes of at most 15
+lines in docs/LANDINGS.md, and a README.md of at most 130 lines. Tables and code, indented or fenced,
+are no prose."""
 import re
 
 LENGTH = 100
 NOTE = 15
 NOTES = "docs/LANDINGS.md"
+# The first page, and one more than its lines.
+FRONT = "README.md"
+FRONT_LINES = 131
 
 # Phrases that are not used, whatever their case. What stands in backquotes or in quotation marks is
 # a name or a quotation and may have them.
@@ -17,24 +21,6 @@ AVOIDED = [
     "the list wants them all",
     "the edges a sixth time",
     "so it is with",
-]
-
-# The pages whose lines are measured, and those whose words are looked at; ALL instead of a list
-# stands for every page.
-ALL = "all"
-MEASURED = [
-    "bench/README.md",
-    "desk/README.md",
-    "docs/CIRCUITS.md",
-    "docs/DECISIONS.md",
-    "docs/LANDINGS.md",
-    "docs/SPEED.md",
-]
-WORDED = [
-    "bench/README.md",
-    "docs/DECISIONS.md",
-    "docs/LANDINGS.md",
-    "docs/SPEED.md",
 ]
 
 FENCE = re.compile(r"\s*(```|~~~)")
@@ -95,25 +81,24 @@ def long_notes(lines):
 
 
 # The faults of one page.
-def faults_of(name, lines, measured, worded):
+def faults_of(name, lines):
     faults = []
     for paragraph in paragraphs(lines):
-        for number, line in paragraph if measured else []:
+        for number, line in paragraph:
             if len(line) > LENGTH:
                 faults.append((number, f"{len(line)} characters, at most {LENGTH} in prose"))
-        for number, phrase in avoided(paragraph) if worded else []:
+        for number, phrase in avoided(paragraph):
             faults.append((number, f'"{phrase}" is to be put in plain words'))
     if name == NOTES:
         faults += long_notes(lines)
+    if name == FRONT and len(lines) > FRONT_LINES:
+        faults.append((len(lines), f"at most {FRONT_LINES - 1} lines"))
     return [f"{name}:{number}: {fault}" for number, fault in sorted(faults)]
 
 
-# The faults of all pages, how many are measured, and of how many the words are looked at.
+# The faults of all pages, and how many pages there are.
 def check_prose(root):
-    every = every_page(root)
-    measured, worded = (every if held == ALL else held for held in (MEASURED, WORDED))
-    faults = [f"there is no page {name}" for name in {*measured, *worded} - set(every)]
+    every, faults = every_page(root), []
     for name in every:
-        lines = (root / name).read_text().split("\n")
-        faults += faults_of(name, lines, name in measured, name in worded)
-    return faults, len(measured), len(worded)
+        faults += faults_of(name, (root / name).read_text().split("\n"))
+    return faults, len(every)
