@@ -65,6 +65,33 @@ extern "C" {
 #endif
 
 /*
+ * Versions, newest first; CHANGELOG.md is made from these lines.
+ *
+ *     1.9.0  sheet_possible: how many constructors are still possible at each output leaf in one
+ *            cycle; code 22. sheet_carry needs less stack than before.
+ *     1.8.0  sheet_replay: whether recorded outputs are those of a run, and else where they first
+ *            differ; code 17.
+ *     1.7.0  sheet_count: how many inputs of one cycle give each value of an output leaf. More than
+ *            65,536 inputs (SHEET_MOST_INPUTS) are refused by 20.
+ *     1.6.0  sheet_press: which change of one input leaf alters an output leaf in one cycle; code
+ *            21. It is the first call that returns a struct. Code 20 has its name.
+ *     1.5.1  0 is called SHEET_DONE; SHEET_ACCEPTED stays. The most records and the most leaves
+ *            have names.
+ *     1.5.0  sheet_translate: the sheet of a circuit typed with names; codes 13 to 15. It is in
+ *            both archives. The other calls need more stack than before.
+ *     1.4.0  sheet_preview: the outputs of one cycle, without taking it.
+ *     1.3.0  sheet_fired: which alternative of each IF says yes first in one cycle; code 16.
+ *            sheet_run needs more stack than before.
+ *     1.2.0  sheet_carry: a new sheet with the values that the delays of a running one hold, by
+ *            their labels; codes 18 and 19. Word d of a delay is its label. IFs may share a
+ *            pattern.
+ *     1.1.0  An empty stimulus is a run of no cycles and is no longer refused by 8. An undecided IF
+ *            gives each leaf on which both branches agree. Both calls need more stack than before.
+ *     1.0.0  sheet_check and sheet_run; codes 0 to 12. There are two archives, libchecker.a and
+ *            libsheets.a.
+ */
+
+/*
  * The version of this header and of the archives that go with it. The first number rises where a host that was right may no longer
  * be, the second where a call or a code is added, the third where neither is so.
  */

@@ -1,5 +1,5 @@
--- Which alternative fired, as a call (docs/SHEETS.md, "Which alternative fired"): it "fills the slice: at the record of an IF with the
--- number told, taken from the evaluation in which every feedback that encloses the IF has its settled value, in the defining part as in
+-- Which alternative fired, as a call (docs/SHEETS.md, "Which alternative fired"): it "fills the slice: at the record of an IF with this
+-- number, taken from the evaluation in which every feedback that encloses the IF has its settled value, in the defining part as in
 -- the body; and with 0 at every other record. It writes nothing else." "Its checks are 1 to 7, then 8, also for a stimulus that is not
 -- exactly one cycle, then 9, then 16. Where none applies it gives 0 at place 0." The slice is a list of words here, so its length and
 -- 16's place count words, not bytes.

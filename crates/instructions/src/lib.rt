@@ -1,5 +1,5 @@
-// The instructions between a text and its records: what they are, how they are put into the order of the records, and what they write, in
-// specs/, with theorems in proofs/; here their numbers, and the tables that hold them, one of these numbers and two of operands.
+// The instructions between a text and its records: what they are, their order, what they write.
+// Here are their numbers, and the tables that hold them: one of these numbers, two of operands.
 ghost use mathlib.Core.Path.{_≡_};
 ghost use lib.ListN.{length};
 ghost use Rattle.grammar.specs.Sizes.{textTable};

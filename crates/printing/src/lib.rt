@@ -1,4 +1,4 @@
-// Text in pieces of one buffer: what was told of a call, and the line of a file that could not be opened.
+// Text in pieces of one buffer: a call's result, and the line of a file that cannot be opened.
 ghost use mathlib.Core.Path.{_≡_};
 ghost use Prim.Native.Nat.{_≤_, _<_, _*_};
 ghost use lib.ListN.{length};

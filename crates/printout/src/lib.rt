@@ -1,4 +1,4 @@
-// What the program prints, told of a sheet and a stimulus by their run.
+// What sheetrun prints of a sheet and a stimulus, from their run.
 ghost use mathlib.Core.Path.{_≡_};
 ghost use Prim.Native.Nat.{_≤_, _<_};
 ghost use lib.ListN.{length};

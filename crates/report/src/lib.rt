@@ -1,4 +1,4 @@
-// What sheetreport prints, told of a sheet and a stimulus by their run.
+// What sheetreport prints of a sheet and a stimulus, from their run.
 ghost use Prim.Native.Nat.{_≤_};
 ghost use lib.ListN.{length};
 ghost use Rattle.listing.specs.Wrote.{TextPut};

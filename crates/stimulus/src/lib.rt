@@ -1,4 +1,4 @@
-// The stimulus: its length held to whole cycles (code 8), and its bytes to their leaves' counts (code 9).
+// The stimulus: whether it has whole cycles (code 8), and leaves within their counts (code 9).
 ghost use mathlib.Core.Path.{_≡_};
 ghost use Prim.Native.Nat.{_<_};
 ghost use lib.ListN.{length, replicate};

@@ -1,7 +1,7 @@
--- The walk over records by the words that name (docs/SHEETS.md, "The sheet of a text": "each before
--- its parts, and these in the order of the words that name them, each with all that belongs to it
--- before the next"): a record, then what its words a, b, c and d name, in this order and each with
--- all that belongs to it, and last what its next names.
+-- The walk over records by the words that name (docs/SHEETS.md, "The sheet of a text": "in
+-- preorder: a record, then each part with its whole subtree, in the order of the words that name
+-- the parts"): a record, then what its words a, b, c and d name, in this order and each with all
+-- that belongs to it, and last what its next names.
 use Prim.Native.Nat.{ℕ, zero, suc}
 use mathlib.Core.Bool.{cond}
 use mathlib.Core.List.{List, [], _∷_, _++_}

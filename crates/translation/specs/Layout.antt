@@ -1,6 +1,6 @@
 -- The records of a text (docs/SHEETS.md, "The sheet of a text"): "Record 0 is the header, record `i` the declaration `i`, counted from
--- 1. Then comes the expression: each before its parts, and these in the order of the words that name them, each with all that belongs
--- to it before the next." An IF's parts are tested, then, else and last its pattern; a delay's are its leaves and then its part. Where
+-- 1. Then comes the expression in preorder: a record, then each part with its whole subtree, in the order of the words that name the
+-- parts." An IF's parts are tested, then, else and last its pattern; a delay's are its leaves and then its part. Where
 -- the part after another begins is told by how many records that one needs (`recordsOfExpression`, `patternRecords`).
 use Prim.Native.Nat.{ℕ, suc, _+_}
 use mathlib.Core.Bool.{cond}
