@@ -1,5 +1,7 @@
 // The one door from the check to the crates above it: laws of accepted sheets in proofs/, and what is read off an accepted sheet
 // with the table that the check filled.
+#![tactic(auto)]
+
 ghost use Rattle.std.specs.Prelude.{◌≡◌, length};
 ghost use Rattle.picoella.specs.Language.{bounds, leaves};
 ghost use Rattle.records.specs.Trees.{type_at, TypeRecord};

@@ -1,4 +1,6 @@
 // The answers of all calls, and the check's own: code and place in one number; and what a search found.
+#![tactic(auto)]
+
 ghost use Rattle.std.specs.Prelude.{◌≡◌, ◌<◌};
 ghost use Rattle.answers.specs.Answers.{in_one, code, place, packed, code_of_result, place_of_result, verdict_answer};
 ghost use Rattle.answers.specs.Searches.{place_bound};
@@ -48,21 +50,21 @@ pub const TOO_MANY_INPUTS: u64 = 20;
 pub const NO_OUTPUT_LEAF: u64 = 21;
 
 // The number that a search found, if it found one.
-#[derive(Drop)]
+#[derive(Clone, Copy)]
 pub enum Found {
     At(usize),
     Nothing,
 }
 
 // The answer of a call: done, with a place, or refused, with a code and a place.
-#[derive(Drop)]
+#[derive(Clone, Copy)]
 pub enum Answer {
     Done(u64),
     Refused(u64, u64),
 }
 
 // The answer of the check. `verdict_answer` gives the code and the place of each case (docs/SHEETS.md, "Codes").
-#[derive(Drop)]
+#[derive(Clone, Copy)]
 pub enum Verdict {
     // The output type's record.
     Accepted(usize),

@@ -1,5 +1,7 @@
 // Carrying held values from a running sheet into a new one: each labelled delay of the new sheet takes the value of the old
 // sheet's delay with that label.
+#![tactic(auto)]
+
 ghost use Rattle.std.specs.Prelude.{◌≡◌, ℕ, ◌/◌, ◌<◌, List, length};
 ghost use Rattle.records.specs.Sized.{Sized};
 ghost use Rattle.records.specs.Written.{Written};

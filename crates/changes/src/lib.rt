@@ -1,4 +1,6 @@
 // The changes in the outputs of a run: counted for a leaf, and over all pairs of cycle and leaf; and the report's lines.
+#![tactic(auto)]
+
 ghost use Rattle.std.specs.Prelude.{◌≡◌, suc, ◌+◌, ◌*◌, ◌≤◌, ◌<◌, length, not, eqb};
 ghost use Rattle.listing.specs.Wrote.{TextPut, line_bytes};
 ghost use Rattle.changes.specs.Changes.{one_where, changes_of, changes_in, total_changes};

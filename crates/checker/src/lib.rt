@@ -1,4 +1,6 @@
 // The check and the translation of texts for hosts in C, without the simulator: libchecker.a.
+#![tactic(auto)]
+
 ghost use Rattle.std.specs.Prelude.{◌≡◌};
 ghost use Rattle.answers.specs.Answers.{packed, verdict_answer};
 ghost use Rattle.verdict.specs.Verdict.{verdict};

@@ -61,7 +61,7 @@ pub fn put_record(
 }
 
 // Where leaves begin, and the word next of the one before them.
-#[derive(Drop)]
+#[derive(Clone, Copy)]
 pub struct LeafStart {
     pub cursor: u16,
     pub next: u16,

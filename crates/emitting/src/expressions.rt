@@ -18,7 +18,7 @@ const IF: u16 = KIND_IF as u16;
 const DELAY: u16 = KIND_DELAY as u16;
 
 // The record at which the written ones begin, the height of the stack, and the word next of the leaf or the alternative that comes next.
-#[derive(Drop)]
+#[derive(Clone, Copy)]
 pub struct Place {
     pub cursor: u16,
     pub height: usize,

@@ -1,6 +1,8 @@
 // Writes the sheet of instructions in record order. They are read from the last to the first, and the sheet is written from its last record to
 // its first: of an expression the parts are written before it, so that where they begin is known. Then come the types, from the last to the
 // first, and the header.
+#![tactic(auto)]
+
 ghost use Rattle.std.specs.Prelude.{◌≡◌, ◌+◌, ◌*◌, ◌≤◌, ◌<◌, length};
 ghost use Rattle.instructions.specs.Emission.{type_record};
 ghost use Rattle.instructions.specs.Assembly.{type_held, held_types};

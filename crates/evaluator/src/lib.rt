@@ -1,5 +1,7 @@
 // One expression evaluated: by its kind, each part into its own part of a lent slice. A feedback's defining part is evaluated
 // again until the value is unchanged; the rounds ask for its value alone, and so leave a delay's part out.
+#![tactic(auto)]
+
 ghost use Rattle.std.specs.Prelude.{◌≡◌, Bool, false, List, ℕ, ◌≤◌, get_or};
 ghost use Rattle.records.specs.Kinds.{expression, name, tuple, first, second, let_in, feedback, if_matches, delay};
 ghost use Rattle.records.specs.Says.{kind_at};
@@ -51,7 +53,7 @@ fn copy_name_part(
 }
 
 // Where a chain of first and second parts ends, and from which leaf on the value there has what is asked for.
-#[derive(Drop)]
+#[derive(Clone, Copy)]
 struct ChainEnd {
     rec: usize,
     from: usize,

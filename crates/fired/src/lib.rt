@@ -1,4 +1,6 @@
 // Which alternative fired: for one cycle a word for each record, at an IF the record of the alternative.
+#![tactic(auto)]
+
 ghost use Rattle.std.specs.Prelude.{◌≡◌, ◌≤◌, length, take};
 ghost use Rattle.verdict.specs.Verdict.{verdict};
 ghost use Rattle.answers.specs.declared.Verdict.TheVariants.{Accepted};

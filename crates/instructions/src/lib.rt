@@ -1,5 +1,7 @@
 // The instructions between a text and its records: what they are, their order, what they write.
 // Here are their numbers, and the tables that hold them: one of these numbers, two of operands.
+#![tactic(auto)]
+
 ghost use Rattle.std.specs.Prelude.{◌≡◌, length};
 ghost use Rattle.grammar.specs.Sizes.{text_table};
 

@@ -1,4 +1,6 @@
 // The tokens of a text, one after another: past the blanks a symbol, or a run of letters.
+#![tactic(auto)]
+
 ghost use Rattle.std.specs.Prelude.{◌≡◌, ◌+◌, ◌≤◌, ◌<◌, length, drop};
 ghost use Rattle.lexer.specs.Scanned.{blanks_in, letters_in, token_end};
 

@@ -1,5 +1,7 @@
 // The lines of the program's listing, written as bytes to a buffer that the caller lends. Each function gives the place after what it
 // wrote. A line has at most 278 bytes: a cycle's number of 20 digits, a colon, 64 leaves of 4 bytes and the line's end.
+#![tactic(auto)]
+
 ghost use Rattle.std.specs.Prelude.{◌≡◌, [], ◌∷◌, ◌+◌, ◌≤◌, ◌<◌, length};
 ghost use Rattle.listing.specs.Digits.{digits};
 ghost use Rattle.listing.specs.Lines.{word_line, numbers_line, type_line, cycles_line, refused_line, leaf_text, leaf_texts, cycle_line};
@@ -127,7 +129,7 @@ pub fn put_cycle(buffer: &mut [u8], at: usize, k: usize, leaves: &[u8]) -> usize
 }
 
 // How far lines were written: so many of them, up to the leaf `next`, and the place after them.
-#[derive(Drop)]
+#[derive(Clone, Copy)]
 pub struct Filled {
     pub count: usize,
     pub next: usize,

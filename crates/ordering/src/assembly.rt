@@ -13,7 +13,7 @@ use instructions::{Operands, Ops, no_operands, no_ops};
 
 // The number of declared types, the input's type, the number of instructions in record order and of the expression's records, and whether
 // all constants have a type, or the place of the first that has none.
-#[derive(Drop)]
+#[derive(Clone, Copy)]
 pub struct Totals {
     pub types: usize,
     pub input: u16,

@@ -9,7 +9,7 @@ ghost use Rattle.grammar.specs.Sizes.{text_table};
 use instructions::{BEGIN_PATTERN, CLOSE, Operands, Ops};
 
 // How many instructions stand in record order, and how many wait.
-#[derive(Drop)]
+#[derive(Clone, Copy)]
 pub struct Shifted {
     pub code: usize,
     pub waiting: usize,

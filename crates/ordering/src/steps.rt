@@ -17,7 +17,7 @@ use instructions::{
 
 // The number of declared types, the input's type, how many instructions stand in record order and how many wait, how many constants are open
 // and the place of the outermost, the records, and whether all constants have a type, or the place of the first that has none.
-#[derive(Drop)]
+#[derive(Clone, Copy)]
 pub struct Progress {
     pub types: usize,
     pub input: u16,
@@ -86,7 +86,7 @@ fn records_added(op: u8, a: u16, types: usize, leaves: &Ops) -> usize
 }
 
 // Whether all constants have a type, or the place of the first that has none.
-#[derive(Drop)]
+#[derive(Clone, Copy)]
 struct TypedSoFar {
     ok: bool,
     bad: u16,

@@ -1,4 +1,6 @@
 // The preview: the outputs of one cycle, without taking it.
+#![tactic(auto)]
+
 ghost use Rattle.std.specs.Prelude.{◌≡◌};
 ghost use Rattle.verdict.specs.Verdict.{verdict};
 ghost use Rattle.answers.specs.declared.Verdict.TheVariants.{Accepted};

@@ -1,4 +1,6 @@
 // Text in pieces of one buffer: a call's result, and the line of a file that cannot be opened.
+#![tactic(auto)]
+
 ghost use Rattle.std.specs.Prelude.{◌≡◌, ◌≤◌, ◌<◌, ◌*◌, length};
 ghost use Rattle.listing.specs.Wrote.{TextPut, line_bytes};
 ghost use Rattle.printing.specs.Pieces.{no_file_line, told_text, text_from, Pieced};
@@ -9,7 +11,7 @@ use answers::NO_FILE;
 use listing::{LINE_BYTES, put_cycles, put_lines, put_refused, put_type};
 
 // A piece of text in a buffer, up to `end`; the next begins at cycle k, whose leaves begin at `first`, if this is not the last.
-#[derive(Drop)]
+#[derive(Clone, Copy)]
 pub struct Piece {
     pub end: usize,
     pub k: usize,

@@ -1,5 +1,7 @@
 // Files for programs: a file read whole or past its limit, the line of a file that cannot be
 // opened, and a file replaced.
+#![tactic(auto)]
+
 ghost use Rattle.std.specs.Prelude.{◌≤◌, ◌≡◌, length};
 ghost use Rattle.std.specs.Int.Signed.{non_neg};
 ghost use Rattle.io.specs.Counts.{IsPrefixLen};
@@ -11,7 +13,7 @@ use listing::LINE_BYTES;
 use printing::put_no_file;
 
 // What reading gave: so many bytes, unless it failed.
-#[derive(Drop)]
+#[derive(Clone, Copy)]
 pub struct Got {
     pub ok: bool,
     pub n: usize,
@@ -104,7 +106,7 @@ pub fn unopened_file(sheet: bool, stim: bool) -> u64
 }
 
 // The lengths of the sheet and of the stimulus, unless one could not be read.
-#[derive(Drop)]
+#[derive(Clone, Copy)]
 pub struct Inputs {
     pub ok: bool,
     pub sheet: usize,

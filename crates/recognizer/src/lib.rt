@@ -1,6 +1,8 @@
 // Reads a text byte by byte: a state, a stack of the states that wait, one byte for each, and what is left of the word that is being read.
 // There is no recursion: a text of 65,535 open brackets is read like any other.
 // States, classes of bytes and words are numbers; `grammar` has the machine that they stand for.
+#![tactic(auto)]
+
 pub mod classes;
 pub mod numbers;
 pub mod tables;
@@ -19,14 +21,14 @@ use numbers::{
 };
 
 // Where a text leaves the grammar.
-#[derive(Drop)]
+#[derive(Clone, Copy)]
 pub enum Illegal {
     Offset(usize),
     Nowhere,
 }
 
 // The machine after a byte; not ok where the byte has no step.
-#[derive(Drop)]
+#[derive(Clone, Copy)]
 pub struct Moved {
     pub ok: bool,
     pub state: u8,

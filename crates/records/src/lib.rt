@@ -1,4 +1,6 @@
 // Reading a sheet: words, kinds, sorts, and whether a word is what the table asks. The numbers of the format have their names here.
+#![tactic(auto)]
+
 ghost use Rattle.std.specs.Prelude.{◌≡◌, length};
 ghost use Rattle.records.specs.Limits.{most_records};
 

@@ -1,4 +1,6 @@
 // What can still happen: how many constructors remain possible at each output leaf of one cycle.
+#![tactic(auto)]
+
 ghost use Rattle.std.specs.Prelude.{◌≡◌, ℕ, ◌≤◌, ◌<◌, length};
 ghost use Rattle.records.specs.Words.{count};
 ghost use Rattle.records.specs.Sized.{Sized};

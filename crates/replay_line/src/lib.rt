@@ -1,4 +1,6 @@
 // What sheetreplay prints of a sheet, a stimulus and recorded outputs, from their replay.
+#![tactic(auto)]
+
 ghost use Rattle.std.specs.Prelude.{◌≤◌, length};
 ghost use Rattle.listing.specs.Wrote.{line_bytes};
 ghost use Rattle.replay_line.specs.ReplayLine.{LineTold};

@@ -1,4 +1,6 @@
 // What sheetreport prints of a sheet and a stimulus, from their run.
+#![tactic(auto)]
+
 ghost use Rattle.std.specs.Prelude.{◌≤◌, length};
 ghost use Rattle.listing.specs.Wrote.{TextPut};
 ghost use Rattle.rooms.specs.Rooms.{most_output};

@@ -2,6 +2,8 @@
 //
 // The text is walked token by token (`tokens`); between two tokens stand the machine's state and its stack, and the names in scope. What a
 // token says (`sayings`) goes into three tables (`code`), with its names as numbers (`numbering`).
+#![tactic(auto)]
+
 pub mod code;
 pub mod numbering;
 pub mod sayings;
@@ -24,7 +26,7 @@ use tables::saying_table;
 use tokens::take_token;
 
 // The first bad name of a text, or how many instructions it gives.
-#[derive(Drop)]
+#[derive(Clone, Copy)]
 pub enum Resolved {
     BadName(usize),
     Instructions(usize),

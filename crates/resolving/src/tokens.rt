@@ -32,7 +32,7 @@ const CONSTANT_WAITS: u8 = 39;
 const LAST_CONSTANT_WAITS: u8 = 41;
 
 // The walk after a token; not ok where the token is a bad name.
-#[derive(Drop)]
+#[derive(Clone, Copy)]
 pub struct Taken {
     pub ok: bool,
     pub end: usize,

@@ -1,4 +1,6 @@
 // The rooms that programs read files into and put outputs into.
+#![tactic(auto)]
+
 ghost use Rattle.std.specs.Prelude.{◌≡◌, length};
 ghost use Rattle.rooms.specs.Rooms.{most_output, record_room, sheet_room};
 

@@ -1,4 +1,6 @@
 // What sheetrun prints of a sheet and a stimulus, from their run.
+#![tactic(auto)]
+
 ghost use Rattle.std.specs.Prelude.{◌≡◌, ◌≤◌, ◌<◌, length};
 ghost use Rattle.run_listing.specs.Printout.{RunTold};
 ghost use Rattle.run_listing.specs.Lengths.{OutputsMeasured};
@@ -17,7 +19,7 @@ const MOST_WIDTH: usize = MOST_LEAVES as usize;
 
 // What is to be printed: a code and its place, or where the code is 0 the listing of so many bytes of outputs, of w leaves each, whose
 // type is at record t.
-#[derive(Drop)]
+#[derive(Clone, Copy)]
 pub struct ToPrint {
     pub code: u64,
     pub place: u64,

@@ -18,7 +18,7 @@ use symbols::{
 const SEARCHES_BOUND: usize = 5;
 
 // How many names are declared, in scope, and waiting; not ok where a name breaks a rule.
-#[derive(Drop)]
+#[derive(Clone, Copy)]
 pub struct ScopeCounts {
     pub ok: bool,
     pub base: usize,

@@ -1,5 +1,7 @@
 // Replays record.bin, the recorded outputs of sheet.bin on stim.bin, and says whether they agree or
 // where they first differ, or prints only the refusal (docs/SHEETS.md, "Replaying a record").
+#![tactic(auto)]
+
 ghost use Rattle.std.specs.Prelude.{◌≤◌, ◌≡◌, length};
 ghost use Rattle.rooms.specs.Rooms.{sheet_room};
 ghost use Rattle.replay_line.specs.ReplayLine.{replay_printed};

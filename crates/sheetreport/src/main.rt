@@ -1,4 +1,6 @@
 // Reports the changes in the outputs of sheet.bin on stim.bin, or prints only the refusal (docs/SHEETS.md, "Shift report").
+#![tactic(auto)]
+
 ghost use Rattle.std.specs.Prelude.{◌≤◌, ◌≡◌, length};
 ghost use Rattle.rooms.specs.Rooms.{sheet_room};
 ghost use Rattle.report.specs.Reported.{reported};

@@ -1,5 +1,7 @@
 // Runs sheet.bin on stim.bin: writes next.bin and prints the listing, or prints only the refusal
 // (docs/SHEETS.md, "Listing").
+#![tactic(auto)]
+
 ghost use Rattle.std.specs.Prelude.{◌≤◌, ◌<◌, ◌≡◌, ◌++◌, length, take};
 ghost use Rattle.records.specs.Limits.{most_leaves};
 ghost use Rattle.printing.specs.Pieces.{told_text, text_from, text_left};

@@ -1,4 +1,6 @@
 // Every call for hosts in C: libsheets.a.
+#![tactic(auto)]
+
 ghost use Rattle.std.specs.Prelude.{◌≡◌};
 ghost use Rattle.answers.specs.Answers.{packed, verdict_answer};
 ghost use Rattle.verdict.specs.Verdict.{verdict};

@@ -1,4 +1,6 @@
 // One cycle of a sheet: the root's value for an input, and the sheet with every delay holding its next value.
+#![tactic(auto)]
+
 ghost use Rattle.std.specs.Prelude.{◌≡◌, ℕ, ◌<◌};
 ghost use Rattle.records.specs.Words.{word_b};
 ghost use Rattle.records.specs.Kinds.{leafs};

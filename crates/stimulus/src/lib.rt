@@ -1,4 +1,6 @@
 // The stimulus: whether it has whole cycles (code 8), and leaves within their counts (code 9).
+#![tactic(auto)]
+
 ghost use Rattle.std.specs.Prelude.{◌≡◌, ◌<◌, length, replicate};
 ghost use Rattle.picoella.specs.Language.{bounds, leaves};
 ghost use Rattle.records.specs.Trees.{type_at, TypeRecord};

@@ -1,4 +1,6 @@
 // The rules on records: codes 1 to 6, each as a search for the lowest record that breaks its rule.
+#![tactic(auto)]
+
 mod depth;
 mod naming;
 mod pairs;

@@ -1,6 +1,8 @@
 // The names of a text in a table, each by its place in the text: those that are declared, and above them those that LETs bind, which come
 // and go like a stack. A hash of a name's letters gives the last name with that hash, and each name the last one before it with the same
 // hash; so a search compares the letters of few names, and taking the last name away undoes what adding it did.
+#![tactic(auto)]
+
 ghost use Rattle.std.specs.Prelude.{◌≡◌, ℕ, ◌+◌, ◌-◌, ◌/◌, ◌%◌, ◌≤◌, ◌<◌, List, length, set};
 ghost use Rattle.name_rules.specs.Declared.{same_name, input};
 ghost use Rattle.symbols.specs.Names.{letters_at, Inside, hash_of, nearest, Hashed, Roles, role_among, declared_role, BoundRoles, hashes};

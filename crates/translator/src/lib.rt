@@ -1,5 +1,7 @@
 // The translation of a text into a sheet: the grammar, the names, the constants, the room, in this order, and then the sheet is written.
 // Each step leaves tables for the next; nothing is written to the lent slice before all is checked.
+#![tactic(auto)]
+
 ghost use Rattle.std.specs.Prelude.{◌≡◌, List, length};
 ghost use Rattle.grammar.specs.Legal.{Keeps};
 ghost use Rattle.translator.specs.Translated.{TranslatedInOne};

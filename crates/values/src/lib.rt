@@ -1,4 +1,6 @@
 // Values as bytes: the leaves of a chain read and held, the look-up of a name, and matching.
+#![tactic(auto)]
+
 ghost use Rattle.std.specs.Prelude.{◌≡◌, ℕ, ◌+◌, ◌-◌, ◌*◌, ◌≤◌, ◌<◌, length, take, drop, replicate, List, [], ◌∷◌, ◌++◌};
 ghost use Rattle.records.specs.Sized.{Sized};
 ghost use Rattle.records.specs.Trees.{chain};
@@ -203,7 +205,7 @@ fn undecided(otherwise: &[u8], out: &mut [u8])
 }
 
 // The answer of a match: a yes tells the record of the alternative that says it.
-#[derive(Drop)]
+#[derive(Clone, Copy)]
 pub enum Match {
     Yes(usize),
     No,

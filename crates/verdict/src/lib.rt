@@ -1,4 +1,6 @@
 // The check: whether a sheet is accepted, and with which type, or the number and the place of its first fault.
+#![tactic(auto)]
+
 ghost use Rattle.std.specs.Prelude.{◌≡◌, [], ◌+◌, ◌/◌, ◌<◌, length};
 ghost use Rattle.records.specs.Sized.{Sized};
 ghost use Rattle.records.specs.Says.{namings};

@@ -1,1 +1,2 @@
 // The table of verdicts. No code: sheets with their verdicts in specs/, and one proof by computation.
+#![tactic(auto)]
