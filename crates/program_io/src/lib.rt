@@ -2,14 +2,14 @@
 // opened, and a file replaced.
 #![tactic(auto)]
 
-ghost use Rattle.std.specs.Prelude.{◌≡◌, ◌≤◌, ◌↔◌, length, IsOk, IsSome};
+ghost use Rattle.std.specs.Prelude.{◌≡◌, ◌≤◌, length, MatchResult};
 ghost use Rattle.printing.specs.Pieces.{no_file_line, unopened_file};
 ghost use Rattle.program_io.specs.Files.{Counts, Ended};
 
 use listing::LINE_BYTES;
 use printing::put_no_file;
 use std::fs::{File, OpenOptions};
-use std::io::{ErrorKind, Read, Seek, SeekFrom, Write};
+use std::io::{ErrorKind, Read, Seek, Write};
 use std::rt::Files;
 use std::{fs, io, str};
 
@@ -51,7 +51,7 @@ fn read_file(file: &mut File, buffer: &mut [u8]) -> Got
 // The file, if the call that opens it gave a descriptor. 0 is one too, where standard input was
 // closed.
 fn opened(file: io::Result<File>) -> Option<File>
-    ensures { IsSome result ↔ IsOk file }
+    ensures { MatchResult file (λ f. result ≡ Some f) (λ _. result ≡ None) }
 {
     file.ok()
 }
@@ -69,7 +69,8 @@ fn open_read(files: &impl Files<File = File>, path: &[u8]) -> io::Result<File> {
     fs::open(files, path_text(path)?)
 }
 
-// Opens a file and reads it, to its end or until the buffer is full: a buffer of one byte more than a limit tells a longer file.
+// Opens a file and reads it, to its end or until the buffer is full: a buffer of one byte more than
+// a limit tells a longer file.
 pub fn read_named(files: &impl Files<File = File>, path: &[u8], buffer: &mut [u8]) -> Got
     ensures { Counts result.n buffer.new }
 {
@@ -87,7 +88,8 @@ fn write_no_file(out: &impl Print, place: u64, line: &[u8])
     let _ = out.write_all(line);
 }
 
-// Prints the line for a file that could not be opened, from its place among the files of a program: 1 for the first.
+// Prints the line for a file that could not be opened, from its place among the files of a program:
+// 1 for the first.
 pub fn refuse_file(out: &impl Print, place: u64) {
     let mut line = [0u8; LINE_BYTES];
     let end = put_no_file(&mut line, place);
@@ -205,7 +207,7 @@ fn is_link(files: &impl Files, path: &[u8]) -> bool {
 // Whether a new file may take the name of one that was opened: it is no pipe and no link leads to
 // it.
 fn is_plain(files: &impl Files, file: &mut File, path: &[u8]) -> bool {
-    if file.seek(SeekFrom::Current(0)).is_err() {
+    if file.stream_position().is_err() {
         return false;
     }
     !is_link(files, path)
@@ -276,10 +278,8 @@ fn is_written(mut file: File, bytes: &[u8]) -> bool {
 // Writes the new file and gives it the name. Where not all of it can be written it goes again, and
 // what had the name keeps it.
 fn write_new(files: &impl Files, made: File, path: &[u8], beside: &[u8], bytes: &[u8]) {
-    if is_written(made, bytes) {
-        if renamed(files, beside, path) {
-            return;
-        }
+    if is_written(made, bytes) && renamed(files, beside, path) {
+        return;
     }
     unlink(files, beside);
 }
@@ -297,7 +297,7 @@ fn in_place(files: &impl Files<File = File>, old: io::Result<File>, path: &[u8])
 // stays, and where it can't be cut nothing is done about that.
 fn write_over(mut file: File, bytes: &[u8]) {
     let _ = file.write_all(bytes);
-    if let Ok(end) = file.seek(SeekFrom::Current(0)) {
+    if let Ok(end) = file.stream_position() {
         if end > 0 {
             let _ = file.set_len(end);
         }
