@@ -84,12 +84,12 @@ filled-some {w = w} (suc count) f some room left = let e = f.lines.taken in let 
 
 -- what is printed are the lines of the first k cycles
 printed-lines :
-    (w k first : ℕ) (outputs text : List ℕ) →
+    (w : ℕ) (outputs : List ℕ) (k first : ℕ) (text : List ℕ) →
     LinesLaid w outputs k first text →
     (text ≡ cycle_lines w k 0 outputs) × (first ≡ k * w)
-printed-lines w k first outputs text nothing = (refl, sym (zero-mul w))
-printed-lines w k first outputs text (piece {k = j} {first = f} {text = t} buffer at after count next end p h) =
-    let before = printed-lines w j f outputs t p in
+printed-lines w outputs k first text nothing = (refl, sym (zero-mul w))
+printed-lines w outputs k first text (piece {k = j} {first = f} {text = t} buffer at after count next end p h) =
+    let before = printed-lines w outputs j f t p in
     let number : 0 + j ≡ j = omega arith in (
       rw (before.0, before.1) (sym (rw number at (lines_join w j count 0 outputs))),
       h.lines.taken ∙ rw before.1 (sym (add-mul j count w)),
@@ -101,7 +101,7 @@ printed-inside w k first outputs text (piece buffer at after count next end p h)
 
 pub whole-listing : WholeListing
 whole-listing w k first outputs text some p left =
-    let lines = printed-lines w k first outputs text p in
+    let lines = printed-lines w outputs k first text p in
     let inside = printed-inside w k first outputs text p in
     let start = lines.1 in
     let more : suc k * w ≡ k * w + w = suc-mul k w in
