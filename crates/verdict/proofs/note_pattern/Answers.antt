@@ -18,8 +18,7 @@ pub bounds-widths-q : goal.bounds-widths-q
 bounds-widths-q c = second-in-table _ _ c.requires.1 c.requires.0.counted c.requires.2 c.requires.3 _ c.word-kind.ensures.0 c.if-kind-eq-KIND_PAIR_PATTERN.true _ c.word-q.ensures.0
 
 pub capped_sum-requires : goal.capped_sum-requires
-capped_sum-requires c =
- (
+capped_sum-requires c = (
   first-width-few _ _ c.requires.1 c.requires.0.counted c.requires.2 c.requires.3 _ c.word-kind.ensures.0 c.if-kind-eq-KIND_PAIR_PATTERN.true _ c.word-p.ensures.0,
   second-width-few _ _ c.requires.1 c.requires.0.counted c.requires.2 c.requires.3 _ c.word-kind.ensures.0 c.if-kind-eq-KIND_PAIR_PATTERN.true _ c.word-q.ensures.0,
 )

@@ -14,21 +14,20 @@ loop-rec-init c = (search rules, λ s all. first-naming s)
 
 pub returns-then-namer-eq0 : goal.returns-then-namer-eq0
 returns-then-namer-eq0 c =
- λ s all.
+    λ s all.
     sym
     (lowest-is (wrong_naming s) c.args.n c.loop-rec.rec (search rules)
     (unnamed s _ all c.loop-rec.rec (search rules) (search rules) c.if-namer-eq0.true) (c.loop-rec.invariant.1 s all))
 
 pub returns-then-namer : goal.returns-then-namer
 returns-then-namer c =
- λ s all.
+    λ s all.
     sym
     (lowest-is (wrong_naming s) c.args.n c.loop-rec.rec (search rules)
     (named-badly s _ all c.loop-rec.rec (search rules) (search rules) c.if-namer.true) (c.loop-rec.invariant.1 s all))
 
 pub loop-rec-preserved : goal.loop-rec-preserved
-loop-rec-preserved c =
- (
+loop-rec-preserved c = (
   search rules,
   λ s all.
       below_more _ _ (c.loop-rec.invariant.1 s all)
@@ -37,5 +36,5 @@ loop-rec-preserved c =
 
 pub returns : goal.returns
 returns c =
- λ s all.
+    λ s all.
     sym (lowest_none (wrong_naming s) c.args.n (λ q h. c.loop-rec.invariant.1 s all q (omega arith)))

@@ -12,8 +12,7 @@ loop-slot-preserved c =
     (p.1, λ k end q. c.loop-slot.invariant.1 (suc k) end (p.2, q))
 
 pub returns : goal.returns
-returns c =
- (
+returns c = (
   c.loop-slot.invariant.1 0 c.loop-slot.slot (sym c.holds_another.ensures ∙ c.loop-slot-test.false, refl),
   c.loop-slot.invariant.0,
 )

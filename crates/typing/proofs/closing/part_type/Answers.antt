@@ -6,8 +6,7 @@ pub returns-then-word-ne-KIND_PAIR_TYPE : goal.returns-then-word-ne-KIND_PAIR_TY
 returns-then-word-ne-KIND_PAIR_TYPE c = no-pair-part c.requires.0 c.args.t c.args.k _ c.word.ensures.0 c.if-word-ne-KIND_PAIR_TYPE.true
 
 pub note-requires : goal.note-requires
-note-requires c =
- (
+note-requires c = (
   c.requires.0,
   part-is-type c.requires.0 _ _ _ _ c.requires.1 c.word.ensures.0 c.if-word-ne-KIND_PAIR_TYPE.false c.word-2.ensures.0
       c.requires.2 c.requires.3,

@@ -31,7 +31,7 @@ loop-first-smaller-then-at-w c =
 
 pub loop-first-preserved-then-at-w : goal.loop-first-preserved-then-at-w
 loop-first-preserved-then-at-w c =
- λ g.
+    λ g.
     reached-first g _ _ _ _ _ (c.loop-first.invariant g) c.word.ensures.0 c.loop-first-test.true _ _
     c.word-first.ensures.0 refl c.if-at-w.true
 
@@ -47,7 +47,7 @@ loop-first-smaller c =
 
 pub loop-first-preserved : goal.loop-first-preserved
 loop-first-preserved c =
- λ g.
+    λ g.
     reached-second g _ _ _ _ _ (c.loop-first.invariant g) c.word.ensures.0 c.loop-first-test.true _ _ _
     c.word-first.ensures.0 c.word-flat.ensures.0 refl c.if-at-w.false
 

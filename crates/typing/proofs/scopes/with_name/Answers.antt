@@ -5,8 +5,7 @@ use Rattle.typing.proofs.Closings.{one-name-more}
 use Rattle.typing.proofs.scopes.with_name.Goals as goal
 
 pub returns : goal.returns
-returns c =
- (
+returns c = (
   length-set c.args.scope.now c.args.names c.args.t ∙ c.requires.2,
   one-name-more c.args.scope.now c.args.names c.args.t c.requires.2 c.requires.0,
 )

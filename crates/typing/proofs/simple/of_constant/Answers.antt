@@ -22,7 +22,7 @@ leaves_type-fit-requires c =
 
 pub returns-in_default : goal.returns-in_default
 returns-in_default c =
- λ Γ.
+    λ Γ.
     constant-fault (ground-written c.requires.0.ground) (in_count c.requires.0.ground _ c.requires.0.there) c.requires.1 _ _ c.word-t.ensures.0 c.word.ensures.0 _ _ _ c.leaves_type-fit.ensures c.in_default.is (closing-counted c.requires.0)
 
 pub note-requires : goal.note-requires
@@ -34,7 +34,7 @@ note-requires c =
 
 pub returns : goal.returns
 returns c =
- λ Γ.
+    λ Γ.
     let u = lastly-holds c.args.sheet.now c.args.rec (leaves_fit c.word-t.result (chain c.args.sheet.now c.word.result)) _ _ _ c.leaves_type-fit.ensures c.in-Sound.is in
     constant_typed (ground-written c.requires.0.ground) (in_count c.requires.0.ground _ c.requires.0.there) c.requires.1 _ _ c.word-t.ensures.0 c.word.ensures.0 _ _ u.0 (c.note.ensures.0 ∙ ap Sound u.1)
     (c.note.ensures.1 ∙ ap (λ (t : ℕ). set c.args.widths.now c.args.rec (leaves (type_at c.args.sheet.now t))) u.1) c.note.ensures.2

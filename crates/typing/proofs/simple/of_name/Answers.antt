@@ -9,8 +9,7 @@ pub returns-then-names-k : goal.returns-then-names-k
 returns-then-names-k c = name-closing (judging-written c.requires.0) (judging-there c.requires.0) c.requires.1 _ c.word-k.ensures.0 _ _ (name-outside (ready-closing c.requires.0 c.args.widths.now (judging-counted c.requires.0)) c.args.scope.now c.args.names c.word-k.result (search rules))
 
 pub note-requires : goal.note-requires
-note-requires c =
- (
+note-requires c = (
   (ready-closing c.requires.0 c.args.widths.now (judging-counted c.requires.0)),
   name_typed (ready-closing c.requires.0 c.args.widths.now (judging-counted c.requires.0)) c.args.scope.now c.args.names c.word-k.result _ (search rules) refl c.requires.0.context,
 )
