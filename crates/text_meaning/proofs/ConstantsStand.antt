@@ -185,6 +185,7 @@ module _ {ds : List Declaration} (good : AllPass (declarations_checks at_first d
   constructor-stands w m is known = record { value = go; known = known }
     where
       go : (c : ConstantTree) → ConstantOf (Flat m.type m.constructors) c → flatten c ≡ m.number ∷ [] → name_tree ds c ≡ Made w
+      go (CoTuple _ _) x4 e = elim x4 [ ]
       go (Cons i r) (of_cons h) e =
           ap (leaf_value ds m.type) (head-eq_of_cons-eq e ∙ is.number_is) ∙ ap Made is.name-is
 
@@ -222,6 +223,7 @@ module _ {ds : List Declaration} (good : AllPass (declarations_checks at_first d
   two-stand σ τ v w x y a b h k = record { value = go; known = known-pair a.known b.known }
     where
       go : (c : ConstantTree) → ConstantOf (TyTuple σ τ) c → flatten c ≡ v ++ w → name_tree ds c ≡ Couple x y
+      go (Cons constructor type) x3 e = elim x3 [ ]
       go (CoTuple c d) (of_tuple f g) e =
           let lc = value-length σ (flatten-typed f) in
           let ld = value-length τ (flatten-typed g) in
