@@ -43,10 +43,10 @@
  *
  * x86-64 Linux; calls follow the System V ABI. A host links one of two archives:
  *
- *     libchecker.a    sheet_check and sheet_translate, with nothing of the simulator    rt staticlib checker
- *     libsheets.a     every call                                                        rt staticlib sheets
+ *     libchecker.a    sheet_check and sheet_translate, with nothing of the simulator
+ *     libsheets.a     every call
  *
- * rt writes them to target/staticlib/. They need nothing but memcpy, memmove, memset, memcmp and bcmp of the C library:
+ * tools/build-archives writes them to target/staticlib/. They need nothing but memcpy, memmove, memset, memcmp and bcmp of the C library:
  *
  *     cc -Iinclude host.c target/staticlib/libsheets.a
  *

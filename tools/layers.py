@@ -4,7 +4,7 @@ import re
 import sys
 import textwrap
 
-from repository import ROOT, crates, reached
+from repository import ROOT, crates, programs, reached
 
 # The width of the drawing, and what is left of it for arrows.
 WIDTH = 100
@@ -13,7 +13,7 @@ ARROWS = 7
 LISTED = crates()
 # Each crate with the crates that it uses: what crates.txt names, without the kit's libraries.
 USES = {crate: [one for one in names if one in LISTED] for crate, names in LISTED.items()}
-PROGRAMS = [crate for crate in USES if (ROOT / "crates" / crate / "src/main.rt").exists()]
+PROGRAMS = [crate for crate in USES if crate in programs()]
 
 # The groups, each after those that it uses: its name, what it is, and its topmost crates. To a
 # group belong these, and what they use that is in no group before it. So no line changes here for a

@@ -3,7 +3,7 @@
 # reads sheet.bin and stim.bin in the folder that it is run in:
 #   . "$(dirname "$0")/programs.sh"
 # reads this file. The script is then in target/NAME, which is empty, and $program is the program:
-# its first word, or target/bin/NAME. It says what is particular to the program,
+# its first word, or target/bin/NAME (.ci/run programs). It says what is particular to the program,
 #   writes=FILE      the file that the program writes where nothing is refused; '' for none
 #   others() { .. }  puts the files that the program reads beside those two into a new folder
 # and ends with `finish`. What is expected is worked out by hand from docs/SHEETS.md.
@@ -136,14 +136,10 @@ prints() { # TEXT [COMMAND..]
     [ -n "$writes" ] || leaves "$before"
 }
 
-# The stack that docs/SHEETS.md says is enough for a short stimulus and for any, with no more of an
-# environment than it allows for. A stimulus that is a byte too long takes the longest room.
+# The stack that docs/SHEETS.md says is enough, with no more of an environment than it allows for.
 stated_stack() { # TEXT
-    begin 'the stated stack of a short run'
-    prints "$1" env -i bash -c 'ulimit -S -s 640; exec "$0"'
     begin 'the stated stack'
-    repeated 1 65536 >stim.bin
-    prints 'refused 8 at 0' env -i bash -c 'ulimit -S -s 4672; exec "$0"'
+    prints "$1" env -i bash -c 'ulimit -S -s 4608; exec "$0"'
 }
 
 # Runs the program into a pipe that nobody reads. It ends by that signal, unless it was started with

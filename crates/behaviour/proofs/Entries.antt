@@ -15,6 +15,7 @@ abbrev pub places_of : List Entry → List ℕ
 places_of es = map (λ e. e.place) es
 
 pub place-of-member : (e : Entry) (es : List Entry) → Memᴰ e es → Memᴰ e.place (places_of es)
+place-of-member e [] x' = elim x' [ ]
 place-of-member e (f ∷ es) (Memᴰ.head p) = Memᴰ.head (ap (λ e. e.place) p)
 place-of-member e (f ∷ es) (Memᴰ.tail m) = Memᴰ.tail (place-of-member e es m)
 

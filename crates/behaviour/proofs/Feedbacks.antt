@@ -65,8 +65,8 @@ values-onto (more_values {τ} h r) =
     (c ∷ l, of_more i j, ap₂ (λ v vs. v ∷ vs) p q)
 
 -- the rule of a feedback whose body is its name
-of-letrec : {undecided : ConstantTree → ConstantTree → ConstantTree} {l : List ConstantTree} {σ : Ty} {e f : Expr} {d : ConstantTree}
-    → Reduces undecided l (LetRec σ e (Var 0)) d (LetRec σ f (Var 0)) → Iterates undecided l e (bottom_of_type σ) d f
+of-letrec : {undecided : ConstantTree → ConstantTree → ConstantTree} {l : List ConstantTree} {σ σ' : Ty} {e f : Expr} {d : ConstantTree}
+    → Reduces undecided l (LetRec σ e (Var 0)) d (LetRec σ' f (Var 0)) → Iterates undecided l e (bottom_of_type σ) d f
 of-letrec (r_letrec i (r_var elem_here)) = i
 
 -- 000's iteration of a well-typed defining part

@@ -106,6 +106,7 @@ some-told v (a ∷ xs) f = go (matches a.says v) refl (some-told v xs)
         (rest (λ z. f (rw e z))))
 
 told_none : (v : List ℕ) (xs : List OneAlternative) → Numbered xs → first_of_list v xs ≡ 0 → NoneYes v xs
+told_none v [] numbered z b x4 y = elim x4 [ ]
 told_none v (a ∷ xs) numbered z b (Memᴰ.head p) y =
     let e : matches a.says v ≡ Yes = rw p at y in
     let n = numbered a (Memᴰ.head refl) in

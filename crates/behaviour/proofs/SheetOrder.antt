@@ -81,6 +81,8 @@ module _ (read : ℕ → ℕ) where
   assigned-both (l ∷ ls) (within_leaf {v = v} i r) (within_leaf j s) h =
       both_leaf i j (h (record { place = l; value = v }) (Memᴰ.head refl))
       (assigned-both ls r s (λ e m. h e (Memᴰ.tail m)))
+  assigned-both [] (within_leaf {n = n} {v = v} {ns = ns} {vs = vs} i r) x12 h = elim x12 [ ]
+  assigned-both (l ∷ ls) within_none x8 h = elim x8 [ ]
 
   -- the term with each delay holding what is read at its places
   filled-ordered : {D : Ty → Type 0} {Γ : List Ty} {t : Term} {τ : Ty} → Elaborated D Γ t τ

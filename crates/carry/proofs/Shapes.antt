@@ -63,8 +63,8 @@ module _ {s : List ℕ} {n t : ℕ} (g : OfTypes s n t) where
       go (inr p) = p.1
 
   -- the parts of a pair
-  pub first_of : (k : ℕ) → k ≡ word s t 0 → (k ≡ 16 → ⊥) → (a : ℕ) → a ≡ word s t 2 → OfTypes s n a × (a < t)
-  first_of k e f a ea =
+  pub first-of : (k : ℕ) → k ≡ word s t 0 → (k ≡ 16 → ⊥) → (a : ℕ) → a ≡ word s t 2 → OfTypes s n a × (a < t)
+  first-of k e f a ea =
       let d = is-pair-record k e f in
       rw ea
       (record { sized = g.sized; written = g.written; type = first_part g.written t g.type.there d }, (pair_parts g.written t g.type.there d).0)
@@ -106,8 +106,8 @@ module _ {old : List ℕ} {n t : ℕ} {new : List ℕ} {m u : ℕ} (g : Comparin
     module _ (f : k ≡ 16 → ⊥) where
       pub first-shapes : Comparing old n a new m b × (a < t)
       first-shapes =
-          let p = first_of g.before k ek f a ea in
-          let q = first_of g.after j ej (λ z. f (sym same ∙ z)) b eb in
+          let p = first-of g.before k ek f a ea in
+          let q = first-of g.after j ej (λ z. f (sym same ∙ z)) b eb in
           (record { before = p.0; after = q.0 }, p.1)
 
       pub second-shapes : (c d : ℕ) → c ≡ word old t 3 → d ≡ word new u 3 → Comparing old n c new m d × (c < t)

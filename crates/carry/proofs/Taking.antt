@@ -110,8 +110,8 @@ module _ {old : List ℕ} {n from : ℕ} {new : List ℕ} {m to : ℕ} {before :
         let b = g.long in
         omega arith
 
-    pub high_byte : (v : ℕ) → 12 * taking + 4 + 1 < length (set now (12 * taking + 4) v)
-    high_byte v = lt-length-set now (12 * taking + 4) v taking-bytes
+    pub high-byte : (v : ℕ) → 12 * taking + 4 + 1 < length (set now (12 * taking + 4) v)
+    high-byte v = lt-length-set now (12 * taking + 4) v taking-bytes
 
     pub next-remain : (v : ℕ) → v ≡ word_a old giving → (x : ℕ) → x ≡ next_word old giving → (y : ℕ) → y ≡ next_word new taking
         → LeavesRemaining old new all before x y (set (set now (12 * taking + 4) v) (12 * taking + 4 + 1) 0)

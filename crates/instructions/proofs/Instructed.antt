@@ -127,16 +127,16 @@ first-declaration : {a r : List Token} {d : Declaration} (K : List State) (S : N
 first-declaration K S (reads_constructors h) = refl
 first-declaration K S reads_pair_of = refl
 
-more : {a r : List Token} {ds : List Declaration} {w : List ℕ} {p i : ℕ} {T : List TypeEntry} (K : List State) (P : List (List ℕ)) (D : List DeclaredName)
-    → TypesAgree i D T → AllPass (declarations_checks D ds) → is_declared type_role w (after_all D ds) ≡ true
+more : {ds : List Declaration} {a r : List Token} {w : List ℕ} {p i : ℕ} {T : List TypeEntry} (K : List State) (P : List (List ℕ)) (D : List DeclaredName)
     → ReadsMore a ds (name_token w p ∷ r)
+    → TypesAgree i D T → AllPass (declarations_checks D ds) → is_declared type_role w (after_all D ds) ≡ true
     → Begins (walk_instructions (at declared K) (scope P [] D) a) (declaration_instructions i T ds)
     (input_has (type_number (type_entries_from i T ds) w) ∷ walk_instructions (at expression K) (scope P [] (after_all D ds)) r)
-more {r} {w} K P D t g o no_more =
+more {r} {w} K P D no_more t g o =
     record { split = ap (λ n. input_has n ∷ walk_instructions (at expression K) (scope P [] D) r) (t.agree w o) }
-more K P D t g o (one_more {d} {ds} h k) =
+more K P D (one_more {d} {ds} h k) t g o =
     let b = pass-both (declaration_checks D d) (declarations_checks (after_declaration D d) ds) g in
-    declaration K P D ds t b.0 h (more K P (after_declaration D d) (declaration-agrees d t) b.1 o k)
+    declaration K P D ds t b.0 h (more K P (after_declaration D d) k (declaration-agrees d t) b.1 o)
 
 -- the expression
 
@@ -277,6 +277,6 @@ instructed (reads_text {p} {w} {d} {ds} {e} h k l) g =
     let x = expressions (names-numbered (d ∷ ds) b.0) [] [] [] (λ p b. refl) refl (pass-rest b.1) l in
     first-declaration [] first_scope h
     ∙ (declaration [] [] at_first ds first-agrees c.0 h
-    (more [] [] (after_declaration at_first d) (declaration-agrees d first-agrees) c.1 (passes b.1) k)).split
+    (more [] [] (after_declaration at_first d) k (declaration-agrees d first-agrees) c.1 (passes b.1))).split
     ∙ ap (λ z. declaration_instructions 1 [] (d ∷ ds) ++ (input_has (type_number (type_entries (d ∷ ds)) w) ∷ z))
     (x.split ∙ append-nil (expression_instructions (d ∷ ds) [] e))

@@ -70,7 +70,7 @@ declaration-agrees {T} (PairOf (identifier v p) m n) a = type-agrees v (TyTuple 
 all-agree : {i : ℕ} {D : List DeclaredName} {T : List TypeEntry} (ds : List Declaration) → TypesAgree i D T
     → (w : List ℕ) → is_declared type_role w (after_all D ds) ≡ true → types_among (named_from w (after_all D ds)) ≡ type_number (type_entries_from i T ds) w
 all-agree [] a = a.agree
-all-agree (d ∷ ds) a = all-agree ds (declaration-agrees d a)
+all-agree {i} (d ∷ ds) a = all-agree {i = suc i} ds (declaration-agrees d a)
 
 pub first-agrees : TypesAgree 1 at_first []
 first-agrees = record { next = refl; agree = λ w. go w (same_name w input) }

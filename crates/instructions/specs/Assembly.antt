@@ -76,10 +76,10 @@ pub data Assembly : Type 0 where
 abbrev pub nothing_assembled : Assembly
 nothing_assembled = assembly [] 0 [] [] [] 0 0 none
 
-abbrev pub one_more : List DeclaredType → List DeclaredType
-one_more [] = []
-one_more (flat_type n ∷ T) = flat_type (suc n) ∷ T
-one_more (paired_type a b ∷ T) = paired_type a b ∷ T
+abbrev pub one_constructor_more : List DeclaredType → List DeclaredType
+one_constructor_more [] = []
+one_constructor_more (flat_type n ∷ T) = flat_type (suc n) ∷ T
+one_constructor_more (paired_type a b ∷ T) = paired_type a b ∷ T
 
 abbrev pub with_first : ℕ → List DeclaredType → List DeclaredType
 with_first a [] = []
@@ -124,7 +124,7 @@ first_untyped none (suc t) p = none
 
 abbrev pub assemble_one : Assembly → Instruction → Assembly
 assemble_one (assembly T i C W Y p r u) declare_type = assembly (flat_type 0 ∷ T) i C W Y p r u
-assemble_one (assembly T i C W Y p r u) count_constructor = assembly (one_more T) i C W Y p r u
+assemble_one (assembly T i C W Y p r u) count_constructor = assembly (one_constructor_more T) i C W Y p r u
 assemble_one (assembly T i C W Y p r u) (first_type t) = assembly (with_first t T) i C W Y p r u
 assemble_one (assembly T i C W Y p r u) (second_type t) = assembly (with_second t T) i C W Y p r u
 assemble_one (assembly T i C W Y p r u) (input_has t) = assembly T t C W Y p r u

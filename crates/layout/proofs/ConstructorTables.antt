@@ -41,6 +41,7 @@ use Rattle.layout.proofs.TypesMeant.{SaysType, Headed, AllFlat, none-flat, one-f
 pub pass-both : (cs es : List PlacedCheck) → AllPass (cs ++ es) → AllPass cs × AllPass es
 pass-both [] es h = (no_check_left, h)
 pass-both (check_at p true ∷ cs) es (one_holds h) = let t = pass-both cs es h in (one_holds t.0, t.1)
+pass-both (check_at p false ∷ cs) es h = elim h [ ]
 
 pub passes : {p : ℕ} {b : Bool} {cs : List PlacedCheck} → AllPass (check_at p b ∷ cs) → b ≡ true
 passes (one_holds h) = refl

@@ -108,13 +108,13 @@ module _ {s : List ℕ} (headed : Headed s) where
   entries-say {i} p {T} t (Constructors n c cs ∷ ds) (one-stands x h) =
       let e : i + suc (length ds) ≡ suc i + length ds = omega arith in
       rw e
-      (entries-say (omega arith) (one-says (omega arith) (flat-says i (length (c ∷ cs)) x.kind-is x.a-is) (later-say t)) ds h)
+      (entries-say {i = suc i} (omega arith) (one-says (omega arith) (flat-says i (length (c ∷ cs)) x.kind-is x.a-is) (later-say t)) ds h)
   entries-say {i} p {T} t (PairOf n a b ∷ ds) (one-stands x h) =
       let e : i + suc (length ds) ≡ suc i + length ds = omega arith in
       let f = number-says p t (letters a) in
       let g = number-says p t (letters b) in
       rw e
-      (entries-say (omega arith)
+      (entries-say {i = suc i} (omega arith)
       (one-says (omega arith)
       (pair-says i (type_number T (letters a)) (type_number T (letters b)) x.kind-is x.a-is x.b-is f.0 g.0 f.1 g.1)
       (later-say t))

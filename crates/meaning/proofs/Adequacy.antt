@@ -78,10 +78,10 @@ module _
         × ReducesSeq tree l (erase t) inputs cs (erase (after undecided ρ t (map flatten inputs)))
     unfolding outputs after
     run-derived typed env of_all_none = ([], of_all_none, refl, s_end)
-    run-derived typed env (of_all_more h k) =
+    run-derived {t = u} {ρ = ρ} typed env (of_all_more {c = c} h k) =
         let (d, i, p, r) = derived undecided tree law agree Declared typed (beside-more h refl env) in
         let (ds, j, q, s)
-        = run-derived (next_typed law typed (more_values (flatten-typed h) (beside-values env))) env k in
+        = run-derived {t = next undecided (flatten c ∷ ρ) u} (next_typed law typed (more_values (flatten-typed h) (beside-values env))) env k in
         (d ∷ ds, of_all_more i j, ap₂ (λ v vs. v ∷ vs) p q, s_cycle r s)
 
     pub run_adequate

@@ -155,8 +155,9 @@ module _ (rule other : List ℕ → List ℕ → List ℕ) (law : Lawful rule) (
         → AllBoth τ (outputs rule ρ t is) (outputs other π t' js)
     unfolding outputs
     outputs-ordered t r both_all_none = both_all_none
-    outputs-ordered t r (both_all_more h k) =
-        both_all_more (eval-ordered t (both_more_values h r)) (outputs-ordered (next-ordered t (both_more_values h r)) r k)
+    outputs-ordered {t = u} {t' = u'} {ρ = ρ} {π = π} t r (both_all_more {v = v} {w = w} h k) =
+        both_all_more (eval-ordered t (both_more_values h r))
+        (outputs-ordered {t = next rule (v ∷ ρ) u} {t' = next other (w ∷ π) u'} (next-ordered t (both_more_values h r)) r k)
 
     pub after-ordered
         : {Γ : List Ty} {t t' : Term} {σ τ : Ty} {ρ π is js : List (List ℕ)}
@@ -164,4 +165,5 @@ module _ (rule other : List ℕ → List ℕ → List ℕ) (law : Lawful rule) (
         → Ordered Declared (σ ∷ Γ) (after rule ρ t is) (after other π t' js) τ
     unfolding after
     after-ordered t r both_all_none = t
-    after-ordered t r (both_all_more h k) = after-ordered (next-ordered t (both_more_values h r)) r k
+    after-ordered {t = u} {t' = u'} {ρ = ρ} {π = π} t r (both_all_more {v = v} {w = w} h k) =
+        after-ordered {t = next rule (v ∷ ρ) u} {t' = next other (w ∷ π) u'} (next-ordered t (both_more_values h r)) r k

@@ -81,7 +81,7 @@ module _
     feedback-fixed = iterate_fixed undefined-rises
 
     pub feedback-stable : (k : ℕ) → leaves σ ≤ k → iter (application undecided ρ t) k (undefined σ) ≡ settled undecided ρ σ t
-    feedback-stable k h = iter-stays _ (leaves σ) (undefined σ) feedback-fixed k h
+    feedback-stable k h = iter-stays (application undecided ρ t) (leaves σ) (undefined σ) feedback-fixed k h
 
     pub feedback_least
         : {w : List ℕ} → OfType σ w → application undecided ρ t w ≡ w → Both (bounds σ) (settled undecided ρ σ t) w
@@ -103,12 +103,12 @@ module _
 
     -- the equations of `iterate`: unchanged, and again
     pub iterate-unchanged : {v : List ℕ} → application undecided ρ t v ≡ v → iterate undecided ρ σ t v ≡ v
-    iterate-unchanged p = iter-fixed _ (leaves σ) p
+    iterate-unchanged p = iter-fixed (application undecided ρ t) (leaves σ) p
 
     pub iterate-again
         : {v : List ℕ} → Both (bounds σ) v (application undecided ρ t v)
         → iterate undecided ρ σ t v ≡ iterate undecided ρ σ t (application undecided ρ t v)
-    iterate-again {v} r = sym (iter-inside _ (leaves σ) v ∙ iterate_fixed r)
+    iterate-again {v} r = sym (iter-inside (application undecided ρ t) (leaves σ) v ∙ iterate_fixed r)
 
     -- an application that changes the value leaves fewer undefined leaves
     pub application-falls

@@ -100,6 +100,8 @@ module _ {b : List ℕ} (F : List ℕ → List ℕ) (mono : (v w : List ℕ) →
 -- the test for an unchanged value
 pub unchanged-same : (v w : List ℕ) → T (unchanged v w) → v ≡ w
 unchanged-same [] [] h = refl
+unchanged-same [] (w ∷ ws) h = elim h [ ]
+unchanged-same (v ∷ vs) [] h = elim h [ ]
 unchanged-same (v ∷ vs) (w ∷ ws) h = go (eqb v w) (eqb→eq v w) (unchanged-same vs ws) h
   where
     go : (x : Bool) → (T x → v ≡ w) → (T (unchanged vs ws) → vs ≡ ws) → T (x && unchanged vs ws) → v ∷ vs ≡ w ∷ ws

@@ -82,9 +82,9 @@ module _ {undecided : List ℕ → List ℕ → List ℕ} (law : Lawful undecide
       → Elaborated Declared (σ ∷ Γ) t τ → ValuesOf Γ ρ → AllOf σ inputs → AllOf τ (outputs undecided ρ t inputs)
   unfolding outputs
   outputs_typed t r all_none = all_none
-  outputs_typed t r (all_more h k) =
+  outputs_typed {t = u} {ρ = ρ} t r (all_more {v = v} h k) =
       all_more (eval-typed undecided law Declared t (more_values h r))
-      (outputs_typed (next_typed t (more_values h r)) r k)
+      (outputs_typed {t = next undecided (v ∷ ρ) u} (next_typed t (more_values h r)) r k)
 
   pub after-typed
       : {Γ : List Ty} {t : Term} {σ τ : Ty} {ρ inputs : List (List ℕ)}
@@ -92,4 +92,5 @@ module _ {undecided : List ℕ → List ℕ → List ℕ} (law : Lawful undecide
       → Elaborated Declared (σ ∷ Γ) (after undecided ρ t inputs) τ
   unfolding after
   after-typed t r all_none = t
-  after-typed t r (all_more h k) = after-typed (next_typed t (more_values h r)) r k
+  after-typed {t = u} {ρ = ρ} t r (all_more {v = v} h k) =
+      after-typed {t = next undecided (v ∷ ρ) u} (next_typed t (more_values h r)) r k

@@ -1,4 +1,4 @@
--- The constants of 000 (§4.2.1: `const`, `type_of_const`, `bottom_of_const`, `cle`, `glb`) and its matching (§3.3.1: `match`; §4.2.3: `bool3`,
+-- The constants of 000 (§4.2.1: `const`, `typeOfConst`, `bottomOfConst`, `cle`, `glb`) and its matching (§3.3.1: `match`; §4.2.3: `bool3`,
 -- `and3`): the i-th constructor of a type, the 0-th undefined, or a pair. A type is named by its record; that a constructor
 -- is at most the type's count, which 000's constants do not know, is in `ConstantOf`. `flatten` leads to the leaves of
 -- docs/SHEETS.md. 000 uses `match` only on a chooser and a constant of one type; so the types' names are not compared here,
@@ -12,7 +12,7 @@ pub data ConstantTree : Type 0 where
   Cons : (constructor type : ℕ) → ConstantTree
   CoTuple : ConstantTree → ConstantTree → ConstantTree
 
--- 000: `type_of_const`, with the bound on the constructor
+-- 000: `typeOfConst`, with the bound on the constructor
 pub data ConstantOf : Ty → ConstantTree → Type 0 where
   of_cons : {r n i : ℕ} → i ≤ n → ConstantOf (Flat r n) (Cons i r)
   of_tuple : {σ τ : Ty} {c d : ConstantTree} → ConstantOf σ c → ConstantOf τ d → ConstantOf (TyTuple σ τ) (CoTuple c d)

@@ -23,7 +23,7 @@ pub record Agreeing
     pub flattens : {τ : Ty} {c d : ConstantTree}
         → ConstantOf τ c → ConstantOf τ d → flatten (undecided_tree c d) ≡ undecided (flatten c) (flatten d)
 
--- the earlier rule: undefined in every leaf (000: `bottom_of_const` of the then branch)
+-- the earlier rule: undefined in every leaf (000: `bottomOfConst` of the then branch)
 abbrev pub undefined_leaves : (then_value else_value : List ℕ) → List ℕ
 undefined_leaves v w = replicate (length v) 0
 

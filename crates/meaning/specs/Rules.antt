@@ -1,4 +1,4 @@
--- The rules of 000 (§4.2.3: `elem`, `reduce`, `iterate`, `reduce_seq`; in §3.3.3 rules 3.23, 3.24 and 3.26 to 3.39) on the
+-- The rules of 000 (§4.2.3: `elem`, `reduce`, `iterate`, `reduceSeq`; in §3.3.3 rules 3.23, 3.24 and 3.26 to 3.39) on the
 -- language's bare expressions and 000's constants: one constructor a clause. `Reduces l e c f` says that in the value
 -- environment l the expression e has the value c and is f after the cycle. A constant or delay of the language holds its
 -- leaves; a rule names the constant of its type that has them. A feedback carries its type alone: its initial constant is

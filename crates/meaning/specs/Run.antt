@@ -1,4 +1,4 @@
--- A run over a list of inputs (docs/SHEETS.md, "After a run"; 000, §4.2.3: `reduce_seq`): each cycle puts one input
+-- A run over a list of inputs (docs/SHEETS.md, "After a run"; 000, §4.2.3: `reduceSeq`): each cycle puts one input
 -- in front of the environment around the circuit and begins from the circuit after the cycle before. Of a sheet that
 -- environment is empty: its input is the outermost name. The outputs stand in order; a run over no inputs gives none and
 -- leaves the circuit as it is.

@@ -1,6 +1,6 @@
 -- What an undecided IF gives: a rule on the values of its two branches, a parameter of everything else. `undecided_rule` names the
 -- rule in force; every evaluation of a sheet goes by it, and nothing above this crate says which it is. It is that of
--- docs/SHEETS.md ("One cycle") and 000's alternative (§4.3.3: `reduce_glb`): each leaf on which both branches agree, and 0
+-- docs/SHEETS.md ("One cycle") and 000's alternative (§4.3.3: `reduceGlb`): each leaf on which both branches agree, and 0
 -- elsewhere.
 use Rattle.std.specs.Prelude.{ℕ, Bool, true, false, List, [], ◌∷◌, eqb}
 use Rattle.meaning.specs.Constants.{ConstantTree, glb}

@@ -1,4 +1,4 @@
--- Values and their order (docs/SHEETS.md, "One cycle"; 000, §4.2.1: `cle`, `bottom_of_const`). A value is its leaves, 0 undefined;
+-- Values and their order (docs/SHEETS.md, "One cycle"; 000, §4.2.1: `cle`, `bottomOfConst`). A value is its leaves, 0 undefined;
 -- that it is of a type is `OfType` of the language.
 -- `Both` says of two values at once that they lie within the same bounds and that the first is at or below the second: every
 -- induction proves it, and being of a type and the order are its halves. 000 leaves the order of values of different types

@@ -20,6 +20,7 @@ hold_or_fail (check_at p false ∷ cs) = inr (p, fails_here)
 
 pub never-pass-and-fail : {cs : List PlacedCheck} {p : ℕ} → FirstFails cs p → AllPass cs → ⊥
 never-pass-and-fail (fails_later f) (one_holds h) = never-pass-and-fail f h
+never-pass-and-fail (fails_here {p = p} {cs = cs}) x4 = elim x4 [ ]
 
 pub one_bad_place : {cs : List PlacedCheck} {p q : ℕ} → FirstFails cs p → FirstFails cs q → p ≡ q
 one_bad_place fails_here fails_here = refl
@@ -38,6 +39,7 @@ pass-none (one_holds h) = pass-none h
 pub pass-split : (cs : List PlacedCheck) {ds : List PlacedCheck} → AllPass (cs ++ ds) → AllPass cs × AllPass ds
 pass-split [] h = (no_check_left, h)
 pass-split (check_at p true ∷ cs) (one_holds h) = let r = pass-split cs h in (one_holds r.0, r.1)
+pass-split (check_at p false ∷ cs) {ds = ds} h = elim h [ ]
 
 pub both-pass : {cs ds : List PlacedCheck} → AllPass cs → AllPass ds → AllPass (cs ++ ds)
 both-pass no_check_left k = k

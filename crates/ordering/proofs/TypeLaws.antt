@@ -11,7 +11,7 @@ use lib.ListN.{length, get_or, set, length-set}
 use lib.Seq.{get_or-set_same, get_or-set_other}
 use lib.Dec.{eqb}
 use borrow.Author.Tests.{eq-eqb, ne_eqb}
-use Rattle.instructions.specs.Assembly.{DeclaredType, flat_type, paired_type, leaves_numbered, one_more, with_second}
+use Rattle.instructions.specs.Assembly.{DeclaredType, flat_type, paired_type, leaves_numbered, one_constructor_more, with_second}
 use Rattle.ordering.specs.Held.{leaves_over, last_constructors, TypesHeld, TypesGathered, types_after}
 use Rattle.instructions.specs.Assembly.{type_held, held_types}
 use Rattle.instructions.proofs.LeavesNumbered.{types-counted}
@@ -200,11 +200,11 @@ pub pair_read : (p a b : ℕ) → (p ≡ 0 → ⊥) → type_held p a b ≡ pair
 pair_read zero a b e = absurd (e refl)
 pair_read (suc p) a b e = refl
 
-pub counted-more : (p a b : ℕ) (T : List DeclaredType) → p ≡ 0 → one_more (type_held p a b ∷ T) ≡ flat_type (a + 1) ∷ T
-counted-more p a b T e = ap (λ x. one_more (x ∷ T)) (flat-read p a b e) ∙ ap (λ n. flat_type n ∷ T) (sym (add-one a))
+pub counted-more : (p a b : ℕ) (T : List DeclaredType) → p ≡ 0 → one_constructor_more (type_held p a b ∷ T) ≡ flat_type (a + 1) ∷ T
+counted-more p a b T e = ap (λ x. one_constructor_more (x ∷ T)) (flat-read p a b e) ∙ ap (λ n. flat_type n ∷ T) (sym (add-one a))
 
-pub pair-not-counted : (p a b : ℕ) (T : List DeclaredType) → (p ≡ 0 → ⊥) → one_more (type_held p a b ∷ T) ≡ type_held p a b ∷ T
-pair-not-counted p a b T e = ap (λ x. one_more (x ∷ T)) (pair_read p a b e) ∙ ap (λ x. x ∷ T) (sym (pair_read p a b e))
+pub pair-not-counted : (p a b : ℕ) (T : List DeclaredType) → (p ≡ 0 → ⊥) → one_constructor_more (type_held p a b ∷ T) ≡ type_held p a b ∷ T
+pair-not-counted p a b T e = ap (λ x. one_constructor_more (x ∷ T)) (pair_read p a b e) ∙ ap (λ x. x ∷ T) (sym (pair_read p a b e))
 
 pub flat-not-second : (p a b t : ℕ) (T : List DeclaredType) → p ≡ 0 → with_second t (type_held p a b ∷ T) ≡ type_held p a b ∷ T
 flat-not-second p a b t T e = ap (λ x. with_second t (x ∷ T)) (flat-read p a b e) ∙ ap (λ x. x ∷ T) (sym (flat-read p a b e))

@@ -4,7 +4,7 @@ use Rattle.std.proofs.Math.Option.{Option, none, some}
 use Rattle.grammar.specs.Sizes.{text_table}
 use Rattle.instructions.specs.Instruction.{Instruction, instruction_of, held_code}
 use Rattle.instructions.specs.Assembly.{type_held, held_types}
-use Rattle.instructions.specs.Assembly.{DeclaredType, flat_type, paired_type, leaves_numbered, one_more, with_first, with_second, Assembly, assembly}
+use Rattle.instructions.specs.Assembly.{DeclaredType, flat_type, paired_type, leaves_numbered, one_constructor_more, with_first, with_second, Assembly, assembly}
 
 -- one instruction adds fewer records
 abbrev pub added_bound : ℕ
@@ -56,7 +56,7 @@ pub record TypesGathered (i k : ℕ) (pairs firsts seconds leaves : List ℕ) : 
 
 -- the types after one of the first four instructions
 abbrev pub types_after : (op first : ℕ) → List DeclaredType → List DeclaredType
-types_after op a T = get_or ((flat_type 0 ∷ T) ∷ one_more T ∷ with_first a T ∷ with_second a T ∷ []) op T
+types_after op a T = get_or ((flat_type 0 ∷ T) ∷ one_constructor_more T ∷ with_first a T ∷ with_second a T ∷ []) op T
 
 -- the records that an instruction adds, but for leaves, by its op
 unfoldable pub record_counts : List ℕ

@@ -1,6 +1,6 @@
 // The declared types, each by three numbers, and the leaves of each.
 ghost use Rattle.std.specs.Prelude.{◌≡◌, List, ◌∷◌, ℕ, ◌+◌, ◌≤◌, ◌<◌, min, length};
-ghost use Rattle.instructions.specs.Assembly.{leaves_numbered, pair_numbered, constant_pair_numbered, one_more, with_first, with_second};
+ghost use Rattle.instructions.specs.Assembly.{leaves_numbered, pair_numbered, constant_pair_numbered, one_constructor_more, with_first, with_second};
 ghost use Rattle.ordering.specs.Held.{leaves_over, TypesHeld, TypesGathered, types_after};
 ghost use Rattle.instructions.specs.Assembly.{type_held, held_types};
 ghost use Rattle.grammar.specs.Legal.{text_bytes};
@@ -128,7 +128,7 @@ fn count_constructor(
     leaves: &mut Ops,
 )
     requires { TypesGathered i k pairs.old firsts.old seconds.old leaves.old × (i < text_bytes) }
-    ensures { TypesGathered (i + 1) k pairs.new firsts.new seconds.new leaves.new × (held_types pairs.new firsts.new seconds.new k ≡ one_more (held_types pairs.old firsts.old seconds.old k)) }
+    ensures { TypesGathered (i + 1) k pairs.new firsts.new seconds.new leaves.new × (held_types pairs.new firsts.new seconds.new k ≡ one_constructor_more (held_types pairs.old firsts.old seconds.old k)) }
 {
     if k == 0 {
         return;

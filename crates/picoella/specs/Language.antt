@@ -1,8 +1,8 @@
--- The language pico_ella on an abstract tree: types, patterns, expressions, and the static semantics. Nothing here knows of bytes or
+-- The language picoELLA on an abstract tree: types, patterns, expressions, and the static semantics. Nothing here knows of bytes or
 -- records beyond the numbers that flat types, constructor patterns and delays carry.
 use Rattle.std.specs.Prelude.{ℕ, ◌+◌, ◌≤◌, zero, suc, List, [], ◌∷◌, ◌++◌}
 
--- Types of pico_ella (000, §4.2.1: `tpe`), with what docs/SHEETS.md adds: a flat type carries its record's number and the number
+-- Types of picoELLA (000, §4.2.1: `tpe`), with what docs/SHEETS.md adds: a flat type carries its record's number and the number
 -- of its constructors. Two flat types are the same only as the same record, so equality of trees is that of records: no two
 -- pair types of a sheet have the same two parts.
 
@@ -62,7 +62,7 @@ pub data Expr : Type 0 where
   If : Expr → Pattern → Expr → Expr → Expr
   Delay : (places : List ℕ) → Ty → List ℕ → Expr → Expr
 
--- The static semantics of expressions (000, §3.3.2 rules 3.9 to 3.19, §4.2.3 `type_of_expr`), one constructor a rule, with the
+-- The static semantics of expressions (000, §3.3.2 rules 3.9 to 3.19, §4.2.3 `typeOfExpr`), one constructor a rule, with the
 -- premises that docs/SHEETS.md adds: the type of a pair is declared, and a constant's constructors are at most
 -- their type's count. `Declared` says which types are; a context lists the types of the names in scope, the innermost first.
 

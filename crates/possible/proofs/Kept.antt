@@ -10,7 +10,7 @@ use mathlib.Core.Path.{◌≡◌, refl, sym, ap, ◌∙◌}
 use native.Mathlib.Omega.{arith}
 use Rattle.picoella.specs.Language.{OfType, bounds}
 use Rattle.records.specs.Words.{count, word_a}
-use Rattle.records.specs.Trees.{type_at, Declared, TypeRecord, Tree, no_expression, constant_of, name_of, tuple_of, first_of, second_of, let_of, feedback_of, if_of, delay_of, held, circuit}
+use Rattle.records.specs.Trees.{type_at, Declared, TypeRecord, Tree, no_expression, constant_of, name_of, tuple_of, first_of, second_of, let_of, feedback_of, if_of, delay_of, held, circuit, type_record_of}
 use Rattle.records.specs.Decoding.{leaf_values}
 use Rattle.records.specs.Rewritten.{Rewritten}
 use Rattle.records.specs.Written.{Written}
@@ -49,11 +49,11 @@ term-full s Γ (first_of r a) v f = term-full s Γ a v f
 term-full s Γ (second_of r a) v f = term-full s Γ a v f
 term-full s Γ (let_of r a b) v f = (
   term-full s Γ a v.0 (λ x m. f x (Memᴰ.append_left _ m)),
-  term-full s _ b v.1 (λ x m. f x (Memᴰ.append_right (held false true true a) m)),
+  term-full s (type_record_of s Γ a ∷ Γ) b v.1 (λ x m. f x (Memᴰ.append_right (held false true true a) m)),
 )
 term-full s Γ (feedback_of r t a b) v f = (
-  term-full s _ a v.0 (λ x m. f x (Memᴰ.append_left _ m)),
-  term-full s _ b v.1 (λ x m. f x (Memᴰ.append_right (held false true true a) m)),
+  term-full s (t ∷ Γ) a v.0 (λ x m. f x (Memᴰ.append_left _ m)),
+  term-full s (t ∷ Γ) b v.1 (λ x m. f x (Memᴰ.append_right (held false true true a) m)),
 )
 term-full s Γ (if_of r a p b c) v f =
     let ha = held false true true a in (

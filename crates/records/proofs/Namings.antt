@@ -90,6 +90,7 @@ in-records s r (suc n) q k h low high e = go (ℕ_discrete q n) (in-records s r 
 by-word-d : (x : Naming) (ns : List Naming) → by_word_d ns ≡ true → Memᴰ x ns → x.at ≡ 5
 by-word-d x (y ∷ ns) e (Memᴰ.head h) = rw h (eqb-true y.at 5 (both_left (eqb y.at 5) (by_word_d ns) e))
 by-word-d x (y ∷ ns) e (Memᴰ.tail m) = by-word-d x ns (both_right (eqb y.at 5) (by_word_d ns) e) m
+by-word-d x [] e x3 = elim x3 [ ]
 
 only : (x : Naming) (ns : List Naming) → well_named ns ≡ true → x.at < 5 → Memᴰ x ns → ns ≡ x ∷ []
 only x [] e l m = absurd (never_both false e refl)

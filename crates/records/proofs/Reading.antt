@@ -2,23 +2,14 @@
 use mathlib.Core.Path.{◌≡◌}
 use mathlib.Core.Bool.{false, and-false}
 use mathlib.Core.List.{List}
-use Prim.Native.Nat.{ℕ, ◌+◌, ◌*◌, ◌-◌, ◌≤◌, ◌<◌}
+use Prim.Native.Nat.{ℕ, ◌+◌, ◌*◌, ◌≤◌, ◌<◌}
 use native.Mathlib.Omega.{arith}
 use borrow.Author.Tests.{le-ltb, lt-ltb, lt-leb}
 use lib.Dec.{eqb, leb}
 use lib.ListN.{get_or-eq_default}
 use Rattle.records.specs.Words.{count, word}
 use Rattle.records.specs.Sized.{Sized}
-use Rattle.records.specs.Kinds.{
-  Sort,
-  lower_type,
-  lower_flat,
-  constructor_of,
-  counted,
-  sort_number,
-  sort_of,
-  kind_of,
-}
+use Rattle.records.specs.Kinds.{Sort, lower_type, lower_flat, constructor_of, sort_number, sort_of, kind_of}
 use Rattle.records.specs.Says.{higher, meets}
 use Rattle.records.proofs.CodeTable.{flat-number}
 

@@ -1,4 +1,4 @@
--- Decoding: the expression of pico_ella that the records say. It infers no type: it reads types off type records, leaves off
+-- Decoding: the expression of picoELLA that the records say. It infers no type: it reads types off type records, leaves off
 -- chains, and keeps first and second part bare. It succeeds exactly where each part of the tree is there.
 use Rattle.std.specs.Prelude.{ℕ, Bool, true, false, ◌&&◌, List, map}
 use Rattle.std.proofs.Math.Option.{Option, none, some}

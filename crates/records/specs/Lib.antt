@@ -1,5 +1,5 @@
 -- What the bytes of a sheet say: words, the table of kinds, what each word asks, namings, types, chains, and the circuit as a
--- tree of records, decoded to an expression of pico_ella.
+-- tree of records, decoded to an expression of picoELLA.
 -- To believe:
 pub mod Words
 pub mod Kinds

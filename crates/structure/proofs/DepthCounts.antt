@@ -90,8 +90,8 @@ pub record ItsNaming (s : List ℕ) (rec v : ℕ) : Type 0 where
   pub nested : nesting s rec ≡ cond (of_defining_part s (record { by = by; at = at })) (suc (nesting s by)) (nesting s by)
 
 module _ {s : List ℕ} {n rec : ℕ} {namers depths nestings : List ℕ} (p : Placing s n rec namers depths nestings) (h : rec < n) where
-  pub named_by : ItsNaming s rec (get_or namers rec 0)
-  named_by = from_first (the-first (namings s rec) (p.well rec p.some below))
+  pub named-by : ItsNaming s rec (get_or namers rec 0)
+  named-by = from_first (the-first (namings s rec) (p.well rec p.some below))
     where
       below : rec < count s
       below = let c = p.sized.counted in omega arith
@@ -124,7 +124,7 @@ module _ {s : List ℕ} {n rec : ℕ} {namers depths nestings : List ℕ} (p : P
       × (get_or depths ((get_or namers rec 0 - 1) / 8) 0 ≤ 65)
       × (get_or nestings ((get_or namers rec 0 - 1) / 8) 0 ≤ 4)
   in-range =
-      let b = named_by in
+      let b = named-by in
       let few = p.sized.few in
       let e : (get_or namers rec 0 - 1) / 8 ≡ b.by = omega (arith, b.value, b.small) in
       let d = p.placed.deep.below b.by b.lower in
@@ -145,7 +145,7 @@ module _ {s : List ℕ} {n rec : ℕ} {namers depths nestings : List ℕ} (p : P
   }
     where
       b : ItsNaming s rec (get_or namers rec 0)
-      b = named_by
+      b = named-by
 
       small : rec < 4096
       small = let sized = p.sized in omega (arith, p.sized.few)

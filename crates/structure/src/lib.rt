@@ -8,7 +8,7 @@ mod said;
 mod types;
 
 pub use depth::{first_too_deep, no_depths, place_all};
-pub use name_rules::{first_wrong_naming, no_namings, note_all};
+pub use naming::{first_wrong_naming, no_namings, note_all};
 pub use pairs::{PairIndex, no_pairs, pair_of};
 pub use said::{first_wrong_record, wrong_header};
 pub use types::{capped_sum, count_types, first_wrong_type, no_leaves};

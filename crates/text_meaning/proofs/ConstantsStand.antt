@@ -174,9 +174,9 @@ module _ (ds : List Declaration) where
         ≡ Flat (constructor_meant (constructor_entries ds) w).type (constructor_meant (constructor_entries ds) w).constructors
     constructor-of w u e = constructor-type w u 1 at_first [] ds none-taken good e
 
-    pub pair_of : (v w u : List ℕ) → first_pair_type ds v w ≡ some u
+    pub pair-of : (v w u : List ℕ) → first_pair_type ds v w ≡ some u
         → type_meant (type_entries ds) u ≡ TyTuple (type_meant (type_entries ds) v) (type_meant (type_entries ds) w)
-    pair_of v w u e = pair-type v w u 1 at_first [] ds none-taken no-type good e
+    pair-of v w u e = pair-type v w u 1 at_first [] ds none-taken no-type good e
 
 module _ {ds : List Declaration} (good : AllPass (declarations_checks at_first ds)) where
   -- a constructor as a constant of its type
@@ -185,6 +185,7 @@ module _ {ds : List Declaration} (good : AllPass (declarations_checks at_first d
   constructor-stands w m is known = record { value = go; known = known }
     where
       go : (c : ConstantTree) → ConstantOf (Flat m.type m.constructors) c → flatten c ≡ m.number ∷ [] → name_tree ds c ≡ Made w
+      go (CoTuple _ _) x4 e = elim x4 [ ]
       go (Cons i r) (of_cons h) e =
           ap (leaf_value ds m.type) (head-eq_of_cons-eq e ∙ is.number_is) ∙ ap Made is.name-is
 
@@ -222,6 +223,7 @@ module _ {ds : List Declaration} (good : AllPass (declarations_checks at_first d
   two-stand σ τ v w x y a b h k = record { value = go; known = known-pair a.known b.known }
     where
       go : (c : ConstantTree) → ConstantOf (TyTuple σ τ) c → flatten c ≡ v ++ w → name_tree ds c ≡ Couple x y
+      go (Cons constructor type) x3 e = elim x3 [ ]
       go (CoTuple c d) (of_tuple f g) e =
           let lc = value-length σ (flatten-typed f) in
           let ld = value-length τ (flatten-typed g) in
@@ -235,7 +237,7 @@ module _ {ds : List Declaration} (good : AllPass (declarations_checks at_first d
   of_pair p c d x y none e t = absurd (let no : ◌≡◌ {A = ℕ} 0 1 = cc in omega arith)
   of_pair p c d x y (some u) e t =
       let first : first_pair_type ds x.type y.type ≡ some u = rw (x.type-is, y.type-is) at e in
-      let is = pair_of ds good x.type y.type u first in
+      let is = pair-of ds good x.type y.type u first in
       let l = length-append (constant_values ds c) (constant_values ds d) in
       let fx = x.few in
       let fy = y.few in

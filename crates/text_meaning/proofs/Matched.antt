@@ -90,6 +90,7 @@ module _ (ds : List Declaration) where
         → answer3 (cond b Yes (constructor_on w (name_tree ds c)))
         ≡ match (cond b (Language.Whole σ) (as_pattern (constructor_meant (constructor_entries ds) w))) c
     alone-matched w σ true h known typed of = refl
+    alone-matched w σ {c = c} false h (known-pair {τ = τ} _ _) typed of = elim typed [ ]
     alone-matched w σ false h (known-flat l d) p_constructor (of_cons {r} {n} {i} g) =
         let m = numbered w (h refl) in
         rw m.number_is (leaf-matched w r n m.before i l d m.within m.name-is g)
@@ -100,6 +101,7 @@ module _ (ds : List Declaration) where
     pattern-matched (Alone (identifier w p)) h known typed of =
         alone-matched w (type_meant (type_entries ds) w) (is_declared type_role w (after_all at_first ds))
         (type-or-constructor w (after_all at_first ds) (passes h)) known typed of
+    pattern-matched (PatternPair m n) {c = c} h (known-flat {r = r} _ _) typed of = elim typed [ ]
     pattern-matched (PatternPair m n) h (known-pair x y) (p_parts s t) (of_tuple {c = c} {d = d} f g) =
         let both = pass-both (pattern_checks (after_all at_first ds) m) (pattern_checks (after_all at_first ds) n) h in
         pair-answer (matches_named (after_all at_first ds) m (name_tree ds c)) (matches_named (after_all at_first ds) n (name_tree ds d))

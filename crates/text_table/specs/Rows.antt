@@ -87,7 +87,7 @@ text_rows =
     -- TYPE a = b IN INPUT a (LET INIT ?a REC INIT
     text_row (84 ∷ 89 ∷ 80 ∷ 69 ∷ 32 ∷ 97 ∷ 32 ∷ 61 ∷ 32 ∷ 98 ∷ 32 ∷ 73 ∷ 78 ∷ 32 ∷ 73 ∷ 78 ∷ 80 ∷ 85 ∷ 84 ∷ 32 ∷ 97 ∷ 32 ∷ 40 ∷ 76 ∷ 69 ∷ 84 ∷ 32 ∷ 73 ∷ 78 ∷ 73 ∷ 84 ∷ 32 ∷ 63 ∷ 97 ∷ 32 ∷ 82 ∷ 69 ∷ 67 ∷ 32 ∷ 73 ∷ 78 ∷ 73 ∷ 84 ∷ []) 48 (Refused 13 39)
     ∷
-    -- TYPE a = b_in INPUT a b
+    -- TYPE a = bIN INPUT a b
     text_row (84 ∷ 89 ∷ 80 ∷ 69 ∷ 32 ∷ 97 ∷ 32 ∷ 61 ∷ 32 ∷ 98 ∷ 73 ∷ 78 ∷ 32 ∷ 73 ∷ 78 ∷ 80 ∷ 85 ∷ 84 ∷ 32 ∷ 97 ∷ 32 ∷ 98 ∷ []) 48 (Refused 13 10)
     ∷
     -- TYPE a = b = c IN INPUT a b

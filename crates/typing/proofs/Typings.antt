@@ -1,4 +1,4 @@
--- The rules of a tree hold exactly where its expression has a type by the rules of pico_ella, and then that is the type of the
+-- The rules of a tree hold exactly where its expression has a type by the rules of picoELLA, and then that is the type of the
 -- record that judging finds. Both by induction on the tree, a rule at a time: that a type has one record turns equal types
 -- into the same record.
 -- Assumes nothing.

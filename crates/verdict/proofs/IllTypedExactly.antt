@@ -219,7 +219,7 @@ module _ {s : List ℕ} (p : Passes s) where
   fails-above (in_if_then {q = q} {Γ = Γ} e c m) r f =
       let o = reached-standing p c in
       fails-above c r
-      (rw (
+      (simp (
         tree-of (written p) q o.there (expression if_matches) e,
         first-of-both,
         typed-passes p (part-standing p o if_matches e 2 refl (unfold ask_of_kind in refl) o.context) (m.0, m.1),
@@ -230,7 +230,7 @@ module _ {s : List ℕ} (p : Passes s) where
   fails-above (in_if_else {q = q} {Γ = Γ} e c m t) r f =
       let o = reached-standing p c in
       fails-above c r
-      (rw (
+      (simp (
         tree-of (written p) q o.there (expression if_matches) e,
         first-of-both,
         typed-passes p (part-standing p o if_matches e 2 refl (unfold ask_of_kind in refl) o.context) (m.0, m.1),

@@ -21,6 +21,7 @@ use Rattle.verdict.specs.Promises.{OnceOrShared, EveryNamedOnce, NamedOnceExactl
 
 -- all by words d, or one alone
 all-d : (ns : List Naming) → by_word_d ns ≡ true → (n : Naming) → Memᴰ n ns → n.at ≡ 5
+all-d [] e n x'' = elim x'' [ ]
 all-d (m ∷ ns) e n (Memᴰ.head h) = rw h (eqb-true m.at 5 (both_left (eqb m.at 5) (by_word_d ns) e))
 all-d (m ∷ ns) e n (Memᴰ.tail i) = all-d ns (both_right (eqb m.at 5) (by_word_d ns) e) n i
 

@@ -3,7 +3,7 @@
 -- way down from the root: what a part stores is among what the whole stores.
 -- Assumes nothing.
 use Prim.Native.Nat.{ℕ, ◌<◌}
-use mathlib.Core.Bool.{true, ◌&&◌}
+use mathlib.Core.Bool.{true, false, ◌&&◌}
 use mathlib.Core.List.Memᴰ
 use mathlib.Core.List.{
   List,
@@ -201,5 +201,5 @@ scope-noted {s} {q} {Γ} w c =
 pub circuit-stored : {s : List ℕ} → Written s → WellNamed s → (w : List ℕ) → length w ≡ 4096
     → Stored (expression_records (circuit s)) (notes s (inputs s) (circuit s)) w (noted s (inputs s) (circuit s) w)
 circuit-stored {s} p well w l =
-    noted-stored s (inputs s) (circuit s) w (circuit-distinct p well _ _ _)
+    noted-stored s (inputs s) (circuit s) w (circuit-distinct p well true false false)
     (λ x m. let h = (circuit-expressions p x m).there in let f = p.few in omega arith)

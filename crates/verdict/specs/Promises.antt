@@ -90,7 +90,7 @@ CheckLaws =
 abbrev pub PlacesBelow : Type 0
 PlacesBelow = (s : List ℕ) → place (verdict_answer (verdict s)) < 4096
 
--- The sheet decodes to an expression that has the type of record t by the rules of pico_ella, over the types that the sheet
+-- The sheet decodes to an expression that has the type of record t by the rules of picoELLA, over the types that the sheet
 -- declares, where the input has the type in the header's word a.
 abbrev pub WellTyped : List ℕ → ℕ → Type 0
 WellTyped s t =

@@ -56,7 +56,7 @@ pub data Scope (s : List ℕ) : ℕ → List ℕ → Type 0 where
 -- whole"; code 7 "goes through the expressions from the root, parts `a`, `b`, `c` first and then the whole. In an IF the pattern is
 -- judged after part `a` and before the branches, and is reported at the IF").
 
--- the expression at record q has the type τ by the rules of pico_ella, where the names of Γ are in scope
+-- the expression at record q has the type τ by the rules of picoELLA, where the names of Γ are in scope
 abbrev pub TypedAt : List ℕ → List ℕ → ℕ → Ty → Type 0
 TypedAt s Γ q τ = Typed (Declared s) (map (type_at s) Γ) (expression_of s (tree_at s q)) τ
 

@@ -10,7 +10,7 @@ use Rattle.carry.proofs.Taking.{
   giving-in,
   giving-byte,
   taking-bytes,
-  high_byte,
+  high-byte,
   next-remain,
   remaining-falls,
   none-remain,
@@ -44,7 +44,7 @@ add-next : tie.Need-overflow-add-next invariant-loop decreases-loop
 add-next c = let h = taking-in c.before.before.before.before.before.before.before.requires (c.before.before.before.loop.invariant c.before.before.before.before.before.before.before.requires) c.before.before.loop-test.true in let f = c.before.before.before.before.before.before.before.requires.after.sized.few in omega (arith, c.before.offset.ensures)
 
 slice-write-next-2 : tie.Need-slice-write-next-2 invariant-loop decreases-loop
-slice-write-next-2 c = rw c.before.offset.ensures (high_byte c.before.before.before.before.before.before.before.requires (c.before.before.before.loop.invariant c.before.before.before.before.before.before.before.requires) c.before.before.loop-test.true _)
+slice-write-next-2 c = rw c.before.offset.ensures (high-byte c.before.before.before.before.before.before.before.requires (c.before.before.before.loop.invariant c.before.before.before.before.before.before.before.requires) c.before.before.loop-test.true _)
 
 word-requires-2 : tie.Need-word-requires-2 invariant-loop decreases-loop
 word-requires-2 c κs = (c.before.before.before.before.before.before.before.requires.before.sized, giving-in c.before.before.before.before.before.before.before.requires (c.before.before.before.loop.invariant c.before.before.before.before.before.before.before.requires) c.before.before.loop-test.true, omega arith)
