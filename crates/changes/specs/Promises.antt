@@ -2,7 +2,7 @@
 use Rattle.std.specs.Prelude.{ℕ, zero, suc, ◌*◌, ◌/◌, ◌≤◌, ◌<◌, ◌≡◌, ◌↔◌, ◌≢◌, length, get_or, take, drop}
 use mathlib.Core.List.{List, [], ◌∷◌, ◌++◌, Memᴰ}
 use Rattle.listing.specs.Lines.{ascii, cycle_line, cycle_lines}
-use Rattle.changes.specs.Changes.{leaf_of_cycle, changes_of, Change, all_changes, total_changes, sum_below}
+use Rattle.changes.specs.Changes.{changes_of, Change, all_changes, total_changes, sum_below}
 use Rattle.changes.specs.ReportLines.{report}
 
 -- the part of the output record that is cycle k's

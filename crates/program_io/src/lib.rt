@@ -2,15 +2,16 @@
 // opened, and a file replaced.
 #![tactic(auto)]
 
-ghost use Rattle.std.specs.Prelude.{◌≤◌, ◌≡◌, length};
-ghost use Rattle.std.specs.Int.Signed.{non_neg};
-ghost use Rattle.io.specs.Counts.{IsPrefixLen};
-ghost use Rattle.libc.specs.Io.{Ended};
+ghost use Rattle.std.specs.Prelude.{◌≡◌, ◌≤◌, length, MatchResult};
 ghost use Rattle.printing.specs.Pieces.{no_file_line, unopened_file};
+ghost use Rattle.program_io.specs.Files.{Counts, Ended};
 
-use libc::{ENOENT, ENOSPC, PATH_MAX, SEEK_CUR, STDOUT_FILENO};
 use listing::LINE_BYTES;
 use printing::put_no_file;
+use std::fs::{File, OpenOptions};
+use std::io::{ErrorKind, Read, Seek, Write};
+use std::rt::Files;
+use std::{fs, io, str};
 
 // What reading gave: so many bytes, unless it failed.
 #[derive(Clone, Copy)]
@@ -20,24 +21,22 @@ pub struct Got {
 }
 
 // Reads once; 0 bytes at the file's end.
-fn read_some(fd: i32, buffer: &mut [u8]) -> Got
+fn read_some(file: &mut File, buffer: &mut [u8]) -> Got
     ensures { result.n ≤ length buffer.new }
 {
-    let got = libc::read(fd, buffer);
-    if got < 0 {
-        return Got { ok: false, n: 0 };
+    match file.read(buffer) {
+        Ok(n) => Got { ok: true, n },
+        Err(_) => Got { ok: false, n: 0 },
     }
-    let n = io::count(got, buffer);
-    Got { ok: true, n }
 }
 
 // Reads a file to its end, or until the buffer is full.
-fn read_file(fd: i32, buffer: &mut [u8]) -> Got
-    ensures { IsPrefixLen result.n buffer.new }
+fn read_file(file: &mut File, buffer: &mut [u8]) -> Got
+    ensures { Counts result.n buffer.new }
 {
     let mut n = 0;
     while n < buffer.len() {
-        let got = read_some(fd, &mut buffer[n..]);
+        let got = read_some(file, &mut buffer[n..]);
         if !got.ok {
             return Got { ok: false, n: 0 };
         }
@@ -49,39 +48,52 @@ fn read_file(fd: i32, buffer: &mut [u8]) -> Got
     Got { ok: true, n }
 }
 
-// Whether a call that opens a file gave a descriptor. 0 is one too, where standard input was
+// The file, if the call that opens it gave a descriptor. 0 is one too, where standard input was
 // closed.
-fn opened(fd: i32) -> bool
-    ensures { result ≡ non_neg fd }
+fn opened(file: io::Result<File>) -> Option<File>
+    ensures { MatchResult file (λ f. result ≡ Some f) (λ _. result ≡ None) }
 {
-    fd >= 0
+    file.ok()
 }
 
-// Opens a file and reads it, to its end or until the buffer is full: a buffer of one byte more than a limit tells a longer file.
-pub fn read_named(path: &[u8], buffer: &mut [u8]) -> Got
-    ensures { IsPrefixLen result.n buffer.new }
-{
-    let fd = os::open_read(path);
-    if !opened(fd) {
-        return Got { ok: false, n: 0 };
+// A path as text, which is how the library takes it. Another path opens nothing.
+fn path_text(path: &[u8]) -> io::Result<&str> {
+    match str::from_utf8(path) {
+        Ok(text) => Ok(text),
+        Err(_) => Err(io::Error::from(ErrorKind::InvalidInput)),
     }
-    let got = read_file(fd, buffer);
-    libc::close(fd);
-    got
 }
 
-// Writes the line for a file that could not be opened.
-fn write_no_file(place: u64, line: &[u8])
+// Opens a file to be read.
+fn open_read(files: &impl Files<File = File>, path: &[u8]) -> io::Result<File> {
+    fs::open(files, path_text(path)?)
+}
+
+// Opens a file and reads it, to its end or until the buffer is full: a buffer of one byte more than
+// a limit tells a longer file.
+pub fn read_named(files: &impl Files<File = File>, path: &[u8], buffer: &mut [u8]) -> Got
+    ensures { Counts result.n buffer.new }
+{
+    match opened(open_read(files, path)) {
+        Some(mut file) => read_file(&mut file, buffer),
+        None => Got { ok: false, n: 0 },
+    }
+}
+
+// Writes the line for a file that could not be opened. Where nobody can read it nothing is done
+// about that.
+fn write_no_file(out: &impl Print, place: u64, line: &[u8])
     requires { line.now ≡ no_file_line place }
 {
-    io::write_all(STDOUT_FILENO, line);
+    let _ = out.write_all(line);
 }
 
-// Prints the line for a file that could not be opened, from its place among the files of a program: 1 for the first.
-pub fn refuse_file(place: u64) {
+// Prints the line for a file that could not be opened, from its place among the files of a program:
+// 1 for the first.
+pub fn refuse_file(out: &impl Print, place: u64) {
     let mut line = [0u8; LINE_BYTES];
     let end = put_no_file(&mut line, place);
-    write_no_file(place, &line[0..end]);
+    write_no_file(out, place, &line[0..end]);
 }
 
 // The places of the files of a program, by which one that cannot be opened is refused.
@@ -114,21 +126,25 @@ pub struct Inputs {
 }
 
 // Reads sheet.bin and stim.bin; of the first that cannot be opened it prints the refusal.
-pub fn read_inputs(sheet: &mut [u8], stim: &mut [u8]) -> Inputs
-    ensures { IsPrefixLen result.sheet sheet.new × IsPrefixLen result.stim stim.new }
+pub fn read_inputs(
+    rt: &(impl Files<File = File> + Print),
+    sheet: &mut [u8],
+    stim: &mut [u8],
+) -> Inputs
+    ensures { Counts result.sheet sheet.new × Counts result.stim stim.new }
 {
-    let sheet_got = read_named(b"sheet.bin", sheet);
+    let sheet_got = read_named(rt, b"sheet.bin", sheet);
     if !sheet_got.ok {
-        refuse_file(unopened_file(false, false));
+        refuse_file(rt, unopened_file(false, false));
         return Inputs {
             ok: false,
             sheet: 0,
             stim: 0,
         };
     }
-    let stim_got = read_named(b"stim.bin", stim);
+    let stim_got = read_named(rt, b"stim.bin", stim);
     if !stim_got.ok {
-        refuse_file(unopened_file(true, false));
+        refuse_file(rt, unopened_file(true, false));
         return Inputs {
             ok: false,
             sheet: 0,
@@ -142,14 +158,17 @@ pub fn read_inputs(sheet: &mut [u8], stim: &mut [u8]) -> Inputs
     }
 }
 
-// The last byte of a path that the C library reads.
+// The bytes of a path that the system reads at most, with the 0 at its end.
+const PATH_MAX: usize = 4096;
+
+// The last byte of a path that the system reads.
 const PATH_END: usize = PATH_MAX - 1;
 
-// A path as the C library reads it, ended by a 0.
+// A path as the system reads it, ended by a 0.
 fn c_path(path: &[u8]) -> [u8; PATH_MAX]
     ensures { Ended result }
 {
-    let mut name = io::buffer();
+    let mut name = [0u8; PATH_MAX];
     let mut i = 0;
     while i < path.len() {
         if i >= PATH_END {
@@ -162,92 +181,149 @@ fn c_path(path: &[u8]) -> [u8; PATH_MAX]
     name
 }
 
+// The bytes of such a path before its end.
+fn before_end(name: &[u8; PATH_MAX]) -> &[u8]
+    requires { Ended name.now }
+{
+    let mut end = 0;
+    while name[end] != 0 {
+        end += 1;
+    }
+    &name[..end]
+}
+
 // Whether a link has this name.
-fn is_link(path: &[u8]) -> bool {
+fn is_link(files: &impl Files, path: &[u8]) -> bool {
     let name = c_path(path);
-    let mut leads = [0u8; 1];
-    libc::readlink(&name, &mut leads) >= 0
+    let Ok(text) = path_text(before_end(&name)) else {
+        return false;
+    };
+    match fs::symlink_metadata(files, text) {
+        Ok(found) => found.is_symlink(),
+        Err(_) => false,
+    }
 }
 
 // Whether a new file may take the name of one that was opened: it is no pipe and no link leads to
 // it.
-fn is_plain(fd: i32, path: &[u8]) -> bool {
-    if libc::lseek(fd, 0, SEEK_CUR) < 0 {
+fn is_plain(files: &impl Files, file: &mut File, path: &[u8]) -> bool {
+    if file.stream_position().is_err() {
         return false;
     }
-    !is_link(path)
+    !is_link(files, path)
 }
 
 // Whether nothing has the name, after it could not be opened.
-fn is_free(path: &[u8]) -> bool {
-    if os::errno() != ENOENT {
+fn is_free(files: &impl Files, why: ErrorKind, path: &[u8]) -> bool {
+    if why != ErrorKind::NotFound {
         return false;
     }
-    !is_link(path)
+    !is_link(files, path)
 }
 
-fn may_take(fd: i32, path: &[u8]) -> bool {
-    if opened(fd) {
-        return is_plain(fd, path);
+fn may_take(files: &impl Files, old: &mut io::Result<File>, path: &[u8]) -> bool {
+    match old {
+        Ok(file) => is_plain(files, file, path),
+        Err(e) => is_free(files, e.kind(), path),
     }
-    is_free(path)
+}
+
+// Opens a file to be read and written where it stands.
+fn open_update(files: &impl Files<File = File>, path: &[u8]) -> io::Result<File> {
+    let text = path_text(path)?;
+    OpenOptions::new().read(true).write(true).open(files, text)
+}
+
+// Makes a file, unless something has the name.
+fn create(files: &impl Files<File = File>, path: &[u8]) -> io::Result<File> {
+    let text = path_text(path)?;
+    OpenOptions::new()
+        .write(true)
+        .create_new(true)
+        .open(files, text)
+}
+
+// Opens a file to be written, and empties or makes it.
+fn open_overwrite(files: &impl Files<File = File>, path: &[u8]) -> io::Result<File> {
+    fs::create(files, path_text(path)?)
+}
+
+// Takes a file away. Where it can't be, nothing is done about that.
+fn unlink(files: &impl Files, path: &[u8]) {
+    if let Ok(text) = path_text(path) {
+        let _ = fs::remove_file(files, text);
+    }
+}
+
+// Whether one file took the name of another.
+fn renamed(files: &impl Files, from: &[u8], to: &[u8]) -> bool {
+    let Ok(old) = path_text(from) else {
+        return false;
+    };
+    let Ok(new) = path_text(to) else {
+        return false;
+    };
+    fs::rename(files, old, new).is_ok()
+}
+
+// Writes all of a new file and closes it. A full disk may show only as the file reaches it, so that
+// is waited for.
+fn is_written(mut file: File, bytes: &[u8]) -> bool {
+    if file.write_all(bytes).is_err() {
+        return false;
+    }
+    file.sync_all().is_ok()
 }
 
 // Writes the new file and gives it the name. Where not all of it can be written it goes again, and
 // what had the name keeps it.
-fn write_new(fd: i32, path: &[u8], beside: &[u8], bytes: &[u8]) {
-    let whole = io::write_all(fd, bytes);
-    let closed = libc::close(fd) == 0;
-    if whole {
-        if closed {
-            if os::rename(beside, path) == 0 {
-                return;
-            }
-        }
+fn write_new(files: &impl Files, made: File, path: &[u8], beside: &[u8], bytes: &[u8]) {
+    if is_written(made, bytes) && renamed(files, beside, path) {
+        return;
     }
-    os::unlink(beside);
+    unlink(files, beside);
 }
 
-// A descriptor to write a file where it stands: the one that it was opened by, or else, where it
-// may not be read, or is missing and a link leads to it, one that finds it empty.
-fn in_place(fd: i32, path: &[u8]) -> i32 {
-    if opened(fd) {
-        return fd;
+// A file to be written where it stands: the one that was opened, or else, where it may not be read,
+// or is missing and a link leads to it, one that is found empty.
+fn in_place(files: &impl Files<File = File>, old: io::Result<File>, path: &[u8]) -> Option<File> {
+    match old {
+        Ok(file) => Some(file),
+        Err(_) => opened(open_overwrite(files, path)),
     }
-    os::open_overwrite(path)
 }
 
 // Writes over the front of a file and cuts it after that. Where nothing can be written the file
-// stays.
-fn write_over(fd: i32, bytes: &[u8]) {
-    io::write_all(fd, bytes);
-    let end = libc::lseek(fd, 0, SEEK_CUR);
-    if end > 0 {
-        libc::ftruncate(fd, end);
+// stays, and where it can't be cut nothing is done about that.
+fn write_over(mut file: File, bytes: &[u8]) {
+    let _ = file.write_all(bytes);
+    if let Ok(end) = file.stream_position() {
+        if end > 0 {
+            let _ = file.set_len(end);
+        }
     }
-    libc::close(fd);
 }
 
 // Replaces a file: by a new one that is written beside it and takes its name, so that it is
 // replaced whole or, as where the disk is full, stays. What a link leads to, a pipe, and a file in
 // a folder that may not be written are written where they stand.
-pub fn replace(path: &[u8], beside: &[u8], bytes: &[u8]) {
-    let old = os::open_update(path);
-    if may_take(old, path) {
-        os::unlink(beside);
-        let made = os::create(beside);
-        if opened(made) {
-            write_new(made, path, beside, bytes);
-            libc::close(old);
-            return;
-        }
-        if os::errno() == ENOSPC {
-            libc::close(old);
-            return;
+pub fn replace(files: &impl Files<File = File>, path: &[u8], beside: &[u8], bytes: &[u8]) {
+    let mut old = open_update(files, path);
+    if may_take(files, &mut old, path) {
+        unlink(files, beside);
+        match create(files, beside) {
+            Ok(made) => {
+                write_new(files, made, path, beside, bytes);
+                return;
+            }
+            Err(e) => {
+                if e.kind() == ErrorKind::StorageFull {
+                    return;
+                }
+            }
         }
     }
-    let fd = in_place(old, path);
-    if opened(fd) {
-        write_over(fd, bytes);
+    if let Some(file) = in_place(files, old, path) {
+        write_over(file, bytes);
     }
 }

@@ -13,3 +13,11 @@ record_room = 4194241
 -- the longest sheet and a byte more
 abbrev pub sheet_room : ℕ
 sheet_room = 49153
+
+-- the longest stimulus and a byte more
+abbrev pub stimulus_room : ℕ
+stimulus_room = 65536
+
+-- what is printed in one piece
+abbrev pub text_room : ℕ
+text_room = 65536

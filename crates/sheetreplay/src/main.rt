@@ -6,50 +6,52 @@ ghost use Rattle.std.specs.Prelude.{◌≤◌, ◌≡◌, length};
 ghost use Rattle.rooms.specs.Rooms.{sheet_room};
 ghost use Rattle.replay_line.specs.ReplayLine.{replay_printed};
 
-use program_io::{read_inputs, read_named, refuse_file, unopened_file};
-use libc::STDOUT_FILENO;
 use listing::LINE_BYTES;
+use program_io::{read_inputs, read_named, refuse_file, unopened_file};
 use replay_line::tell_replay;
-use rooms::{record_room, sheet_room};
+use rooms::{record_room, sheet_room, stimulus_room};
+use std::fs::File;
+use std::rt::Files;
 
-// Prints what is found of a sheet, a stimulus and a record.
-fn print_line(sheet: &[u8], stim: &[u8], recorded: &[u8], text: &[u8])
+// Prints what is found of a sheet, a stimulus and a record. Where nobody can read it nothing is done
+// about that.
+fn print_line(out: &impl Print, sheet: &[u8], stim: &[u8], recorded: &[u8], text: &[u8])
     requires { text.now ≡ replay_printed sheet.now stim.now recorded.now }
 {
-    io::write_all(STDOUT_FILENO, text);
+    let _ = out.write_all(text);
 }
 
-fn replay_files(sheet: &[u8], stim: &[u8], recorded: &[u8])
+fn replay_files(out: &impl Print, sheet: &[u8], stim: &[u8], recorded: &[u8])
     requires { length sheet.now ≤ sheet_room }
 {
     let mut next = sheet_room();
     let mut line = [0u8; LINE_BYTES];
     let end = tell_replay(sheet, stim, recorded, &mut next, &mut line);
-    print_line(sheet, stim, recorded, &line[0..end]);
+    print_line(out, sheet, stim, recorded, &line[0..end]);
 }
 
 // The third file, after the other two.
-fn read_record(sheet: &[u8], stim: &[u8])
+fn read_record(rt: &(impl Files<File = File> + Print), sheet: &[u8], stim: &[u8])
     requires { length sheet.now ≤ sheet_room }
 {
     let mut recorded = record_room();
-    let got = read_named(b"record.bin", &mut recorded);
+    let got = read_named(rt, b"record.bin", &mut recorded);
     if !got.ok {
-        refuse_file(unopened_file(true, true));
+        refuse_file(rt, unopened_file(true, true));
         return;
     }
     let n = got.n;
-    replay_files(sheet, stim, &recorded[..n]);
+    replay_files(rt, sheet, stim, &recorded[..n]);
 }
 
-fn main() {
+fn main(rt: HostRuntime) {
     let mut sheet = sheet_room();
-    let mut stim = io::large_buffer();
-    let got = read_inputs(&mut sheet, &mut stim);
+    let mut stim = stimulus_room();
+    let got = read_inputs(&rt, &mut sheet, &mut stim);
     if !got.ok {
         return;
     }
     let n = got.sheet;
     let m = got.stim;
-    read_record(&sheet[..n], &stim[..m]);
+    read_record(&rt, &sheet[..n], &stim[..m]);
 }

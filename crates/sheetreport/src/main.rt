@@ -6,35 +6,35 @@ ghost use Rattle.rooms.specs.Rooms.{sheet_room};
 ghost use Rattle.report.specs.Reported.{reported};
 
 use program_io::read_inputs;
-use libc::STDOUT_FILENO;
 use report::tell_report;
-use rooms::{output_room, sheet_room};
+use rooms::{output_room, sheet_room, stimulus_room, text_room};
 
-// Prints what is reported of a sheet and a stimulus.
-fn print_report(sheet: &[u8], stim: &[u8], text: &[u8])
+// Prints what is reported of a sheet and a stimulus. Where nobody can read it nothing is done about
+// that.
+fn print_report(out: &impl Print, sheet: &[u8], stim: &[u8], text: &[u8])
     requires { text.now ≡ reported sheet.now stim.now }
 {
-    io::write_all(STDOUT_FILENO, text);
+    let _ = out.write_all(text);
 }
 
-fn report_files(sheet: &[u8], stim: &[u8])
+fn report_files(out: &impl Print, sheet: &[u8], stim: &[u8])
     requires { length sheet.now ≤ sheet_room }
 {
     let mut output = output_room();
     let mut next = sheet_room();
-    let mut buffer = io::large_buffer();
+    let mut buffer = text_room();
     let end = tell_report(sheet, stim, &mut output, &mut next, &mut buffer);
-    print_report(sheet, stim, &buffer[0..end]);
+    print_report(out, sheet, stim, &buffer[0..end]);
 }
 
-fn main() {
+fn main(rt: HostRuntime) {
     let mut sheet = sheet_room();
-    let mut stim = io::large_buffer();
-    let got = read_inputs(&mut sheet, &mut stim);
+    let mut stim = stimulus_room();
+    let got = read_inputs(&rt, &mut sheet, &mut stim);
     if !got.ok {
         return;
     }
     let n = got.sheet;
     let m = got.stim;
-    report_files(&sheet[..n], &stim[..m]);
+    report_files(&rt, &sheet[..n], &stim[..m]);
 }

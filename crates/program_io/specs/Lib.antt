@@ -1,0 +1,2 @@
+-- What the functions that read and name files give.
+pub mod Files
