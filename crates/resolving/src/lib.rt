@@ -18,8 +18,8 @@ ghost use Rattle.resolving.specs.Said.{CodeSized};
 ghost use Rattle.resolving.specs.Walked.{TextResolved};
 
 use instructions::{Operands, Ops, no_operands};
-use recognizer::tables::{next_table, no_stack, waits_table, word_table};
 use lexer::skip_blanks;
+use recognizer::tables::{next_table, no_stack, waits_table, word_table};
 use scoping::tables::{admission_table, effect_table};
 use symbols::{no_heads, no_roles, no_spans};
 use tables::saying_table;

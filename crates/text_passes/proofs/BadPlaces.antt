@@ -167,6 +167,8 @@ module _ (ds : List Declaration) where
           subst (PairAmong ds (c ∷ delay_constants e)) f.1
           (constant-fails c (pass-split (constant_names (after_all at_first ds) c) good).0 f.0 (delay_constants e))
       go (inr f) more = widened (λ k m. Memᴰ.tail m) (more f)
+  expression-fails bound (Rattle.grammar.specs.Source.NameUse _) good {p = p} x = elim x [ ]
+  expression-fails bound (Rattle.grammar.specs.Source.UndefinedOf type) good {p = p} x = elim x [ ]
 
 -- what is left of the tokens after a reading is their end
 data Ends (r : List Token) : List Token → Type 0 where
@@ -265,6 +267,8 @@ bracket-in (reads_if {e} {f} {g} h i k l) m =
 bracket-in (reads_delay h k) (Memᴰ.head e) = within (ends-later (ends-later (ends-later ends-here))) (pair-bracket h e)
 bracket-in (reads_delay h k) (Memᴰ.tail m) =
     within (ends-later (ends-later (ends-later (after_one (constant-end h))))) (bracket-in k m)
+bracket-in {c = c} {d = d} (reads_named {p = p} {w = w} {r = r}) m = elim m [ ]
+bracket-in {c = c} {d = d} (reads_undefined_of {p = p} {q = q} {w = w} {r = r}) m = elim m [ ]
 
 pub only_pairs_fail : OnlyPairsFail
 only_pairs_fail ts (text d ds (identifier w q) e) (reads_text rd rm re) good p f =

@@ -50,7 +50,7 @@ use Rattle.layout.specs.Resolved.{TypeEntry, type_meant, type_entries, construct
 use Rattle.layout.specs.Distances.{type_or, as_constant, as_pattern, undefined_leaves_of, constant_values, pattern_meant, name_meant, by_distances}
 use Rattle.layout.proofs.ConstructorTables.{pass-both, passes, pass-rest, after-new, type-or-constructor, a-constructor}
 use Rattle.layout.proofs.Tables.{is_named, no-type, none-matched, types-known}
-use Rattle.text_meaning.proofs.ConstantsStand.{constructor-of, pair_of}
+use Rattle.text_meaning.proofs.ConstantsStand.{constructor-of, pair-of}
 use Rattle.text_meaning.proofs.NamesStand.{constructor-has-number}
 use Rattle.text_meaning.proofs.Begins.{value-or-input, input-no-constructor}
 use Rattle.text_passes.specs.RefusedTypes.{declaration_at}
@@ -301,7 +301,7 @@ module _ (A : List Declaration) (K : TypesKnown A) where
       go none y ex ey e f g = absurd (let no : ◌≡◌ {A = ℕ} 0 1 = cc in omega arith)
       go (some u) none ex ey e f g = absurd (let no : ◌≡◌ {A = ℕ} 0 1 = cc in omega arith)
       go (some u) (some v) ex ey e f g =
-          subst (λ τ. OfType τ (constant_values A c ++ constant_values A d)) (sym (pair_of A K.good u v t e)) (within-append (f u ex) (g v ey))
+          subst (λ τ. OfType τ (constant_values A c ++ constant_values A d)) (sym (pair-of A K.good u v t e)) (within-append (f u ex) (g v ey))
 
   constant-named : (c : SourceConstant) (t : List ℕ) → AllPass (constant_names D c) → constant_type A c ≡ some t → is_named t U ≡ true
   constant-named (OfConstructor (identifier w p)) t good e = constructor-in-table 1 [] A w t e
@@ -437,9 +437,9 @@ module _ (A : List Declaration) (K : TypesKnown A) where
       pub means : M type ≡ τ
       pub typed : NameTyped A Γ e type
 
-    pub name-found : {Γ : List TypedName} {bound : List (List ℕ)} {Δ : List Ty} {τ : Ty} (e : Expression) → AllPass (expression_checks D bound e)
+    pub name-found : (e : Expression) {Γ : List TypedName} {bound : List (List ℕ)} {Δ : List Ty} {τ : Ty} → AllPass (expression_checks D bound e)
         → AllPass (constant_checks A e) → InScope Γ bound Δ → Typed C Δ (by_distances A bound e) τ → NameFound Γ e τ
-    name-found {Γ} {bound} {Δ} {τ} (NameUse (identifier w p)) good held x y = go (nearest_type Γ w) refl
+    name-found (NameUse (identifier w p)) {Γ} {bound} {Δ} {τ} good held x y = go (nearest_type Γ w) refl
       where
         go : (o : Option (List ℕ)) → nearest_type Γ w ≡ o → NameFound Γ (NameUse (identifier w p)) τ
         go (some t) e =
@@ -465,7 +465,7 @@ module _ (A : List Declaration) (K : TypesKnown A) where
             constructor-role false e h n = let f = value-or-input A w h e in absurd (let no : ◌≡◌ {A = ℕ} 0 1 = cc in omega arith)
     name-found (UndefinedOf (identifier t p)) good held x y =
         record { type = t; known = type-in-table t (passes good); means = const-is y; typed = unknown_typed }
-    name-found {bound = bound} (PairExpression e f) good held x (t_tuple {σ = σ} {τ = ρ} y z d) =
+    name-found (PairExpression e f) {bound = bound} good held x (t_tuple {σ = σ} {τ = ρ} y z d) =
         let both = pass-both (expression_checks D bound e) (expression_checks D bound f) good in
         let helds = pass-both (constant_checks A e) (constant_checks A f) held in
         let a = name-found e both.0 helds.0 x y in
@@ -481,14 +481,14 @@ module _ (A : List Declaration) (K : TypesKnown A) where
         let a = name-found e good held x y in
         let q = parts-of a.type σ ρ a.known a.means in
         record { type = q.second; known = q.second-named; means = q.second_is; typed = second_part_typed a.typed q.declared }
-    name-found {Γ} {bound} {Δ} (LetExpression (identifier w p) e f) good held x (t_let {σ = σ} {τ = ρ} y z) =
+    name-found (LetExpression (identifier w p) e f) {Γ} {bound} {Δ} good held x (t_let {σ = σ} {τ = ρ} y z) =
         let both = pass-both (expression_checks D bound e) (expression_checks D (w ∷ bound) f) (after-new D (identifier w p) good) in
         let helds = pass-both (constant_checks A e) (constant_checks A f) held in
         let a = name-found e both.0 helds.0 x y in
         let b = name-found f both.1 helds.1 (scope-name a.known x)
         (subst (λ κ. Typed C (κ ∷ Δ) (by_distances A (w ∷ bound) f) ρ) (sym a.means) z) in
         record { type = b.type; known = b.known; means = b.means; typed = let_typed a.typed b.typed }
-    name-found {Γ} {bound} (LetRecExpression (identifier u q) (identifier w p) e f) good held x (t_letrec y z) =
+    name-found (LetRecExpression (identifier u q) (identifier w p) e f) {Γ} {bound} good held x (t_letrec y z) =
         let both = pass-both (expression_checks D (w ∷ bound) e) (expression_checks D (w ∷ bound) f) (after-new D (identifier w p) (pass-rest good)) in
         let helds = pass-both (constant_checks A e) (constant_checks A f) held in
         let n = type-in-table u (passes good) in
@@ -496,7 +496,7 @@ module _ (A : List Declaration) (K : TypesKnown A) where
         let b = name-found f both.1 helds.1 (scope-name n x) z in
         let same = K.one a.type u a.known n a.means in
         record { type = b.type; known = b.known; means = b.means; typed = rec_typed (subst (NameTyped A (typed_name w u ∷ Γ) e) same a.typed) b.typed }
-    name-found {Γ} {bound} (IfExpression e m f g) good held x (t_if {σ = σ} y q z r) =
+    name-found (IfExpression e m f g) {Γ} {bound} good held x (t_if {σ = σ} y q z r) =
         let one = pass-both ((expression_checks D bound e ++ pattern_checks D m) ++ expression_checks D bound f) (expression_checks D bound g) good in
         let two = pass-both (expression_checks D bound e ++ pattern_checks D m) (expression_checks D bound f) one.0 in
         let three = pass-both (expression_checks D bound e) (pattern_checks D m) two.0 in
@@ -514,7 +514,7 @@ module _ (A : List Declaration) (K : TypesKnown A) where
               if_typed a.typed (pattern-complete m a.type three.1 a.known (subst (HasType (pattern_meant A m)) (sym a.means) q)) b.typed
               (subst (NameTyped A Γ g) same c.typed);
         }
-    name-found {Γ} {bound} {Δ} {τ} (DelayExpression c e) good held x y =
+    name-found (DelayExpression c e) {Γ} {bound} {Δ} {τ} good held x y =
         let both = pass-both (constant_names D c) (expression_checks D bound e) good in
         go (constant_type A c) refl (passes held) y (λ z. name-found e both.1 (pass-rest held) x z)
       where

@@ -182,7 +182,7 @@ module _ (s : List ℕ) {U : List TypeEntry} (falling : Falling U) (v w : List �
       let e : i + 0 ≡ i = omega arith in rw e (sym (or-false (ltb 0 (pair_below s (type_number U v) (type_number U w) i))))
   found {i} [] f st (suc k) h = let no : ⊥ = omega arith in elim no [ ]
   found {i} (Constructors t c cs ∷ ds) f (one-stands x st) (suc k) h =
-      let d = Constructors t c cs in step i k d ds f.past (flat-is x) (found ds (further d ds f) st k (omega arith))
+      let d = Constructors t c cs in step i k d ds f.past (flat-is x) (found {i = suc i} ds (further d ds f) st k (omega arith))
   found {i} {D} {T} (PairOf (identifier t p) (identifier a m) (identifier b n) ∷ ds) f (one-stands x st) (suc k) h =
       let d = PairOf (identifier t p) (identifier a m) (identifier b n) in
       let parts = pass-rest (pass-both (declaration_checks D d) (declarations_checks (after_declaration D d) ds) f.good).0 in
@@ -194,7 +194,7 @@ module _ (s : List ℕ) {U : List TypeEntry} (falling : Falling U) (v w : List �
       (ap (λ y. eqb y (type_number U v)) (sym ha.1) ∙ same_number falling v a hv ha.0)
       (ap (λ y. eqb y (type_number U w)) (sym hb.1) ∙ same_number falling w b hw hb.0)
       ∙ both-tests (same_name v a) (same_name w b) in
-      step i k d ds f.past same (found ds (further d ds f) st k (omega arith))
+      step i k d ds f.past same (found {i = suc i} ds (further d ds f) st k (omega arith))
 
 wrong-as : {s : List ℕ} {i n a b : ℕ} → RecordIs s i 17 n a b 0 0
     → wrong_type s i ≡ (ltb 0 (pair_below s a b i) || ltb 64 (leaves (type_at s i)))
@@ -251,12 +251,12 @@ module _ {s : List ℕ} (all : List Declaration) (good : AllPass (declarations_c
       let d = Constructors t c cs in
       let z : i + suc k ≡ suc i + k = omega arith in
       let y : m + suc k ≡ suc m + k = omega arith in
-      rw (z, y) (each es (further d es f) sts (suc m) (omega (arith, e)) (omega arith) k (omega arith))
+      rw (z, y) (each {i = suc i} es (further d es f) sts (suc m) (omega (arith, e)) (omega arith) k (omega arith))
   each {i} (PairOf t a b ∷ es) f (one-stands x sts) m e l (suc k) h =
       let d = PairOf t a b in
       let z : i + suc k ≡ suc i + k = omega arith in
       let y : m + suc k ≡ suc m + k = omega arith in
-      rw (z, y) (each es (further d es f) sts (suc m) (omega (arith, e)) (omega arith) k (omega arith))
+      rw (z, y) (each {i = suc i} es (further d es f) sts (suc m) (omega (arith, e)) (omega arith) k (omega arith))
 
   pub types-refused : (k : ℕ) → k < length all → wrong_type s (1 + k) ≡ refused_pair all (suc k)
   unfolding refused_pair
@@ -280,7 +280,7 @@ module _ {s : List ℕ} (all : List Declaration) (good : AllPass (declarations_c
       let own : type_number (after_entry i T d) t ≡ i = rw (equal-same t t refl) in
       (d, refl, (in_all es (further d es f) t entry.1).1 ∙ own ∙ (let z : i ≡ i + 0 = omega arith in z))
   each-named {i} (d ∷ es) f (suc k) h =
-      let r = each-named es (further d es f) k (omega arith) in
+      let r = each-named {i = suc i} es (further d es f) k (omega arith) in
       (r.0, r.1, r.2 ∙ (let z : suc i + k ≡ i + suc k = omega arith in z))
 
   pub declared-named : (k : ℕ) → k < length all
@@ -327,7 +327,7 @@ module _ {s : List ℕ} (all : List Declaration) (good : AllPass (declarations_c
       subst (λ x. StandsDeclared (i + 0) x × (is_named (type_name_of x) U ≡ true)) same here
   each_stands {i} (d ∷ es) f (suc k) c h =
       let z : suc i + k ≡ i + suc k = omega arith in
-      subst (λ j. StandsDeclared j c × (is_named (type_name_of c) U ≡ true)) z (each_stands es (further d es f) k c h)
+      subst (λ j. StandsDeclared j c × (is_named (type_name_of c) U ≡ true)) z (each_stands {i = suc i} es (further d es f) k c h)
 
   pub declared-stands : (k : ℕ) (c : Declaration) → declaration_at all (suc k) ≡ some c
       → StandsDeclared (suc k) c × (is_named (type_name_of c) U ≡ true)

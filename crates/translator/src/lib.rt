@@ -8,9 +8,9 @@ ghost use Rattle.translator.specs.Translated.{TranslatedInOne};
 ghost use Rattle.translator.specs.LayingOut.{TranslatingResolved, TranslatingAssembled};
 
 use answers::{NO_ROOM, WRONG_NAME, WRONG_TEXT, in_one};
-use ordering::assembly::assemble;
 use emitting::write_sheet;
 use instructions::{Operands, Ops, no_operands, no_ops};
+use ordering::assembly::assemble;
 use recognizer::{Illegal, first_illegal};
 use records::{RECORD_BYTES, RECORDS};
 use resolving::{Resolved, resolve};

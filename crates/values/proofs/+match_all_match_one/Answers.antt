@@ -5,7 +5,7 @@ use native.Mathlib.Omega.{arith}
 use mathlib.Core.Path.{refl, ◌∙◌}
 use Rattle.values.proofs.ChainLaws.{alternative-goes-on}
 use Rattle.values.proofs.Gathering.{gathering-begun, gone-on, up-to-yes, left-falls}
-use Rattle.values.proofs.Matches.{next-matched, some-leaf, whole-matches, constructor-matches, first-in, first-lent, second-lent, pair_matches, first-refuses}
+use Rattle.values.proofs.Matches.{next-matched, some-leaf, cut_inside, whole-matches, constructor-matches, first-in, first-lent, second-lent, pair_matches, first-refuses}
 use Rattle.values.proofs.+match_all_match_one.Goals as goal
 
 pub match_all-loop-at-init : goal.match_all-loop-at-init
@@ -46,3 +46,6 @@ match_one-match_all-b-requires t c = let q = second-lent c.requires c.word-kind.
 
 pub match_one-returns : goal.match_one-returns
 match_one-returns t c = pair_matches c.requires c.word-kind.ensures.0 c.if-kind-eq-KIND_WHOLE_PATTERN.false c.if-kind-eq-KIND_CONSTRUCTOR_PATTERN.false c.word-first.ensures.0 refl c.match_all-a.result c.match_all-b.result c.both.result c.word-2.ensures.0 c.match_all-a.ensures c.match_all-b.ensures c.both.ensures
+
+pub match_one-slice_bounds-match_all-end : goal.match_one-slice_bounds-match_all-end
+match_one-slice_bounds-match_all-end t c = cut_inside c.requires c.word-kind.ensures.0 c.if-kind-eq-KIND_WHOLE_PATTERN.false c.if-kind-eq-KIND_CONSTRUCTOR_PATTERN.false c.word-first.ensures.0 refl

@@ -1,5 +1,6 @@
 -- By the op.
 -- Assumes nothing.
+use mathlib.Core.List.{[]}
 use native.Mathlib.Omega.{arith}
 use Rattle.ordering.proofs.StepLaws.{leaf-step, close-step}
 use Rattle.ordering.proofs.steps.step_constant.Goals as goal
