@@ -1,23 +1,18 @@
 -- A verdict that is not the first of its cases refuses: its answer has a code and a place.
 -- Assumes nothing.
 use Prim.Native.Nat.{ℕ}
-use mathlib.Core.List.{[], ◌∷◌}
 use mathlib.Core.Path.{◌≡◌, refl}
-use denote.Enum.Declared.{tag_of}
-use types.Run.{OneOf, miss}
 use Rattle.answers.specs.declared.Answer.TheVariants.{Refused}
 use Rattle.answers.specs.Answers.{verdict_answer}
 use Rattle.answers.specs.declared.Verdict.{Verdict}
 use Rattle.answers.specs.declared.Verdict.TheVariants as Verdicts
-use Rattle.answers.specs.contracts.Verdict as Verdict-type
 
 -- what code knows of a verdict that it has not matched with `Accepted`
 abbrev pub Refusing : Verdict → Type 0
-Refusing w = OneOf (1 ∷ 2 ∷ 3 ∷ 4 ∷ 5 ∷ 6 ∷ 7 ∷ []) (tag_of Verdict-type.the_type w)
+Refusing w = (t : ℕ) → w ≡ Verdicts.Accepted t → ⊥
 
 pub refusing-answer : (w : Verdict) → Refusing w → (c : ℕ) × (p : ℕ) × (verdict_answer w ≡ Refused c p)
-refusing-answer (Verdicts.Accepted t) o =
-    absurd (miss (1 ∷ 2 ∷ 3 ∷ 4 ∷ 5 ∷ 6 ∷ 7 ∷ []) (tag_of Verdict-type.the_type (Verdicts.Accepted t)) tt o)
+refusing-answer (Verdicts.Accepted t) o = absurd (o t refl)
 refusing-answer Verdicts.WrongLength o = (1, 0, refl)
 refusing-answer Verdicts.WrongHeader o = (2, 0, refl)
 refusing-answer (Verdicts.WrongRecord r) o = (3, r, refl)
