@@ -9,7 +9,7 @@ pub packed_verdict-requires : goal.packed_verdict-requires
 packed_verdict-requires c = rw c.check_into-verdict.ensures.answered (let h = verdict-place c.args.sheet.now in omega arith)
 
 pub returns-in_default : goal.returns-in_default
-returns-in_default c = replay-refused-sheet _ _ _ _ c.check_into-verdict.result c.check_into-verdict.ensures.answered c.in_default.in_default-own.keys2 c.packed_verdict.ensures c.refused.ensures
+returns-in_default c = replay-refused-sheet _ _ _ _ c.check_into-verdict.result c.check_into-verdict.ensures.answered c.in_default.not-Accepted c.packed_verdict.ensures c.refused.ensures
 
 pub replay_accepted-requires : goal.replay_accepted-requires
 replay_accepted-requires c = accepting-checked _ _ c.records_in-n.ensures _ _ _ _ c.check_into-verdict.ensures c.in-Accepted.is
