@@ -28,6 +28,7 @@ def long_texts():
     # Header, type, IF, name, two constants with a leaf each, and 5,001 alternatives.
     says = "many.txt: error: the sheet would have 5,009 records: at most 4,096\n"
     gives(1, "", says, "check", "many.txt")
+    slow_texts()
     # Of a very long line the part around the caret is shown.
     line = "TYPE bit = hi | lo IN INPUT bit (IF input MATCHES hi" + "|hi" * 3000
     (WORK / "line.txt").write_text(f"{line}|high{'|hi' * 3000} THEN hi ELSE lo)")
@@ -38,6 +39,26 @@ def long_texts():
     deep = "TYPE bit = hi | lo IN INPUT bit " + "(hi," * 9000 + "lo" + ")" * 9000
     (WORK / "deep.txt").write_text(deep)
     tally(run("check", "deep.txt")[0] == 1, "a text that nests 9,000 deep")
+
+
+# Three feedbacks of 64 leaves in each other, with so many LETs inside: the warning about a long
+# cycle begins with ten million evaluations.
+def slow_texts():
+    types = "TYPE bit = hi | lo IN "
+    for part, name in zip(["bit", *"abcde"], "abcdef"):
+        types += f"TYPE {name} = ({part}, {part}) IN "
+    for lets, warned in ((15, False), (20, True)):
+        inside = "".join(f"(LET x{'x' * k} = p IN " for k in range(lets % 16)) + "p"
+        inside = "(LET y = p IN " * (lets - lets % 16) + inside + ")" * lets
+        nested = f"(LET INIT ?f REC r = {inside} IN r)"
+        for name in "qp":
+            nested = f"(LET INIT ?f REC {name} = {nested} IN {name})"
+        (WORK / "slow.txt").write_text(f"{types} INPUT bit {nested}")
+        # A LET is two expressions, itself and its defining part.
+        most = (2 * lets + 1) * 65**3 + 2 * 65**2 + 2 * 65 + 2
+        _, _, err = run("check", "-W", "slow.txt")
+        says = f"slow.txt: warning: a cycle may take long: up to {most:,} evaluations\n"
+        tally((says in err) == warned, f"{lets} LETs, {most}: {err[-300:]}")
 
 
 # The words of the records of a sheet.

@@ -34,7 +34,6 @@ pub mod xml;
 pub mod explain;
 pub mod message;
 pub mod near;
-pub mod steps;
 pub mod warnings;
 pub mod wording;
 

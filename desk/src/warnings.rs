@@ -12,22 +12,17 @@ use crate::layout::Node;
 use crate::message::{Kind, Message, Place};
 use crate::patterns::alternative;
 use crate::source::Piece;
-use crate::steps::bound;
 use crate::types::Types;
 use crate::wording::grouped;
 
-/// A step is reckoned with so many nanoseconds (docs/SHEETS.md, "Time").
-const STEP_NANOSECONDS: u64 = 5;
-
-/// A cycle of more steps may take over 10 milliseconds, and is called long.
-pub const LONG: u64 = 10_000_000 / STEP_NANOSECONDS;
+/// From so many evaluations a cycle is called long.
+const LONG: u64 = 10_000_000;
 
 /// The most boxes into which patterns are taken apart.
 const MOST_BOXES: usize = 512;
 
-/// The warnings about an accepted circuit, in the order of its records; of a
-/// cycle only if it may take more steps than the limit.
-pub fn warnings(accepted: &Accepted, limit: u64) -> Vec<Message> {
+/// The warnings about an accepted circuit, in the order of its records.
+pub fn warnings(accepted: &Accepted) -> Vec<Message> {
     let circuit = &accepted.circuit;
     let mut found = Vec::new();
     for (number, record) in circuit.records.iter().enumerate() {
@@ -42,7 +37,7 @@ pub fn warnings(accepted: &Accepted, limit: u64) -> Vec<Message> {
             _ => {}
         }
     }
-    found.extend(long(circuit, limit));
+    found.extend(long(circuit));
     found
 }
 
@@ -206,17 +201,27 @@ fn without(one: Allowed, other: &Allowed) -> Vec<Allowed> {
     left
 }
 
-/// A cycle whose bound of steps is above a limit.
-fn long(circuit: &Circuit, limit: u64) -> Option<Message> {
-    let most = bound(&circuit.records);
-    (most > limit).then(|| {
-        let time = match most * STEP_NANOSECONDS {
-            0..=999_999 => "under 1".to_string(),
-            time => grouped(time.div_ceil(1_000_000) as usize),
-        };
-        let steps = grouped(most as usize);
-        let took = format!("{time} ms at {STEP_NANOSECONDS} ns a step");
-        let sentence = format!("a cycle may take long: up to {steps} steps, {took}");
+/// A cycle that may need very many evaluations: an expression is evaluated at
+/// most once more than the leaves of each feedback in whose defining part it
+/// lies, multiplied.
+fn long(circuit: &Circuit) -> Option<Message> {
+    let types = circuit.types();
+    let mut all: u64 = 0;
+    let mut open = vec![(usize::from(circuit.records[0][B]), 1_u64)];
+    while let Some((number, times)) = open.pop() {
+        all = all.saturating_add(times);
+        let record = circuit.records[number];
+        for (word, part) in expression_parts(&record) {
+            let rounds = match record[KIND] == FEEDBACK && word == B {
+                true => types.leaves(usize::from(record[A])).len() as u64 + 1,
+                false => 1,
+            };
+            open.push((part, times.saturating_mul(rounds)));
+        }
+    }
+    (all >= LONG).then(|| {
+        let shown = grouped(all as usize);
+        let sentence = format!("a cycle may take long: up to {shown} evaluations");
         Message::new(Kind::Warning, Place::File, sentence)
     })
 }

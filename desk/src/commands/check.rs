@@ -2,13 +2,11 @@
 
 use crate::arguments::{Arguments, Usage};
 use crate::command::Command;
-use crate::desk::{wrong, Desk, Done, Failure, GOOD};
-use crate::warnings::{warnings, LONG};
+use crate::desk::{Desk, Done, GOOD};
+use crate::warnings::warnings;
 use crate::wording::grouped;
 
 const WARN: (&str, &str) = ("-W", "warns of what is likely not meant");
-const LIMIT: (&str, &str, &str) =
-    ("--limit", "STEPS", "with -W: warns of cycles of more steps than this, not 2,000,000");
 
 pub const COMMAND: Command = Command {
     name: "check",
@@ -20,29 +18,19 @@ pub const COMMAND: Command = Command {
            count bytes, from 1. For a sheet, and where no place in the text is certain, a message
 \
            has the number of a record.",
-    usage: Usage { operands: &["FILE"], flags: &[WARN], options: &[LIMIT] },
+    usage: Usage { operands: &["FILE"], flags: &[WARN], options: &[] },
     run,
 };
 
 fn run(desk: &mut Desk, arguments: &Arguments) -> Done {
     let file = arguments.operand(0);
-    let limit = limit(arguments)?;
     let accepted = desk.accepted(file)?;
     if arguments.flag(WARN.0) {
-        desk.tell(&accepted.circuit.source, &warnings(&accepted, limit))?;
+        desk.tell(&accepted.circuit.source, &warnings(&accepted))?;
     }
     let types = accepted.circuit.types();
     let (input, output) = (types.label(accepted.input), types.label(accepted.output));
     let records = grouped(accepted.circuit.records.len());
     writeln!(desk.out, "{file}: accepted: input {input}, output {output}, {records} records")?;
     Ok(GOOD)
-}
-
-/// The most steps of a cycle that is not called long.
-fn limit(arguments: &Arguments) -> Result<u64, Failure> {
-    match arguments.option(LIMIT.0) {
-        None => Ok(LONG),
-        Some(_) if !arguments.flag(WARN.0) => wrong(format!("{} goes with {}", LIMIT.0, WARN.0)),
-        Some(given) => given.parse().or_else(|_| wrong(format!("{given} is no number of steps"))),
-    }
 }

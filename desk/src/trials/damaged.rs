@@ -89,7 +89,7 @@ impl Trial<'_> {
 
     fn damaged_stimulus(&mut self, text: Vec<u8>) -> bool {
         let mut lines: Vec<u8> = self.stimulus(&text);
-        for _ in 0..self.random.range(1, 2) {
+        for _ in 0..self.random.below(3) {
             let at = self.random.below(lines.len() + 1);
             match self.random.below(3) {
                 0 => lines.truncate(at),

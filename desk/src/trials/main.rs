@@ -38,8 +38,9 @@ fn run(words: &[String]) -> bool {
         ["warned", number] => warned::run(count(number)),
         ["damaged", number, folder, texts] => damaged::run(count(number), folder, texts),
         _ => {
-            eprintln!("usage: desk-trials places COUNT | changed COUNT | warned COUNT");
-            eprintln!("       desk-trials damaged COUNT FOLDER TEXTS");
+            eprintln!(
+                "usage: desk-trials places COUNT | changed COUNT | damaged COUNT FOLDER TEXTS"
+            );
             false
         }
     }

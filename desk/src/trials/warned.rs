@@ -7,7 +7,7 @@ use desk::archive;
 use desk::circuit::{Accepted, Circuit};
 use desk::message::Place;
 use desk::source::Source;
-use desk::warnings::{warnings, LONG};
+use desk::warnings::warnings;
 use second::random::Random;
 use second::records::{CONSTRUCTOR, KIND, PAIR_PATTERN, WHOLE};
 
@@ -53,8 +53,7 @@ pub fn run(count: u64) -> bool {
 /// The alternatives of which it is said that they can never fire.
 fn never(accepted: &Accepted) -> BTreeSet<usize> {
     let circuit = &accepted.circuit;
-    let said =
-        warnings(accepted, LONG).into_iter().filter(|one| one.sentence.contains("never fire"));
+    let said = warnings(accepted).into_iter().filter(|one| one.sentence.contains("never fire"));
     let places: Vec<Place> = said.map(|one| one.place).collect();
     let is_pattern =
         |record: usize| matches!(circuit.records[record][KIND], WHOLE | CONSTRUCTOR | PAIR_PATTERN);
