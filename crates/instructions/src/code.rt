@@ -66,10 +66,11 @@ impl Code {
         requires { length self.old < text_table }
         ensures { self.new ≡ said instruction ∷ self.old }
     {
-        self.ops[self.len] = instruction.op;
-        self.firsts[self.len] = instruction.first;
-        self.seconds[self.len] = instruction.second;
-        self.len += 1;
+        let last = self.len;
+        self.ops[last] = instruction.op;
+        self.firsts[last] = instruction.first;
+        self.seconds[last] = instruction.second;
+        self.len = last + 1;
     }
 
     // The first n instructions alone.

@@ -9,18 +9,18 @@ use Rattle.instructions.proofs.CodeLaws.{held-length, held-pushed}
 use Rattle.instructions.specs.Said.{said}
 use Rattle.instructions.proofs.code.Code.push.Goals as goal
 
-pub bounds-self-inside-self-inside : goal.bounds-self-inside-self-inside
-bounds-self-inside-self-inside c =
+pub bounds-self-inside-last : goal.bounds-self-inside-last
+bounds-self-inside-last c =
     let s = c.self.inside in
     let n = sym (held-length s.ops s.firsts s.seconds s.len) ∙ ap length c.self.view_is in
     let b = c.requires in
     omega (arith, n)
 
-pub bounds-self-inside-self-inside-2 : goal.bounds-self-inside-self-inside-2
-bounds-self-inside-self-inside-2 c = bounds-self-inside-self-inside c
+pub bounds-self-inside-last-2 : goal.bounds-self-inside-last-2
+bounds-self-inside-last-2 c = bounds-self-inside-last c
 
-pub bounds-self-inside-self-inside-3 : goal.bounds-self-inside-self-inside-3
-bounds-self-inside-self-inside-3 c = bounds-self-inside-self-inside c
+pub bounds-self-inside-last-3 : goal.bounds-self-inside-last-3
+bounds-self-inside-last-3 c = bounds-self-inside-last c
 
 pub invariant_of-self : goal.invariant_of-self
 invariant_of-self c =
