@@ -1,6 +1,6 @@
 -- Undefined leaves are written one after the other, the last first.
 -- Assumes nothing.
-use Prim.Native.Nat.{ℕ, zero, suc, ◌+◌, ◌-◌, ◌*◌, ◌≤◌}
+use Prim.Native.Nat.{ℕ, zero, suc, ◌-◌, ◌*◌, ◌≤◌}
 use mathlib.Core.Path.{◌≡◌, refl, ap, sym, ◌∙◌, subst}
 use mathlib.Core.List.{List, ◌∷◌, ◌++◌}
 use native.Mathlib.Omega.{arith}
@@ -8,7 +8,10 @@ use lib.ListN.{length, drop}
 use Rattle.records.specs.SheetOf.{Record, words, sheet_of}
 use Rattle.instructions.specs.Emission.{zeros_written, zeros_next}
 use Rattle.emitting.specs.Emitting.{RecordPut, ZerosPut}
-use Rattle.emitting.proofs.ByteLaws.{less_one, record-on}
+use Rattle.emitting.proofs.AdvanceLaws.{record-on}
+
+less_one : (k : ℕ) → suc k - 1 ≡ k
+less_one k = omega arith
 
 -- so many are left
 pub record ZerosLeft (sheet₀ : List ℕ) (cursor next count : ℕ) (sheet : List ℕ) (at after left : ℕ) : Type 0 where

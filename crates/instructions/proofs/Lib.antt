@@ -12,3 +12,4 @@ pub mod Instructed
 pub mod FewInstructions
 pub mod CodeLaws
 pub mod TypeLaws
+pub mod FromBottom

@@ -12,7 +12,7 @@ use borrow.Author.Tests.{eq-eqb, ne_eqb}
 use Rattle.std.proofs.lemmas.List.{length-drop}
 use Rattle.instructions.specs.Assembly.{DeclaredType, flat_type, paired_type, is_pair_type_of, number_or_else, pair_numbered, constant_pair_numbered}
 use Rattle.instructions.specs.Types.{type_from_bottom}
-use Rattle.ordering.proofs.ListLaws.{next-type}
+use Rattle.instructions.proofs.FromBottom.{next-type}
 
 none-either : (x : Bool) → cond x false false ≡ false
 none-either true = refl

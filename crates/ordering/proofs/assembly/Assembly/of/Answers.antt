@@ -10,7 +10,7 @@ use Rattle.std.proofs.lemmas.List.{length-drop, length-reverse}
 use Rattle.instructions.specs.Assembly.{nothing_assembled, assemble_all}
 use Rattle.instructions.specs.Said.{said}
 use Rattle.ordering.specs.Held.{assembled}
-use Rattle.ordering.proofs.ListLaws.{next-instruction}
+use Rattle.instructions.proofs.FromBottom.{next-instruction}
 use Rattle.ordering.proofs.FewLaws.{has-room, one-more}
 use Rattle.ordering.proofs.assembly.Assembly.of.Goals as goal
 
