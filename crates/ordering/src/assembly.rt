@@ -43,16 +43,14 @@ impl Assembly {
         }
     }
 
-    // What the instructions of a text, in its order, come to.
-    pub fn of(instructions: &Code) -> Self
-        requires { length instructions.now ≤ text_bytes }
-        ensures { assembled result ≡ assemble_all nothing_assembled (reverse instructions.now) }
+    // All instructions of a text, in its order, from a new assembly on. It stays in its place, since a copy would not fit the stack beside it.
+    pub fn read(&mut self, instructions: &Code)
+        requires { (assembled self.old ≡ nothing_assembled) × (length instructions.now ≤ text_bytes) }
+        ensures { assembled self.new ≡ assemble_all nothing_assembled (reverse instructions.now) }
     {
-        let mut assembly = Assembly::new();
         for k in 0..instructions.len() {
-            assembly.step(instructions.get(k));
+            self.step(instructions.get(k));
         }
-        assembly
     }
 
     // The records that an instruction adds.

@@ -12,7 +12,7 @@ use Rattle.instructions.specs.Said.{said}
 use Rattle.ordering.specs.Held.{assembled}
 use Rattle.instructions.proofs.FromBottom.{next-instruction}
 use Rattle.ordering.proofs.FewLaws.{has-room, one-more}
-use Rattle.ordering.proofs.assembly.Assembly.of.Goals as goal
+use Rattle.ordering.proofs.assembly.Assembly.read.Goals as goal
 
 pub step-requires : goal.step-requires
 step-requires c =
@@ -20,13 +20,13 @@ step-requires c =
     let below : c.loop-k.k < length X = (let t = c.loop-k-test.true in let e = c.len-k-end.ensures in omega arith) in
     let d = length-drop (length X - c.loop-k.k) X in
     let r = length-reverse (drop (length X - c.loop-k.k) X) in
-    has-room c.loop-k.assembly (reverse (drop (length X - c.loop-k.k) X)) c.loop-k.invariant (let l = c.requires in omega (arith, d, r))
+    has-room c.loop-k.self (reverse (drop (length X - c.loop-k.k) X)) c.loop-k.invariant (let l = c.requires.1 in omega (arith, d, r))
 
 pub loop-k-preserved : goal.loop-k-preserved
 loop-k-preserved c =
     let X = c.args.instructions.now in
     let k = c.loop-k.k in
     let below : k < length X = (let t = c.loop-k-test.true in let e = c.len-k-end.ensures in omega arith) in
-    one-more nothing_assembled (assembled c.loop-k.assembly) (assembled c.step.new.self) (drop (length X - k) X) (said c.get.result) c.loop-k.invariant c.step.ensures
+    one-more nothing_assembled (assembled c.loop-k.self) (assembled c.step.new.self) (drop (length X - k) X) (said c.get.result) c.loop-k.invariant c.step.ensures
     ∙ ap (λ i. assemble_all nothing_assembled (reverse (i ∷ drop (length X - k) X))) c.get.ensures
     ∙ ap (λ Z. assemble_all nothing_assembled (reverse Z)) (sym (next-instruction X k below))
