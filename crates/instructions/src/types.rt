@@ -18,7 +18,7 @@ pub enum DeclaredType {
     Paired(u16, u16),
 }
 
-// So many types, each in three tables for the reason beside `Code`, and a table of their leaves, 64 at most.
+// So many types, each in three tables, as the instructions of a `Code` are and for the same reason, and a table of their leaves, 64 at most.
 #[derive(Drop)]
 pub struct DeclaredTypes {
     pairs: [bool; INSTRUCTIONS],
