@@ -1,5 +1,5 @@
-// What each instruction writes, and what it does to the stack and the word next. Of an expression the parts stand already, and where they
-// begin is on the stack.
+// What each instruction writes, and what it does to the stack and the word next. Of an expression
+// the parts stand already, and where they begin is on the stack.
 ghost use Rattle.std.specs.Prelude.{◌≡◌, [], ◌+◌, ◌*◌, ◌-◌, ◌≤◌, ◌<◌, List, ◌∷◌, length};
 ghost use Rattle.records.specs.SheetOf.{Record, words};
 ghost use Rattle.instructions.specs.Emission.{Emission, completed, emission, emit, zeros_written};
@@ -39,7 +39,8 @@ const PAIR_PATTERN: u16 = KIND_PAIR_PATTERN as u16;
 
 const LEAF: u16 = KIND_LEAF as u16;
 
-// The record at which the written ones begin, the stack, and the word next of the leaf or the alternative that comes next.
+// The record at which the written ones begin, the stack, and the word next of the leaf or the
+// alternative that comes next.
 #[derive(Drop)]
 pub struct Writer {
     pub stack: Stack,
@@ -70,7 +71,8 @@ impl Writer {
         }
     }
 
-    // The expression at the cursor is written: so are the indices that wait for it, and it is a part of what stands before it.
+    // The expression at the cursor is written: so are the indices that wait for it, and it is a
+    // part of what stands before it.
     fn complete(&mut self, sheet: &mut [u8])
         requires { Advancing sheet.old self.old }
         ensures { Written (λ R. completed R self.old.cursor self.old.stack) sheet.old sheet.new self.old self.new }

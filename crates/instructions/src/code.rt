@@ -7,8 +7,8 @@ ghost use Rattle.instructions.specs.Code.{from_bottom};
 use crate::{INSTRUCTIONS, Instruction, Op};
 use std::marker::Model;
 
-// So many instructions, each in three tables. One table of whole ones, which needs a fifth more bytes, was tried and is slower to make:
-// 127 µs against 98 for thirty instructions and their assembly, 102 against 55 on an idler machine.
+// So many instructions, each in three tables. One table of whole ones, which needs a fifth more
+// bytes, was tried and is slower: 127 µs against 98 for thirty instructions and their assembly.
 #[derive(Drop)]
 pub struct Code {
     ops: [Op; INSTRUCTIONS],

@@ -47,7 +47,8 @@ pub enum Op {
     ConstantHas,
 }
 
-// An instruction, with the two operands that all have in a table; those that one does not name are 0.
+// An instruction, with the two operands that all have in a table; those that one does not name are
+// 0.
 #[derive(Clone, Copy)]
 pub struct Instruction {
     pub op: Op,

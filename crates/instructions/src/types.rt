@@ -11,14 +11,16 @@ use std::marker::Model;
 // The most leaves that are counted.
 const MOST_LEAVES: usize = records::MOST_LEAVES as usize;
 
-// A declared type: a flat one by the number of its constructors, a pair type by the numbers of its parts.
+// A declared type: a flat one by the number of its constructors, a pair type by the numbers of its
+// parts.
 #[derive(Clone, Copy, Debug, PartialEq, Eq)]
 pub enum DeclaredType {
     Flat(u16),
     Paired(u16, u16),
 }
 
-// So many types, each in three tables, as the instructions of a `Code` are and for the same reason, and a table of their leaves, 64 at most.
+// So many types, each in three tables, as the instructions of a `Code` are and for the same reason,
+// and a table of their leaves, 64 at most.
 #[derive(Drop)]
 pub struct DeclaredTypes {
     pairs: [bool; INSTRUCTIONS],

@@ -12,8 +12,9 @@ use instructions::code::Code;
 use instructions::types::DeclaredTypes;
 use instructions::{Instruction, Op};
 
-// The declared types and the input's, the instructions in record order, how many records the expression has, and the place of the first
-// constant without a type. Beside them the patterns that wait, the constants that are being read, and the place of the outermost.
+// The declared types and the input's, the instructions in record order, how many records the
+// expression has, and the place of the first constant without a type. Beside them the patterns that
+// wait, the constants that are being read, and the place of the outermost.
 #[derive(Drop)]
 pub struct Assembly {
     pub types: DeclaredTypes,
@@ -43,7 +44,8 @@ impl Assembly {
         }
     }
 
-    // All instructions of a text, in its order, from a new assembly on. It stays in its place, since a copy would not fit the stack beside it.
+    // All instructions of a text, in its order, from a new assembly on. It stays in its place,
+    // since a copy would not fit the stack beside it.
     pub fn read(&mut self, instructions: &Code)
         requires { (assembled self.old ≡ nothing_assembled) × (length instructions.now ≤ text_bytes) }
         ensures { assembled self.new ≡ assemble_all nothing_assembled (reverse instructions.now) }

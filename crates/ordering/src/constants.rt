@@ -1,4 +1,5 @@
-// The types of the constants that are being read, the last on top; 0 for none, and for a bracket that is open.
+// The types of the constants that are being read, the last on top; 0 for none, and for a bracket
+// that is open.
 ghost use Rattle.std.specs.Prelude.{◌≡◌, [], ◌∷◌, ◌≤◌, ◌<◌, length};
 ghost use Rattle.instructions.specs.Assembly.{outermost, pair_closed, top_constant};
 ghost use Rattle.grammar.specs.Legal.{text_bytes};
