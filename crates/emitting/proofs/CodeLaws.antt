@@ -1,17 +1,17 @@
 -- The instructions from the last to the first: what is left of them leads from what is written to the whole.
 -- Assumes nothing.
 use Prim.Native.Nat.{ℕ, ◌+◌, ◌-◌, ◌*◌, ◌≤◌, ◌<◌}
-use mathlib.Core.Path.{◌≡◌, refl, ap, sym, ◌∙◌}
-use mathlib.Core.List.{List, [], ◌∷◌, ◌++◌}
+use mathlib.Core.Path.{◌≡◌, ap, sym, ◌∙◌}
+use mathlib.Core.List.{List, [], ◌++◌}
 use native.Mathlib.Omega.{arith}
 use lib.ListN.{length, drop}
 use Rattle.records.specs.SheetOf.{Record, sheet_of}
 use Rattle.instructions.specs.Instruction.{Instruction}
 use Rattle.instructions.specs.Code.{from_bottom}
 use Rattle.instructions.specs.Assembly.{DeclaredType}
-use Rattle.instructions.specs.Emission.{Emission, emission, emit, emit_all, written_of, cursor_of}
+use Rattle.instructions.specs.Emission.{Emission, emit, emit_all, written_of, cursor_of}
 use Rattle.instructions.proofs.FromBottom.{next-instruction}
-use Rattle.emitting.specs.Emitting.{Written, standing, emitted_from, CodeWritten}
+use Rattle.emitting.specs.Emitting.{Written, standing, emitted_from}
 use Rattle.emitting.specs.declared.writer.Writer.{Writer}
 use Rattle.emitting.proofs.EmissionLaws.{emit-lower, emit-balance, written_grows}
 
@@ -26,24 +26,6 @@ pub record CodeLeft (T : List DeclaredType) (C : List Instruction) (records : �
   pub few : length w.stack + k ≤ length C
 
 module _ (T : List DeclaredType) (C : List Instruction) (records : ℕ) (sheet₀ : List ℕ) where
-  pub nothing-emitted : (w : Writer) (k : ℕ) → w.stack ≡ [] → w.cursor ≡ records → w.next ≡ 0 → k ≡ length C → 12 * records ≤ length sheet₀
-      → CodeLeft T C records sheet₀ sheet₀ w k
-  nothing-emitted w k p q r e long =
-      let z : length C - k ≡ 0 = omega arith in
-      let h = ap length p in
-      record {
-        so_far = λ fits. (
-          [],
-          (let same : emission [] w.cursor w.stack w.next ≡ emission [] records [] 0 = cc in
-              ap (λ n. emit_all T (standing w []) (drop n C)) z ∙ ap (λ E. emit_all T E C) same),
-          ap (λ n. drop (12 * n) sheet₀) q,
-          omega arith,
-        );
-        sheet_long = omega arith;
-        as_long = refl;
-        few = omega arith;
-      }
-
   pub one-emitted : (sheet sheet' : List ℕ) (w w' : Writer) (k : ℕ) → k < length C → CodeLeft T C records sheet₀ sheet w (k + 1)
       → Written (λ R. emit T (standing w R) (from_bottom k C)) sheet sheet' w w' → CodeLeft T C records sheet₀ sheet' w' k
   one-emitted sheet sheet' w w' k under l does =
@@ -77,20 +59,3 @@ module _ (T : List DeclaredType) (C : List Instruction) (records : ℕ) (sheet�
         as_long = long ∙ l.as_long;
         few = omega arith;
       }
-
-  pub code-ends : (sheet : List ℕ) (w : Writer) (k : ℕ) → k ≡ 0 → CodeLeft T C records sheet₀ sheet w k → CodeWritten T C records sheet₀ sheet
-  code-ends sheet w k e l =
-      let z : length C - k ≡ length C = omega arith in
-      record {
-        laid_out = λ fits.
-            let done = l.so_far fits in
-            let whole : standing w done.0 ≡ emitted_from T C records =
-            sym (ap (λ n. emit_all T (standing w done.0) (drop n C)) z ∙ ap (emit_all T (standing w done.0)) (none-left C)) ∙ done.1 in
-            ap (λ (F : Emission). drop (12 * cursor_of F) sheet) (sym whole) ∙ done.2
-            ∙ ap (λ (F : Emission). sheet_of (written_of F) ++ drop (12 * records) sheet₀) whole;
-        as_long = l.as_long;
-      }
-    where
-      none-left : (D : List Instruction) → drop (length D) D ≡ []
-      none-left [] = refl
-      none-left (x ∷ D) = none-left D

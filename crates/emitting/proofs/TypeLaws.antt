@@ -1,8 +1,8 @@
 -- The records of the types from the last to the first, the header before them, and the whole sheet.
 -- Assumes nothing.
 use Prim.Native.Nat.{ℕ, suc, ◌+◌, ◌-◌, ◌*◌, ◌≤◌, ◌<◌}
-use mathlib.Core.Path.{◌≡◌, refl, ap, ap₂, sym, ◌∙◌}
-use mathlib.Core.List.{List, [], ◌∷◌, ◌++◌}
+use mathlib.Core.Path.{◌≡◌, ap, ap₂, sym, ◌∙◌}
+use mathlib.Core.List.{List, ◌∷◌, ◌++◌}
 use native.Mathlib.Omega.{arith}
 use lib.ListN.{length, drop, replicate}
 use Rattle.std.proofs.lemmas.List.{length-drop}
@@ -27,17 +27,6 @@ pub record TypesLeft (T : List DeclaredType) (sheet₀ sheet : List ℕ) (k curs
   pub as_long : length sheet ≡ length sheet₀
 
 module _ (T : List DeclaredType) where
-  pub no-type-put : (sheet : List ℕ) (k cursor : ℕ) → k ≡ length T → cursor ≡ length T + 1 → 12 * (length T + 1) ≤ length sheet → TypesLeft T sheet sheet k cursor 0
-  no-type-put sheet k cursor e f long =
-      let z : length T - k ≡ 0 = omega arith in
-      record {
-        so_far = λ R tail g. (R, ap (λ n. types_written (drop n T) 0 R) z, ap (λ n. drop (12 * n) sheet) f ∙ g);
-        cursor_told = omega arith;
-        lower = omega arith;
-        sheet_long = long;
-        as_long = refl;
-      }
-
   pub one-type-put : (sheet₀ sheet sheet' : List ℕ) (k cursor next r : ℕ) → k < length T → TypesLeft T sheet₀ sheet (k + 1) cursor next
       → RecordPut sheet sheet' cursor (type_record (type_from_bottom k T) next) r → TypesLeft T sheet₀ sheet' k r r
   one-type-put sheet₀ sheet sheet' k cursor next r under l put =
@@ -63,24 +52,6 @@ module _ (T : List DeclaredType) where
         sheet_long = omega arith;
         as_long = put.as_long ∙ l.as_long;
       }
-
-  pub types-put : (sheet₀ sheet : List ℕ) (k cursor next : ℕ) → k ≡ 0 → TypesLeft T sheet₀ sheet k cursor next → TypesPut T sheet₀ sheet
-  types-put sheet₀ sheet k cursor next e l =
-      let told = l.cursor_told in
-      let z : length T - k ≡ length T = omega arith in
-      let first : 12 ≡ 12 * cursor = omega arith in
-      record {
-        laid_out = λ R tail f.
-            let done = l.so_far R tail f in
-            let whole : done.0 ≡ types_written T 0 R =
-            sym (ap (λ n. types_written (drop n T) next done.0) z ∙ ap (λ X. types_written X next done.0) (none-left T)) ∙ done.1 in
-            ap (λ (n : ℕ). drop n sheet) first ∙ done.2 ∙ ap (λ (Q : List Record). sheet_of Q ++ tail) whole;
-        as_long = l.as_long;
-      }
-    where
-      none-left : (D : List DeclaredType) → drop (length D) D ≡ []
-      none-left [] = refl
-      none-left (x ∷ D) = none-left D
 
   -- the whole
   module _ (C : List Instruction) {records : ℕ} {sheet : List ℕ} (input : ℕ) (ask : Emitting T C records sheet) (cleared coded typed headed : List ℕ) where

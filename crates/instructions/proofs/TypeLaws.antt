@@ -138,10 +138,6 @@ module _ (P : List Bool) (F S : List ℕ) where
           (ap₂ leaves_over (types_apart k j x y z (omega (arith, n)))
           (three (get_or-set_other P k j x false n) (get_or-set_other F k j y 0 n) (get_or-set_other S k j z 0 n)))
 
-  -- all but the last
-  pub stand-below : {k : ℕ} {L : List ℕ} (m : ℕ) → k ≡ suc m → LeavesStand P F S L k → LeavesStand P F S L m
-  stand-below m e h = record { few = (let f = h.few in omega arith); stand = λ i b. h.stand i (omega arith) }
-
   pub one-fewer : (k : ℕ) → held_types P F S (k - 1) ≡ drop 1 (held_types P F S k)
   one-fewer zero = refl
   one-fewer (suc k) = let e : suc k - 1 ≡ k = omega arith in ap (held_types P F S) e

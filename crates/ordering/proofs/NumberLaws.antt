@@ -4,10 +4,10 @@ use Prim.Native.Nat.{ℕ, zero, suc, ◌+◌, ◌-◌, ◌≤◌, ◌<◌}
 use native.Mathlib.Omega.{arith}
 use native.Mathlib.Numerals.{add-one}
 use mathlib.Core.Path.{◌≡◌, refl, ap, ap₂, ◌∙◌}
-use mathlib.Core.List.{List, [], ◌∷◌}
+use mathlib.Core.List.{List, ◌∷◌}
 use lib.ListN.{length, get_or, set}
 use lib.Seq.{get_or-set_same, get_or-set_other}
-use Rattle.instructions.specs.Assembly.{DeclaredType, outermost, pair_closed, top_constant, constant_pair_numbered}
+use Rattle.instructions.specs.Assembly.{DeclaredType, pair_closed, constant_pair_numbered}
 use Rattle.ordering.specs.Numbers.{held_numbers}
 
 module _ (N : List ℕ) where
@@ -22,28 +22,6 @@ module _ (N : List ℕ) where
   pub number_pushed : (k x : ℕ) → k < length N → held_numbers (set N k x) (k + 1) ≡ x ∷ held_numbers N k
   number_pushed k x l =
       ap (held_numbers (set N k x)) (add-one k) ∙ ap₂ ◌∷◌ (get_or-set_same N k x 0 l) (numbers_apart k k x (omega arith))
-
-  pub top-none : (n : ℕ) → n ≡ 0 → 0 ≡ top_constant (held_numbers N n)
-  top-none zero e = refl
-  top-none (suc n) e = absurd (omega arith)
-
-  pub top_read : (n : ℕ) → (n ≡ 0 → ⊥) → get_or N (n - 1) 0 ≡ top_constant (held_numbers N n)
-  top_read zero e = absurd (e refl)
-  top_read (suc n) e = let f : suc n - 1 ≡ n = omega arith in ap (λ k. get_or N k 0) f
-
-  pub outer-none : (n old new : ℕ) → n ≡ 0 → new ≡ outermost (held_numbers N n) old new
-  outer-none zero old new e = refl
-  outer-none (suc n) old new e = absurd (omega arith)
-
-  pub outer-some : (n old new : ℕ) → (n ≡ 0 → ⊥) → old ≡ outermost (held_numbers N n) old new
-  outer-some zero old new e = absurd (e refl)
-  outer-some (suc n) old new e = refl
-
-  pub few-closed : (T : List DeclaredType) (n : ℕ) → n < 3 → [] ≡ pair_closed T (held_numbers N n)
-  few-closed T zero l = refl
-  few-closed T (suc zero) l = refl
-  few-closed T (suc (suc zero)) l = refl
-  few-closed T (suc (suc (suc n))) l = absurd (omega arith)
 
   pub three-closed : (T : List DeclaredType) (n x : ℕ) → n ≤ length N → (n < 3 → ⊥)
       → x ≡ constant_pair_numbered T (get_or N (n - 3 + 1) 0) (get_or N (n - 3 + 2) 0)
