@@ -11,14 +11,14 @@ use lib.ListN.{length}
 use Rattle.answers.specs.Answers.{place, on_done, Check, first_applying, NoneApplies, verdict_answer}
 use Rattle.answers.specs.StandardLaws.{LentSlice, StandardLaws}
 use Rattle.answers.specs.GivenSlices.{codes_above, SmallPlaces, GivenSlices}
-use Rattle.answers.specs.declared.Answer.{Answer}
-use Rattle.answers.specs.declared.Answer.TheVariants.{Done, Refused}
+use Rattle.answers.specs.Answers.{Answer}
+use Rattle.answers.specs.Answers.{Done, Refused}
 use Rattle.answers.proofs.First.{first-both, first_then, none_both}
 use Rattle.answers.proofs.StandardLaws.{first-place, standard-laws}
 use Rattle.verdict.specs.Verdict.{sheet_checks, output_type, verdict}
 use Rattle.verdict.specs.CheckedTable.{Checked}
-use Rattle.answers.specs.declared.Verdict.{Verdict}
-use Rattle.answers.specs.declared.Verdict.TheVariants.{Accepted}
+use Rattle.answers.specs.Answers.{Verdict}
+use Rattle.answers.specs.Answers.{Accepted}
 use Rattle.answers.specs.declared.Verdict.TheVariants as Verdicts
 use Rattle.verdict.proofs.PlacesSmall.{verdict-place}
 use Rattle.verdict.proofs.VerdictFirst.{verdict-first, accepted-first}

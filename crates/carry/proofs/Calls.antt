@@ -13,13 +13,13 @@ use Rattle.records.specs.Sized.{Sized}
 use Rattle.records.specs.Written.{Written}
 use Rattle.answers.specs.Answers.{lowest, code, place, in_one, packed, on_done, first_applying, verdict_answer}
 use Rattle.answers.specs.Searches.{found}
-use Rattle.answers.specs.declared.Answer.{Answer}
-use Rattle.answers.specs.declared.Answer.TheVariants.{Done, Refused}
+use Rattle.answers.specs.Answers.{Answer}
+use Rattle.answers.specs.Answers.{Done, Refused}
 use Rattle.answers.specs.declared.Found.{Found}
 use Rattle.answers.specs.declared.Found.TheVariants.{At, Nothing}
 use Rattle.answers.proofs.Lowest.{lowest-some-passes}
 use Rattle.verdict.specs.Verdict.{sheet_checks, output_type, verdict}
-use Rattle.answers.specs.declared.Verdict.{Verdict}
+use Rattle.answers.specs.Answers.{Verdict}
 use Rattle.answers.specs.declared.Verdict.TheVariants as Verdicts
 use Rattle.accepted.proofs.Laws.{verdict-first, verdict-place}
 use Rattle.accepted.proofs.Small.{accepted-sized}

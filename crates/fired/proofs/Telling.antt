@@ -12,13 +12,13 @@ use lib.Seq.{length-take-le}
 use Rattle.records.specs.Words.{count, word_b}
 use Rattle.records.proofs.Asked.{past-header}
 use Rattle.answers.specs.Answers.{in_one, packed, verdict_answer}
-use Rattle.answers.specs.declared.Answer.{Answer}
-use Rattle.answers.specs.declared.Answer.TheVariants.{Done, Refused}
+use Rattle.answers.specs.Answers.{Answer}
+use Rattle.answers.specs.Answers.{Done, Refused}
 use Rattle.answers.specs.GivenSlices.{no_slice, one_slice}
 use Rattle.verdict.specs.Verdict.{verdict}
 use Rattle.verdict.specs.Scopes.{inputs}
-use Rattle.answers.specs.declared.Verdict.{Verdict}
-use Rattle.answers.specs.declared.Verdict.TheVariants.{Accepted}
+use Rattle.answers.specs.Answers.{Verdict}
+use Rattle.answers.specs.Answers.{Accepted}
 use Rattle.accepted.specs.Accepting.{Accepting}
 use Rattle.accepted.proofs.Laws.{written, Refusing}
 use Rattle.accepted.proofs.Scopes.{scope-checked}

@@ -11,11 +11,11 @@ use Rattle.picoella.specs.Language.{bounds}
 use Rattle.records.specs.Words.{word_a}
 use Rattle.records.proofs.Types.{leaves-of-bounds}
 use Rattle.answers.specs.Answers.{in_one, packed, verdict_answer, on_done, first_applying}
-use Rattle.answers.specs.declared.Answer.{Answer}
-use Rattle.answers.specs.declared.Answer.TheVariants.{Done, Refused}
+use Rattle.answers.specs.Answers.{Answer}
+use Rattle.answers.specs.Answers.{Done, Refused}
 use Rattle.verdict.specs.Verdict.{verdict}
-use Rattle.answers.specs.declared.Verdict.{Verdict}
-use Rattle.answers.specs.declared.Verdict.TheVariants.{Accepted}
+use Rattle.answers.specs.Answers.{Verdict}
+use Rattle.answers.specs.Answers.{Accepted}
 use Rattle.accepted.specs.Accepting.{Accepting}
 use Rattle.accepted.proofs.Calls.{refused-by-sheet}
 use Rattle.accepted.proofs.Laws.{Refusing}

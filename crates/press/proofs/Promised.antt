@@ -16,8 +16,8 @@ use borrow.Author.Tests.{eq-eqb, leb-false, lt-leb, ne_eqb}
 use Rattle.picoella.specs.Language.{bounds}
 use Rattle.answers.specs.Answers.{code, lowest, NoneApplies, is_some}
 use Rattle.answers.specs.GivenSlices.{no_slice}
-use Rattle.answers.specs.declared.Answer.{Answer}
-use Rattle.answers.specs.declared.Answer.TheVariants.{Done, Refused}
+use Rattle.answers.specs.Answers.{Answer}
+use Rattle.answers.specs.Answers.{Done, Refused}
 use Rattle.answers.proofs.First.{none-split, when-none, when-some}
 use Rattle.answers.proofs.StandardLaws.{zero-done}
 use Rattle.answers.proofs.Lowest.{lowest-is, lowest_none, lowest-none-fails, lowest-some-passes}

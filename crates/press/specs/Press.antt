@@ -6,8 +6,8 @@ use Rattle.std.specs.Prelude.{ℕ, suc, ◌≡◌, Bool, not, ◌&&◌, List, []
 use Rattle.std.proofs.Math.Option.{Option, none, some}
 use Rattle.picoella.specs.Language.{bounds}
 use Rattle.answers.specs.Answers.{packed, lowest, is_some, Check, first_applying}
-use Rattle.answers.specs.declared.Answer.{Answer}
-use Rattle.answers.specs.declared.Answer.TheVariants.{Done, Refused}
+use Rattle.answers.specs.Answers.{Answer}
+use Rattle.answers.specs.Answers.{Done, Refused}
 use Rattle.verdict.specs.Verdict.{sheet_checks}
 use Rattle.stimulus.specs.Stimulus.{input_type, input_leaves}
 use Rattle.stimulus.specs.OneCycle.{one_cycle_checks}

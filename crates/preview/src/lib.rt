@@ -3,7 +3,7 @@
 
 ghost use Rattle.std.specs.Prelude.{◌≡◌};
 ghost use Rattle.verdict.specs.Verdict.{verdict};
-ghost use Rattle.answers.specs.declared.Verdict.TheVariants.{Accepted};
+ghost use Rattle.answers.specs.Answers.{Accepted};
 ghost use Rattle.accepted.specs.Accepting.{Accepting};
 ghost use Rattle.behaviour.specs.Cycle.{output};
 ghost use Rattle.preview.specs.Preview.{Previewed};

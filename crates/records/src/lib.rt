@@ -6,10 +6,12 @@ ghost use Rattle.records.specs.Limits.{most_records};
 
 mod kinds;
 mod says;
+mod sheet;
 mod words;
 
 pub use kinds::{NAMES, ask_number, asks, sort_number};
 pub use says::well_said;
+pub use sheet::Sheet;
 pub use words::{offset, records_in, word};
 
 // The sheet: records of 12 bytes, each six words.

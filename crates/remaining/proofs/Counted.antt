@@ -16,10 +16,10 @@ use Rattle.answers.specs.Answers.{in_one, packed, on_done, verdict_answer, lowes
 use Rattle.answers.specs.Searches.{found}
 use Rattle.answers.specs.declared.Found.{Found}
 use Rattle.answers.specs.declared.Found.TheVariants.{At, Nothing}
-use Rattle.answers.specs.declared.Answer.{Answer}
-use Rattle.answers.specs.declared.Answer.TheVariants.{Done, Refused}
-use Rattle.answers.specs.declared.Verdict.{Verdict}
-use Rattle.answers.specs.declared.Verdict.TheVariants.{Accepted}
+use Rattle.answers.specs.Answers.{Answer}
+use Rattle.answers.specs.Answers.{Done, Refused}
+use Rattle.answers.specs.Answers.{Verdict}
+use Rattle.answers.specs.Answers.{Accepted}
 use Rattle.answers.proofs.Lowest.{lowest-some-passes}
 use Rattle.answers.proofs.First.{first-both, first_then}
 use Rattle.verdict.specs.Verdict.{sheet_checks, verdict}

@@ -8,7 +8,7 @@ ghost use Rattle.records.specs.Limits.{most_leaves};
 ghost use Rattle.answers.specs.Answers.{lowest};
 ghost use Rattle.answers.specs.Searches.{found};
 ghost use Rattle.verdict.specs.Verdict.{verdict};
-ghost use Rattle.answers.specs.declared.Verdict.TheVariants.{Accepted};
+ghost use Rattle.answers.specs.Answers.{Accepted};
 ghost use Rattle.accepted.specs.Accepting.{Accepting};
 ghost use Rattle.sets.specs.Words.{ones_of};
 ghost use Rattle.records.specs.Limits.{environment_bytes};

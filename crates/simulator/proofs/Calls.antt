@@ -9,11 +9,11 @@ use mir.Val.{Fits}
 use lib.ListN.{length, get_or, drop}
 use Rattle.records.specs.Words.{word}
 use Rattle.answers.specs.Answers.{in_one, packed, first_applying, verdict_answer}
-use Rattle.answers.specs.declared.Answer.{Answer}
-use Rattle.answers.specs.declared.Answer.TheVariants.{Done, Refused}
+use Rattle.answers.specs.Answers.{Answer}
+use Rattle.answers.specs.Answers.{Done, Refused}
 use Rattle.verdict.specs.Verdict.{verdict}
 use Rattle.verdict.specs.CheckedTable.{Checked}
-use Rattle.answers.specs.declared.Verdict.{Verdict}
+use Rattle.answers.specs.Answers.{Verdict}
 use Rattle.answers.specs.declared.Verdict.TheVariants as Verdicts
 use Rattle.accepted.specs.Accepting.{Accepting}
 use Rattle.accepted.proofs.Laws.{Refusing, refusing-answer}

@@ -11,8 +11,8 @@ use Rattle.structure.specs.Rules.{Passes}
 use Rattle.verdict.specs.Stages.{StagesChecked}
 use Rattle.verdict.specs.Widths.{Widths}
 use Rattle.verdict.specs.CheckedTable.{PatternsFrom, Checked, accepts}
-use Rattle.answers.specs.declared.Verdict.{Verdict}
-use Rattle.answers.specs.declared.Verdict.TheVariants.{
+use Rattle.answers.specs.Answers.{Verdict}
+use Rattle.answers.specs.Answers.{
   Accepted,
   WrongLength,
   WrongHeader,

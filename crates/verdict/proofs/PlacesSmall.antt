@@ -8,8 +8,8 @@ use Rattle.answers.specs.Answers.{place, verdict_answer}
 use Rattle.structure.proofs.Passes.{length-fits}
 use Rattle.verdict.specs.Promises.{Says, PlacesBelow}
 use Rattle.verdict.specs.Verdict.{verdict}
-use Rattle.answers.specs.declared.Verdict.{Verdict}
-use Rattle.answers.specs.declared.Verdict.TheVariants.{
+use Rattle.answers.specs.Answers.{Verdict}
+use Rattle.answers.specs.Answers.{
   Accepted,
   WrongLength,
   WrongHeader,

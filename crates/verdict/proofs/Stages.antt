@@ -34,8 +34,8 @@ use Rattle.verdict.specs.Verdict.{verdict, by_types, by_records}
 use Rattle.verdict.specs.Scopes.{inputs}
 use Rattle.typing.specs.declared.Outcome.{Outcome}
 use Rattle.typing.specs.declared.Outcome.TheVariants.{Sound, Fault}
-use Rattle.answers.specs.declared.Verdict.{Verdict}
-use Rattle.answers.specs.declared.Verdict.TheVariants.{
+use Rattle.answers.specs.Answers.{Verdict}
+use Rattle.answers.specs.Answers.{
   Accepted,
   WrongLength,
   WrongHeader,
