@@ -7,7 +7,6 @@ ghost use Rattle.answers.specs.Answers.{lowest};
 ghost use Rattle.answers.specs.Searches.{found};
 
 use crate::naming::NAMER_STEP;
-use answers::Found;
 use records::{
     Depths, KIND_FEEDBACK, MOST_DEPTH, MOST_NESTING, Namers, RECORDS, SORT_EXPRESSION, WORD_B,
     WORD_KIND, sort_number, word,
@@ -98,16 +97,16 @@ fn too_deep(sheet: &[u8], n: usize, rec: usize, depths: &Depths, nestings: &Dept
     MOST_NESTING < nestings[rec]
 }
 
-pub fn first_too_deep(sheet: &[u8], n: usize, depths: &Depths, nestings: &Depths) -> Found
+pub fn first_too_deep(sheet: &[u8], n: usize, depths: &Depths, nestings: &Depths) -> Option<usize>
     requires { Sized sheet.now n × Placed sheet.now n depths.now nestings.now }
     ensures { found result ≡ lowest (too_deep sheet.now) n }
 {
     let mut rec = 0;
     while rec < n {
         if too_deep(sheet, n, rec, depths, nestings) {
-            return Found::At(rec);
+            return Some(rec);
         }
         rec += 1;
     }
-    Found::Nothing
+    None
 }

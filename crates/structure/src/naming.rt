@@ -11,7 +11,6 @@ ghost use Rattle.structure.specs.Rules.{wrong_naming};
 ghost use Rattle.structure.specs.NamerTable.{summary, ByWords, NamingsAdded, NamingsHeld};
 ghost use Rattle.records.specs.Limits.{most_records};
 
-use answers::Found;
 use records::{
     NAMED_SEVERAL, NAMES, Namers, RECORDS, WORD_A, WORD_B, WORD_C, WORD_D, WORD_KIND, WORD_NEXT,
     WORDS, asks, word,
@@ -83,7 +82,7 @@ pub fn note_all(sheet: &[u8], n: usize, namers: &mut Namers)
 }
 
 // The lowest record that is not well named: code 4.
-pub fn first_wrong_naming(n: usize, namers: &Namers) -> Found
+pub fn first_wrong_naming(n: usize, namers: &Namers) -> Option<usize>
     requires { (n ≤ most_records) × (length namers.now ≡ most_records) }
     ensures { (s : List ℕ) → NamingsHeld (namings s) namers.now → found result ≡ lowest (wrong_naming s) n }
 {
@@ -91,12 +90,12 @@ pub fn first_wrong_naming(n: usize, namers: &Namers) -> Found
     while rec < n {
         let namer = namers[rec];
         if namer == 0 {
-            return Found::At(rec);
+            return Some(rec);
         }
         if namer == NAMED_SEVERAL {
-            return Found::At(rec);
+            return Some(rec);
         }
         rec += 1;
     }
-    Found::Nothing
+    None
 }

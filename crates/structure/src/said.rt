@@ -5,7 +5,6 @@ ghost use Rattle.answers.specs.Answers.{lowest};
 ghost use Rattle.answers.specs.Searches.{found};
 ghost use Rattle.structure.specs.Rules.{wrong_header, wrong_record};
 
-use answers::Found;
 use records::{KIND_HEADER, WORD_KIND, well_said, word};
 
 // Whether the header breaks its rule: code 2.
@@ -30,16 +29,16 @@ fn wrong_record(sheet: &[u8], n: usize, rec: usize) -> bool
     !well_said(sheet, n, rec)
 }
 
-pub fn first_wrong_record(sheet: &[u8], n: usize) -> Found
+pub fn first_wrong_record(sheet: &[u8], n: usize) -> Option<usize>
     requires { Sized sheet.now n }
     ensures { found result ≡ lowest (wrong_record sheet.now) n }
 {
     let mut rec = 1;
     while rec < n {
         if wrong_record(sheet, n, rec) {
-            return Found::At(rec);
+            return Some(rec);
         }
         rec += 1;
     }
-    Found::Nothing
+    None
 }

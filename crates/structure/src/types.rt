@@ -6,12 +6,11 @@ ghost use Rattle.structure.specs.LeafTable.{LeavesCounted};
 ghost use Rattle.structure.specs.PairIndex.{Indexed};
 ghost use Rattle.answers.specs.Answers.{lowest};
 ghost use Rattle.answers.specs.Searches.{found};
-ghost use Rattle.answers.specs.declared.Found.TheVariants.{Nothing};
+ghost use Rattle.std.specs.Prelude.{None};
 ghost use Rattle.structure.specs.Rules.{wrong_type};
 ghost use Rattle.records.specs.Limits.{past_leaves};
 
 use crate::pairs::{PairIndex, note_pair};
-use answers::Found;
 use records::{
     KIND_FLAT_TYPE, KIND_PAIR_TYPE, MOST_LEAVES, RECORDS, WORD_A, WORD_B, WORD_KIND, WidthTable,
     word,
@@ -81,16 +80,21 @@ fn wrong_type(sheet: &[u8], n: usize, rec: usize, table: &WidthTable, index: &mu
 
 // The lowest type record that is wrong: code 5. Where there is none, an empty index then has all
 // pair types.
-pub fn first_wrong_type(sheet: &[u8], n: usize, table: &WidthTable, index: &mut PairIndex) -> Found
+pub fn first_wrong_type(
+    sheet: &[u8],
+    n: usize,
+    table: &WidthTable,
+    index: &mut PairIndex,
+) -> Option<usize>
     requires { Sized sheet.now n × LeavesCounted sheet.now n table.now × Indexed sheet.now 0 index.old }
-    ensures { (found result ≡ lowest (wrong_type sheet.now) n) × (result ≡ Nothing → Indexed sheet.now n index.new) }
+    ensures { (found result ≡ lowest (wrong_type sheet.now) n) × (result ≡ None → Indexed sheet.now n index.new) }
 {
     let mut rec = 0;
     while rec < n {
         if wrong_type(sheet, n, rec, table, index) {
-            return Found::At(rec);
+            return Some(rec);
         }
         rec += 1;
     }
-    Found::Nothing
+    None
 }
