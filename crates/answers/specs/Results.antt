@@ -9,13 +9,13 @@ use Rattle.answers.specs.Answers.{Answer, Done, Refused, Verdict, Accepted, Wron
 
 -- the numbers of docs/SHEETS.md, "Codes"
 abbrev pub code_number : Code → ℕ
-code_number Coded.WrongLength = 1
-code_number Coded.WrongHeader = 2
-code_number Coded.WrongRecord = 3
-code_number Coded.WrongNaming = 4
-code_number Coded.WrongType = 5
-code_number Coded.TooDeep = 6
-code_number Coded.IllTyped = 7
+code_number Coded.SheetLength = 1
+code_number Coded.SheetHeader = 2
+code_number Coded.SheetRecord = 3
+code_number Coded.SheetNaming = 4
+code_number Coded.SheetType = 5
+code_number Coded.SheetDepth = 6
+code_number Coded.SheetTyping = 7
 code_number Coded.WrongStimulus = 8
 code_number Coded.WrongInput = 9
 code_number Coded.WrongOutputLength = 10
@@ -25,7 +25,7 @@ code_number Coded.WrongText = 13
 code_number Coded.WrongName = 14
 code_number Coded.NoRoom = 15
 code_number Coded.WrongWords = 16
-code_number Coded.WrongRecordedLength = 17
+code_number Coded.SheetRecordedLength = 17
 code_number Coded.NewSheetRefused = 18
 code_number Coded.LabelTwice = 19
 code_number Coded.TooManyInputs = 20
@@ -34,13 +34,13 @@ code_number Coded.NotForSets = 22
 
 -- the refusal of a fault
 abbrev pub refusal_of : Fault → Refusal
-refusal_of Faulty.WrongLength = record { code = Coded.WrongLength; place = 0 }
-refusal_of Faulty.WrongHeader = record { code = Coded.WrongHeader; place = 0 }
-refusal_of (Faulty.WrongRecord r) = record { code = Coded.WrongRecord; place = r }
-refusal_of (Faulty.WrongNaming r) = record { code = Coded.WrongNaming; place = r }
-refusal_of (Faulty.WrongType r) = record { code = Coded.WrongType; place = r }
-refusal_of (Faulty.TooDeep r) = record { code = Coded.TooDeep; place = r }
-refusal_of (Faulty.IllTyped r) = record { code = Coded.IllTyped; place = r }
+refusal_of Faulty.WrongLength = record { code = Coded.SheetLength; place = 0 }
+refusal_of Faulty.WrongHeader = record { code = Coded.SheetHeader; place = 0 }
+refusal_of (Faulty.WrongRecord r) = record { code = Coded.SheetRecord; place = r }
+refusal_of (Faulty.WrongNaming r) = record { code = Coded.SheetNaming; place = r }
+refusal_of (Faulty.WrongType r) = record { code = Coded.SheetType; place = r }
+refusal_of (Faulty.TooDeep r) = record { code = Coded.SheetDepth; place = r }
+refusal_of (Faulty.IllTyped r) = record { code = Coded.SheetTyping; place = r }
 
 -- the answer of a call
 abbrev pub answer_of : Result ℕ Refusal → Answer

@@ -12,13 +12,13 @@ const PLACES: u64 = 4294967296;
 // The codes of refusals (docs/SHEETS.md, "Codes").
 #[derive(Clone, Copy, Debug, PartialEq, Eq)]
 pub enum Code {
-    WrongLength = 1,
-    WrongHeader = 2,
-    WrongRecord = 3,
-    WrongNaming = 4,
-    WrongType = 5,
-    TooDeep = 6,
-    IllTyped = 7,
+    SheetLength = 1,
+    SheetHeader = 2,
+    SheetRecord = 3,
+    SheetNaming = 4,
+    SheetType = 5,
+    SheetDepth = 6,
+    SheetTyping = 7,
     WrongStimulus = 8,
     WrongInput = 9,
     WrongOutputLength = 10,
@@ -75,31 +75,31 @@ impl From<Fault> for Refusal {
     fn from(fault: Fault) -> Refusal {
         match fault {
             Fault::WrongLength => Refusal {
-                code: Code::WrongLength,
+                code: Code::SheetLength,
                 place: 0,
             },
             Fault::WrongHeader => Refusal {
-                code: Code::WrongHeader,
+                code: Code::SheetHeader,
                 place: 0,
             },
             Fault::WrongRecord(place) => Refusal {
-                code: Code::WrongRecord,
+                code: Code::SheetRecord,
                 place,
             },
             Fault::WrongNaming(place) => Refusal {
-                code: Code::WrongNaming,
+                code: Code::SheetNaming,
                 place,
             },
             Fault::WrongType(place) => Refusal {
-                code: Code::WrongType,
+                code: Code::SheetType,
                 place,
             },
             Fault::TooDeep(place) => Refusal {
-                code: Code::TooDeep,
+                code: Code::SheetDepth,
                 place,
             },
             Fault::IllTyped(place) => Refusal {
-                code: Code::IllTyped,
+                code: Code::SheetTyping,
                 place,
             },
         }
