@@ -5,6 +5,7 @@ pub mod CodeTable
 pub mod Decoding
 pub mod Distinct
 pub mod Grown
+pub mod Kinded
 pub mod Leaves
 pub mod Namings
 pub mod Pairs

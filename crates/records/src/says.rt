@@ -6,7 +6,7 @@ ghost use Rattle.records.specs.Kinds.{Sort, Ask, lower_type, lower_flat, constru
 ghost use Rattle.records.specs.AskNumbers.{ask_number, ask_numbers, bounded_by};
 ghost use Rattle.records.specs.Says.{higher, meets, meets_word_at, well_said};
 
-use crate::kinds::{
+use crate::numbers::{
     ANY_TYPE, BYTE, CONSTRUCTOR, COUNT, FREE, LOWER_FLAT, LOWER_TYPE, NEXT, PART, TOTAL, ZERO,
     asks, sort_number,
 };
