@@ -1,5 +1,4 @@
 -- Laws that belong to no one function.
-pub mod AskNumbers
 pub mod Asked
 pub mod CodeTable
 pub mod Decoding

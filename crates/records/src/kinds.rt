@@ -1,6 +1,7 @@
 // The table of kinds: each kind's number, its sort, and what its words ask.
 ghost use Rattle.std.specs.Prelude.{◌≡◌, map};
 ghost use Rattle.records.specs.Kinds.{kind_of, sort_of};
+ghost use Rattle.records.specs.Says.{names};
 ghost use Rattle.records.specs.Kinded.{kind_meant, kind_number, sort_meant, ask_meant, asks_of};
 
 use crate::WORDS;
@@ -128,26 +129,77 @@ impl Kind {
             Kind::PairType => [Free, NextOf(Type), LowerType, LowerType, Zeroed, Zeroed],
             Kind::Constant => [Free, Zeroed, LowerType, Part(Leaf), Zeroed, Zeroed],
             Kind::Name => [Free, Zeroed, Free, Zeroed, Zeroed, Zeroed],
-            Kind::Pair => [Free, Zeroed, Part(Expression), Part(Expression), Zeroed, Zeroed],
+            Kind::Pair => [
+                Free,
+                Zeroed,
+                Part(Expression),
+                Part(Expression),
+                Zeroed,
+                Zeroed,
+            ],
             Kind::First => [Free, Zeroed, Part(Expression), Zeroed, Zeroed, Zeroed],
             Kind::Second => [Free, Zeroed, Part(Expression), Zeroed, Zeroed, Zeroed],
-            Kind::Let => [Free, Zeroed, Part(Expression), Part(Expression), Zeroed, Zeroed],
+            Kind::Let => [
+                Free,
+                Zeroed,
+                Part(Expression),
+                Part(Expression),
+                Zeroed,
+                Zeroed,
+            ],
             Kind::Feedback => {
-                [Free, Zeroed, LowerType, Part(Expression), Part(Expression), Zeroed]
+                [
+                    Free,
+                    Zeroed,
+                    LowerType,
+                    Part(Expression),
+                    Part(Expression),
+                    Zeroed,
+                ]
             }
             Kind::If => {
-                [Free, Zeroed, Part(Expression), Part(Expression), Part(Expression), Part(Pattern)]
+                [
+                    Free,
+                    Zeroed,
+                    Part(Expression),
+                    Part(Expression),
+                    Part(Expression),
+                    Part(Pattern),
+                ]
             }
             Kind::Delay => [Free, Zeroed, LowerType, Part(Leaf), Part(Expression), Free],
             Kind::WholePattern => [Free, NextOf(Pattern), LowerType, Zeroed, Zeroed, Zeroed],
             Kind::ConstructorPattern => {
-                [Free, NextOf(Pattern), LowerFlat, ConstructorOf, Zeroed, Zeroed]
+                [
+                    Free,
+                    NextOf(Pattern),
+                    LowerFlat,
+                    ConstructorOf,
+                    Zeroed,
+                    Zeroed,
+                ]
             }
             Kind::PairPattern => {
-                [Free, NextOf(Pattern), Part(Pattern), Part(Pattern), Zeroed, Zeroed]
+                [
+                    Free,
+                    NextOf(Pattern),
+                    Part(Pattern),
+                    Part(Pattern),
+                    Zeroed,
+                    Zeroed,
+                ]
             }
             Kind::Leaf => [Free, NextOf(Leaf), Byte, Zeroed, Zeroed, Zeroed],
             Kind::Unknown => [Free, Never, Never, Never, Never, Never],
         }
+    }
+}
+
+impl Ask {
+    // Whether a word that asks this names the record in it.
+    pub fn names(self) -> bool
+        ensures { result ≡ names (ask_meant self) }
+    {
+        matches!(self, Ask::NextOf(_) | Ask::Part(_))
     }
 }

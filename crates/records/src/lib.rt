@@ -11,8 +11,7 @@ mod sheet;
 mod words;
 
 pub use kinds::{Ask, Kind, Sort};
-pub use numbers::{NAMES, ask_number, asks, sort_number};
-pub use says::well_said;
+pub use numbers::{NAMES, ask_number, asks, sort_number, well_said};
 pub use sheet::Sheet;
 pub use words::{offset, records_in, word};
 

@@ -1,8 +1,11 @@
-// The table of kinds: the sort of each kind, and what its words ask.
+// Kinds, sorts and asks as numbers, for callers that have no `Sheet` yet.
 ghost use Rattle.std.specs.Prelude.{◌≡◌, ◌<◌};
 ghost use Rattle.records.specs.Kinds.{sort_number, sort_of, row_of, kind_of, ask_of};
+ghost use Rattle.records.specs.Sized.{Sized};
+ghost use Rattle.records.specs.Says.{well_said};
 ghost use Rattle.records.specs.AskNumbers.{ask_number, ask_numbers};
 
+use crate::sheet::Sheet;
 use crate::{
     KIND_CONSTANT, KIND_CONSTRUCTOR_PATTERN, KIND_DELAY, KIND_FEEDBACK, KIND_FIRST, KIND_FLAT_TYPE,
     KIND_HEADER, KIND_IF, KIND_LEAF, KIND_LET, KIND_NAME, KIND_PAIR, KIND_PAIR_PATTERN,
@@ -97,4 +100,12 @@ pub fn ask_number(kind: usize, k: usize) -> usize
     ensures { result ≡ ask_number (ask_of kind k) }
 {
     asks(kind)[k]
+}
+
+// Whether every word of rec is what the table asks.
+pub fn well_said(sheet: &[u8], n: usize, rec: usize) -> bool
+    requires { Sized sheet.now n × (rec < n) }
+    ensures { result ≡ well_said sheet.now rec }
+{
+    Sheet::of(sheet, n).well_said(rec)
 }
