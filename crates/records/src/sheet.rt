@@ -63,6 +63,14 @@ impl<'a> Sheet<'a> {
         self.records
     }
 
+    // The number of the header's record, which every sheet has.
+    pub fn header(&self) -> usize
+        ensures { (result ≡ 0) × (result < count self.now) }
+    {
+        let _records = self.records;
+        0
+    }
+
     // Word k of a record: 0 is the kind, 1 next, 2 to 5 the words a, b, c, d.
     pub fn word(&self, rec: usize, k: usize) -> usize
         requires { (rec < count self.now) × (k < 6) }
