@@ -1,19 +1,20 @@
 -- The tables of depths and nestings as records are added to them: a record lies one deeper than the first record that names it, which
 -- is lower and so in the tables, and in one more defining part just where it is one. Assumes nothing.
 use mathlib.Core.Path.{◌≡◌, refl, sym, ◌∙◌, ap}
-use mathlib.Core.Bool.{Bool, true, false, cond, and-false, false≢true}
+use mathlib.Core.Bool.{Bool, true, false, cond, false≢true}
 use mathlib.Core.Logic.{◌⊎◌, inl, inr}
 use mathlib.Core.List.Memᴰ
 use mathlib.Core.List.{List, [], ◌∷◌}
-use Prim.Native.Nat.{ℕ, zero, suc, min, ◌+◌, ◌*◌, ◌-◌, ◌/◌, ◌%◌, ◌≤◌, ◌<◌}
+use Prim.Native.Nat.{ℕ, zero, suc, min, ◌+◌, ◌*◌, ◌≤◌, ◌<◌}
 use native.Mathlib.Omega.{arith}
 use native.Mathlib.Decide.{ℕ_discrete, dec_le}
-use borrow.Author.Tests.{ne_eqb, lt-ltb, le-ltb}
+use borrow.Author.Tests.{lt-ltb, le-ltb}
 use lib.Dec.{eqb, ltb}
 use lib.ListN.{get_or, set, replicate, length-set, length-replicate}
 use lib.Seq.{get_or-set_same, get_or-set_other}
-use Rattle.records.specs.Words.{count, word}
-use Rattle.records.specs.Kinds.{same_sort, expressions}
+use Rattle.records.specs.Words.{count}
+use Rattle.records.specs.Kinds.{same_sort, expressions, kind_of}
+use Rattle.records.proofs.CodeTable.{only-kind}
 use Rattle.records.specs.Says.{sort_at, Naming, namings, well_named}
 use Rattle.records.specs.Trees.{follow}
 use Rattle.records.proofs.Namings.{Names, in-namings-names, namer-lower}
@@ -21,6 +22,10 @@ use Rattle.structure.specs.Rules.{ancestry, ancestry_within, depth, nesting, is_
 use Rattle.structure.specs.NamerTable.{summary}
 use Rattle.structure.specs.DepthTable.{Capped, Placed, Placing}
 use Rattle.structure.proofs.Depths.{depth-of, nesting-of}
+
+pub feedback-number : (k : ℕ) → is_feedback (kind_of k) ≡ eqb k 38
+unfolding kind_of
+feedback-number = only-kind is_feedback 38 refl (omega arith) tt
 
 module _ (s : List ℕ) (q at x : ℕ) where
   abbrev nested-in : ℕ

@@ -1,13 +1,13 @@
 -- The table of leaf counts as records are added to it: a flat type has one leaf, a pair type the leaves of its parts, which stand
 -- lower and are in the table, and any other record has none. Assumes nothing.
 use mathlib.Core.Path.{◌≡◌, refl, sym, ◌∙◌}
-use mathlib.Core.Bool.{true, false, not, ◌||◌, or-true, or-false}
+use mathlib.Core.Bool.{true, false, ◌||◌, or-true}
 use mathlib.Core.List.{List}
 use Prim.Native.Nat.{ℕ, zero, suc, min, ◌+◌, ◌≤◌, ◌<◌}
 use native.Mathlib.Omega.{arith}
 use native.Mathlib.Decide.{ℕ_discrete}
-use borrow.Author.Tests.{lt-ltb, le-ltb}
-use lib.Dec.{eqb, ltb}
+use borrow.Author.Tests.{eq-eqb, lt-ltb, le-ltb}
+use lib.Dec.{ltb}
 use lib.ListN.{get_or, set, replicate, length-set, length-replicate, get_or-replicate}
 use lib.Seq.{get_or-set_same, get_or-set_other}
 use Rattle.std.specs.Prelude.{Option, is_some}
@@ -32,6 +32,7 @@ use Rattle.records.specs.Kinds.{
 use Rattle.records.specs.Says.{kind_at, sort_at}
 use Rattle.records.specs.Trees.{type_at, pair_below}
 use Rattle.records.specs.Written.{Written}
+use Rattle.records.proofs.CodeTable.{pair-number}
 use Rattle.records.proofs.Table.{is-pair}
 use Rattle.records.proofs.Types.{flat-type, pair-type, pair_parts}
 use Rattle.structure.specs.Rules.{wrong_type}
@@ -47,6 +48,9 @@ flat-or-pair (expression k) = refl
 flat-or-pair (pattern k) = refl
 flat-or-pair leaf = refl
 flat-or-pair unknown = refl
+
+pub pair-kind : (s : List ℕ) (r k : ℕ) → k ≡ word s r 0 → k ≡ 17 → kind_at s r ≡ type_of pair
+pair-kind s r k ek e = is-pair (kind_at s r) (pair-number _ ∙ eq-eqb _ 17 (sym ek ∙ e))
 
 pub counts-none : (s : List ℕ) → LeavesCounted s 0 (replicate 4096 0)
 counts-none s = record {

@@ -1,5 +1,5 @@
 -- How a record is named, as the number that stands in a table of namings.
-use Rattle.std.specs.Prelude.{ℕ, ◌+◌, ◌*◌, ◌<◌, ◌≤◌, ◌≡◌, List, [], ◌∷◌, ◌++◌, length, get_or, Bool, true}
+use Rattle.std.specs.Prelude.{ℕ, ◌+◌, ◌*◌, ◌<◌, ◌≡◌, List, [], ◌∷◌, ◌++◌, length, get_or, Bool, true}
 use Rattle.records.specs.Limits.{most_records}
 use Rattle.records.specs.Says.{Naming}
 use Rattle.structure.specs.declared.naming.Named.{Named}

@@ -1,8 +1,6 @@
 -- By the leaf count in the table and the search for a lower pair. Assumes nothing.
-use borrow.Author.Rules.{rules}
-use native.Mathlib.Omega.{arith}
 use borrow.Author.Tests.{lt-ltb}
-use mathlib.Core.Path.{sym, ◌∙◌, ap}
+use mathlib.Core.Path.{◌∙◌}
 use Rattle.records.specs.Kinds.{is_pair}
 use Rattle.records.proofs.Kinded.{same-pair, kind-equal}
 use Rattle.structure.proofs.LeafCounts.{no-pair-fits, many-leaves, few-leaves-fit}

@@ -1,6 +1,6 @@
 -- No naming before, another word than d, another word before, and one more d. Assumes nothing.
 use native.Mathlib.Omega.{arith}
-use Rattle.structure.proofs.Namers.{entry-several, entry-mixed, entry-shared, entry-badly}
+use Rattle.structure.proofs.Namers.{entry-several, entry-shared, entry-badly}
 use Rattle.structure.proofs.naming.Named.with.Goals as goal
 
 pub returns-in-Well-clause-summed : goal.returns-in-Well-clause-summed

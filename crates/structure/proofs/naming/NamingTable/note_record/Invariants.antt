@@ -1,5 +1,5 @@
 -- The invariant: the namings by the words before word `at` are added. Assumes nothing.
-use Prim.Native.Nat.{ℕ, ◌-◌}
+use Prim.Native.Nat.{◌-◌}
 use Rattle.records.specs.Says.{namings_in}
 use Rattle.structure.specs.NamerTable.{NamingsAdded}
 use Rattle.structure.proofs.naming.NamingTable.note_record.Given as goal

@@ -1,10 +1,8 @@
 -- By the record's kind, and by what the slot holds at which the search for its parts ends. Assumes nothing.
 use borrow.Author.Rules.{rules}
-use mathlib.Core.Path.{◌≡◌, sym, ◌∙◌, ap}
-use mathlib.Core.Bool.{true, false}
+use mathlib.Core.Path.{sym, ◌∙◌, ap}
 use Rattle.std.specs.Option.{is_some}
 use Rattle.records.specs.Kinds.{is_pair}
-use Rattle.records.specs.Says.{kind_at}
 use Rattle.records.proofs.Kinded.{same-pair, kind-unequal}
 use Rattle.structure.proofs.PairSearch.{no-pair-noted, lower-noted, pair-noted, none-given, some-given}
 use Rattle.structure.proofs.pairs.PairIndex.note.Goals as goal

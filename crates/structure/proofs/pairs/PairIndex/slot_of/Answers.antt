@@ -1,12 +1,11 @@
 -- The invariant: where the search from here on ends, the search from its beginning does. Each slot comes after the one before.
 -- Assumes nothing.
-use Prim.Native.Nat.{suc, ◌+◌, ◌*◌, ◌%◌, ◌/◌, ◌<◌, ◌≤◌}
-use mathlib.Core.Path.{◌≡◌, refl, sym, subst}
-use mathlib.Core.Bool.{true, false}
+use Prim.Native.Nat.{suc, ◌+◌, ◌*◌, ◌%◌, ◌<◌}
+use mathlib.Core.Path.{◌≡◌, refl}
+use mathlib.Core.Bool.{true}
 use native.Mathlib.Omega.{arith}
-use lib.ListN.{get_or}
 use Rattle.records.specs.Words.{count}
-use Rattle.structure.specs.PairIndex.{another, onwards, Ends}
+use Rattle.structure.specs.PairIndex.{another, onwards}
 use Rattle.structure.proofs.PairSearch.{goes_on}
 use Rattle.structure.proofs.pairs.PairIndex.slot_of.Goals as goal
 
