@@ -1,5 +1,4 @@
 -- Past the records a word reads as 0, so a type that is no record has no constructor. Assumes nothing.
-use borrow.Author.Rules.{rules}
 use Rattle.records.proofs.Reading.{constructor-past}
 use Rattle.records.proofs.sheet.Sheet.is_constructor.Goals as goal
 
