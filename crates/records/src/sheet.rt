@@ -9,6 +9,7 @@ use std::marker::Model;
 use crate::words::{offset, records_in};
 use crate::{RECORD_BYTES, SHEET_BYTES};
 
+#[derive(Drop)]
 pub struct Sheet<'a> {
     bytes: &'a [u8],
     records: usize,
