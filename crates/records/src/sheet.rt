@@ -3,11 +3,13 @@ ghost use Rattle.std.specs.Prelude.{◌≡◌, ◌<◌, ◌↔◌, ℕ, List, Is
 ghost use Rattle.records.specs.Words.{count, word};
 ghost use Rattle.records.specs.Sized.{Sized};
 ghost use Rattle.records.specs.Limits.{word_bound};
+ghost use Rattle.records.specs.Kinded.{kind_meant};
+ghost use Rattle.records.specs.Says.{kind_at};
 
-use std::marker::Model;
-
+use crate::kinds::Kind;
 use crate::words::{offset, records_in};
-use crate::{RECORD_BYTES, SHEET_BYTES};
+use crate::{RECORD_BYTES, SHEET_BYTES, WORD_KIND};
+use std::marker::Model;
 
 #[derive(Drop)]
 pub struct Sheet<'a> {
@@ -69,5 +71,12 @@ impl<'a> Sheet<'a> {
         let bytes = self.bytes;
         let at = offset(rec, k);
         usize::from(bytes[at]) + 256 * usize::from(bytes[at + 1])
+    }
+
+    pub fn kind(&self, rec: usize) -> Kind
+        requires { rec < count self.now }
+        ensures { kind_meant result ≡ kind_at self.now rec }
+    {
+        Kind::from(self.word(rec, WORD_KIND))
     }
 }

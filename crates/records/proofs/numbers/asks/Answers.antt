@@ -1,7 +1,7 @@
 -- In each arm the kind is a number, whose row antt looks up; in the last it is the number of no row. Assumes nothing.
 use Rattle.records.specs.Kinds.{row_of}
 use Rattle.records.proofs.CodeTable.{unknown-other}
-use Rattle.records.proofs.kinds.asks.Goals as goal
+use Rattle.records.proofs.numbers.asks.Goals as goal
 
 pub returns-in-1 : goal.returns-in-1
 unfolding row_of

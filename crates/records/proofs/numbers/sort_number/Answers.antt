@@ -2,7 +2,7 @@
 use native.Mathlib.Omega.{arith}
 use borrow.Author.Tests.{ne_eqb, lt-ltb, le-ltb}
 use Rattle.records.proofs.CodeTable.{sort-by-range}
-use Rattle.records.proofs.kinds.sort_number.Goals as goal
+use Rattle.records.proofs.numbers.sort_number.Goals as goal
 
 pub returns-in-1 : goal.returns-in-1
 returns-in-1 c = rw (← sort-by-range c.args.kind, c.in-1.is)
