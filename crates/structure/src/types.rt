@@ -15,7 +15,7 @@ use records::{Kind, MOST_LEAVES, RECORDS, Sheet, WORD_A, WORD_B, WidthTable};
 // The entry of a table of leaf counts for a type that has more leaves than it may.
 const TOO_WIDE: u8 = MOST_LEAVES + 1;
 
-// A table of leaf counts with no count in it.
+// A table of leaf counts with no count in it. It stays an array, as the calls that C makes keep it among their fixed memory.
 pub fn no_leaves() -> WidthTable
     ensures { (s : List ℕ) → LeavesCounted s 0 result }
 {
@@ -66,7 +66,7 @@ fn wrong_type(sheet: &Sheet, rec: usize, table: &WidthTable, index: &mut PairInd
 }
 
 // The lowest type record that is wrong: code 5. Where there is none, an empty index then has all
-// pair types.
+// pair types. A loop of its own, as its test adds to the index, and that of `lowest_record` changes nothing.
 pub fn first_wrong_type(sheet: &Sheet, table: &WidthTable, index: &mut PairIndex) -> Option<usize>
     requires { LeavesCounted sheet.now (count sheet.now) table.now × Indexed sheet.now 0 index.old }
     ensures { (found result ≡ lowest (wrong_type sheet.now) (count sheet.now)) × (result ≡ None → Indexed sheet.now (count sheet.now) index.new) }
