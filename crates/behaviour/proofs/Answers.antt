@@ -28,7 +28,7 @@ use Rattle.answers.proofs.First.{
 use Rattle.verdict.specs.Verdict.{sheet_checks, output_type, verdict}
 use Rattle.answers.specs.Answers.{Verdict}
 use Rattle.answers.specs.Answers.{Accepted}
-use Rattle.answers.specs.declared.Verdict.TheVariants as Verdicts
+use Rattle.answers.specs.Answers as Verdicts
 use Rattle.picoella.specs.Language.{leaves}
 use Rattle.records.specs.Trees.{type_at}
 use Rattle.records.proofs.Types.{some-leaves}

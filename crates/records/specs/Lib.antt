@@ -14,5 +14,6 @@ pub mod DecodingRows
 pub mod Limits
 pub mod Sized
 pub mod AskNumbers
+pub mod Kinded
 pub mod Written
 pub mod Rewritten

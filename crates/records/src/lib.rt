@@ -5,12 +5,13 @@ ghost use Rattle.std.specs.Prelude.{◌≡◌, length};
 ghost use Rattle.records.specs.Limits.{most_records};
 
 mod kinds;
+mod numbers;
 mod says;
 mod sheet;
 mod words;
 
-pub use kinds::{NAMES, ask_number, asks, sort_number};
-pub use says::well_said;
+pub use kinds::{Ask, Kind, Sort};
+pub use numbers::{NAMES, ask_number, asks, sort_number, well_said};
 pub use sheet::Sheet;
 pub use words::{offset, records_in, word};
 

@@ -3,12 +3,15 @@ ghost use Rattle.std.specs.Prelude.{◌≡◌, ◌<◌, ◌↔◌, ℕ, List, Is
 ghost use Rattle.records.specs.Words.{count, word};
 ghost use Rattle.records.specs.Sized.{Sized};
 ghost use Rattle.records.specs.Limits.{word_bound};
+ghost use Rattle.records.specs.Kinded.{kind_meant};
+ghost use Rattle.records.specs.Says.{kind_at};
 
+use crate::kinds::Kind;
+use crate::words::{offset, records_in};
+use crate::{RECORD_BYTES, SHEET_BYTES, WORD_KIND};
 use std::marker::Model;
 
-use crate::words::{offset, records_in};
-use crate::{RECORD_BYTES, SHEET_BYTES};
-
+#[derive(Drop)]
 pub struct Sheet<'a> {
     bytes: &'a [u8],
     records: usize,
@@ -60,6 +63,14 @@ impl<'a> Sheet<'a> {
         self.records
     }
 
+    // The number of the header's record, which every sheet has.
+    pub fn header(&self) -> usize
+        ensures { (result ≡ 0) × (result < count self.now) }
+    {
+        let _records = self.records;
+        0
+    }
+
     // Word k of a record: 0 is the kind, 1 next, 2 to 5 the words a, b, c, d.
     pub fn word(&self, rec: usize, k: usize) -> usize
         requires { (rec < count self.now) × (k < 6) }
@@ -68,5 +79,12 @@ impl<'a> Sheet<'a> {
         let bytes = self.bytes;
         let at = offset(rec, k);
         usize::from(bytes[at]) + 256 * usize::from(bytes[at + 1])
+    }
+
+    pub fn kind(&self, rec: usize) -> Kind
+        requires { rec < count self.now }
+        ensures { kind_meant result ≡ kind_at self.now rec }
+    {
+        Kind::from(self.word(rec, WORD_KIND))
     }
 }

@@ -5,12 +5,7 @@ ghost use Rattle.records.specs.Sized.{Sized};
 ghost use Rattle.records.specs.Limits.{most_records, word_bound};
 
 use crate::RECORD_BYTES;
-
-fn widened(x: u8) -> usize
-    ensures { (result ≡ x) × (result < 256) }
-{
-    x as usize
-}
+use crate::sheet::Sheet;
 
 // The number of whole records in so many bytes: the one place that divides by a record's length.
 pub fn records_in(length: usize) -> usize
@@ -32,6 +27,5 @@ pub fn word(sheet: &[u8], n: usize, rec: usize, k: usize) -> usize
     requires { Sized sheet.now n × (rec < n) × (k < 6) }
     ensures { (result ≡ word sheet.now rec k) × (result < word_bound) }
 {
-    let at = offset(rec, k);
-    widened(sheet[at]) + 256 * widened(sheet[at + 1])
+    Sheet::of(sheet, n).word(rec, k)
 }

@@ -2,7 +2,6 @@
 use mathlib.Core.Path.{refl}
 use native.Mathlib.Omega.{arith}
 use Rattle.records.specs.Words.{count}
-use Rattle.records.specs.Sized.{Sized}
 use Rattle.records.proofs.sheet.Sheet.new.Goals as goal
 
 pub invariant_of-result : goal.invariant_of-result
