@@ -6,7 +6,7 @@ ghost use Rattle.listing.specs.Wrote.{line_bytes};
 ghost use Rattle.printing.specs.Pieces.{no_file_line, told_text, text_from};
 ghost use Rattle.printing.specs.PutLines.{PuttingLines, PutLines, IsPiece};
 
-use answers::NO_FILE;
+use answers::Code;
 use listing::{LINE_BYTES, Outputs, Text};
 
 // A piece of text, and the cycle at which the next one begins, if this is not the last.
@@ -75,6 +75,6 @@ pub fn put_no_file<'b>(buffer: &'b mut [u8], place: u64) -> &'b [u8]
     ensures { result.now ≡ no_file_line place }
 {
     let mut text = Text::new(buffer);
-    text.put_refused(NO_FILE, place);
+    text.put_refused(Code::NoFile.number(), place);
     text.into_bytes()
 }

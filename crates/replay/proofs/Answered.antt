@@ -18,7 +18,7 @@ use Rattle.answers.proofs.StandardLaws.{standard-laws}
 use Rattle.verdict.specs.Verdict.{sheet_checks, output_type, verdict}
 use Rattle.answers.specs.Answers.{Verdict}
 use Rattle.answers.specs.Answers.{Accepted}
-use Rattle.answers.specs.declared.Verdict.TheVariants as Verdicts
+use Rattle.answers.specs.Answers as Verdicts
 use Rattle.accepted.specs.Accepting.{Accepting}
 use Rattle.accepted.proofs.Laws.{Refusing, refusing-answer, first-accepted}
 use Rattle.meaning.specs.Undecided.{undecided_rule}

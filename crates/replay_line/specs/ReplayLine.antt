@@ -2,8 +2,8 @@
 -- with a next slice of the right length: `agrees N`, the cycles done, or `cycle C leaf L`, from 0;
 -- or the one line of a refusal, as `sheetrun` does.
 use Rattle.std.specs.Prelude.{ℕ, List, length, replicate}
-use Rattle.answers.specs.declared.Answer.{Answer}
-use Rattle.answers.specs.declared.Answer.TheVariants.{Done, Refused}
+use Rattle.answers.specs.Answers.{Answer}
+use Rattle.answers.specs.Answers.{Done, Refused}
 use Rattle.listing.specs.Lines.{ascii, word_line, numbers_line, refused_line}
 use Rattle.replay.specs.declared.Finding.{Finding}
 use Rattle.replay.specs.declared.Finding.TheVariants.{Agrees, Differs}

@@ -14,7 +14,7 @@ use Rattle.answers.specs.Answers.{Done, Refused}
 use Rattle.verdict.specs.Verdict.{verdict}
 use Rattle.verdict.specs.CheckedTable.{Checked}
 use Rattle.answers.specs.Answers.{Verdict}
-use Rattle.answers.specs.declared.Verdict.TheVariants as Verdicts
+use Rattle.answers.specs.Answers as Verdicts
 use Rattle.accepted.specs.Accepting.{Accepting}
 use Rattle.accepted.proofs.Laws.{Refusing, refusing-answer}
 use Rattle.accepted.proofs.Small.{output-typed, accepted-sized}

@@ -12,11 +12,11 @@ use Rattle.picoella.specs.Language.{leaves}
 use Rattle.records.specs.Words.{word}
 use Rattle.records.specs.Trees.{type_at}
 use Rattle.answers.specs.Answers.{first_applying, SaysOf, lowest}
-use Rattle.answers.specs.declared.Answer.{Answer}
-use Rattle.answers.specs.declared.Answer.TheVariants.{Done}
+use Rattle.answers.specs.Answers.{Answer}
+use Rattle.answers.specs.Answers.{Done}
 use Rattle.answers.proofs.First.{when-none, first_says}
 use Rattle.verdict.specs.Verdict.{verdict}
-use Rattle.answers.specs.declared.Verdict.TheVariants.{Accepted}
+use Rattle.answers.specs.Answers.{Accepted}
 use Rattle.accepted.specs.Accepting.{Accepting}
 use Rattle.accepted.proofs.Small.{output-typed, accepted-few}
 use Rattle.stimulus.specs.Stimulus.{cycle_count, wrong_stimulus, wrong_byte, stimulus_checks}
