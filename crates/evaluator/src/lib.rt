@@ -1,5 +1,6 @@
-// One expression evaluated: by its kind, each part into its own part of a lent slice. A feedback's defining part is evaluated
-// again until the value is unchanged; the rounds ask for its value alone, and so leave a delay's part out.
+// One expression evaluated: by its kind, each part into its own part of a lent slice. A feedback's
+// defining part is evaluated again until the value is unchanged; the rounds ask for its value
+// alone, and so leave a delay's part out.
 #![tactic(auto)]
 
 ghost use Rattle.std.specs.Prelude.{◌≡◌, Bool, false, List, ℕ, ◌≤◌, get_or};
@@ -22,7 +23,8 @@ pub struct Evaluator<'a> {
     pub widths: &'a WidthTable,
 }
 
-// Where a chain of first and second parts ends, and from which leaf on the value there has what is asked for.
+// Where a chain of first and second parts ends, and from which leaf on the value there has what is
+// asked for.
 #[derive(Clone, Copy)]
 struct ChainEnd {
     rec: usize,
@@ -48,8 +50,8 @@ impl Evaluator<'_> {
         copy_part(env, names - 1 - k, from, out);
     }
 
-    // The end of the chain of first and second parts at a record, of whose value the leaves from `from` on are asked for. What is no
-    // first or second part is the end of its own.
+    // The end of the chain of first and second parts at a record, of whose value the leaves from
+    // `from` on are asked for. What is no first or second part is the end of its own.
     fn chain_end(&self, rec: usize, from: usize) -> ChainEnd
         requires { ((env : List ℕ) × (names : ℕ) × (out : List ℕ) × (Γ : List ℕ) × EvaluatingIn self.now.sheet.now (count self.now.sheet.now) self.now.widths.now env names rec out Γ) × (from ≤ get_or self.now.widths.now rec 0) }
         ensures { ChainEnded self.now.sheet.now (count self.now.sheet.now) self.now.widths.now rec from result.rec result.from }
@@ -65,9 +67,10 @@ impl Evaluator<'_> {
         }
     }
 
-    // Evaluates an expression: its value goes to `out` and, where `whole` is true, its delays' next values and the numbers of its IFs
-    // to their tables in the room. Where only the value is wanted, these tables stay as they are, and a delay's part, which says
-    // nothing of this cycle's value, is not evaluated.
+    // Evaluates an expression: its value goes to `out` and, where `whole` is true, its delays' next
+    // values and the numbers of its IFs to their tables in the room. Where only the value is
+    // wanted, these tables stay as they are, and a delay's part, which says nothing of this cycle's
+    // value, is not evaluated.
     #[cycle(evaluation)]
     pub fn eval(&self, room: &mut Room, names: usize, rec: usize, out: &mut [u8], whole: bool)
         requires { (Γ : List ℕ) × EvaluatingIn self.now.sheet.now (count self.now.sheet.now) self.now.widths.now room.old.env names rec out.old Γ }
@@ -86,7 +89,8 @@ impl Evaluator<'_> {
         }
     }
 
-    // Evaluates a part of an expression, which most often is a name or a constant: these at once, every other kind by `eval`.
+    // Evaluates a part of an expression, which most often is a name or a constant: these at once,
+    // every other kind by `eval`.
     #[cycle(evaluation)]
     fn eval_part(&self, room: &mut Room, names: usize, rec: usize, out: &mut [u8], whole: bool)
         requires { (Γ : List ℕ) × EvaluatingIn self.now.sheet.now (count self.now.sheet.now) self.now.widths.now room.old.env names rec out.old Γ }
@@ -130,8 +134,9 @@ impl Evaluator<'_> {
         self.eval_from(room, names, a, out, whole, from);
     }
 
-    // Evaluates an expression for a part of its value, from the leaf `from` on. A chain of first and second parts is one part of the
-    // value at its end, and is read there: in place where the end is a name, and else in the one room that the end is evaluated into.
+    // Evaluates an expression for a part of its value, from the leaf `from` on. A chain of first
+    // and second parts is one part of the value at its end, and is read there: in place where the
+    // end is a name, and else in the one room that the end is evaluated into.
     #[cycle(evaluation)]
     fn eval_from(
         &self,
@@ -184,7 +189,8 @@ impl Evaluator<'_> {
         self.eval_part(room, names + 1, b, out, whole);
     }
 
-    // Settles a feedback's name; then, where `whole` is true, evaluates its defining part there, for the next values and numbers.
+    // Settles a feedback's name; then, where `whole` is true, evaluates its defining part there,
+    // for the next values and numbers.
     #[cycle(evaluation)]
     fn hold_settled(&self, room: &mut Room, names: usize, d: usize, value: &mut [u8], whole: bool)
         requires { (t : ℕ) × (Γ : List ℕ) × SettlingIn self.now.sheet.now (count self.now.sheet.now) self.now.widths.now room.old.env names d value.old t Γ }
@@ -196,8 +202,8 @@ impl Evaluator<'_> {
         }
     }
 
-    // Evaluates a feedback's defining part, for its value alone, until it gives back unchanged what the feedback's name holds, or every
-    // leaf is defined, which no further application changes.
+    // Evaluates a feedback's defining part, for its value alone, until it gives back unchanged what
+    // the feedback's name holds, or every leaf is defined, which no further application changes.
     #[cycle(evaluation)]
     fn settle(&self, room: &mut Room, names: usize, d: usize, value: &mut [u8])
         requires { (t : ℕ) × (Γ : List ℕ) × SettlingIn self.now.sheet.now (count self.now.sheet.now) self.now.widths.now room.old.env names d value.old t Γ }

@@ -64,6 +64,7 @@ pub enum Ask {
 impl From<usize> for Kind {
     ghost from_gives = { λ number kind. kind_meant kind ≡ kind_of number };
 
+    #[inline(always)]
     fn from(number: usize) -> Kind {
         match number {
             1 => Kind::Header,

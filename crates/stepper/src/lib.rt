@@ -1,4 +1,5 @@
-// One cycle of a sheet: the root's value for an input, and the sheet with every delay holding its next value.
+// One cycle of a sheet: the root's value for an input, and the sheet with every delay holding its
+// next value.
 #![tactic(auto)]
 
 ghost use Rattle.std.specs.Prelude.{◌≡◌, ◌<◌};
@@ -47,9 +48,9 @@ fn copy_all(sheet: &Sheet, held: &NextValues, current: &mut [u8])
     }
 }
 
-// The evaluating half of a cycle from the sheet in `current`: the output goes to `out` and, where `whole` is true, the delays' next
-// values and the numbers of the IFs to their tables in the room; otherwise these two stay as they are. The sheet that was checked is
-// read for its records alone.
+// The evaluating half of a cycle from the sheet in `current`: the output goes to `out` and, where
+// `whole` is true, the delays' next values and the numbers of the IFs to their tables in the room;
+// otherwise these two stay as they are. The sheet that was checked is read for its records alone.
 pub fn look(
     sheet: &Sheet,
     widths: &WidthTable,
@@ -71,7 +72,8 @@ pub fn look(
     evaluator.eval(room, 1, root, out, whole);
 }
 
-// One cycle from the sheet in `current`: the output goes to `out`, and the sheet after the cycle to `current`.
+// One cycle from the sheet in `current`: the output goes to `out`, and the sheet after the cycle to
+// `current`.
 pub fn cycle(
     sheet: &Sheet,
     widths: &WidthTable,

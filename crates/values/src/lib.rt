@@ -25,11 +25,12 @@ pub type Environment = [u8; ENVIRONMENT];
 // A table of the delays' next values, one byte a record.
 pub type NextValues = [u8; RECORDS];
 
-// A table of the alternatives that fired, one number a record: at an IF that of the first alternative of its chain that says yes, 0
-// where none does.
+// A table of the alternatives that fired, one number a record: at an IF that of the first
+// alternative of its chain that says yes, 0 where none does.
 pub type Fired = [u16; RECORDS];
 
-// What evaluations are lent: the names' bytes, with room for 64 values of 64 leaves, and the tables that they fill.
+// What evaluations are lent: the names' bytes, with room for 64 values of 64 leaves, and the tables
+// that they fill.
 #[derive(Drop)]
 pub struct Room {
     pub env: Environment,
@@ -76,7 +77,8 @@ pub fn hold_leaves(sheet: &Sheet, first: usize, value: &[u8], held: &mut NextVal
     }
 }
 
-// The value of the name at this level, in the lent environment: w leaves from the start of its slot.
+// The value of the name at this level, in the lent environment: w leaves from the start of its
+// slot.
 pub fn look_up<T: Copy>(env: &[T], level: usize, w: usize) -> &[T]
     requires { (most_leaves * level + w ≤ length env.now) × (length env.now ≤ environment_bytes) }
     ensures { result.now ≡ take w (drop (most_leaves * level) env.now) }
@@ -85,7 +87,8 @@ pub fn look_up<T: Copy>(env: &[T], level: usize, w: usize) -> &[T]
     &env[at..at + w]
 }
 
-// A part of the value of the name at this level, in the lent environment: w leaves from the value's leaf `from` on.
+// A part of the value of the name at this level, in the lent environment: w leaves from the value's
+// leaf `from` on.
 pub fn look_up_part<T: Copy>(env: &[T], level: usize, from: usize, w: usize) -> &[T]
     requires { (most_leaves * level + from + w ≤ length env.now) × (length env.now ≤ environment_bytes) }
     ensures { result.now ≡ take w (drop (most_leaves * level + from) env.now) }
@@ -149,7 +152,8 @@ fn agreed(leaf: u8, other: u8) -> u8
     if leaf == other { leaf } else { 0 }
 }
 
-// The value of an undecided IF, where the then value is in `out`: each leaf on which both agree, and 0 elsewhere.
+// The value of an undecided IF, where the then value is in `out`: each leaf on which both agree,
+// and 0 elsewhere.
 fn undecided(otherwise: &[u8], out: &mut [u8])
     requires { length otherwise.now ≡ length out.old }
     ensures { out.new ≡ undecided_rule out.old otherwise.now }
@@ -192,7 +196,8 @@ impl Match {
         }
     }
 
-    // The answer of the alternative at p, a pair pattern, from this one of its first part and that of its second.
+    // The answer of the alternative at p, a pair pattern, from this one of its first part and that
+    // of its second.
     pub fn both(self, second: Match, p: usize) -> Match
         ensures { Own p result (pair_decision (decision_of self) (decision_of second)) }
     {
@@ -204,7 +209,8 @@ impl Match {
         }
     }
 
-    // The answer of a chain, from this one of its first alternatives and that of the next one: the first yes is told.
+    // The answer of a chain, from this one of its first alternatives and that of the next one: the
+    // first yes is told.
     pub fn either(self, next: Match) -> Match
         ensures decides { decision_of result ≡ chain_decision (decision_of self) (decision_of next) }
         ensures tells { told result ≡ or_after (decision_of self) (told self) (told next) }
@@ -274,8 +280,8 @@ fn match_one(sheet: &Sheet, widths: &WidthTable, p: usize, value: &[u8]) -> Matc
     }
 }
 
-// The value of an IF with the alternatives from p, where the then value is in `out`; given back is the record of the first
-// alternative that says yes, none where no one does.
+// The value of an IF with the alternatives from p, where the then value is in `out`; given back is
+// the record of the first alternative that says yes, none where no one does.
 pub fn choose_value(
     sheet: &Sheet,
     widths: &WidthTable,
