@@ -22,7 +22,7 @@ use Rattle.grammar.specs.Source.{
   DelayExpression,
 }
 use Rattle.name_rules.specs.Declared.{is_among, is_declared, type_role, constructor_role, at_first}
-use Rattle.name_rules.specs.Checks.{PlacedCheck, check_at, AllPass, no_check_left, one_holds, first_bad_place}
+use Rattle.name_rules.specs.Checks.{check_at, AllPass, first_bad_place}
 use Rattle.name_rules.specs.Constants.{letters, constant_type, is_typed, constant_place, constant_checks, constants_of_text}
 use Rattle.name_rules.specs.Names.{after_all, bind, is_one, declarations_checks, pattern_checks, constant_names, expression_checks, name_checks}
 use Rattle.name_rules.specs.RecordsNeeded.{leaf_counts, pattern_records, constant_leaves}

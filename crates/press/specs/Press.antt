@@ -12,8 +12,11 @@ use Rattle.verdict.specs.Verdict.{sheet_checks}
 use Rattle.stimulus.specs.Stimulus.{input_type, input_leaves}
 use Rattle.stimulus.specs.OneCycle.{one_cycle_checks}
 use Rattle.probe.specs.OutputLeaf.{leaf_for, leaf_check}
-use Rattle.press.specs.declared.Press.{Press}
-use Rattle.press.specs.declared.Press.TheVariants.{Change, NoChange}
+
+-- what is found: the change of an input leaf to a constructor, or none
+pub data Press : Type 0 where
+  Change : (leaf constructor : ℕ) → Press
+  NoChange : Press
 
 -- input leaf j set to c, which is not its present value, alters output leaf l
 abbrev pub alters_to : (sheet input : List ℕ) (leaf j c : ℕ) → Bool

@@ -15,7 +15,7 @@ use Rattle.behaviour.specs.Run.{output_leaves}
 use Rattle.preview.specs.Preview.{Previewed}
 use Rattle.probe.specs.OutputLeaf.{leaf_for}
 use Rattle.press.specs.Press.{one_press, press_checks, press_answer, final_press, PressGiven}
-use Rattle.press.specs.declared.Press.TheVariants.{Change, NoChange}
+use Rattle.press.specs.Press.{Change, NoChange}
 
 -- a change of one input leaf, to a constructor other than its present value, that alters the output
 -- leaf

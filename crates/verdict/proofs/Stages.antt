@@ -25,12 +25,11 @@ use Rattle.structure.specs.LeafTable.{LeavesCounted}
 use Rattle.std.specs.Prelude.{Option, Some, None}
 use Rattle.structure.proofs.Passes.{written, written-by, well-named}
 use Rattle.structure.proofs.Depths.{depth-of-root}
-use Rattle.typing.specs.Judging.{Ground, Judging, Judged, Context, scope_of}
+use Rattle.typing.specs.Judging.{Ground, Judging, Judged, Context}
 use Rattle.verdict.specs.Stages.{CheckingRecords, CheckingNamings, CheckingTypes, CheckingDepths, RulesChecked, StagesChecked}
 use Rattle.verdict.specs.Verdict.{verdict, by_types, by_records}
 use Rattle.verdict.specs.Scopes.{inputs}
-use Rattle.typing.specs.declared.Outcome.{Outcome}
-use Rattle.typing.specs.declared.Outcome.TheVariants.{Sound, Fault}
+use Rattle.typing.specs.Outcomes.{Outcome, Sound, Fault}
 use Rattle.answers.specs.Answers.{Verdict}
 use Rattle.answers.specs.Answers.{
   Accepted,
@@ -46,38 +45,37 @@ use Rattle.typing.proofs.Bounds.{counts-leaves}
 use Rattle.typing.proofs.Outcomes.{passed, faulted}
 
 -- the type rules
-module _ {s : List ℕ} {n : ℕ} {widths : List ℕ} (g : Ground s n widths) (stack : List ℕ) {x y : ℕ} (ex : x ≡ word s 0 2)
-    (ey : y ≡ word s 0 3) (scope : scope_of 1 stack ≡ x ∷ []) where
-  pub root-ready : length stack ≡ 64 → length widths ≡ 4096 → Judging s n stack 1 y widths
-  root-ready wide long =
+module _ {s : List ℕ} {n : ℕ} {widths : List ℕ} (g : Ground s n widths) (Γ : List ℕ) {x y : ℕ} (ex : x ≡ word s 0 2)
+    (ey : y ≡ word s 0 3) (scope : Γ ≡ x ∷ []) where
+  pub root-ready : length widths ≡ 4096 → Judging s n Γ y widths
+  root-ready long =
       let w = written g.passes in
       let r = root_is w in
       let c = g.sized.counted in
       let d = depth-of-root w (well-named g.passes) in
       record {
         ground = g;
-        wide = wide;
         long = long;
         there = omega (arith, r.1, ey);
         sort = rw ey r.2;
-        deep = rw ey (omega arith);
+        deep = rw (scope, ey) (omega arith);
         context = subst (λ (Γ : List ℕ). Context s Γ) (sym scope) (rw ex (input-type w), tt);
       }
 
   -- judging the root is judging the circuit
-  the-circuit : (answer : Outcome) (before after : List ℕ) → Judged s (scope_of 1 stack) (tree_at s y) answer before after
+  the-circuit : (answer : Outcome) (before after : List ℕ) → Judged s Γ (tree_at s y) answer before after
       → Judged s (inputs s) (circuit s) answer before after
   unfolding circuit
   the-circuit answer before after d = rw (scope, ex, ey) at d
 
-  pub rules-accept : (answer : Outcome) (t : ℕ) (before after : List ℕ) → Judged s (scope_of 1 stack) (tree_at s y) answer before after
+  pub rules-accept : (answer : Outcome) (t : ℕ) (before after : List ℕ) → Judged s Γ (tree_at s y) answer before after
       → answer ≡ Sound t → RulesChecked s (by_types s) (Accepted t) before after
   unfolding by_types
   rules-accept answer t before after d e =
       let p = passed t (the-circuit answer before after d) e in
       record { answered = rw (p.none-fails, p.typed); long = p.counted.long; notes = λ u q. p.notes }
 
-  pub rules-refuse : (answer : Outcome) (r : ℕ) (before after : List ℕ) → Judged s (scope_of 1 stack) (tree_at s y) answer before after
+  pub rules-refuse : (answer : Outcome) (r : ℕ) (before after : List ℕ) → Judged s Γ (tree_at s y) answer before after
       → answer ≡ Fault r → RulesChecked s (by_types s) (IllTyped r) before after
   unfolding by_types
   rules-refuse answer r before after d e =

@@ -23,20 +23,15 @@ ghost use Rattle.answers.specs.Results.{answer_of, verdict_of};
 ghost use Rattle.answers.specs.declared.Fault.TheVariants.{WrongLength};
 ghost use Rattle.records.specs.Limits.{most_records};
 
-use crate::on_sheets::judge_root;
 use answers::{Answer, Fault, Verdict, packed};
-use records::{
-    KIND_CONSTRUCTOR_PATTERN, KIND_PAIR_PATTERN, KIND_WHOLE_PATTERN, Sheet, WORD_A, WORD_B,
-    WORD_KIND, WidthTable, no_widths, records_in,
-};
+use records::{Kind, Sheet, WORD_A, WORD_B, WidthTable, no_widths, records_in};
 use structure::{
     NamingTable, PairIndex, Placements, capped_sum, count_types, first_wrong_record,
     first_wrong_type, no_leaves, wrong_header,
 };
-use typing::{Outcome, input_scope};
+use typing::{Scope, judge_root};
 
 mod checked;
-mod on_sheets;
 
 pub use checked::Checked;
 
@@ -64,12 +59,9 @@ fn check_rules(sheet: &Sheet, index: &PairIndex, widths: &mut WidthTable) -> Ver
     requires { Ground sheet.now (count sheet.now) widths.old × (length widths.old ≡ most_records) × Indexed sheet.now (count sheet.now) index.now }
     ensures { RulesChecked sheet.now (by_types sheet.now) (verdict_of result) widths.old widths.new }
 {
-    let scope = input_scope(sheet.word(0, WORD_A));
-    let judged = judge_root(sheet, index, &scope, 1, sheet.word(0, WORD_B), widths);
-    match judged {
-        Outcome::Sound(t) => Ok(t),
-        Outcome::Fault(r) => Err(Fault::IllTyped(r as u32)),
-    }
+    let scope = Scope::of_input(sheet.word(0, WORD_A));
+    let output_type = judge_root(sheet, index, &scope, sheet.word(0, WORD_B), widths)?;
+    Ok(output_type)
 }
 
 // The stages of the check after the length, in order: header, records, namings, types, depths, type
@@ -104,20 +96,15 @@ fn note_pattern(sheet: &Sheet, rec: usize, widths: &mut WidthTable)
     requires { Passes sheet.now × (rec < count sheet.now) × PatternsFrom sheet.now (rec + 1) widths.old }
     ensures { PatternsFrom sheet.now rec widths.new }
 {
-    let kind = sheet.word(rec, WORD_KIND);
-    if kind == KIND_WHOLE_PATTERN {
-        let t = sheet.word(rec, WORD_A);
-        widths[rec] = widths[t];
-        return;
-    }
-    if kind == KIND_CONSTRUCTOR_PATTERN {
-        widths[rec] = 1;
-        return;
-    }
-    if kind == KIND_PAIR_PATTERN {
-        let p = sheet.word(rec, WORD_A);
-        let q = sheet.word(rec, WORD_B);
-        widths[rec] = capped_sum(widths[p], widths[q]);
+    match sheet.kind(rec) {
+        Kind::WholePattern => widths[rec] = widths[sheet.word(rec, WORD_A)],
+        Kind::ConstructorPattern => widths[rec] = 1,
+        Kind::PairPattern => {
+            let first = widths[sheet.word(rec, WORD_A)];
+            let second = widths[sheet.word(rec, WORD_B)];
+            widths[rec] = capped_sum(first, second);
+        }
+        _ => {}
     }
 }
 

@@ -5,7 +5,7 @@ use Rattle.std.specs.Prelude.{ℕ, ◌≡◌, List, map}
 use Prim.Native.String.{String}
 use Rattle.records.specs.SheetOf.{Record, sheet_of}
 use Rattle.typing.specs.Rows.{TypingRow, judged_to}
-use Rattle.typing.specs.declared.Outcome.TheVariants.{Sound, Fault}
+use Rattle.typing.specs.Outcomes.{Sound, Fault}
 use Rattle.verdict.specs.Verdict.{verdict}
 use Rattle.answers.specs.Answers.{Verdict}
 use Rattle.answers.specs.Answers.{Accepted, IllTyped}
