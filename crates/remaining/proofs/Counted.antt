@@ -64,7 +64,7 @@ module _ {s W : List ℕ} {t : ℕ} (g : Accepting s (count s) W) (v : verdict s
     pub past-small : (f : Std.Option ℕ) (r : ℕ) → found f ≡ lowest (past_sets s) (count s) → f ≡ Std.Some r → r < 4096
     past-small f r e h =
         let l : lowest (past_sets s) (count s) ≡ some r = sym e ∙ ap found h in
-        let b = (lowest-some-passes (past_sets s) n r l).0 in
+        let b = (lowest-some-passes (past_sets s) (count s) r l).0 in
         let w = g.sized.few in
         omega arith
 
