@@ -16,8 +16,7 @@ use Rattle.grammar.specs.Machine.{lead_byte, lead_of, symbol_byte, first_letter}
 use Rattle.recognizer.specs.Coded.{lead_bytes}
 use Rattle.name_rules.specs.TokenWalk.{NameScope, scope, ScopeEffect, may_take, holds_in, met_in, left_by, ended_by, effect_on, bound_in, declared_in}
 use Rattle.lexer.specs.Scanned.{FirstToken, NamedBy}
-use Rattle.symbols.specs.Names.{letters_at, letters_from, Inside}
-use Rattle.symbols.specs.Spans.{place_of, count_of}
+use Rattle.symbols.specs.Names.{place_of, count_of, letters_at, letters_from, Inside}
 use Rattle.symbols.specs.RoleNumbers.{role_codes}
 use Rattle.scoping.specs.Scoped.{held_scope, pending_names, NameNoted, Rescoped, effect_of}
 use Rattle.scoping.specs.Held.{held, After, Noted}

@@ -8,4 +8,4 @@ pub returns-then-is_small_letter : goal.returns-then-is_small_letter
 returns-then-is_small_letter c = scope-name-noted (told-true c.is_small_letter.ensures c.if-is_small_letter.true) c.note_name.ensures
 
 pub returns : goal.returns
-returns c = scope-other-noted (told-false c.is_small_letter.ensures c.if-is_small_letter.false) c.note_other.ensures
+returns c = scope-other-noted (told-false c.is_small_letter.ensures c.if-is_small_letter.false) c.note_other.ensures.0
