@@ -49,7 +49,7 @@ use Rattle.typing.specs.Judgements.{pattern_fits}
 use Rattle.typing.specs.Judging.{Judging, Closing, Fitting, PartAt, at_first, at_second}
 use Rattle.typing.specs.PatternTable.{PatternsTyped, TypingPattern, TypeTables}
 use Rattle.verdict.specs.Verdict.{by_types, by_records, verdict}
-use Rattle.answers.specs.declared.Verdict.TheVariants.{Accepted}
+use Rattle.answers.specs.Answers.{Accepted}
 use Rattle.verdict.proofs.Exact.{exact}
 use Rattle.accepted.proofs.TypeTables.{search-ends}
 use Rattle.accepted.proofs.Callable as Callable

@@ -11,7 +11,7 @@ use native.Mathlib.Decide.{ℕ_discrete, dec_lt}
 use native.Mathlib.Numerals.{add-one}
 use lib.ListN.{length, get_or, set, replicate}
 use Rattle.records.specs.Words.{count, word}
-use Rattle.records.specs.Kinds.{PatternKind, pattern, whole, constructor, parts, patterns, type_of, flat}
+use Rattle.records.specs.Kinds.{PatternKind, pattern, whole, constructor, parts, patterns, type_of, flat, is_pair}
 use Rattle.records.specs.Kinds as Kinds
 use Rattle.records.specs.Says.{kind_at, sort_at}
 use Rattle.records.specs.Trees.{pair_below}
@@ -49,9 +49,9 @@ module _ (s index : List ℕ) (a b : ℕ) {m : ℕ} (links : Linked m index) (fe
           → (k : ℕ) × (end : ℕ) × Ends s index a b k slot bits end
       go false e later = (0, slot, (e, refl))
       go true e later =
-          let g = goes_on s index a b {slot = slot} links few bits (sym e) refl in
-          let r = later (onwards index slot bits) (bits / 2) (omega (arith, g.0)) g.1 in
-          (suc r.0, r.1, (g.2, r.2))
+          let g = goes_on s index a b {slot = slot} links few bits e refl in
+          let r = later (onwards index slot bits) (bits / 2) (omega (arith, g.1)) g.2 in
+          (suc r.0, r.1, (e, r.2))
 
   pub search-ends : (end : ℕ) × SlotFound s index a b end
   search-ends =
@@ -61,18 +61,19 @@ module _ (s index : List ℕ) (a b : ℕ) {m : ℕ} (links : Linked m index) (fe
 
 -- the index with one more record
 one-more-indexed : (s : List ℕ) (r : ℕ) → r < 4096 → (index : List ℕ) → Indexed s r index → (more : List ℕ) × Indexed s (r + 1) more
-one-more-indexed s r few index ix = go (ℕ_discrete (word s r 0) 17)
+one-more-indexed s r few index ix = go (is_pair (kind_at s r)) refl
   where
-    paired : word s r 0 ≡ 17 → ((end : ℕ) × SlotFound s index (word s r 2) (word s r 3) end) → (more : List ℕ) × Indexed s (r + 1) more
+    paired : is_pair (kind_at s r) ≡ true → ((end : ℕ) × SlotFound s index (word s r 2) (word s r 3) end)
+        → (more : List ℕ) × Indexed s (r + 1) more
     paired e q = by (ℕ_discrete (get_or index q.0 0) 0)
       where
         by : Dec (get_or index q.0 0 ≡ 0) → (more : List ℕ) × Indexed s (r + 1) more
-        by (yes z) = (set index q.0 r, (pair-noted ix refl e refl refl q.1 few z).1)
-        by (no z) = (index, (lower-noted ix refl e refl refl q.1 z).1)
+        by (yes z) = (set index q.0 r, (pair-noted ix e refl refl q.1 few z).1)
+        by (no z) = (index, (lower-noted ix e refl refl q.1 z).1)
 
-    go : Dec (word s r 0 ≡ 17) → (more : List ℕ) × Indexed s (r + 1) more
-    go (yes e) = paired e (search-ends s index (word s r 2) (word s r 3) ix.linked (omega arith))
-    go (no f) = (index, (no-pair-noted ix refl f).1)
+    go : (t : Bool) → is_pair (kind_at s r) ≡ t → (more : List ℕ) × Indexed s (r + 1) more
+    go true e = paired e (search-ends s index (word s r 2) (word s r 3) ix.linked (omega arith))
+    go false f = (index, (no-pair-noted ix f).1)
 
 -- a pattern has a type, or none that its alternatives share
 module _ {s : List ℕ} {n : ℕ} {index types : List ℕ} {r : ℕ} (q : TypingPattern s n index types r) (sort : sort_at s r ≡ patterns) where

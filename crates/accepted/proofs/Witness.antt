@@ -38,7 +38,7 @@ use Rattle.structure.specs.Rules.{
 use Rattle.verdict.specs.Verdict.{by_types, by_records, verdict}
 use Rattle.verdict.specs.Scopes.{inputs, root}
 use Rattle.verdict.specs.Promises.{WellTyped}
-use Rattle.answers.specs.declared.Verdict.TheVariants.{Accepted}
+use Rattle.answers.specs.Answers.{Accepted}
 use native.Mathlib.Omega.{arith}
 use lib.ListN.{length}
 use Rattle.records.specs.Sized.{Sized}

@@ -38,7 +38,7 @@ use Rattle.records.proofs.Trees.{from-above, tree-of}
 use Rattle.records.proofs.Leaves.{chain-leaves}
 use Rattle.records.proofs.Rewritten.{same-type}
 use Rattle.verdict.specs.Verdict.{verdict}
-use Rattle.answers.specs.declared.Verdict.TheVariants.{Accepted}
+use Rattle.answers.specs.Answers.{Accepted}
 use Rattle.accepted.proofs.Small.{accepted-passes}
 use Rattle.accepted.proofs.AcceptedAgain.{ValuesFit, accepted-again}
 use Rattle.accepted.proofs.Scopes.{scope-checked, constant-fits}

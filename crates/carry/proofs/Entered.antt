@@ -23,7 +23,7 @@ use Rattle.records.proofs.Distinct.{chain-only}
 use Rattle.records.proofs.Rewritten.{same-chain}
 use Rattle.answers.specs.Answers.{when}
 use Rattle.verdict.specs.Verdict.{verdict}
-use Rattle.answers.specs.declared.Verdict.TheVariants.{Accepted}
+use Rattle.answers.specs.Answers.{Accepted}
 use Rattle.behaviour.specs.Entries.{Entry, put_all, put_word}
 use Rattle.behaviour.specs.Afterwards.{OnlyDelays}
 use Rattle.behaviour.proofs.Entries.{places_of, place-of-member, put-append, put-leaves, put-elsewhere, put-read}

@@ -22,7 +22,7 @@ use Rattle.structure.specs.Rules.{ancestry_within, ancestry, depth, nesting, wro
 use Rattle.answers.specs.Answers.{lowest}
 use Rattle.answers.proofs.Lowest.{lowest-none-fails}
 use Rattle.verdict.specs.Verdict.{by_types, by_records, verdict}
-use Rattle.answers.specs.declared.Verdict.TheVariants.{Accepted}
+use Rattle.answers.specs.Answers.{Accepted}
 use Rattle.accepted.proofs.Small.{accepted-sized}
 use Rattle.carry.specs.Labels.{label, label_twice}
 use Rattle.carry.specs.Bearers.{Bearers, Labelling, Labelled}

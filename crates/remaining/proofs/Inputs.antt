@@ -13,7 +13,7 @@ use Rattle.records.specs.Written.{Written}
 use Rattle.records.proofs.Types.{few-leaves}
 use Rattle.verdict.specs.Scopes.{Scope, root, inputs}
 use Rattle.verdict.specs.Verdict.{verdict, output_type}
-use Rattle.answers.specs.declared.Verdict.TheVariants.{Accepted}
+use Rattle.answers.specs.Answers.{Accepted}
 use Rattle.accepted.specs.Accepting.{Accepting}
 use Rattle.accepted.proofs.Laws.{written, types-fit, accepted-by-types, input-context}
 use Rattle.accepted.proofs.Calls.{accepted-output}

@@ -15,12 +15,12 @@ use Rattle.records.specs.Words.{count}
 use Rattle.records.specs.Trees.{type_at}
 use Rattle.answers.specs.Answers.{lowest, Check, check, when, NoneApplies}
 use Rattle.answers.specs.GivenSlices.{SmallPlaces, no_slice, one_slice}
-use Rattle.answers.specs.declared.Answer.TheVariants.{Done}
+use Rattle.answers.specs.Answers.{Done}
 use Rattle.answers.proofs.First.{when-none, when-some, none-split, same-length-by}
 use Rattle.answers.proofs.Lowest.{lowest-some-passes}
 use Rattle.answers.proofs.StandardLaws.{zero-done}
 use Rattle.verdict.specs.Verdict.{sheet_checks, verdict, output_type}
-use Rattle.answers.specs.declared.Verdict.TheVariants.{Accepted}
+use Rattle.answers.specs.Answers.{Accepted}
 use Rattle.accepted.proofs.Calls.{none-of-call, call-laws, accepted-output}
 use Rattle.accepted.proofs.Laws.{first-accepted}
 use Rattle.accepted.proofs.Small.{accepted-few, accepted-sized}

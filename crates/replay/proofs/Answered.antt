@@ -10,15 +10,15 @@ use lib.ListN.{length, get_or}
 use lib.Dec.{eqb}
 use Rattle.records.specs.Words.{word}
 use Rattle.answers.specs.Answers.{code, place, in_one, packed, Check, check, first_applying, NoneApplies, or_refused, SaysOf, verdict_answer, when, when_done, lowest}
-use Rattle.answers.specs.declared.Answer.{Answer}
-use Rattle.answers.specs.declared.Answer.TheVariants.{Done, Refused}
+use Rattle.answers.specs.Answers.{Answer}
+use Rattle.answers.specs.Answers.{Done, Refused}
 use Rattle.answers.specs.GivenSlices.{no_slice, one_slice}
 use Rattle.answers.proofs.First.{first_says, none-split, when-none, same-length-by}
 use Rattle.answers.proofs.StandardLaws.{standard-laws}
 use Rattle.verdict.specs.Verdict.{sheet_checks, output_type, verdict}
-use Rattle.answers.specs.declared.Verdict.{Verdict}
-use Rattle.answers.specs.declared.Verdict.TheVariants.{Accepted}
-use Rattle.answers.specs.declared.Verdict.TheVariants as Verdicts
+use Rattle.answers.specs.Answers.{Verdict}
+use Rattle.answers.specs.Answers.{Accepted}
+use Rattle.answers.specs.Answers as Verdicts
 use Rattle.accepted.specs.Accepting.{Accepting}
 use Rattle.accepted.proofs.Laws.{Refusing, refusing-answer, first-accepted}
 use Rattle.meaning.specs.Undecided.{undecided_rule}

@@ -7,7 +7,7 @@ use native.Mathlib.Omega.{arith}
 use lib.ListN.{length}
 use Rattle.picoella.specs.Language.{leaves}
 use Rattle.answers.specs.Answers.{packed}
-use Rattle.answers.specs.declared.Answer.TheVariants.{Done}
+use Rattle.answers.specs.Answers.{Done}
 use Rattle.verdict.specs.Verdict.{output_type}
 use Rattle.meaning.specs.Constants.{flatten}
 use Rattle.meaning.specs.Undecided.{undecided_rule}

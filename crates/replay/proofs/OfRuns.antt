@@ -11,7 +11,7 @@ use lib.ListN.{length, get_or, set, take, drop, length-set}
 use lib.Seq.{get_or-take, get_or-drop, get_or-set_same, get_or-set_other, drop-set-add, take-set-le}
 use Rattle.records.specs.Trees.{type_at}
 use Rattle.records.proofs.Types.{some-leaves}
-use Rattle.answers.specs.declared.Answer.TheVariants.{Done}
+use Rattle.answers.specs.Answers.{Done}
 use Rattle.verdict.specs.Verdict.{output_type}
 use Rattle.accepted.proofs.Calls.{accepted-output}
 use Rattle.meaning.specs.Undecided.{undecided_rule}

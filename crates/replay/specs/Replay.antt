@@ -6,8 +6,8 @@
 use Rattle.std.specs.Prelude.{ℕ, zero, suc, ◌≡◌, Bool, not, List, [], ◌∷◌, ◌++◌, length, get_or, eqb}
 use Rattle.std.proofs.Math.Option.{Option, none, some}
 use Rattle.answers.specs.Answers.{packed, when_done, lowest, Check, check, when, first_applying}
-use Rattle.answers.specs.declared.Answer.{Answer}
-use Rattle.answers.specs.declared.Answer.TheVariants.{Done, Refused}
+use Rattle.answers.specs.Answers.{Answer}
+use Rattle.answers.specs.Answers.{Done, Refused}
 use Rattle.verdict.specs.Verdict.{sheet_checks, output_type}
 use Rattle.meaning.specs.Undecided.{undecided_rule}
 use Rattle.stimulus.specs.Stimulus.{cycle_count, cycles, stimulus_checks}

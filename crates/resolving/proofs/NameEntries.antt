@@ -188,7 +188,7 @@ module _ (text spans : List ℕ) {roles types ranks : List ℕ} {base : ℕ} (r 
       input-said e = unbound ∙ ap (λ x. cond x (declared_said 6 w D) (use_name (n - base))) (sym e)
 
 -- one more declared name with its numbers
-types_few : (roles : List ℕ) (k : ℕ) → types_below roles k ≤ k
+pub types_few : (roles : List ℕ) (k : ℕ) → types_below roles k ≤ k
 types_few roles zero = omega arith
 types_few roles (suc k) = go (eqb (get_or roles k 0) 0) (types_few roles k)
   where
@@ -196,7 +196,7 @@ types_few roles (suc k) = go (eqb (get_or roles k 0) 0) (types_few roles k)
     go true h = omega arith
     go false h = omega arith
 
-ranks-few : (roles : List ℕ) (k : ℕ) → ranks_below roles k ≤ k
+pub ranks-few : (roles : List ℕ) (k : ℕ) → ranks_below roles k ≤ k
 ranks-few roles zero = omega arith
 ranks-few roles (suc k) = go (eqb (get_or roles k 0) 0) (ranks-few roles k)
   where

@@ -14,15 +14,19 @@ use Rattle.grammar.specs.Tokens.{Token, keyword, symbol, name_token}
 use Rattle.grammar.specs.Rows.{State, a_name}
 use Rattle.grammar.specs.Machine.{lead_byte, lead_of, symbol_byte, first_letter}
 use Rattle.recognizer.specs.Coded.{lead_bytes}
-use Rattle.name_rules.specs.TokenWalk.{NameScope, scope, ScopeEffect, may_take, holds_in, met_in, left_by, ended_by, effect_on}
+use Rattle.name_rules.specs.TokenWalk.{NameScope, scope, ScopeEffect, may_take, holds_in, met_in, left_by, ended_by, effect_on, bound_in, declared_in}
 use Rattle.lexer.specs.Scanned.{FirstToken, NamedBy}
-use Rattle.symbols.specs.Names.{letters_at, letters_from, place_of, count_of, Inside}
-use Rattle.scoping.specs.Scoped.{held_scope, NameNoted, Rescoped, effect_of}
+use Rattle.symbols.specs.Names.{place_of, count_of, letters_at, letters_from, Inside}
+use Rattle.symbols.specs.RoleNumbers.{role_codes}
+use Rattle.scoping.specs.Scoped.{held_scope, pending_names, NameNoted, Rescoped, effect_of}
+use Rattle.scoping.specs.Held.{held, After, Noted}
+use Rattle.scoping.specs.declared.scopes.Scope.{Scope}
 use Rattle.name_rules.specs.Declared.{DeclaredName}
 use Rattle.instructions.specs.TokenOrder.{op_by, in_constant, name_said, other_said, pair_before, instructions_on}
 use Rattle.resolving.specs.Said.{span_between, class_said}
-use Rattle.resolving.specs.Walked.{TokenNoted, FoundWith}
-use Rattle.resolving.proofs.SayingLaws.{class-name, class-other, pair-before}
+use Rattle.resolving.specs.Walked.{TokenNoted, FoundWith, ScopeNoted}
+use Rattle.resolving.proofs.DeclareLaws.{name-declares, other-declares}
+use Rattle.resolving.proofs.SayingLaws.{class-name, class-other}
 
 symbol-lead : (s : Symbol) → symbol_byte s ≡ 97 → ⊥
 symbol-lead opens e = omega arith
@@ -158,6 +162,36 @@ class-instructions {text} {start} {class} {span} {q} P B D K op delayed (symbol 
     ∙ ap₂ other_said (e ∙ ap (op_by q) f.found.leads) (sym f.found.placed)
 class-instructions {text} {start} {class} {span} {q} P B D K op delayed (name_token w p) f e g =
     class-name op delayed (letters_at text span) B D class start q (a-name w p f.found)
-    ∙ sym (pair-before q (name_said op delayed (letters_at text span) B D))
     ∙ ap₂ (λ x y. pair_before q (name_said x y (letters_at text span) B D)) (e ∙ ap (op_by q) f.found.leads) g
     ∙ ap (λ x. pair_before q (name_said (op_by q 97) (in_constant K) x B D)) (sym f.spelled.0)
+
+-- of a scope
+pub scope-name-noted : {class span effect : ℕ} {q : State} {old new : Scope} {ok : Bool} → class ≡ 10 → Noted q (effect_of effect) span old ok new
+    → ScopeNoted class span effect q old ok new
+scope-name-noted {span} {effect} {q} {old} {new} {ok} c r = record {
+  same_text = r.same_text;
+  few = λ o. (r.noted.rescoped o).scoping.few;
+  declared = λ o.
+      name-declares (effect_of effect) (letters_at old.names.text.now span) (pending_names old.names.text.now old.pendings old.waiting)
+      (bound_in (held old)) (ap declared_in (r.noted.rescoped o).same_scope);
+  noted = λ a b t others f.
+      subst
+      (λ x. TokenNoted q t (held old) ok
+      (held_scope x new.base new.names.count new.waiting new.names.spans (role_codes new.roles) new.pendings)) (sym r.same_text)
+      (name-noted f c r.noted);
+}
+
+pub scope-other-noted : {class span effect : ℕ} {q : State} {old new : Scope} → (class ≡ 10 → ⊥)
+    → After (ended_by (effect_of effect) (held old)) (old.names.count + old.waiting + 1) old new → ScopeNoted class span effect q old true new
+scope-other-noted {effect} {q} {old} {new} c r = record {
+  same_text = r.same_text;
+  few = λ o. r.rescoped.scoping.few;
+  declared = λ o.
+      other-declares (effect_of effect) (pending_names old.names.text.now old.pendings old.waiting) (bound_in (held old))
+      (ap declared_in r.rescoped.same_scope);
+  noted = λ a b t others f.
+      subst
+      (λ x. TokenNoted q t (held old) true
+      (held_scope x new.base new.names.count new.waiting new.names.spans (role_codes new.roles) new.pendings)) (sym r.same_text)
+      (other-noted f c r.rescoped);
+}

@@ -14,13 +14,13 @@ use Rattle.picoella.specs.Language.{leaves}
 use Rattle.records.specs.Trees.{type_at}
 use Rattle.records.proofs.Types.{some-leaves}
 use Rattle.answers.specs.Answers.{code, place, code_of_result, place_of_result, verdict_answer, packed, first_applying, SaysOf}
-use Rattle.answers.specs.declared.Answer.{Answer}
-use Rattle.answers.specs.declared.Answer.TheVariants.{Done, Refused}
+use Rattle.answers.specs.Answers.{Answer}
+use Rattle.answers.specs.Answers.{Done, Refused}
 use Rattle.answers.proofs.First.{first_says}
 use Rattle.answers.proofs.Kept as Answers
 use Rattle.verdict.specs.Verdict.{sheet_checks, output_type, verdict}
-use Rattle.answers.specs.declared.Verdict.{Verdict}
-use Rattle.answers.specs.declared.Verdict.TheVariants.{Accepted}
+use Rattle.answers.specs.Answers.{Verdict}
+use Rattle.answers.specs.Answers.{Accepted}
 use Rattle.accepted.proofs.Laws.{verdict-first, first-accepted, Refusing, refusing-answer}
 use Rattle.accepted.proofs.Small.{accepted-few}
 use Rattle.stimulus.specs.Stimulus.{input_type, wrong_stimulus, stimulus_checks, cycle_count}

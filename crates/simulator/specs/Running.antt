@@ -8,7 +8,7 @@ use Rattle.records.specs.Sized.{Sized}
 use Rattle.records.specs.Trees.{type_at}
 use Rattle.verdict.specs.Verdict.{verdict}
 use Rattle.verdict.specs.Widths.{Widths}
-use Rattle.answers.specs.declared.Verdict.TheVariants.{Accepted}
+use Rattle.answers.specs.Answers.{Accepted}
 use Rattle.meaning.specs.Undecided.{undecided_rule}
 use Rattle.behaviour.specs.Cycle.{output, sheet_after_cycle}
 use Rattle.stimulus.specs.Stimulus.{input_leaves, end_to_end, cycles}

@@ -17,8 +17,8 @@ use Rattle.records.specs.Words.{word}
 use Rattle.records.proofs.Tests.{neither_left, neither_right}
 use Rattle.records.proofs.Types.{some-leaves}
 use Rattle.answers.specs.Answers.{first_applying, NoneApplies, SaysOf, lowest}
-use Rattle.answers.specs.declared.Answer.{Answer}
-use Rattle.answers.specs.declared.Answer.TheVariants.{Done, Refused}
+use Rattle.answers.specs.Answers.{Answer}
+use Rattle.answers.specs.Answers.{Done, Refused}
 use Rattle.answers.proofs.First.{when-none, first_says}
 use Rattle.accepted.specs.Accepting.{Accepting}
 use Rattle.meaning.specs.Values.{AllOf, all_more}

@@ -10,8 +10,8 @@ use lib.ListN.{length, replicate, length-replicate, take-append-drop}
 use lib.Dec.{ltb}
 use Rattle.records.specs.SheetOf.{Record, sheet_of}
 use Rattle.answers.specs.Answers.{when}
-use Rattle.answers.specs.declared.Answer.{Answer}
-use Rattle.answers.specs.declared.Answer.TheVariants.{Done, Refused}
+use Rattle.answers.specs.Answers.{Answer}
+use Rattle.answers.specs.Answers.{Done, Refused}
 use Rattle.grammar.specs.Tokens.{Token}
 use Rattle.grammar.specs.Source.{identifier, Text, text}
 use Rattle.grammar.specs.Grammar.{ReadsText}

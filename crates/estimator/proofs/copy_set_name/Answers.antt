@@ -14,8 +14,8 @@ overflow_sub-names c = let h = name-in-scope c.requires.0.2.at_hand c.requires.1
 pub overflow_sub-names-2 : goal.overflow_sub-names-2
 overflow_sub-names-2 c = let h = name-in-scope c.requires.0.2.at_hand c.requires.1 c.word-k.ensures.0 in omega arith
 
-pub copy_sets-requires : goal.copy_sets-requires
-copy_sets-requires c = name-room c.requires.0.2.at_hand c.requires.1 c.word-k.ensures.0
+pub copy_value-requires : goal.copy_value-requires
+copy_value-requires c = name-room c.requires.0.2.at_hand c.requires.1 c.word-k.ensures.0
 
 pub returns : goal.returns
-returns c = record { done = λ Γ ρ r. set-name-done r c.requires.1 c.word-k.ensures.0 c.copy_sets.ensures }
+returns c = record { done = λ Γ ρ r. set-name-done r c.requires.1 c.word-k.ensures.0 c.copy_value.ensures }

@@ -1,7 +1,7 @@
 -- Assumes nothing.
-use native.Mathlib.Nat.{sub-zero}
-use Rattle.report.proofs.Telling.{report-told}
+use mathlib.Core.Path.{◌∙◌}
+use Rattle.report.proofs.Telling.{told-reported}
 use Rattle.report.proofs.tell_report.Goals as goal
 
 pub returns : goal.returns
-returns c = report-told c.tell-told.ensures (rw sub-zero at c.put_told.ensures)
+returns c = c.into_bytes.ensures ∙ (rw c.new-text.ensures at c.put_told.ensures.bytes) ∙ told-reported c.tell-told.ensures

@@ -1,11 +1,11 @@
--- The invariant: what is left begins at cycle k, whose leaves begin inside the outputs. The measure is the text that is left; each piece
--- has a byte at least.
+-- The invariant: what is left begins inside the outputs or at their end. The measure is the text
+-- that is left; each piece has a byte at least.
 use Rattle.std.proofs.Common.{◌≡◌, ◌≤◌, ◌*◌, length}
-use Rattle.printing.specs.Pieces.{text_left}
+use Rattle.printing.specs.PutLines.{next_cycle, text_after}
 use Rattle.sheetrun.proofs.print.Given as goal
 
-abbrev pub invariant-loop-last : goal.invariant-loop-last
-invariant-loop-last g l = (length l.buffer ≡ 65536) × (l.first ≡ l.k * l.w) × (l.first ≤ length l.outputs)
+abbrev pub invariant-loop-next : goal.invariant-loop-next
+invariant-loop-next g l = (length l.buffer ≡ 65536) × (next_cycle l.next * l.outputs.width ≤ length l.outputs.leaves.now)
 
-abbrev pub decreases-loop-last : goal.decreases-loop-last
-decreases-loop-last g l = length (text_left l.last l.w l.k l.outputs)
+abbrev pub decreases-loop-next : goal.decreases-loop-next
+decreases-loop-next g l = length (text_after l.outputs.width l.outputs.leaves.now l.next)
