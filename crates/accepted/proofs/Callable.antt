@@ -259,10 +259,10 @@ module _ {s : List ℕ} (p : Passes s) (full : length s ≡ 12 * count s) where
   note-patterns-callable = let x = patterns-from p full (count s) (omega arith) in (x.0, size, p, x.1)
 
   -- accepted
-  pub accepting : (t : ℕ) → verdict s ≡ Accepted t → Accepting s (count s) (widths p full).0
-  accepting t e = record { sized = size; type = t; accepted = e; table = (widths p full).1 }
+  pub callable-accepting : (t : ℕ) → verdict s ≡ Accepted t → Accepting s (count s) (widths p full).0
+  callable-accepting t e = record { sized = size; type = t; accepted = e; table = (widths p full).1 }
 
   pub fill-bounds-callable : (t u : ℕ) → verdict s ≡ Accepted t → TypeRecord s u
       → (out : List ℕ) × Accepting s (count s) (widths p full).0 × TypeRecord s u × (length out ≡ leaves (type_at s u))
   fill-bounds-callable t u e h =
-      (replicate (leaves (type_at s u)) 0, accepting t e, h, length-replicate {A = ℕ} (leaves (type_at s u)) 0)
+      (replicate (leaves (type_at s u)) 0, callable-accepting t e, h, length-replicate {A = ℕ} (leaves (type_at s u)) 0)

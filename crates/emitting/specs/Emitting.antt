@@ -36,8 +36,8 @@ pub record Advanced (R : List Record) (c : ℕ) (F : Emission) (before after : L
   pub as_long : length after ≡ length before
 
 -- from a writer to another, onto whatever records, with at most one slot more
-abbrev pub Written : (F : List Record → Emission) (before after : List ℕ) (w w' : Writer) → Type 0
-Written F before after w w' = ((R : List Record) → Advanced R w.cursor (F R) before after w') × (length w'.stack ≤ length w.stack + 1)
+abbrev pub InstructionWritten : (F : List Record → Emission) (before after : List ℕ) (w w' : Writer) → Type 0
+InstructionWritten F before after w w' = ((R : List Record) → Advanced R w.cursor (F R) before after w') × (length w'.stack ≤ length w.stack + 1)
 
 -- the emission of a writer, onto records
 abbrev pub standing : Writer → List Record → Emission

@@ -5,7 +5,7 @@
 
 ghost use Rattle.std.specs.Prelude.{◌≡◌, ◌+◌, ◌*◌, ◌≤◌, ◌<◌, length};
 ghost use Rattle.instructions.specs.Emission.{type_record};
-ghost use Rattle.instructions.specs.Types.{declared_as};
+ghost use Rattle.instructions.specs.Types.{type_declared};
 ghost use Rattle.emitting.specs.Emitting.{RecordPut, emitted_from, Emitting, Emitted, CodeWritten, TypesPut};
 ghost use Rattle.grammar.specs.Legal.{text_bytes};
 ghost use Rattle.records.specs.Limits.{most_records};
@@ -34,7 +34,7 @@ fn write_code(code: &Code, types: &DeclaredTypes, records: u16, sheet: &mut [u8]
 // A type's record.
 fn put_type_record(sheet: &mut [u8], cursor: u16, next: u16, declared: DeclaredType) -> u16
     requires { 12 * cursor ≤ length sheet.old }
-    ensures { RecordPut sheet.old sheet.new cursor (type_record (declared_as declared) next) result }
+    ensures { RecordPut sheet.old sheet.new cursor (type_record (type_declared declared) next) result }
 {
     match declared {
         DeclaredType::Flat(constructors) => {

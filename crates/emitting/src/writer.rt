@@ -6,7 +6,7 @@ ghost use Rattle.instructions.specs.Emission.{Emission, completed, emission, emi
 ghost use Rattle.instructions.specs.Said.{said};
 ghost use Rattle.emitting.specs.Slots.{popped, slot_of};
 ghost use Rattle.grammar.specs.Sizes.{text_table};
-ghost use Rattle.emitting.specs.Emitting.{Advancing, Written, ZerosPut, expression_record, record_of, standing};
+ghost use Rattle.emitting.specs.Emitting.{Advancing, InstructionWritten, ZerosPut, expression_record, record_of, standing};
 
 use crate::bytes::put_record;
 use crate::stack::{Slot, Stack};
@@ -50,7 +50,7 @@ impl Writer {
     // part of what stands before it.
     fn complete(&mut self, sheet: &mut [u8])
         requires { Advancing sheet.old self.old }
-        ensures { Written (λ R. completed R self.old.cursor self.old.stack) sheet.old sheet.new self.old self.new }
+        ensures { InstructionWritten (λ R. completed R self.old.cursor self.old.stack) sheet.old sheet.new self.old self.new }
     {
         while let Some(kind) = self.stack.pop_waiting() {
             self.cursor = put_record(sheet, self.cursor, kind, [0, self.cursor, 0, 0, 0]);
@@ -62,7 +62,7 @@ impl Writer {
     // An expression's record, in the place of so many slots.
     fn put_expression(&mut self, sheet: &mut [u8], slots: usize, kind: Kind, words: [u16; 4])
         requires { Advancing sheet.old self.old }
-        ensures { Written (λ R. completed (expression_record kind words ∷ R) (self.old.cursor - 1) (popped slots self.old.stack)) sheet.old sheet.new self.old self.new }
+        ensures { InstructionWritten (λ R. completed (expression_record kind words ∷ R) (self.old.cursor - 1) (popped slots self.old.stack)) sheet.old sheet.new self.old self.new }
     {
         let [a, b, c, d] = words;
         self.cursor = put_record(sheet, self.cursor, kind, [0, a, b, c, d]);
@@ -73,7 +73,7 @@ impl Writer {
     // A constant of one leaf, which stands behind it.
     fn put_constant(&mut self, sheet: &mut [u8], declared: u16, number: u16)
         requires { Advancing sheet.old self.old }
-        ensures { Written (λ R. completed (words 32 0 declared (self.old.cursor - 1) 0 0 ∷ words 64 0 number 0 0 0 ∷ R) (self.old.cursor - 2) self.old.stack) sheet.old sheet.new self.old self.new }
+        ensures { InstructionWritten (λ R. completed (words 32 0 declared (self.old.cursor - 1) 0 0 ∷ words 64 0 number 0 0 0 ∷ R) (self.old.cursor - 2) self.old.stack) sheet.old sheet.new self.old self.new }
     {
         self.cursor = put_record(sheet, self.cursor, Kind::Leaf, [0, number, 0, 0, 0]);
         self.put_expression(sheet, 0, Kind::Constant, [declared, self.cursor, 0, 0]);
@@ -82,7 +82,7 @@ impl Writer {
     // An undefined constant of so many leaves.
     fn put_undefined(&mut self, sheet: &mut [u8], declared: u16, count: usize)
         requires { Advancing sheet.old self.old }
-        ensures { Written (λ R. completed (words 32 0 declared (self.old.cursor - count) 0 0 ∷ zeros_written count R self.old.cursor 0) (self.old.cursor - count - 1) self.old.stack) sheet.old sheet.new self.old self.new }
+        ensures { InstructionWritten (λ R. completed (words 32 0 declared (self.old.cursor - count) 0 0 ∷ zeros_written count R self.old.cursor 0) (self.old.cursor - count - 1) self.old.stack) sheet.old sheet.new self.old self.new }
     {
         self.next = 0;
         self.put_zeros(sheet, count);
@@ -92,7 +92,7 @@ impl Writer {
     // A record that is no expression, in the place of so many slots.
     fn put(&mut self, sheet: &mut [u8], slots: usize, kind: Kind, words: [u16; 5], next: u16)
         requires { Advancing sheet.old self.old }
-        ensures { Written (λ R. emission (record_of kind words ∷ R) (self.old.cursor - 1) (popped slots self.old.stack) next) sheet.old sheet.new self.old self.new }
+        ensures { InstructionWritten (λ R. emission (record_of kind words ∷ R) (self.old.cursor - 1) (popped slots self.old.stack) next) sheet.old sheet.new self.old self.new }
     {
         self.cursor = put_record(sheet, self.cursor, kind, words);
         self.stack.pop(slots);
@@ -111,7 +111,7 @@ impl Writer {
     // One instruction.
     pub fn step(&mut self, sheet: &mut [u8], types: &DeclaredTypes, instruction: Instruction)
         requires { Advancing sheet.old self.old }
-        ensures { Written (λ R. emit types.now (standing self.old R) (said instruction)) sheet.old sheet.new self.old self.new }
+        ensures { InstructionWritten (λ R. emit types.now (standing self.old R) (said instruction)) sheet.old sheet.new self.old self.new }
     {
         let Instruction { op, first, second } = instruction;
         match op {
