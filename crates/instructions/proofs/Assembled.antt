@@ -1,4 +1,4 @@
--- What the instructions of a text whose names are good are text-assembled to.
+-- What the instructions of a text whose names are good are assembled to.
 -- Assumes nothing.
 use Prim.Native.Nat.{ℕ, ◌+◌}
 use native.Mathlib.Omega.{arith}

@@ -1,22 +1,21 @@
 -- A token is a name where its first byte is a small letter; what it does to the names in scope is what the rows of the states say.
 -- Assumes nothing.
-use Prim.Native.Nat.{ℕ, zero, suc, ◌+◌, ◌-◌, ◌*◌, ◌/◌, ◌%◌, ◌≤◌, ◌<◌, min}
+use Prim.Native.Nat.{ℕ, zero, suc, ◌+◌, ◌-◌, ◌*◌, ◌≤◌, ◌<◌}
 use native.Mathlib.Omega.{arith}
-use native.Mathlib.Decide.{dec_lt}
 use mathlib.Core.Path.{◌≡◌, refl, sym, ap, ap₂, subst, ◌∙◌}
 use mathlib.Core.Bool.{Bool, true, false, cond}
-use mathlib.Core.List.{List, [], ◌∷◌}
+use mathlib.Core.List.{List}
 use lib.ListN.{length, take, drop, get_or, length-take, length-drop}
-use borrow.Author.Tests.{le-leb, lt-leb}
+use borrow.Author.Tests.{le-leb}
 use Rattle.grammar.specs.Tokens.{Keyword, TYPE, IN, INPUT, LET, INIT, REC, IF, MATCHES, THEN, ELSE, DELAY, spelling}
 use Rattle.grammar.specs.Tokens.{Symbol, opens, closes, comma, equals, bar, query, index_opens, index_closes, one, two}
 use Rattle.grammar.specs.Tokens.{Token, keyword, symbol, name_token}
-use Rattle.grammar.specs.Rows.{State, a_name}
-use Rattle.grammar.specs.Machine.{lead_byte, lead_of, symbol_byte, first_letter}
+use Rattle.grammar.specs.Rows.{State}
+use Rattle.grammar.specs.Machine.{lead_of, symbol_byte, first_letter}
 use Rattle.recognizer.specs.Coded.{lead_bytes}
-use Rattle.name_rules.specs.TokenWalk.{NameScope, scope, ScopeEffect, may_take, holds_in, met_in, left_by, ended_by, effect_on, bound_in, declared_in}
+use Rattle.name_rules.specs.TokenWalk.{NameScope, scope, may_take, holds_in, met_in, left_by, ended_by, effect_on, bound_in, declared_in}
 use Rattle.lexer.specs.Scanned.{FirstToken, NamedBy}
-use Rattle.symbols.specs.Names.{place_of, count_of, letters_at, letters_from, Inside}
+use Rattle.symbols.specs.Names.{place_of, count_of, letters_at, letters_from}
 use Rattle.symbols.specs.RoleNumbers.{role_codes}
 use Rattle.scoping.specs.Scoped.{held_scope, pending_names, NameNoted, Rescoped, effect_of}
 use Rattle.scoping.specs.Held.{held, ScopeAfter, Noted}
@@ -93,21 +92,6 @@ short-span text start end h =
     let f : start ≡ place_of (span_between start end) = omega (arith, e) in
     let g : end - start ≡ count_of (span_between start end) = omega (arith, e) in
     ap₂ (letters_from text) f g
-
-pub span-inside : (text : List ℕ) (start end span : ℕ) → start < end → end ≤ length text → span ≡ span_between start end → Inside text span
-span-inside text start end span l k e = go (dec_lt 16 (end - start))
-  where
-    go : Dec (16 < end - start) → Inside text span
-    go (yes h) =
-        let f : span_between start end ≡ start * 32 = ap (λ x. cond x (start * 32 + (end - start)) (start * 32)) (lt-leb (end - start) 16 h) in
-        let g : span ≡ start * 32 = e ∙ f in
-        omega arith
-    go (no h) =
-        let f : span_between start end ≡ start * 32 + (end - start)
-        = ap (λ x. cond x (start * 32 + (end - start)) (start * 32)) (le-leb (end - start) 16 (omega (arith, h))) in
-        let g : span ≡ start * 32 + (end - start) = e ∙ f in
-        let o : end - start ≤ 16 = omega (arith, h) in
-        omega arith
 
 pub span-spelled : {text : List ℕ} {start end class : ℕ} {others : List Token} (t : Token) (span : ℕ) → span ≡ span_between start end
     → FirstToken text start end class t others → NamedBy t (letters_at text span)

@@ -3,16 +3,14 @@
 use Prim.Native.Nat.{ℕ, ◌≤◌, ◌<◌}
 use native.Mathlib.Omega.{arith}
 use mathlib.Core.Path.{◌≡◌, refl, sym, ap, ap₂, subst, ◌∙◌}
-use mathlib.Core.Bool.{Bool, true, false, cond}
-use mathlib.Core.List.{List, [], ◌∷◌, ◌++◌, append_assoc, map, append-nil}
-use lib.ListN.{length, get_or, length-append}
-use Rattle.std.proofs.lemmas.List.{length-reverse}
-use Rattle.std.proofs.lemmas.Grind.{reverse_onto}
+use mathlib.Core.Bool.{Bool, false, cond}
+use mathlib.Core.List.{List, [], ◌∷◌, map, append-nil}
+use lib.ListN.{get_or}
 use lib.Dec.{eqb, leb}
 use borrow.Author.Tests.{eq-eqb, ne_eqb, le-leb, lt-leb}
 use Rattle.std.specs.Prelude.{Option, Some, None}
 use Rattle.std.proofs.Math.ListN.{get_or-map}
-use Rattle.grammar.specs.Rows.{State, start, states, state_number}
+use Rattle.grammar.specs.Rows.{State, start, states}
 use Rattle.grammar.specs.Tokens.{between}
 use Rattle.recognizer.specs.Coded.{lead_bytes, state_of, Topped}
 use Rattle.recognizer.proofs.RowLaws.{number-of-state}
@@ -51,11 +49,11 @@ use Rattle.instructions.specs.declared.Op.TheVariants.{
   EndConstant,
   ConstantHas,
 }
-use Rattle.instructions.specs.TokenOrder.{silent, op_by, in_constant, pair_before, name_said, value_said, other_said}
+use Rattle.instructions.specs.TokenOrder.{silent, op_by, in_constant, pair_before, name_said, other_said}
 use Rattle.name_rules.specs.Declared.{DeclaredName}
 use Rattle.scoping.proofs.TableLaws.{mapped_at}
 use Rattle.resolving.specs.declared.tables.TheConstants.{SAYINGS}
-use Rattle.resolving.specs.Said.{saying_table, op_said, CodeHeld, CodeSaid, named_said, class_said}
+use Rattle.resolving.specs.Said.{saying_table, op_said, CodeHeld, CodeSaid, class_said}
 
 -- the state that waits last
 module _ (K : List State) (s : ℕ) (t : Topped K (Some s)) where
@@ -68,44 +66,16 @@ module _ (K : List State) (s : ℕ) (t : Topped K (Some s)) where
   pub top-in-constant : 39 ≤ s → leb s 41 ≡ in_constant K
   top-in-constant l = sym (top-waits ∙ ap (λ x. cond x (leb s 41) false) (le-leb 39 s l))
 
--- one instruction more, or none where there is no room
-pub full-said : (i : Instruction) {C : List Instruction} → length C ≡ 65536 → CodeSaid C (i ∷ []) C
-full-said i {C} e = record {
-  held = λ code h l.
-      let a = length-append code (i ∷ []) in
-      let r = length-reverse C in
-      absurd (let b = ap length (h (omega arith)) in omega (arith, e, r, a, b));
-}
-
-pub one-said : (i : Instruction) (C : List Instruction) → CodeSaid C (i ∷ []) (i ∷ C)
-one-said i C = record {
-  held = λ code h l. let a = length-append code (i ∷ []) in reverse_onto C i [] ∙ ap (λ l. l ++ (i ∷ [])) (h (omega (arith, a)));
-}
-
+-- nothing more, and the same by another name
 pub none_said : {C : List Instruction} → CodeSaid C [] C
 none_said {C} = record { held = λ code h. subst (CodeHeld C) (sym (append-nil code)) h }
 
--- by another name, and one after the other
 pub said-as : {C D more others : List Instruction} → others ≡ more → CodeSaid C more D → CodeSaid C others D
 said-as {C} {D} e s = subst (λ m. CodeSaid C m D) (sym e) s
 
-pub both-said : {C D E more others : List Instruction} → CodeSaid C more D → CodeSaid D others E → CodeSaid C (more ++ others) E
-both-said {E} {more} {others} s t =
-    record { held = λ code h. subst (CodeHeld E) (append_assoc code more others) (t.held (code ++ more) (s.held code h)) }
-
 -- the bracket of a pair
-pub pair-said : (state : ℕ) → state < 47 → state ≡ 15 → pair_before (state_of state) [] ≡ open_pair ∷ []
-pair-said state h e = ap (λ n. cond (eqb n 15) (open_pair ∷ []) []) (number-of-state state h) ∙ ap (λ x. cond x (open_pair ∷ []) []) (eq-eqb state 15 e)
-
 pub no-pair-said : (state : ℕ) → state < 47 → (state ≡ 15 → ⊥) → pair_before (state_of state) [] ≡ []
 no-pair-said state h n = ap (λ x. cond (eqb x 15) (open_pair ∷ []) []) (number-of-state state h) ∙ ap (λ x. cond x (open_pair ∷ []) []) (ne_eqb state 15 n)
-
-pub pair-before : (q : State) (is : List Instruction) → pair_before q is ≡ pair_before q [] ++ is
-pair-before q is = go (eqb (state_number q) 15)
-  where
-    go : (x : Bool) → cond x (open_pair ∷ is) is ≡ cond x (open_pair ∷ []) [] ++ is
-    go true = refl
-    go false = refl
 
 -- each instruction has a number below that of none
 number-below : (op : Op) → number_of op < silent

@@ -25,12 +25,12 @@ use Rattle.symbols.specs.Names.{letters_at}
 use Rattle.symbols.specs.RoleNumbers.{role_codes}
 use Rattle.resolving.specs.declared.numbering.NameNumbers.{NameNumbers}
 use Rattle.resolving.specs.declared.walk.Walk.{Walk}
-use Rattle.resolving.specs.Walked.{Walks, WalksHeld, WalkHeld, TakingToken, Saying, TokenBad, ScopeNoted, FoundWith, token_holds}
+use Rattle.resolving.specs.Walked.{Walks, WalksHeld, WalkHeld, TakingToken, TokenBad, ScopeNoted, FoundWith, token_holds}
 use Rattle.resolving.specs.Said.{Numbered, CodeSaid, span_between, class_said}
 use Rattle.instructions.proofs.NameNumbers.{never_true}
 use Rattle.resolving.proofs.Noted.{span-spelled, class-instructions}
 use Rattle.instructions.specs.Instruction.{Instruction}
-use Rattle.instructions.specs.TokenOrder.{walk_instructions, instructions_on, op_by, in_constant}
+use Rattle.instructions.specs.TokenOrder.{walk_instructions, op_by, in_constant}
 use Rattle.resolving.proofs.Walks.{Meets, meets-token, stepped-on, walks-first}
 
 with-effect : {text : List ℕ} {start end class : ℕ} {others : List Token} (span effect : ℕ) (q : State) (v : Token) → span ≡ span_between start end
@@ -144,10 +144,6 @@ module _ (w : Walk) (C : List Instruction) {start class : ℕ} (h : start < leng
           numbered = y;
         }
 
--- what is asked where a token speaks
-pub saying-of : {w : Walk} {i : ℕ} → TakingToken w i → i ≤ 65535 → Saying w
-saying-of k h = record { narrow = let a = k.few in omega arith; numbered = k.numbered }
-
 -- the loop
 held-first : (s : Scope) → s.names.count ≡ 0 → s.base ≡ 0 → s.waiting ≡ 0 → held s ≡ first_scope
 held-first s e f g =
@@ -173,12 +169,4 @@ walking-first i w h e f n = record {
   few = let a = f.1 in let b = f.3 in omega arith;
   shallow = let a = ap (λ m. length m.waiting) e in omega arith;
   numbered = subst (λ b. Numbered (role_codes w.scope.roles) w.numbers.types w.numbers.ranks b) (sym f.2) (n (role_codes w.scope.roles));
-}
-
-pub walking-at : {w : Walk} {i j : ℕ} → i ≤ j → TakingToken w i → TakingToken w j
-walking-at l w = record {
-  short = w.short;
-  few = let k = w.few in omega arith;
-  shallow = let k = w.shallow in omega arith;
-  numbered = w.numbered;
 }

@@ -16,7 +16,7 @@ use Rattle.grammar.specs.Machine.{dead, live, begins, no_word, perform, perform_
 use Rattle.grammar.proofs.Derived.{derived}
 use Rattle.grammar.proofs.RowFound.{Performed, performed, by_token, takes-token}
 use Rattle.recognizer.specs.Coded.{after_lead, Standing, live_at, Stepped}
-use Rattle.name_rules.specs.Checks.{PlacedCheck, check_at, first_bad_place, AllPass, no_check_left, one_holds}
+use Rattle.name_rules.specs.Checks.{first_bad_place}
 use Rattle.name_rules.specs.Names.{name_checks}
 use Rattle.name_rules.specs.TokenWalk.{NameScope, checks_on, scope_after, walk_checks}
 use Rattle.name_rules.proofs.ByTokens.{first_scope, by-tokens}

@@ -1,5 +1,5 @@
 -- The instructions of a text, and the numbers of its declared names in two tables.
-use Rattle.std.specs.Prelude.{ℕ, zero, suc, ◌+◌, ◌-◌, ◌*◌, ◌≤◌, ◌<◌, ◌≡◌, Bool, true, false, cond, List, [], ◌∷◌, ◌++◌, map, length, get_or, eqb, leb, reverse, Option, Some, None}
+use Rattle.std.specs.Prelude.{ℕ, zero, suc, ◌+◌, ◌-◌, ◌*◌, ◌≤◌, ◌<◌, ◌≡◌, Bool, false, cond, List, ◌++◌, map, length, get_or, eqb, leb, reverse, Option, Some, None}
 use Rattle.grammar.specs.Sizes.{text_table}
 use Rattle.grammar.specs.Rows.{State, states}
 use Rattle.name_rules.specs.Declared.{DeclaredName, is_declared, type_role}

@@ -3,7 +3,7 @@ use Rattle.std.specs.Prelude.{ℕ, ◌+◌, ◌≤◌, ◌<◌, ◌≡◌, Bool,
 use Rattle.std.proofs.Math.Option.{none, some}
 use Rattle.grammar.specs.Tokens.{Token, keyword, symbol, name_token, Tokens}
 use Rattle.grammar.specs.Source.{Text}
-use Rattle.grammar.specs.Legal.{Reading, text_bytes}
+use Rattle.grammar.specs.Legal.{text_bytes}
 use Rattle.grammar.specs.Rows.{State}
 use Rattle.grammar.specs.Machine.{live, no_word, begins, lead_of, after_tokens, ends}
 use Rattle.name_rules.specs.Checks.{first_bad_place}

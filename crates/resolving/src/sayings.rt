@@ -55,24 +55,22 @@ impl<'a> Walk<'a> {
         requires { Saying self.now × Inside self.now.scope.names.text.now span }
         ensures { CodeSaid code.old (value_said (letters_at self.now.scope.names.text.now span) (bound_in (held self.now.scope)) (declared_in (held self.now.scope)) ∷ []) code.new }
     {
-        let n = self.scope.names.count;
-        let base = self.scope.base;
-        let k = self.scope.names.find(span, n);
-        if let Some(j) = k {
-            if base <= j {
-                say(code, Op::UseName, (n - j - 1) as u16, 0);
-                return;
+        let scope = &self.scope;
+        let n = scope.names.count;
+        let base = scope.base;
+        let found = scope.names.find(span, n);
+        match found {
+            Some(k) if base <= k => say(code, Op::UseName, (n - k - 1) as u16, 0),
+            _ if has_role(found, Role::Constructor, &scope.roles) => {
+                let numbers = &self.numbers;
+                say(
+                    code,
+                    Op::UseConstant,
+                    entry(found, &numbers.types),
+                    entry(found, &numbers.ranks),
+                );
             }
-        }
-        if has_role(k, Role::Constructor, &self.scope.roles) {
-            say(
-                code,
-                Op::UseConstant,
-                entry(k, &self.numbers.types),
-                entry(k, &self.numbers.ranks),
-            );
-        } else {
-            say(code, Op::UseName, (n - base) as u16, 0);
+            _ => say(code, Op::UseName, (n - base) as u16, 0),
         }
     }
 

@@ -1,6 +1,6 @@
 -- What the functions ask that lay out the sheet: the bytes are a text whose names are good, and its instructions are held; and then
 -- what was assembled from them.
-use Rattle.std.specs.Prelude.{ℕ, suc, ◌+◌, ◌*◌, ◌≤◌, ◌<◌, ◌≡◌, List, ◌∷◌, length, reverse}
+use Rattle.std.specs.Prelude.{ℕ, suc, ◌+◌, ◌*◌, ◌≤◌, ◌≡◌, List, ◌∷◌, length, reverse}
 use Rattle.std.proofs.Math.Option.{none}
 use Rattle.grammar.specs.Sizes.{text_table}
 use Rattle.grammar.specs.Tokens.{Token}

@@ -3,7 +3,7 @@
 use native.Mathlib.Omega.{arith}
 use mathlib.Core.Path.{sym, ap, ap₂, ◌∙◌}
 use mathlib.Core.List.{[], ◌∷◌}
-use Rattle.symbols.specs.Names.{letters_at, entry_number}
+use Rattle.symbols.specs.Names.{letters_at}
 use Rattle.symbols.proofs.Search.{nearest-below}
 use Rattle.instructions.specs.Instruction.{instruction_of}
 use Rattle.instructions.specs.Said.{number_of}
