@@ -11,7 +11,7 @@ use native.Mathlib.Nat.{zero-add, suc-add}
 use lib.ListN.{get_or}
 use borrow.Author.Tests.{eq-eqb, ne_eqb}
 use Rattle.behaviour.specs.Run.{output_leaves}
-use Rattle.replay.specs.declared.Finding.TheVariants.{Agrees, Differs}
+use Rattle.replay.specs.Replay.{Agrees, Differs}
 use Rattle.replay.specs.Replay.{output_of, recorded_of, leaf_differs, lowest_differing, found_in}
 
 module _ (v u : List ℕ) (l : ℕ) where

@@ -13,8 +13,7 @@ use Rattle.picoella.specs.Language.{leaves}
 use Rattle.records.specs.Trees.{type_at}
 use Rattle.answers.specs.Answers.{lowest}
 use Rattle.answers.specs.Searches.{found}
-use Rattle.answers.specs.declared.Found.{Found}
-use Rattle.answers.specs.declared.Found.TheVariants.{At, Nothing}
+use Rattle.std.specs.Prelude as Std
 use Rattle.accepted.proofs.Calls.{accepted-output}
 use Rattle.stimulus.specs.Stimulus.{cycle_count}
 use Rattle.behaviour.specs.Cycle.{output}
@@ -35,7 +34,7 @@ use Rattle.stepper.proofs.BeforeCycle.{
   sheet_long,
   last-sheet,
 }
-use Rattle.replay.specs.declared.Finding.TheVariants.{Agrees, Differs}
+use Rattle.replay.specs.Replay.{Agrees, Differs}
 use Rattle.replay.specs.Replay.{leaf_differs, lowest_differing, found_in, finding}
 use Rattle.replay.specs.Replaying.{ReplayingCycle, ReplayedCycle, ReplayingCycles, ReplayedCycles}
 use Rattle.replay.proofs.Comparing.{InCycle, cycle-agrees, cycle-differs, found-stays}
@@ -55,7 +54,7 @@ module _ {s : List ℕ} {n : ℕ} {W env held stim : List ℕ} {from wi : ℕ} {
     replay-cycling = rw (from-there from wi) r.cycling
 
     pub replay-compared : {env' held' current' out' : List ℕ} → Cycled (take (from + wi - from) (drop from stim)) current env' held' current' out'
-        → length out' ≡ length out → {told : Found}
+        → length out' ≡ length out → {told : Std.Option ℕ}
         → found told ≡ lowest (leaf_differs out' (take (at + wo - at) (drop at recorded))) (length out')
         → ReplayedCycle stim from wi recorded at wo current env' held' current' out' told
     replay-compared {out' = out'} c l {told} f =
@@ -122,7 +121,7 @@ module _ {s : List ℕ} {n : ℕ} {W stim recorded : List ℕ} {wi wo count : �
               cycling = cycle-ready r.over b.cycle h b.same;
             }
 
-        module _ {env' held' current' out' : List ℕ} {told : Found}
+        module _ {env' held' current' out' : List ℕ} {told : Std.Option ℕ}
             (q : ReplayedCycle stim from wi recorded at wo current env' held' current' out' told)
           where
             ran : Cycled (take wi (drop from stim)) current env' held' current' (output current (take wi (drop from stim)))
@@ -132,7 +131,7 @@ module _ {s : List ℕ} {n : ℕ} {W stim recorded : List ℕ} {wi wo count : �
             in-cycle =
                 sym (q.compared ∙ rw (cycle-output r.over b.cycle h ran, b.compared-to, leaves_are) refl)
 
-            pub differs-here : (l : ℕ) → told ≡ At l → ReplayedCycles s stim recorded current' (Differs k l)
+            pub differs-here : (l : ℕ) → told ≡ Std.Some l → ReplayedCycles s stim recorded current' (Differs k l)
             unfolding finding
             differs-here l e =
                 let f = cycle-differs s stim recorded k l b.agreed (in-cycle ∙ ap found e) in
@@ -143,7 +142,7 @@ module _ {s : List ℕ} {n : ℕ} {W stim recorded : List ℕ} {wi wo count : �
                   next = λ m z. let y : ◌≡◌ {A = ℕ} 0 1 = cc in absurd (omega arith);
                 }
 
-            pub agrees-here : {from' at' : ℕ} → told ≡ Nothing → from' ≡ from + wi → at' ≡ at + wo
+            pub agrees-here : {from' at' : ℕ} → told ≡ Std.None → from' ≡ from + wi → at' ≡ at + wo
                 → BeforeReplay s stim recorded wi wo count (k + 1) from' at' env' held' current' out'
             agrees-here e ef ea =
                 record {

@@ -36,8 +36,8 @@ use Rattle.behaviour.specs.Run.{outputs_by, sheet_after, output_leaves}
 use Rattle.behaviour.proofs.Run.{outputs-counted}
 use Rattle.behaviour.proofs.AfterRun.{run-only-delays, run-accepted}
 use Rattle.behaviour.proofs.Sheets.{only-leaves, header-same, accepted-written}
-use Rattle.replay.specs.declared.Finding.{Finding}
-use Rattle.replay.specs.declared.Finding.TheVariants.{Agrees, Differs}
+use Rattle.replay.specs.Replay.{Finding}
+use Rattle.replay.specs.Replay.{Agrees, Differs}
 use Rattle.replay.specs.Replay.{output_of, recorded_of, finding, replay_answer, when_agreed, final_replay}
 use Rattle.replay.specs.Promises.{FormedReplay, FrontAgrees, ReplayInParts}
 use Rattle.replay.proofs.Comparing.{InCycle}

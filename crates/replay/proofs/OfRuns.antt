@@ -21,7 +21,7 @@ use Rattle.behaviour.specs.Run.{outputs_by, sheet_after, output_leaves, output_n
 use Rattle.behaviour.specs.Afterwards.{WellFormed}
 use Rattle.behaviour.proofs.Answers.{run_laws}
 use Rattle.behaviour.proofs.Afterwards as After
-use Rattle.replay.specs.declared.Finding.TheVariants.{Agrees, Differs}
+use Rattle.replay.specs.Replay.{Agrees, Differs}
 use Rattle.replay.specs.Replay.{output_of, recorded_of, finding, replay_answer, final_replay, ReplayGiven}
 use Rattle.replay.specs.Promises.{FormedReplay, FirstDifference, OwnOutputsAgree, ChangedByteFound, NextAsRun}
 use Rattle.replay.proofs.Found.{outs-wide, outs-counted, says-agrees, agrees-says, says-differs}

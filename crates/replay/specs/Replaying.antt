@@ -4,15 +4,15 @@ use Rattle.std.specs.Prelude.{ℕ, ◌+◌, ◌*◌, ◌≤◌, ◌≡◌, List,
 use Rattle.records.specs.Limits.{most_records, most_leaves, environment_bytes}
 use Rattle.stimulus.specs.Tests.{stimulus_bytes}
 use Rattle.answers.specs.Searches.{found}
-use Rattle.answers.specs.declared.Found.{Found}
+use Rattle.std.specs.Prelude as Std
 use Rattle.meaning.specs.Undecided.{undecided_rule}
 use Rattle.behaviour.specs.Cycle.{output, sheet_after_cycle}
 use Rattle.stimulus.specs.Stimulus.{cycles}
 use Rattle.behaviour.specs.Run.{sheet_after}
 use Rattle.stepper.specs.Cycling.{Cycling}
 use Rattle.stepper.specs.CycleByCycle.{WholeCycles}
-use Rattle.replay.specs.declared.Finding.{Finding}
-use Rattle.replay.specs.declared.Finding.TheVariants.{Agrees}
+use Rattle.replay.specs.Replay.{Finding}
+use Rattle.replay.specs.Replay.{Agrees}
 use Rattle.replay.specs.Replay.{lowest_differing, finding, when_agreed}
 
 -- one cycle is lent its parts of the stimulus, from `from`, and of the record, from `at`
@@ -39,7 +39,7 @@ pub record ReplayedCycle
     (recorded : List ℕ)
     (at wo : ℕ)
     (current env' held' current' out' : List ℕ)
-    (told : Found)
+    (told : Std.Option ℕ)
     : Type 0
   where
     pub compared : found told ≡ lowest_differing wo (output current (take wi (drop from stim))) (take wo (drop at recorded))
@@ -59,9 +59,6 @@ pub record ReplayedCycles (s stim recorded current' : List ℕ) (told : Finding)
   pub next : (n : ℕ) → told ≡ Agrees n → current' ≡ sheet_after undecided_rule s (cycles s stim)
 
 -- on a copy of the sheet, and where the record agrees `next` receives the sheet after the run
-abbrev pub sheet_bytes : ℕ
-sheet_bytes = 49152
-
 pub record ReplayingInto (s : List ℕ) (n : ℕ) (widths stim recorded : List ℕ) (wi wo count : ℕ) (next : List ℕ) : Type 0 where
   pub over : WholeCycles s n widths stim wi wo count
   pub recorded_long : length recorded ≡ count * wo

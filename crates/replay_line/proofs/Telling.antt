@@ -12,8 +12,8 @@ use Rattle.answers.specs.Answers.{Done, Refused}
 use Rattle.answers.proofs.Kept as Answers
 use Rattle.listing.specs.Lines.{ascii, word_line, numbers_line, refused_line}
 use Rattle.listing.specs.Texts.{Written, Added}
-use Rattle.replay.specs.declared.Finding.{Finding}
-use Rattle.replay.specs.declared.Finding.TheVariants.{Agrees, Differs}
+use Rattle.replay.specs.Replay.{Finding}
+use Rattle.replay.specs.Replay.{Agrees, Differs}
 use Rattle.replay.specs.Replay.{finding, replay_answer, differs_given, cycle_given, leaf_given, ReplayGiven}
 use Rattle.replay.proofs.Answered.{replay_laws, replay-done}
 use Rattle.replay_line.specs.ReplayLine.{finding_line, replay_line, replay_printed}

@@ -5,8 +5,8 @@ use Rattle.std.specs.Prelude.{ℕ, List, length, replicate}
 use Rattle.answers.specs.Answers.{Answer}
 use Rattle.answers.specs.Answers.{Done, Refused}
 use Rattle.listing.specs.Lines.{ascii, word_line, numbers_line, refused_line}
-use Rattle.replay.specs.declared.Finding.{Finding}
-use Rattle.replay.specs.declared.Finding.TheVariants.{Agrees, Differs}
+use Rattle.replay.specs.Replay.{Finding}
+use Rattle.replay.specs.Replay.{Agrees, Differs}
 use Rattle.replay.specs.Replay.{finding, replay_answer}
 
 abbrev pub finding_line : Finding → List ℕ
