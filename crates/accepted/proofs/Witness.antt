@@ -5,8 +5,7 @@ use Prim.Native.Nat.{ℕ, ◌+◌, ◌*◌, ◌%◌, ◌/◌, ◌<◌}
 use mathlib.Core.List.{List, [], ◌∷◌}
 use mathlib.Core.Path.{◌≡◌, refl}
 use Rattle.records.specs.Words.{word, count, word_b, kind_word}
-use Rattle.records.specs.Kinds.{row_of, kind_of, ask_of, expression, feedback, delay, if_matches, name, constant}
-use Rattle.records.specs.AskNumbers.{ask_numbers}
+use Rattle.records.specs.Kinds.{Ask, asks_in, row_of, kind_of, ask_of, expression, feedback, delay, if_matches, name, constant}
 use Rattle.records.specs.Kinds as Kinds
 use Rattle.records.specs.Says.{well_said, kind_at, sort_at, namings}
 use Rattle.records.specs.Trees.{
@@ -172,8 +171,8 @@ unfolding type_at type_within kind_of row_of word
 one-leaf = let e : leaves (type_at sheet 1) ≡ 1 = refl in omega arith
 
 note-word-there
-    : (asks : List ℕ) × (namers : List ℕ) × Sized sheet (count sheet) × (2 < count sheet)
-    × (asks ≡ ask_numbers (row_of (kind_word sheet 2)))
+    : (asks : List Ask) × (namers : List ℕ) × Sized sheet (count sheet) × (2 < count sheet)
+    × (asks ≡ asks_in (row_of (kind_word sheet 2)))
     × (0 < 3)
     × (3 < 6)
     × (length namers ≡ 4096)

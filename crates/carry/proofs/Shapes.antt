@@ -48,8 +48,8 @@ module _ {s : List ℕ} {n t : ℕ} (g : OfTypes s n t) where
   by_kind = kind-of-sort types (kind_at s t) g.type.sort
 
   -- one that is not flat is a pair
-  pub pair-kind : (k : Kind) → kind_meant k ≡ kind_at s t → (k ≡ Coded.FlatType → ⊥) → kind_at s t ≡ type_of pair
-  pair-kind k e f = go by_kind.0 by_kind.1
+  pub shape-pair : (k : Kind) → kind_meant k ≡ kind_at s t → (k ≡ Coded.FlatType → ⊥) → kind_at s t ≡ type_of pair
+  shape-pair k e f = go by_kind.0 by_kind.1
     where
       go : (j : TypeKind) → kind_at s t ≡ type_of j → kind_at s t ≡ type_of pair
       go pair d = d

@@ -7,6 +7,8 @@ use native.Mathlib.Omega.{arith}
 use lib.ListN.{length, drop}
 use Rattle.std.specs.Prelude.{Some, None}
 use Rattle.records.specs.SheetOf.{Record, words, sheet_of}
+use Rattle.records.specs.Kinded.{kind_number}
+use Rattle.records.specs.declared.kinds.Kind.{Kind}
 use Rattle.instructions.specs.Emission.{Slot, of_number, barrier, first_waits, second_waits, Emission, emission, completed, zeros_written, zeros_next, written_of}
 use Rattle.emitting.specs.Slots.{Unwaited}
 use Rattle.emitting.specs.Emitting.{RecordPut, Advancing, Advanced, ZerosPut}
@@ -56,8 +58,8 @@ pub no-index-put : {sheet : List ℕ} {w : Writer} → Advancing sheet w → Ind
 no-index-put a = record { moved = λ R. (R, refl, λ tail e l. (e, refl)); room = a.sheet_long; as_long = refl; lower = omega arith }
 
 module _ {s₀ : List ℕ} {S₀ : List Slot} {cursor : ℕ} where
-  index-before : {s s' : List ℕ} {S S' : List Slot} (at kind : ℕ) → Unwaited (Some kind) S S' → IndicesPut s₀ S₀ cursor s S at
-      → RecordPut s s' at (words kind 0 at 0 0 0) (at - 1) → IndicesPut s₀ S₀ cursor s' S' (at - 1)
+  index-before : {s s' : List ℕ} {S S' : List Slot} (at : ℕ) (kind : Kind) → Unwaited (Some kind) S S' → IndicesPut s₀ S₀ cursor s S at
+      → RecordPut s s' at (words (kind_number kind) 0 at 0 0 0) (at - 1) → IndicesPut s₀ S₀ cursor s' S' (at - 1)
   index-before {S' = S'} at kind u i put =
       let room = i.room in
       let long = put.as_long in
@@ -66,7 +68,7 @@ module _ {s₀ : List ℕ} {S₀ : List Slot} {cursor : ℕ} where
       record {
         moved = λ R.
             let m = i.moved R in
-            let w = words kind 0 at 0 0 0 in
+            let w = words (kind_number kind) 0 at 0 0 0 in
             let same = u.0 m.0 at ∙ m.1 in (
               w ∷ m.0,
               same,
@@ -82,11 +84,11 @@ module _ {s₀ : List ℕ} {S₀ : List Slot} {cursor : ℕ} where
         lower = omega arith;
       }
 
-  pub index-put : {s s' : List ℕ} {S S' : List Slot} {at kind r : ℕ} → Unwaited (Some kind) S S' → IndicesPut s₀ S₀ cursor s S at
-      → RecordPut s s' at (words kind 0 at 0 0 0) r → IndicesPut s₀ S₀ cursor s' S' r
-  index-put {s} {s'} {S} {S'} {at} {kind} {r} u i put =
+  pub index-put : {s s' : List ℕ} {S S' : List Slot} {at : ℕ} (kind : Kind) {r : ℕ} → Unwaited (Some kind) S S' → IndicesPut s₀ S₀ cursor s S at
+      → RecordPut s s' at (words (kind_number kind) 0 at 0 0 0) r → IndicesPut s₀ S₀ cursor s' S' r
+  index-put {s} {s'} {S} {S'} {at} kind {r} u i put =
       subst (λ (q : ℕ). IndicesPut s₀ S₀ cursor s' S' q) (sym put.one_less)
-      (index-before at kind u i (subst (λ (q : ℕ). RecordPut s s' at (words kind 0 at 0 0 0) q) put.one_less put))
+      (index-before at kind u i (subst (λ (q : ℕ). RecordPut s s' at (words (kind_number kind) 0 at 0 0 0) q) put.one_less put))
 
   pub indices-done : {s : List ℕ} {S S' : List Slot} (Q : List Slot) (at : ℕ) → Unwaited None S S' → IndicesPut s₀ S₀ cursor s S at → Q ≡ of_number at ∷ S'
       → (R : List Record) → Advanced R cursor (completed R cursor S₀) s₀ s (record { stack = Q; cursor = at; next = 0 })

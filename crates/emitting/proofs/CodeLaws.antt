@@ -11,7 +11,7 @@ use Rattle.instructions.specs.Code.{from_bottom}
 use Rattle.instructions.specs.Assembly.{DeclaredType}
 use Rattle.instructions.specs.Emission.{Emission, emit, emit_all, written_of, cursor_of}
 use Rattle.instructions.proofs.FromBottom.{next-instruction}
-use Rattle.emitting.specs.Emitting.{Written, standing, emitted_from}
+use Rattle.emitting.specs.Emitting.{InstructionWritten, standing, emitted_from}
 use Rattle.emitting.specs.declared.writer.Writer.{Writer}
 use Rattle.emitting.proofs.EmissionLaws.{emit-lower, emit-balance, written_grows}
 
@@ -27,7 +27,7 @@ pub record CodeLeft (T : List DeclaredType) (C : List Instruction) (records : �
 
 module _ (T : List DeclaredType) (C : List Instruction) (records : ℕ) (sheet₀ : List ℕ) where
   pub one-emitted : (sheet sheet' : List ℕ) (w w' : Writer) (k : ℕ) → k < length C → CodeLeft T C records sheet₀ sheet w (k + 1)
-      → Written (λ R. emit T (standing w R) (from_bottom k C)) sheet sheet' w w' → CodeLeft T C records sheet₀ sheet' w' k
+      → InstructionWritten (λ R. emit T (standing w R) (from_bottom k C)) sheet sheet' w w' → CodeLeft T C records sheet₀ sheet' w' k
   one-emitted sheet sheet' w w' k under l does =
       let i = from_bottom k C in
       let done = does.0 [] in

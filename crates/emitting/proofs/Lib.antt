@@ -1,4 +1,5 @@
 -- The laws that the proofs of the functions cite.
+pub mod RecordLaws
 pub mod SlotLaws
 pub mod AdvanceLaws
 pub mod ZeroLaws

@@ -13,21 +13,21 @@ use Rattle.instructions.specs.declared.Instruction.{Instruction as CodeInstructi
 use Rattle.instructions.specs.Assembly.{DeclaredType}
 use Rattle.instructions.specs.Emission.{Slot, emission, emit, pop, zeros_written, zeros_next}
 use Rattle.emitting.specs.Slots.{popped}
-use Rattle.emitting.specs.Emitting.{Written, ZerosPut, standing}
+use Rattle.emitting.specs.Emitting.{InstructionWritten, ZerosPut, standing}
 use Rattle.emitting.specs.declared.writer.Writer.{Writer}
 use Rattle.emitting.proofs.AdvanceLaws.{the_same, zeros-alone}
 
 -- what is known of the op's number is known of the instruction
 pub step-by : (T : List DeclaredType) (w : Writer) {before after : List ℕ} {w' : Writer} (i : CodeInstruction) {o : Op} → i.op ≡ o
-    → Written (λ R. emit T (standing w R) (instruction_of (number_of o) i.first i.second)) before after w w'
-    → Written (λ R. emit T (standing w R) (said i)) before after w w'
+    → InstructionWritten (λ R. emit T (standing w R) (instruction_of (number_of o) i.first i.second)) before after w w'
+    → InstructionWritten (λ R. emit T (standing w R) (said i)) before after w w'
 step-by T w {before} {after} {w'} i e h =
-    subst (λ (o : Op). Written (λ R. emit T (standing w R) (instruction_of (number_of o) i.first i.second)) before after w w') (sym e) h
+    subst (λ (o : Op). InstructionWritten (λ R. emit T (standing w R) (instruction_of (number_of o) i.first i.second)) before after w w') (sym e) h
 
 -- the end of a part of a pattern, and where the other begins, stand on the stack
 pub parts-put : (w : Writer) {a a' b b' : ℕ} {before after : List ℕ} {w' : Writer} → a ≡ a' → b ≡ b'
-    → Written (λ R. emission (words 50 a w.cursor b 0 0 ∷ R) (w.cursor - 1) (pop (pop w.stack)) 0) before after w w'
-    → Written (λ R. emission (words 50 a' w.cursor b' 0 0 ∷ R) (w.cursor - 1) (pop (pop w.stack)) 0) before after w w'
+    → InstructionWritten (λ R. emission (words 50 a w.cursor b 0 0 ∷ R) (w.cursor - 1) (pop (pop w.stack)) 0) before after w w'
+    → InstructionWritten (λ R. emission (words 50 a' w.cursor b' 0 0 ∷ R) (w.cursor - 1) (pop (pop w.stack)) 0) before after w w'
 parts-put w {a} {a'} {b} {b'} e f h = (
   λ R.
       let same : emission (words 50 a w.cursor b 0 0 ∷ R) (w.cursor - 1) (pop (pop w.stack)) 0
@@ -38,7 +38,7 @@ parts-put w {a} {a'} {b} {b'} e f h = (
 
 -- undefined leaves
 pub zeros-step : (w : Writer) {k l : ℕ} {before after : List ℕ} {w' : Writer} → k ≡ l → ZerosPut k before after w.cursor w.next w'.cursor w'.next
-    → w'.stack ≡ w.stack → Written (λ R. emission (zeros_written l R w.cursor w.next) (w.cursor - l) w.stack (zeros_next l w.cursor w.next)) before after w w'
+    → w'.stack ≡ w.stack → InstructionWritten (λ R. emission (zeros_written l R w.cursor w.next) (w.cursor - l) w.stack (zeros_next l w.cursor w.next)) before after w w'
 zeros-step w {k} {l} {before} {after} {w'} e put s =
     let n = ap length s in
     let put' = subst (λ (j : ℕ). ZerosPut j before after w.cursor w.next w'.cursor w'.next) e put in

@@ -6,14 +6,16 @@ use Rattle.grammar.specs.Legal.{text_bytes}
 use Rattle.records.specs.Limits.{most_records}
 use Rattle.grammar.specs.Sizes.{text_table}
 use Rattle.records.specs.SheetOf.{Record, words, sheet_of}
+use Rattle.records.specs.Kinded.{kind_number}
+use Rattle.records.specs.declared.kinds.Kind.{Kind}
 use Rattle.instructions.specs.Instruction.{Instruction}
 use Rattle.instructions.specs.Assembly.{DeclaredType}
 use Rattle.instructions.specs.Emission.{Emission, emission, written_of, cursor_of, zeros_written, zeros_next, emit_all, types_written, records_written}
 use Rattle.emitting.specs.declared.writer.Writer.{Writer}
 
--- the record of six words
-abbrev pub record_of : List ℕ → Record
-record_of w = words (get_or w 0 0) (get_or w 1 0) (get_or w 2 0) (get_or w 3 0) (get_or w 4 0) (get_or w 5 0)
+-- the record of a kind and the five words after its own
+abbrev pub record_of : Kind → List ℕ → Record
+record_of kind w = words (kind_number kind) (get_or w 0 0) (get_or w 1 0) (get_or w 2 0) (get_or w 3 0) (get_or w 4 0)
 
 -- a record put before the one at the cursor
 pub record RecordPut (before after : List ℕ) (cursor : ℕ) (w : Record) (r : ℕ) : Type 0 where
@@ -34,16 +36,16 @@ pub record Advanced (R : List Record) (c : ℕ) (F : Emission) (before after : L
   pub as_long : length after ≡ length before
 
 -- from a writer to another, onto whatever records, with at most one slot more
-abbrev pub Written : (F : List Record → Emission) (before after : List ℕ) (w w' : Writer) → Type 0
-Written F before after w w' = ((R : List Record) → Advanced R w.cursor (F R) before after w') × (length w'.stack ≤ length w.stack + 1)
+abbrev pub InstructionWritten : (F : List Record → Emission) (before after : List ℕ) (w w' : Writer) → Type 0
+InstructionWritten F before after w w' = ((R : List Record) → Advanced R w.cursor (F R) before after w') × (length w'.stack ≤ length w.stack + 1)
 
 -- the emission of a writer, onto records
 abbrev pub standing : Writer → List Record → Emission
 standing w R = emission R w.cursor w.stack w.next
 
 -- the record of an expression, by its kind and four words
-abbrev pub expression_record : ℕ → List ℕ → Record
-expression_record kind w = words kind 0 (get_or w 0 0) (get_or w 1 0) (get_or w 2 0) (get_or w 3 0)
+abbrev pub expression_record : Kind → List ℕ → Record
+expression_record kind w = words (kind_number kind) 0 (get_or w 0 0) (get_or w 1 0) (get_or w 2 0) (get_or w 3 0)
 
 -- so many undefined leaves
 pub record ZerosPut (count : ℕ) (before after : List ℕ) (c x cursor next : ℕ) : Type 0 where

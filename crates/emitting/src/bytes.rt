@@ -3,7 +3,7 @@ ghost use Rattle.std.specs.Prelude.{◌≡◌, ◌+◌, ◌-◌, ◌*◌, ◌≤
 ghost use Rattle.records.specs.SheetOf.{word_then};
 ghost use Rattle.emitting.specs.Emitting.{RecordPut, record_of};
 
-use records::RECORD_BYTES;
+use records::{Kind, RECORD_BYTES, WORDS};
 
 fn put_word(sheet: &mut [u8], at: usize, word: u16)
     requires { at + 2 ≤ length sheet.old }
@@ -13,21 +13,19 @@ fn put_word(sheet: &mut [u8], at: usize, word: u16)
 }
 
 // A record before the one at the cursor; its number.
-pub fn put_record(sheet: &mut [u8], cursor: u16, words: [u16; 6]) -> u16
+pub fn put_record(sheet: &mut [u8], cursor: u16, kind: Kind, words: [u16; 5]) -> u16
     requires { 12 * cursor ≤ length sheet.old }
-    ensures { RecordPut sheet.old sheet.new cursor (record_of words) result }
+    ensures { RecordPut sheet.old sheet.new cursor (record_of kind words) result }
 {
     if cursor == 0 {
         return 0;
     }
-    let [kind, next, a, b, c, d] = words;
-    let at = RECORD_BYTES * usize::from(cursor);
-    put_word(sheet, at - 2, d);
-    put_word(sheet, at - 4, c);
-    put_word(sheet, at - 6, b);
-    put_word(sheet, at - 8, a);
-    put_word(sheet, at - 10, next);
-    put_word(sheet, at - 12, kind);
+    let [next, a, b, c, d] = words;
+    let record = [kind.number(), next, a, b, c, d];
+    let start = RECORD_BYTES * usize::from(cursor - 1);
+    for k in (0..WORDS).rev() {
+        put_word(sheet, start + 2 * k, record[k]);
+    }
     cursor - 1
 }
 

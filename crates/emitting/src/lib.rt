@@ -5,7 +5,7 @@
 
 ghost use Rattle.std.specs.Prelude.{◌≡◌, ◌+◌, ◌*◌, ◌≤◌, ◌<◌, length};
 ghost use Rattle.instructions.specs.Emission.{type_record};
-ghost use Rattle.instructions.specs.Types.{declared_as};
+ghost use Rattle.instructions.specs.Types.{type_declared};
 ghost use Rattle.emitting.specs.Emitting.{RecordPut, emitted_from, Emitting, Emitted, CodeWritten, TypesPut};
 ghost use Rattle.grammar.specs.Legal.{text_bytes};
 ghost use Rattle.records.specs.Limits.{most_records};
@@ -13,18 +13,12 @@ ghost use Rattle.records.specs.Limits.{most_records};
 use bytes::{clear_from, put_record};
 use instructions::code::Code;
 use instructions::types::{DeclaredType, DeclaredTypes};
-use records::{KIND_FLAT_TYPE, KIND_HEADER, KIND_PAIR_TYPE, RECORD_BYTES};
+use records::{Kind, RECORD_BYTES};
 use writer::Writer;
 
 pub mod bytes;
 pub mod stack;
 pub mod writer;
-
-const HEADER: u16 = KIND_HEADER as u16;
-
-const FLAT_TYPE: u16 = KIND_FLAT_TYPE as u16;
-
-const PAIR_TYPE: u16 = KIND_PAIR_TYPE as u16;
 
 // The records of the instructions.
 fn write_code(code: &Code, types: &DeclaredTypes, records: u16, sheet: &mut [u8])
@@ -40,14 +34,14 @@ fn write_code(code: &Code, types: &DeclaredTypes, records: u16, sheet: &mut [u8]
 // A type's record.
 fn put_type_record(sheet: &mut [u8], cursor: u16, next: u16, declared: DeclaredType) -> u16
     requires { 12 * cursor ≤ length sheet.old }
-    ensures { RecordPut sheet.old sheet.new cursor (type_record (declared_as declared) next) result }
+    ensures { RecordPut sheet.old sheet.new cursor (type_record (type_declared declared) next) result }
 {
     match declared {
         DeclaredType::Flat(constructors) => {
-            put_record(sheet, cursor, [FLAT_TYPE, next, constructors, 0, 0, 0])
+            put_record(sheet, cursor, Kind::FlatType, [next, constructors, 0, 0, 0])
         }
         DeclaredType::Paired(first, second) => {
-            put_record(sheet, cursor, [PAIR_TYPE, next, first, second, 0, 0])
+            put_record(sheet, cursor, Kind::PairType, [next, first, second, 0, 0])
         }
     }
 }
@@ -74,5 +68,6 @@ pub fn write_sheet(code: &Code, types: &DeclaredTypes, input: u16, records: usiz
     write_code(code, types, records as u16, sheet);
     write_types(types, sheet);
     let expression = (types.len() + 1) as u16;
-    put_record(sheet, 1, [HEADER, 1, input, expression, records as u16, 0]);
+    let words = [1, input, expression, records as u16, 0];
+    put_record(sheet, 1, Kind::Header, words);
 }

@@ -5,12 +5,8 @@ ghost use Rattle.emitting.specs.Slots.{slot_of, popped, Unwaited};
 ghost use Rattle.grammar.specs.Sizes.{text_table};
 
 use instructions::INSTRUCTIONS;
-use records::{KIND_FIRST, KIND_SECOND};
+use records::Kind;
 use std::marker::Model;
-
-const FIRST: u16 = KIND_FIRST as u16;
-
-const SECOND: u16 = KIND_SECOND as u16;
 
 // The number of a record or a type, where the parts of an expression end, or an index that waits.
 #[derive(Clone, Copy, Debug, PartialEq, Eq)]
@@ -82,15 +78,15 @@ impl Stack {
     }
 
     // The kind of the index that waits on top, which waits no more.
-    pub fn pop_waiting(&mut self) -> Option<u16>
+    pub fn pop_waiting(&mut self) -> Option<Kind>
         ensures { Unwaited result self.old self.new }
     {
         if self.len == 0 {
             return None;
         }
         let kind = match self.slots[self.len - 1] {
-            Slot::FirstWaits => FIRST,
-            Slot::SecondWaits => SECOND,
+            Slot::FirstWaits => Kind::First,
+            Slot::SecondWaits => Kind::Second,
             _ => return None,
         };
         self.len -= 1;

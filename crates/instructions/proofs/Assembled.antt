@@ -1,4 +1,4 @@
--- What the instructions of a text whose names are good are assembled to.
+-- What the instructions of a text whose names are good are text-assembled to.
 -- Assumes nothing.
 use Prim.Native.Nat.{ℕ, ◌+◌}
 use native.Mathlib.Omega.{arith}
@@ -171,11 +171,11 @@ module _ (ds : List Declaration) (good : AllPass (declarations_checks at_first d
       ∙ bad-both u (check_at (constant_place c) (is_typed (constant_type ds c)) ∷ []) (constant_checks ds e))))
 
 -- all parts that the records are made of
-pub assembled : (d : Declaration) (ds : List Declaration) (n : Identifier) (e : Expression) → AllPass (name_checks (text d ds n e))
+pub text-assembled : (d : Declaration) (ds : List Declaration) (n : Identifier) (e : Expression) → AllPass (name_checks (text d ds n e))
     → assemble_all nothing_assembled (text_instructions (text d ds n e))
     ≡ assembly (declared_types (d ∷ ds)) (type_number (type_entries (d ∷ ds)) (letters n)) (text_code (text d ds n e)) [] [] (last_place 0 e) (room_of (d ∷ ds) [] e)
     (first_bad_place (constants_of_text (text d ds n e)))
-assembled d ds (identifier w q) e h =
+text-assembled d ds (identifier w q) e h =
     let D = after_all at_first (d ∷ ds) in
     let both = pass-both (declarations_checks at_first (d ∷ ds)) (is_one type_role D (identifier w q) ∷ expression_checks D [] e) h in
     let i = type_number (type_entries (d ∷ ds)) w in

@@ -5,9 +5,9 @@ use Rattle.instructions.specs.Assembly.{DeclaredType, flat_type, paired_type, le
 use Rattle.instructions.specs.declared.types.DeclaredType.{DeclaredType as CodeType}
 use Rattle.instructions.specs.declared.types.DeclaredType.TheVariants.{Flat, Paired}
 
-abbrev pub declared_as : CodeType → DeclaredType
-declared_as (Flat n) = flat_type n
-declared_as (Paired a b) = paired_type a b
+abbrev pub type_declared : CodeType → DeclaredType
+type_declared (Flat n) = flat_type n
+type_declared (Paired a b) = paired_type a b
 
 -- the type with so many before it
 abbrev pub type_from_bottom : ℕ → List DeclaredType → DeclaredType
@@ -16,7 +16,7 @@ type_from_bottom k T = get_or T (length T - suc k) (flat_type 0)
 -- the last type, if there is one
 abbrev pub LastIs : Option CodeType → List DeclaredType → Type 0
 LastIs None T = T ≡ []
-LastIs (Some x) T = T ≡ declared_as x ∷ drop 1 T
+LastIs (Some x) T = T ≡ type_declared x ∷ drop 1 T
 
 -- the leaves of a type over those before it
 abbrev pub leaves_over : List DeclaredType → DeclaredType → ℕ

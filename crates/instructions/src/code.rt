@@ -22,11 +22,11 @@ impl Model for Code {
     ghost use Rattle.std.specs.Prelude.{List, ◌≤◌};
     ghost use Rattle.grammar.specs.Sizes.{text_table};
     ghost use Rattle.instructions.specs.Instruction.{Instruction as SaidInstruction};
-    ghost use Rattle.instructions.specs.Code.{held};
+    ghost use Rattle.instructions.specs.Code.{instructions_held};
 
     ghost Value = { List SaidInstruction };
 
-    ghost view = { λ c. held c.ops c.firsts c.seconds c.len };
+    ghost view = { λ c. instructions_held c.ops c.firsts c.seconds c.len };
 
     ghost invariant = { λ c. c.len ≤ text_table };
 }

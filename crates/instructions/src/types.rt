@@ -3,13 +3,13 @@ ghost use Rattle.std.specs.Prelude.{◌≡◌, ◌∷◌, [], ◌+◌, ◌≤◌
 ghost use Rattle.grammar.specs.Legal.{text_bytes};
 ghost use Rattle.grammar.specs.Sizes.{text_table};
 ghost use Rattle.instructions.specs.Assembly.{flat_type, leaves_numbered, one_constructor_more, type_held, with_first, with_second};
-ghost use Rattle.instructions.specs.Types.{declared_as, last_constructors, leaves_over, type_from_bottom, LastIs};
+ghost use Rattle.instructions.specs.Types.{type_declared, last_constructors, leaves_over, type_from_bottom, LastIs};
 
 use crate::INSTRUCTIONS;
 use std::marker::Model;
 
 // The most leaves that are counted.
-const MOST_LEAVES: usize = records::MOST_LEAVES as usize;
+const COUNTED_LEAVES: usize = records::MOST_LEAVES as usize;
 
 // A declared type: a flat one by the number of its constructors, a pair type by the numbers of its
 // parts.
@@ -65,7 +65,7 @@ impl DeclaredTypes {
     // The type with so many before it.
     pub fn get(&self, k: usize) -> DeclaredType
         requires { k < length self.now }
-        ensures { declared_as result ≡ type_from_bottom k self.now }
+        ensures { type_declared result ≡ type_from_bottom k self.now }
     {
         if self.pairs[k] {
             DeclaredType::Paired(self.firsts[k], self.seconds[k])
@@ -93,10 +93,10 @@ impl DeclaredTypes {
         ensures { result ≡ min 64 (leaves_numbered self.now first + leaves_numbered self.now second) }
     {
         let sum = self.leaves(first) + self.leaves(second);
-        if sum < MOST_LEAVES {
+        if sum < COUNTED_LEAVES {
             sum as u8
         } else {
-            MOST_LEAVES as u8
+            COUNTED_LEAVES as u8
         }
     }
 
@@ -127,7 +127,7 @@ impl DeclaredTypes {
     // One type more.
     fn push(&mut self, declared: DeclaredType)
         requires { length self.old < text_table }
-        ensures { self.new ≡ declared_as declared ∷ self.old }
+        ensures { self.new ≡ type_declared declared ∷ self.old }
     {
         match declared {
             DeclaredType::Flat(constructors) => self.put(false, constructors, 0, 1),
@@ -141,7 +141,7 @@ impl DeclaredTypes {
     // Another type in the place of the last.
     fn set_last(&mut self, declared: DeclaredType)
         requires { 0 < length self.old }
-        ensures { self.new ≡ declared_as declared ∷ drop 1 self.old }
+        ensures { self.new ≡ type_declared declared ∷ drop 1 self.old }
     {
         self.len -= 1;
         self.push(declared);

@@ -100,8 +100,8 @@ module _ {s W : List ℕ} {t : ℕ} (g : Accepting s (count s) W) (v : verdict s
       typed = one-cycle-typed s stim (one-cycle-passes s stim h e);
     }
 
-    pub leaf-there : l < get_or W t 0 → l < output_leaves s
-    leaf-there y = let d = output-needed g v in omega arith
+    pub leaf-below : l < get_or W t 0 → l < output_leaves s
+    leaf-below y = let d = output-needed g v in omega arith
 
     pub press-done : l < get_or W t 0 → (p : Option Told.Change) → press_told p ≡ one_press s stim l → PressAnswered s stim l (Ok p)
     unfolding final_press

@@ -3,7 +3,8 @@
 
 ghost use Rattle.std.specs.Prelude.{◌≡◌, ◌≤◌, ◌*◌, length};
 ghost use Rattle.listing.specs.Wrote.{line_bytes};
-ghost use Rattle.printing.specs.Pieces.{no_file_line, told_text, text_from};
+ghost use Rattle.listing.specs.Lines.{listing, refused_line};
+ghost use Rattle.printing.specs.Pieces.{no_file_line, text_from};
 ghost use Rattle.printing.specs.PutLines.{PuttingLines, PutLines, IsPiece};
 
 use answers::Code;
@@ -30,25 +31,14 @@ fn put_rest(text: &mut Text<'_>, outputs: Outputs<'_>, k: usize) -> Option<usize
     None
 }
 
-// The first piece of what was told: a refusal, or the listing's beginning.
-pub fn first_piece<'b>(
-    buffer: &'b mut [u8],
-    code: u64,
-    place: u64,
-    t: u64,
-    outputs: Outputs<'_>,
-) -> Piece<'b>
+// The first piece of a listing, whose outputs have the type at record t.
+pub fn first_piece<'b>(buffer: &'b mut [u8], t: u64, outputs: Outputs<'_>) -> Piece<'b>
     requires { 2 * line_bytes ≤ length buffer.old }
-    ensures { IsPiece (told_text code place t outputs.entry.width outputs.entry.leaves.now) outputs.entry.width outputs.entry.leaves.now result.text.now result.next }
+    ensures { IsPiece (listing t outputs.entry.width outputs.entry.leaves.now) outputs.entry.width outputs.entry.leaves.now result.text.now result.next }
 {
     let mut text = Text::new(buffer);
-    let next = if code == 0 {
-        text.put_type(t);
-        put_rest(&mut text, outputs, 0)
-    } else {
-        text.put_refused(code, place);
-        None
-    };
+    text.put_type(t);
+    let next = put_rest(&mut text, outputs, 0);
     Piece {
         text: text.into_bytes(),
         next,
@@ -69,12 +59,20 @@ pub fn next_piece<'b>(buffer: &'b mut [u8], outputs: Outputs<'_>, k: usize) -> P
     }
 }
 
+// The line of a refusal.
+pub fn put_refusal<'b>(buffer: &'b mut [u8], code: u64, place: u64) -> &'b [u8]
+    requires { line_bytes ≤ length buffer.old }
+    ensures { result.now ≡ refused_line code place }
+{
+    let mut text = Text::new(buffer);
+    text.put_refused(code, place);
+    text.into_bytes()
+}
+
 // The line for a file that could not be opened, from its place among the files of a program: 1 for the first.
 pub fn put_no_file<'b>(buffer: &'b mut [u8], place: u64) -> &'b [u8]
     requires { line_bytes ≤ length buffer.old }
     ensures { result.now ≡ no_file_line place }
 {
-    let mut text = Text::new(buffer);
-    text.put_refused(Code::NoFile.number(), place);
-    text.into_bytes()
+    put_refusal(buffer, Code::NoFile.number(), place)
 }

@@ -149,24 +149,24 @@ not-flat Coded.ConstructorPattern f = refl
 not-flat Coded.PairPattern f = refl
 not-flat Coded.Leaf f = refl
 
-pub same-pair : (k : Kind) → sameb the_type k Coded.PairType ≡ is_pair (kind_meant k)
-same-pair Coded.Unknown = refl
-same-pair Coded.Header = refl
-same-pair Coded.FlatType = refl
-same-pair Coded.PairType = refl
-same-pair Coded.Constant = refl
-same-pair Coded.Name = refl
-same-pair Coded.Pair = refl
-same-pair Coded.First = refl
-same-pair Coded.Second = refl
-same-pair Coded.Let = refl
-same-pair Coded.Feedback = refl
-same-pair Coded.If = refl
-same-pair Coded.Delay = refl
-same-pair Coded.WholePattern = refl
-same-pair Coded.ConstructorPattern = refl
-same-pair Coded.PairPattern = refl
-same-pair Coded.Leaf = refl
+pub pair-same : (k : Kind) → sameb the_type k Coded.PairType ≡ is_pair (kind_meant k)
+pair-same Coded.Unknown = refl
+pair-same Coded.Header = refl
+pair-same Coded.FlatType = refl
+pair-same Coded.PairType = refl
+pair-same Coded.Constant = refl
+pair-same Coded.Name = refl
+pair-same Coded.Pair = refl
+pair-same Coded.First = refl
+pair-same Coded.Second = refl
+pair-same Coded.Let = refl
+pair-same Coded.Feedback = refl
+pair-same Coded.If = refl
+pair-same Coded.Delay = refl
+pair-same Coded.WholePattern = refl
+pair-same Coded.ConstructorPattern = refl
+pair-same Coded.PairPattern = refl
+pair-same Coded.Leaf = refl
 
 pub not-pair : (k : Kind) → (k ≡ Coded.PairType → ⊥) → is_pair (kind_meant k) ≡ false
 not-pair Coded.Unknown f = refl
@@ -239,13 +239,13 @@ module _ (f : Table.Kind → Bool) (s : List ℕ) (r : ℕ) (k : Kind) {q b t : 
   kind-unequal eb et = ap f (sym ek) ∙ sym same ∙ twice-not q ∙ ap not (sym eb ∙ et)
 
 -- a test that a sort of the code is that of expressions
-pub same-expression : (σ : Sort) → sameb Sorts.the_type σ Sorted.Expression ≡ same_sort (sort_meant σ) expressions
+pub same-expression : (σ : Sort) → sameb Sorts.the_type σ Sorted.Expressions ≡ same_sort (sort_meant σ) expressions
 same-expression Sorted.None = refl
-same-expression Sorted.Header = refl
-same-expression Sorted.Type = refl
-same-expression Sorted.Expression = refl
-same-expression Sorted.Pattern = refl
-same-expression Sorted.Leaf = refl
+same-expression Sorted.Headers = refl
+same-expression Sorted.Types = refl
+same-expression Sorted.Expressions = refl
+same-expression Sorted.Patterns = refl
+same-expression Sorted.Leaves = refl
 
 -- what a comparison of a record's sort says of the sort that it has
 pub sort-equal : (s : List ℕ) (r : ℕ) (k : Kind) (σ : Sort) (τ : Table.Sort) {q b t : Bool} → q ≡ same_sort (sort_meant σ) τ

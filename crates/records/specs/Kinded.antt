@@ -50,11 +50,11 @@ kind_meant Coded.Leaf = Table.leaf
 
 abbrev pub sort_meant : Sort → Table.Sort
 sort_meant Sorted.None = Table.no_sort
-sort_meant Sorted.Header = Table.headers
-sort_meant Sorted.Type = Table.types
-sort_meant Sorted.Expression = Table.expressions
-sort_meant Sorted.Pattern = Table.patterns
-sort_meant Sorted.Leaf = Table.leafs
+sort_meant Sorted.Headers = Table.headers
+sort_meant Sorted.Types = Table.types
+sort_meant Sorted.Expressions = Table.expressions
+sort_meant Sorted.Patterns = Table.patterns
+sort_meant Sorted.Leaves = Table.leafs
 
 abbrev pub ask_meant : Ask → Table.Ask
 ask_meant Asking.Zeroed = Table.zeroed

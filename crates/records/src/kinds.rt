@@ -32,11 +32,11 @@ pub enum Kind {
 #[derive(Clone, Copy, Debug, PartialEq, Eq)]
 pub enum Sort {
     None,
-    Header,
-    Type,
-    Expression,
-    Pattern,
-    Leaf,
+    Headers,
+    Types,
+    Expressions,
+    Patterns,
+    Leaves,
 }
 
 // What a word asks of the number in it.
@@ -100,8 +100,8 @@ impl Kind {
     {
         match self {
             Kind::Unknown => Sort::None,
-            Kind::Header => Sort::Header,
-            Kind::FlatType | Kind::PairType => Sort::Type,
+            Kind::Header => Sort::Headers,
+            Kind::FlatType | Kind::PairType => Sort::Types,
             Kind::Constant
             | Kind::Name
             | Kind::Pair
@@ -110,9 +110,9 @@ impl Kind {
             | Kind::Let
             | Kind::Feedback
             | Kind::If
-            | Kind::Delay => Sort::Expression,
-            Kind::WholePattern | Kind::ConstructorPattern | Kind::PairPattern => Sort::Pattern,
-            Kind::Leaf => Sort::Leaf,
+            | Kind::Delay => Sort::Expressions,
+            Kind::WholePattern | Kind::ConstructorPattern | Kind::PairPattern => Sort::Patterns,
+            Kind::Leaf => Sort::Leaves,
         }
     }
 
@@ -122,29 +122,29 @@ impl Kind {
     {
         use Ask::{AnyType, Byte, ConstructorOf, Counted, Free, LowerFlat, LowerType};
         use Ask::{Never, NextOf, Part, Total, Zeroed};
-        use Sort::{Expression, Leaf, Pattern, Type};
+        use Sort::{Expressions, Leaves, Patterns, Types};
 
         match self {
-            Kind::Header => [Free, Part(Type), AnyType, Part(Expression), Total, Zeroed],
-            Kind::FlatType => [Free, NextOf(Type), Counted, Zeroed, Zeroed, Zeroed],
-            Kind::PairType => [Free, NextOf(Type), LowerType, LowerType, Zeroed, Zeroed],
-            Kind::Constant => [Free, Zeroed, LowerType, Part(Leaf), Zeroed, Zeroed],
+            Kind::Header => [Free, Part(Types), AnyType, Part(Expressions), Total, Zeroed],
+            Kind::FlatType => [Free, NextOf(Types), Counted, Zeroed, Zeroed, Zeroed],
+            Kind::PairType => [Free, NextOf(Types), LowerType, LowerType, Zeroed, Zeroed],
+            Kind::Constant => [Free, Zeroed, LowerType, Part(Leaves), Zeroed, Zeroed],
             Kind::Name => [Free, Zeroed, Free, Zeroed, Zeroed, Zeroed],
             Kind::Pair => [
                 Free,
                 Zeroed,
-                Part(Expression),
-                Part(Expression),
+                Part(Expressions),
+                Part(Expressions),
                 Zeroed,
                 Zeroed,
             ],
-            Kind::First => [Free, Zeroed, Part(Expression), Zeroed, Zeroed, Zeroed],
-            Kind::Second => [Free, Zeroed, Part(Expression), Zeroed, Zeroed, Zeroed],
+            Kind::First => [Free, Zeroed, Part(Expressions), Zeroed, Zeroed, Zeroed],
+            Kind::Second => [Free, Zeroed, Part(Expressions), Zeroed, Zeroed, Zeroed],
             Kind::Let => [
                 Free,
                 Zeroed,
-                Part(Expression),
-                Part(Expression),
+                Part(Expressions),
+                Part(Expressions),
                 Zeroed,
                 Zeroed,
             ],
@@ -153,8 +153,8 @@ impl Kind {
                     Free,
                     Zeroed,
                     LowerType,
-                    Part(Expression),
-                    Part(Expression),
+                    Part(Expressions),
+                    Part(Expressions),
                     Zeroed,
                 ]
             }
@@ -162,18 +162,25 @@ impl Kind {
                 [
                     Free,
                     Zeroed,
-                    Part(Expression),
-                    Part(Expression),
-                    Part(Expression),
-                    Part(Pattern),
+                    Part(Expressions),
+                    Part(Expressions),
+                    Part(Expressions),
+                    Part(Patterns),
                 ]
             }
-            Kind::Delay => [Free, Zeroed, LowerType, Part(Leaf), Part(Expression), Free],
-            Kind::WholePattern => [Free, NextOf(Pattern), LowerType, Zeroed, Zeroed, Zeroed],
+            Kind::Delay => [
+                Free,
+                Zeroed,
+                LowerType,
+                Part(Leaves),
+                Part(Expressions),
+                Free,
+            ],
+            Kind::WholePattern => [Free, NextOf(Patterns), LowerType, Zeroed, Zeroed, Zeroed],
             Kind::ConstructorPattern => {
                 [
                     Free,
-                    NextOf(Pattern),
+                    NextOf(Patterns),
                     LowerFlat,
                     ConstructorOf,
                     Zeroed,
@@ -183,14 +190,14 @@ impl Kind {
             Kind::PairPattern => {
                 [
                     Free,
-                    NextOf(Pattern),
-                    Part(Pattern),
-                    Part(Pattern),
+                    NextOf(Patterns),
+                    Part(Patterns),
+                    Part(Patterns),
                     Zeroed,
                     Zeroed,
                 ]
             }
-            Kind::Leaf => [Free, NextOf(Leaf), Byte, Zeroed, Zeroed, Zeroed],
+            Kind::Leaf => [Free, NextOf(Leaves), Byte, Zeroed, Zeroed, Zeroed],
             Kind::Unknown => [Free, Never, Never, Never, Never, Never],
         }
     }

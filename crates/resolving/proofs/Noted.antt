@@ -19,7 +19,7 @@ use Rattle.lexer.specs.Scanned.{FirstToken, NamedBy}
 use Rattle.symbols.specs.Names.{place_of, count_of, letters_at, letters_from, Inside}
 use Rattle.symbols.specs.RoleNumbers.{role_codes}
 use Rattle.scoping.specs.Scoped.{held_scope, pending_names, NameNoted, Rescoped, effect_of}
-use Rattle.scoping.specs.Held.{held, After, Noted}
+use Rattle.scoping.specs.Held.{held, ScopeAfter, Noted}
 use Rattle.scoping.specs.declared.scopes.Scope.{Scope}
 use Rattle.name_rules.specs.Declared.{DeclaredName}
 use Rattle.instructions.specs.TokenOrder.{op_by, in_constant, name_said, other_said, pair_before, instructions_on}
@@ -182,7 +182,7 @@ scope-name-noted {span} {effect} {q} {old} {new} {ok} c r = record {
 }
 
 pub scope-other-noted : {class span effect : ℕ} {q : State} {old new : Scope} → (class ≡ 10 → ⊥)
-    → After (ended_by (effect_of effect) (held old)) (old.names.count + old.waiting + 1) old new → ScopeNoted class span effect q old true new
+    → ScopeAfter (ended_by (effect_of effect) (held old)) (old.names.count + old.waiting + 1) old new → ScopeNoted class span effect q old true new
 scope-other-noted {effect} {q} {old} {new} c r = record {
   same_text = r.same_text;
   few = λ o. r.rescoped.scoping.few;

@@ -18,7 +18,7 @@ use Rattle.symbols.specs.declared.tables.NameTable.{NameTable}
 use Rattle.symbols.proofs.Search.{entry-read}
 use Rattle.scoping.specs.declared.scopes.Scope.{Scope}
 use Rattle.scoping.specs.Scoped.{pending_names, held_scope, Scoping, effect_of}
-use Rattle.scoping.specs.Held.{held, Declared, Bound, After, Noted}
+use Rattle.scoping.specs.Held.{held, Declared, Bound, ScopeAfter, Noted}
 use Rattle.scoping.specs.TableNumbers.{effect_code}
 use Rattle.scoping.specs.declared.tables.Effect.{Effect}
 
@@ -51,7 +51,7 @@ scoping-of s room f r = record {
 }
 
 pub after : {S : NameScope} {room : ℕ} (old new : Scope) → new.names.text.now ≡ old.names.text.now → new.names.count + new.waiting ≤ room → room ≤ 65536
-    → held new ≡ S → After S room old new
+    → held new ≡ S → ScopeAfter S room old new
 after {room} old new e f r h = record {
   same_text = e;
   rescoped = record {
@@ -64,7 +64,7 @@ after {room} old new e f r h = record {
   };
 }
 
-pub after-held : {S : NameScope} {room : ℕ} {old new : Scope} → After S room old new → held new ≡ S
+pub after-held : {S : NameScope} {room : ℕ} {old new : Scope} → ScopeAfter S room old new → held new ≡ S
 after-held {new} a =
     ap (λ t. held_scope t new.base new.names.count new.waiting new.names.spans (role_codes new.roles) new.pendings) a.same_text ∙ a.rescoped.same_scope
 
@@ -177,7 +177,7 @@ pended-held s span l =
 -- a good name
 module _ {q : State} {e : ScopeEffect} {span : ℕ} (old new : Scope) where
   pub noted-name : true ≡ cond (may_take e (held old)) (holds_in q (letters_at (text old) span) (met_in e (held old))) false
-      → After (left_by e (letters_at (text old) span) (met_in e (held old))) (old.names.count + old.waiting + 1) old new → Noted q e span old true new
+      → ScopeAfter (left_by e (letters_at (text old) span) (met_in e (held old))) (old.names.count + old.waiting + 1) old new → Noted q e span old true new
   noted-name t a = record { same_text = a.same_text; noted = record { told = t; rescoped = λ z. a.rescoped } }
 
 -- an effect of the code's

@@ -31,7 +31,7 @@ pub record Bound (span : ℕ) (old new : Scope) : Type 0 where
   pub bound : NameBound old.names.text.now span old.base old.names.count old.names.spans (role_codes old.roles) new.names.spans new.names.links new.names.heads (role_codes new.roles)
 
 -- the scope after a change, with so much room
-pub record After (S : NameScope) (room : ℕ) (old new : Scope) : Type 0 where
+pub record ScopeAfter (S : NameScope) (room : ℕ) (old new : Scope) : Type 0 where
   pub same_text : new.names.text.now ≡ old.names.text.now
   pub rescoped : Rescoped S old.names.text.now room new.base new.names.count new.waiting new.names.spans new.names.links new.names.heads (role_codes new.roles) new.pendings
 

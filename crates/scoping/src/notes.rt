@@ -5,7 +5,7 @@ ghost use Rattle.recognizer.specs.Coded.{state_of};
 ghost use Rattle.symbols.specs.Names.{Inside};
 ghost use Rattle.scoping.specs.Scoped.{effect_of};
 ghost use Rattle.scoping.specs.TableNumbers.{effect_code};
-ghost use Rattle.scoping.specs.Held.{held, After, Noted};
+ghost use Rattle.scoping.specs.Held.{held, ScopeAfter, Noted};
 ghost use Rattle.grammar.specs.Legal.{text_bytes};
 ghost use Rattle.grammar.specs.Sizes.{state_count};
 
@@ -17,7 +17,7 @@ impl<'a> Scope<'a> {
     // The name that waits is bound.
     fn bind_pending(&mut self)
         requires { self.old.names.count + self.old.waiting < text_bytes }
-        ensures { After (bind_pending (held self.old)) (self.old.names.count + self.old.waiting + 1) self.old self.new × (self.new.pendings ≡ self.old.pendings) }
+        ensures { ScopeAfter (bind_pending (held self.old)) (self.old.names.count + self.old.waiting + 1) self.old self.new × (self.new.pendings ≡ self.old.pendings) }
     {
         if self.waiting != 0 {
             let last = self.waiting - 1;
@@ -31,7 +31,7 @@ impl<'a> Scope<'a> {
     // The nearest bound name goes.
     fn unbind(&mut self)
         requires { self.old.names.count + self.old.waiting < text_bytes }
-        ensures { After (unbind (held self.old)) (self.old.names.count + self.old.waiting + 1) self.old self.new × (self.new.pendings ≡ self.old.pendings) }
+        ensures { ScopeAfter (unbind (held self.old)) (self.old.names.count + self.old.waiting + 1) self.old self.new × (self.new.pendings ≡ self.old.pendings) }
     {
         if self.base < self.names.count {
             self.names.pop();
@@ -117,7 +117,7 @@ impl<'a> Scope<'a> {
     // A token that is no name: the name that waits is bound, or the nearest bound one goes.
     pub fn note_other(&mut self, effect: Effect)
         requires { self.old.names.count + self.old.waiting < text_bytes }
-        ensures { After (ended_by (effect_of (effect_code effect)) (held self.old)) (self.old.names.count + self.old.waiting + 1) self.old self.new × (self.new.pendings ≡ self.old.pendings) }
+        ensures { ScopeAfter (ended_by (effect_of (effect_code effect)) (held self.old)) (self.old.names.count + self.old.waiting + 1) self.old self.new × (self.new.pendings ≡ self.old.pendings) }
     {
         match effect {
             Effect::BindsPending => self.bind_pending(),

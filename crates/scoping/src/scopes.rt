@@ -30,7 +30,7 @@ impl<'a> Scope<'a> {
     ghost use Rattle.symbols.specs.Names.{letters_at};
     ghost use Rattle.symbols.specs.RoleNumbers.{role_code};
     ghost use Rattle.scoping.specs.Scoped.{held_scope};
-    ghost use Rattle.scoping.specs.Held.{held, Declared, Bound, After};
+    ghost use Rattle.scoping.specs.Held.{held, Declared, Bound, ScopeAfter};
     ghost use Rattle.grammar.specs.Legal.{text_bytes};
     ghost use Rattle.grammar.specs.Sizes.{state_count};
 
@@ -72,7 +72,7 @@ impl<'a> Scope<'a> {
     // The name that waits is declared as a type.
     pub fn declare_pending(&mut self)
         requires { (self.old.base ≡ self.old.names.count) × (self.old.base + self.old.waiting ≤ text_bytes) }
-        ensures { After (declare_pending (held self.old)) (self.old.base + self.old.waiting) self.old self.new × (self.new.base ≡ self.new.names.count) × (self.new.pendings ≡ self.old.pendings) }
+        ensures { ScopeAfter (declare_pending (held self.old)) (self.old.base + self.old.waiting) self.old self.new × (self.new.base ≡ self.new.names.count) × (self.new.pendings ≡ self.old.pendings) }
     {
         if self.waiting != 0 {
             let last = self.waiting - 1;

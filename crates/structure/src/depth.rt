@@ -69,7 +69,7 @@ impl Placements {
         requires { (rec < count sheet.now) × (rec < most_records) × Placed sheet.now (count sheet.now) self.now.depths self.now.nestings }
         ensures { result ≡ too_deep sheet.now rec }
     {
-        sheet.kind(rec).sort() == Sort::Expression
+        sheet.kind(rec).sort() == Sort::Expressions
             && (MOST_DEPTH < self.depths[rec] || MOST_NESTING < self.nestings[rec])
     }
 

@@ -24,7 +24,7 @@ pub struct Naming {
 // How a record is named.
 #[derive(Clone, Copy, Debug, PartialEq, Eq)]
 enum Named {
-    Never,
+    Nowhere,
     // Well, and first by this word; several words d share a pattern.
     Well(Naming),
     Badly,
@@ -40,7 +40,7 @@ impl From<u16> for Named {
 
     fn from(entry: u16) -> Named {
         match entry {
-            0 => Named::Never,
+            0 => Named::Nowhere,
             NAMED_BADLY => Named::Badly,
             _ => {
                 let word = usize::from(entry) - 1;
@@ -59,7 +59,7 @@ impl Named {
         ensures { result ≡ entry_of self }
     {
         match self {
-            Named::Never => 0,
+            Named::Nowhere => 0,
             Named::Well(first) => (NAMER_STEP * first.by + first.at + 1) as u16,
             Named::Badly => NAMED_BADLY,
         }
@@ -72,7 +72,7 @@ impl Named {
         ensures fits { FitsEntry result }
     {
         match self {
-            Named::Never => Named::Well(naming),
+            Named::Nowhere => Named::Well(naming),
             Named::Well(first) if naming.at == WORD_D && first.at == naming.at => self,
             _ => Named::Badly,
         }
@@ -133,7 +133,7 @@ impl NamingTable {
     {
         match Named::from(self.entries[rec]) {
             Named::Well(first) => Some(first),
-            Named::Never | Named::Badly => None,
+            Named::Nowhere | Named::Badly => None,
         }
     }
 

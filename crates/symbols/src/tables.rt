@@ -43,7 +43,7 @@ fn hash(letters: &[u8]) -> usize
 }
 
 // The entry of a link.
-fn entry(link: u32) -> Option<usize>
+fn linked(link: u32) -> Option<usize>
     ensures { entry_number result ≡ link }
 {
     if link == 0 {
@@ -84,7 +84,7 @@ impl<'a> NameTable<'a> {
     {
         let letters = span.letters(self.text);
         let mut link = self.heads[hash(letters)];
-        while let Some(k) = entry(link) {
+        while let Some(k) = linked(link) {
             if k < limit {
                 let spans = &self.spans;
                 let found = spans[k];

@@ -10,7 +10,7 @@ use Rattle.records.specs.declared.kinds.Kind.TheVariants as Coded
 use Rattle.records.specs.Kinds.{type_of, pair, pattern, parts, is_pair}
 use Rattle.records.specs.Kinded.{kind_meant}
 use Rattle.records.specs.Says.{kind_at}
-use Rattle.records.proofs.Kinded.{same-pair}
+use Rattle.records.proofs.Kinded.{pair-same}
 use Rattle.records.proofs.Table.{is-pair}
 use Rattle.records.proofs.Tests.{never_both}
 use Rattle.typing.proofs.Alternatives.{is_parts, is-parts-kind}
@@ -37,7 +37,7 @@ same-parts Coded.Leaf = refl
 module _ (s : List ℕ) (r : ℕ) (k : Kind) {b : Bool} (e : kind_meant k ≡ kind_at s r) where
   module _ (t : b ≡ sameb the_type k Coded.PairType) where
     pub pair-tested : b ≡ is_pair (kind_at s r)
-    pair-tested = t ∙ same-pair k ∙ ap is_pair e
+    pair-tested = t ∙ pair-same k ∙ ap is_pair e
 
     pub is-pair-type : b ≡ true → kind_at s r ≡ type_of pair
     is-pair-type h = is-pair (kind_at s r) (sym pair-tested ∙ h)

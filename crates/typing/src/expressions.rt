@@ -118,12 +118,7 @@ impl<'a> Judge<'a> {
     }
 
     #[cycle(judging)]
-    fn of_if(
-        &self,
-        scope: &Scope,
-        rec: usize,
-        widths: &mut WidthTable,
-    ) -> Result<usize, BrokenRule>
+    fn of_if(&self, scope: &Scope, rec: usize, widths: &mut WidthTable) -> Result<usize, BrokenRule>
         requires { Judging self.now.sheet.now (count self.now.sheet.now) scope.now rec widths.old × (kind_at self.now.sheet.now rec ≡ expression if_matches) }
         ensures { Judged self.now.sheet.now scope.now (tree_at self.now.sheet.now rec) (outcome_of result) widths.old widths.new }
     {

@@ -14,11 +14,7 @@ use crate::scopes::Scope;
 use records::{Sheet, WORD_A, WORD_B, WidthTable};
 
 // Judges a constant.
-pub fn of_constant(
-    sheet: &Sheet,
-    rec: usize,
-    widths: &mut WidthTable,
-) -> Result<usize, BrokenRule>
+pub fn of_constant(sheet: &Sheet, rec: usize, widths: &mut WidthTable) -> Result<usize, BrokenRule>
     requires { Closing sheet.now (count sheet.now) rec widths.old × (kind_at sheet.now rec ≡ expression constant) }
     ensures { (Γ : List ℕ) → Judged sheet.now Γ (tree_at sheet.now rec) (outcome_of result) widths.old widths.new }
 {

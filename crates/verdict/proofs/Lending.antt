@@ -67,12 +67,12 @@ length-lent s (Err e) table p h = record {
 }
 
 module _ {s : List ℕ} {t : ℕ} {after : List ℕ} (c : StagesChecked s (count s) (Accepted t) after) where
-  pub accepted-passes : Passes s
-  accepted-passes = ((exact s t).0 (sym c.answered)).0
+  pub stages-pass : Passes s
+  stages-pass = ((exact s t).0 (sym c.answered)).0
 
   pub patterns-ready : Passes s × PatternsFrom s (count s) after
-  patterns-ready = let k = c.notes t refl in (accepted-passes, rw k.2 (judged-widths accepted-passes refl k.1))
+  patterns-ready = let k = c.notes t refl in (stages-pass, rw k.2 (judged-widths stages-pass refl k.1))
 
 -- an accepted sheet is whole records
-pub accepted-sized : (s : List ℕ) (t n : ℕ) → Accepted t ≡ verdict s → n ≡ length s / 12 → Sized s n
-accepted-sized s t n e c = (length-passed c ((exact s t).0 (sym e)).0.length).sized
+pub whole-accepted : (s : List ℕ) (t n : ℕ) → Accepted t ≡ verdict s → n ≡ length s / 12 → Sized s n
+whole-accepted s t n e c = (length-passed c ((exact s t).0 (sym e)).0.length).sized

@@ -5,7 +5,7 @@ use native.Mathlib.Omega.{arith}
 use mathlib.Core.Path.{◌≡◌, subst}
 use lib.ListN.{length}
 use Rattle.instructions.specs.Emission.{emit}
-use Rattle.emitting.specs.Emitting.{Written, standing}
+use Rattle.emitting.specs.Emitting.{InstructionWritten, standing}
 use Rattle.emitting.proofs.CodeLaws.{CodeLeft, one-emitted}
 use Rattle.emitting.proofs.write_code.Goals as goal
 
@@ -19,4 +19,4 @@ loop-k-preserved c =
     let more : k ≡ k - 1 + 1 = omega arith in
     one-emitted T C c.args.records c.args.sheet.now c.loop-k.sheet c.step.new.sheet c.loop-k.writer c.step.new.self (k - 1) (omega arith)
     (subst (CodeLeft T C c.args.records c.args.sheet.now c.loop-k.sheet c.loop-k.writer) more c.loop-k.invariant)
-    (subst (λ i. Written (λ R. emit T (standing c.loop-k.writer R) i) c.loop-k.sheet c.step.new.sheet c.loop-k.writer c.step.new.self) c.get.ensures c.step.ensures)
+    (subst (λ i. InstructionWritten (λ R. emit T (standing c.loop-k.writer R) i) c.loop-k.sheet c.step.new.sheet c.loop-k.writer c.step.new.self) c.get.ensures c.step.ensures)

@@ -5,7 +5,7 @@ use Rattle.accepted.proofs.Calls.{accepting}
 use Rattle.stimulus.proofs.Holding.{input-typed, input-there, input-takes, counts-fit, counts-taken, counts-inside, counts-ready, counts-long}
 use Rattle.stepper.proofs.CallCycles.{output-there}
 use Rattle.probe.proofs.Rooms.{counts-front}
-use Rattle.press.proofs.Calls.{press-refused-input, press-refused-leaf, pressing-all, leaf-there, press-done}
+use Rattle.press.proofs.Calls.{press-refused-input, press-refused-leaf, pressing-all, leaf-below, press-done}
 use Rattle.press.proofs.press_accepted.Goals as goal
 
 pub returns-in_err-check_one_cycle : goal.returns-in_err-check_one_cycle
@@ -39,7 +39,7 @@ pub fill_bounds-requires : goal.fill_bounds-requires
 fill_bounds-requires c = let g = accepting c.args.checked.now in (input-typed g c.word-a.ensures.0, counts-long g (input-typed g c.word-a.ensures.0) (input-takes g c.word-a.ensures.0) refl)
 
 pub new-probe-requires : goal.new-probe-requires
-new-probe-requires c = leaf-there (accepting c.args.checked.now) c.args.checked.now.accepted c.in_ok-check_one_cycle.ensures _ _ refl c.if-wo-leaf.false
+new-probe-requires c = leaf-below (accepting c.args.checked.now) c.args.checked.now.accepted c.in_ok-check_one_cycle.ensures _ _ refl c.if-wo-leaf.false
 
 pub press_all-requires : goal.press_all-requires
 press_all-requires c = rw (c.new-probe.ensures.0) (pressing-all (accepting c.args.checked.now) c.args.checked.now.accepted c.in_ok-check_one_cycle.ensures c.args.leaf _ refl (counts-front (accepting c.args.checked.now) c.word-a.ensures.0 _ refl c.fill_bounds.ensures))

@@ -3,4 +3,4 @@ use Rattle.simulator.proofs.Calls.{call-runs}
 use Rattle.simulator.proofs.run.Goals as goal
 
 pub returns : goal.returns
-returns c = call-runs c.type_inv.sheet (rw c.packed.ensures c.run_answer.ensures)
+returns c = call-runs c.type_inv.sheet c.run_answer.ensures c.packed.ensures

@@ -1,41 +1,31 @@
 -- Assumes nothing.
+use mathlib.Core.Path.{refl}
 use native.Mathlib.Omega.{arith}
-use mathlib.Core.Path.{refl, ap, ◌∙◌}
-use lib.ListN.{length}
-use Rattle.accepted.proofs.Calls.{same-refusal}
-use Rattle.simulator.proofs.Calls.{running-checked, call-accepting, refused-stimulus, refused-output, refused-next, call-running, call-done}
-use Rattle.stepper.proofs.CallCycles.{output-there}
-use Rattle.stimulus.proofs.Holding.{input-there}
+use Rattle.accepted.proofs.Calls.{accepting, same-refusal}
+use Rattle.accepted.proofs.Small.{accepted-length}
+use Rattle.simulator.proofs.Calls.{refused-stimulus, refused-output, refused-next, call-running, call-done}
 use Rattle.simulator.proofs.run_accepted.Goals as goal
 
 pub returns-in_err-cycles : goal.returns-in_err-cycles
-returns-in_err-cycles c = rw (same-refusal _ _ c.from_residual.ensures.1) (refused-stimulus (running-checked c.args.checked.now) c.in_err-cycles.ensures refl)
-
-pub bounds-checked-a : goal.bounds-checked-a
-bounds-checked-a c = input-there (call-accepting (running-checked c.args.checked.now)) c.word-a.ensures.0
-
-pub bounds-checked-checked : goal.bounds-checked-checked
-bounds-checked-checked c = output-there (call-accepting (running-checked c.args.checked.now)) c.args.checked.now.accepted
+returns-in_err-cycles c = rw (same-refusal _ _ c.from_residual.ensures.1) (refused-stimulus (accepting c.args.checked.now) c.args.checked.now.accepted c.in_err-cycles.ensures c.args.out.now c.args.next.now _ _ refl)
 
 pub returns-then-out-needed : goal.returns-then-out-needed
-returns-then-out-needed c = refused-output (running-checked c.args.checked.now) c.in_ok-cycles.ensures refl c.if-out-needed.true
-
-pub returns-then-next-long : goal.returns-then-next-long
-returns-then-next-long c = rw c.bytes-long.ensures (refused-next (running-checked c.args.checked.now) c.in_ok-cycles.ensures refl c.if-out-needed.false (rw c.bytes-long.ensures at c.if-next-long.true))
-
-pub run_from-requires : goal.run_from-requires
-run_from-requires c = call-running (running-checked c.args.checked.now) c.in_ok-cycles.ensures refl c.if-out-needed.false c.args.next.now (rw c.bytes-long.ensures at c.if-next-long.false) c.word-a.ensures.0 (c.copy_from_slice.ensures.after ∙ c.bytes.ensures)
-
-pub returns : goal.returns
-returns c = call-done (running-checked c.args.checked.now) c.in_ok-cycles.ensures refl c.if-out-needed.false c.args.next.now (rw c.bytes-long.ensures at c.if-next-long.false) c.run_from.ensures
-
-pub word-a-requires : goal.word-a-requires
-word-a-requires c = ((running-checked c.args.checked.now).sized.some, omega arith)
+returns-then-out-needed c = refused-output (accepting c.args.checked.now) c.args.checked.now.accepted c.in_ok-cycles.ensures refl c.leaves_of-leaves.ensures c.args.out.now c.args.next.now c.if-out-needed.true
 
 pub overflow_cast-result-then-next-long : goal.overflow_cast-result-then-next-long
-overflow_cast-result-then-next-long c =
-    let g = (running-checked c.args.checked.now).sized in
-    let w = g.whole in
-    let f = g.few in
-    let e = ap length c.bytes-long.ensures in
-    record { fits = omega arith }
+overflow_cast-result-then-next-long c = rw c.bytes-long.ensures (let l = accepted-length _ c.args.checked.now.accepted in omega arith)
+
+pub returns-then-next-long : goal.returns-then-next-long
+returns-then-next-long c =
+    rw c.bytes-long.ensures
+    (refused-next (accepting c.args.checked.now) c.args.checked.now.accepted c.in_ok-cycles.ensures refl c.leaves_of-leaves.ensures c.if-out-needed.false c.args.next.now (rw c.bytes-long.ensures at c.if-next-long.true))
+
+pub run_all-requires : goal.run_all-requires
+run_all-requires c =
+    call-running (accepting c.args.checked.now) c.args.checked.now.accepted c.in_ok-cycles.ensures refl c.leaves_of-leaves.ensures c.if-out-needed.false c.args.next.now
+    (rw c.bytes-long.ensures at c.if-next-long.false) (rw c.bytes.ensures at c.put.ensures)
+
+pub returns : goal.returns
+returns c =
+    call-done (accepting c.args.checked.now) c.args.checked.now.accepted c.in_ok-cycles.ensures refl c.leaves_of-leaves.ensures c.if-out-needed.false c.args.next.now
+    (rw c.bytes-long.ensures at c.if-next-long.false) c.run_all.ensures

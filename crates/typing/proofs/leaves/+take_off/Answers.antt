@@ -29,9 +29,9 @@ returns-then-eq t c =
 pub returns-then-leaf-eq0 : goal.returns-then-leaf-eq0
 returns-then-leaf-eq0 t c =
     elim c.then-leaf-eq0.branch [
-      then-leaf-eq0-via-then-leaf-eq0 w ↦
+      | then-leaf-eq0-via-then-leaf-eq0 w ↦
           no-leaf-left (written c.requires.0) c.requires.1 c.args.leaf (no-pair-type _ _ _ c.kind.ensures c.eq.ensures c.if-eq.false) w.if-leaf-eq0.true
-    | then-leaf-eq0-via-else-leaf-eq0+then-word w ↦
+      | then-leaf-eq0-via-else-leaf-eq0+then-word w ↦
           too-great (written c.requires.0) c.requires.1 c.args.leaf (no-pair-type _ _ _ c.kind.ensures c.eq.ensures c.if-eq.false) c.requires.2 w.if-leaf-eq0.false
           w.word-else-leaf-eq0.ensures.0 w.word-else-leaf-eq0-2.ensures.0 w.if-word.true
     ]

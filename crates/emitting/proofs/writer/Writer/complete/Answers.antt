@@ -10,7 +10,7 @@ pub loop-kind-init : goal.loop-kind-init
 loop-kind-init c = no-index-put c.requires
 
 pub loop-kind-preserved : goal.loop-kind-preserved
-loop-kind-preserved c = index-put c.in-Some.ensures c.loop-kind.invariant c.put_record-self.ensures
+loop-kind-preserved c = index-put _ c.in-Some.ensures c.loop-kind.invariant c.put_record-self.ensures
 
 pub returns : goal.returns
 returns c =

@@ -5,7 +5,7 @@ use native.Mathlib.Omega.{arith}
 use mathlib.Core.Path.{sym, ap, ◌∙◌}
 use mathlib.Core.List.{◌∷◌}
 use lib.ListN.{length, drop}
-use Rattle.instructions.specs.Types.{declared_as}
+use Rattle.instructions.specs.Types.{type_declared}
 use Rattle.instructions.proofs.LeavesNumbered.{types-counted}
 use Rattle.instructions.proofs.TypeLaws.{one-fewer}
 use Rattle.instructions.proofs.types.DeclaredTypes.set_last.Goals as goal
@@ -23,5 +23,5 @@ pub returns : goal.returns
 returns c =
     let s = c.self.inside in
     c.push.ensures
-    ∙ ap (λ T. declared_as c.args.declared ∷ T) (one-fewer s.pairs s.firsts s.seconds s.len)
-    ∙ ap (λ T. declared_as c.args.declared ∷ drop 1 T) c.self.view_is
+    ∙ ap (λ T. type_declared c.args.declared ∷ T) (one-fewer s.pairs s.firsts s.seconds s.len)
+    ∙ ap (λ T. type_declared c.args.declared ∷ drop 1 T) c.self.view_is

@@ -13,9 +13,9 @@ returns-then-ne c = entry-other c.requires.0 c.requires.1 c.word-following.ensur
 pub returns : goal.returns
 returns c = (
   elim c.else-following-ne0.branch [
-    else-following-ne0-via-then-following-ne0+else-ne w ↦
+    | else-following-ne0-via-then-following-ne0+else-ne w ↦
         entry-same c.requires.0 c.requires.1 c.word-following.ensures.0 w.if-following-ne0.true _ c.one_type-one.ensures.0 _ w.of.ensures _ w.ne.ensures w.if-ne.false
-  | else-following-ne0-via-else-following-ne0 w ↦ last-alternative c.requires.0 c.requires.1 c.word-following.ensures.0 _ c.one_type-one.ensures.0 w.if-following-ne0.false
+    | else-following-ne0-via-else-following-ne0 w ↦ last-alternative c.requires.0 c.requires.1 c.word-following.ensures.0 _ c.one_type-one.ensures.0 w.if-following-ne0.false
   ],
   c.one_type-one.ensures.1,
 )
