@@ -26,6 +26,7 @@ use Rattle.structure.proofs.Depths.{depth-of}
 use Rattle.typing.specs.Judging.{Ground, Judging, Closing, Fitting, PartAt, at_first, at_second}
 use Rattle.typing.specs.LeafChains.{LeafOrEnd}
 use Rattle.typing.specs.PatternTable.{PatternsTyped, TypingPattern, TypeTables}
+use Rattle.verdict.specs.Scopes.{inputs}
 use Rattle.verdict.specs.Stages.{CheckingTypes}
 use Rattle.verdict.specs.CheckedTable.{PatternsFrom}
 use Rattle.verdict.specs.Verdict.{verdict}
@@ -118,17 +119,14 @@ module _ {s : List ℕ} (p : Passes s) (full : length s ≡ 12 * count s) where
 
   -- typing: an expression, with the input in scope, a table of widths that has those of types, and
   -- the type tables
-  abbrev pub scope_stack : List ℕ
-  scope_stack = (ready p full).0
-
   abbrev pub widths_noted : List ℕ
-  widths_noted = (ready p full).1
+  widths_noted = (ready p full).0
 
   abbrev pub types_noted : List ℕ
   types_noted = (type_tables s p full).0
 
-  at-root : Judging s (count s) scope_stack 1 (word_b s 0) widths_noted
-  at-root = (ready p full).2
+  at-root : Judging s (count s) (inputs s) (word_b s 0) widths_noted
+  at-root = (ready p full).1
 
   pub tables-right : TypeTables s (count s) index types_noted
   tables-right = (type_tables s p full).1
@@ -140,10 +138,9 @@ module _ {s : List ℕ} (p : Passes s) (full : length s ≡ 12 * count s) where
       go [] e t = absurd (false≢true t)
       go (x ∷ ns) e t = let d = depth-of w r x ns low e in omega arith
 
-  pub judge-callable : (r : ℕ) → r < count s → sort_at s r ≡ expressions → Judging s (count s) scope_stack 1 r widths_noted
+  pub judge-callable : (r : ℕ) → r < count s → sort_at s r ≡ expressions → Judging s (count s) (inputs s) r widths_noted
   judge-callable r h e = record {
     ground = at-root.ground;
-    wide = at-root.wide;
     long = at-root.long;
     there = h;
     sort = e;
@@ -152,21 +149,21 @@ module _ {s : List ℕ} (p : Passes s) (full : length s ≡ 12 * count s) where
   }
 
   pub judge-root-callable : (r : ℕ) → r < count s → sort_at s r ≡ expressions
-      → Judging s (count s) scope_stack 1 r widths_noted × Indexed s (count s) index
+      → Judging s (count s) (inputs s) r widths_noted × Indexed s (count s) index
   judge-root-callable r h e = (judge-callable r h e, tables-right.indexed)
 
   -- `Judge::expression`, with the tables that a judge has
   pub judge-expression-callable : (r : ℕ) → r < count s → sort_at s r ≡ expressions
-      → Judging s (count s) scope_stack 1 r widths_noted × TypeTables s (count s) index types_noted
+      → Judging s (count s) (inputs s) r widths_noted × TypeTables s (count s) index types_noted
   judge-expression-callable r h e = (judge-callable r h e, tables-right)
 
-  -- `of_pair`, `of_let`, `of_feedback`, `of_if` and `of_delay`
+  -- `of_pair`, `of_let`, `of_feedback`, `of_if` and `of_delay`, of a judge
   pub of-kind-callable : (k : ExpressionKind) (r : ℕ) → r < count s → kind_at s r ≡ expression k
-      → Judging s (count s) scope_stack 1 r widths_noted × (kind_at s r ≡ expression k) × TypeTables s (count s) index types_noted
+      → Judging s (count s) (inputs s) r widths_noted × (kind_at s r ≡ expression k) × TypeTables s (count s) index types_noted
   of-kind-callable k r h e = (judge-callable r h (rw e), e, tables-right)
 
   pub of-part-callable : (k r : ℕ) → r < count s → PartAt s r k
-      → Judging s (count s) scope_stack 1 r widths_noted × PartAt s r k × TypeTables s (count s) index types_noted
+      → Judging s (count s) (inputs s) r widths_noted × PartAt s r k × TypeTables s (count s) index types_noted
   of-part-callable k r h q = (judge-callable r h (sort q), q, tables-right)
     where
       sort : {k : ℕ} → PartAt s r k → sort_at s r ≡ expressions
@@ -174,7 +171,7 @@ module _ {s : List ℕ} (p : Passes s) (full : length s ≡ 12 * count s) where
       sort (at_second e) = rw e
 
   pub of-name-callable : (r : ℕ) → r < count s → kind_at s r ≡ expression name
-      → Judging s (count s) scope_stack 1 r widths_noted × (kind_at s r ≡ expression name)
+      → Judging s (count s) (inputs s) r widths_noted × (kind_at s r ≡ expression name)
   of-name-callable r h e = (judge-callable r h (rw e), e)
 
   -- typing: a last judgement
@@ -259,10 +256,10 @@ module _ {s : List ℕ} (p : Passes s) (full : length s ≡ 12 * count s) where
   note-patterns-callable = let x = patterns-from p full (count s) (omega arith) in (x.0, size, p, x.1)
 
   -- accepted
-  pub callable-accepting : (t : ℕ) → verdict s ≡ Accepted t → Accepting s (count s) (widths p full).0
-  callable-accepting t e = record { sized = size; type = t; accepted = e; table = (widths p full).1 }
+  accepting_at : (t : ℕ) → verdict s ≡ Accepted t → Accepting s (count s) (widths p full).0
+  accepting_at t e = record { sized = size; type = t; accepted = e; table = (widths p full).1 }
 
   pub fill-bounds-callable : (t u : ℕ) → verdict s ≡ Accepted t → TypeRecord s u
       → (out : List ℕ) × Accepting s (count s) (widths p full).0 × TypeRecord s u × (length out ≡ leaves (type_at s u))
   fill-bounds-callable t u e h =
-      (replicate (leaves (type_at s u)) 0, callable-accepting t e, h, length-replicate {A = ℕ} (leaves (type_at s u)) 0)
+      (replicate (leaves (type_at s u)) 0, accepting_at t e, h, length-replicate {A = ℕ} (leaves (type_at s u)) 0)

@@ -2,7 +2,7 @@
 -- each record and a table of the types of the patterns from each record on. The index is made record by record: every search in one
 -- comes to its end, as each slot leads to a later one, and a pair type that is new goes into the slot where the search for its parts
 -- ended. The types of patterns are found from the last record down. Assumes nothing.
-use mathlib.Core.Path.{◌≡◌, refl, sym, subst}
+use mathlib.Core.Path.{◌≡◌, refl, subst}
 use mathlib.Core.Bool.{Bool, true, false}
 use mathlib.Core.List.{List}
 use Prim.Native.Nat.{ℕ, zero, suc, ◌+◌, ◌*◌, ◌-◌, ◌/◌, ◌%◌, ◌≤◌, ◌<◌}
@@ -23,7 +23,7 @@ use Rattle.structure.specs.PairIndex.{another, onwards, Ends, SlotFound, Linked,
 use Rattle.structure.proofs.Passes.{written}
 use Rattle.structure.proofs.PairSearch.{no-pairs-indexed, goes_on, no-pair-noted, lower-noted, pair-noted}
 use Rattle.typing.specs.PatternTable.{TypedOne, TypedAll, PatternsTyped, TypingPattern, TypeTables}
-use Rattle.typing.proofs.PatternNumbers.{no-pattern}
+use Rattle.typing.proofs.PatternNumbers.{no-pattern, pattern-kind, number-of-pattern}
 use Rattle.typing.proofs.TypedPatterns.{
   no-types-typed,
   word-type,
@@ -109,12 +109,13 @@ module _ {s : List ℕ} {n : ℕ} {index types : List ℕ} {r : ℕ} (q : Typing
   one-type-found = go (ℕ_discrete (word s r 0) 50)
     where
       go : Dec (word s r 0 ≡ 50) → (x : ℕ) × TypedOne s r x × (x < 65536)
-      go (yes e) = (
-        pair_below s (get_or types (word s r 2) 0) (get_or types (word s r 3) 0) n,
-        pair-type-of-parts q sort refl e refl refl refl,
-        pair_small q sort refl e refl refl refl,
-      )
-      go (no f) = (word s r 2, word-type q sort refl f refl, first-word-small)
+      go (yes e) =
+          let k = pattern-kind s r (word s r 0) refl parts e in (
+            pair_below s (get_or types (word s r 2) 0) (get_or types (word s r 3) 0) n,
+            pair-type-of-parts q sort k refl refl refl,
+            pair_small q sort k refl refl refl,
+          )
+      go (no f) = (word s r 2, word-type q sort (λ z. f (number-of-pattern s r (word s r 0) refl parts z)) refl, first-word-small)
 
   common-type-found : (x : ℕ) × TypedAll s r x × (x < 65536)
   common-type-found = go one-type-found (ℕ_discrete (word s r 1) 0)

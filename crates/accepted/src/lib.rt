@@ -14,8 +14,7 @@ pub fn fill_bounds(checked: &Checked, t: usize, out: &mut [u8])
     requires { TypeRecord checked.now.sheet t × (length out.old ≡ leaves (type_at checked.now.sheet t)) }
     ensures { out.new ≡ bounds (type_at checked.now.sheet t) }
 {
-    let sheet = &checked.sheet;
     for (i, bound) in out.iter_mut().enumerate() {
-        *bound = bound_at(sheet.bytes(), sheet.records(), &checked.widths, t, i) as u8;
+        *bound = bound_at(&checked.sheet, &checked.widths, t, i) as u8;
     }
 }

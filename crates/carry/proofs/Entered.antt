@@ -9,9 +9,8 @@ use mathlib.Core.Path.{◌≡◌, refl, sym, ap, subst, ◌∙◌}
 use native.Mathlib.Omega.{arith}
 use native.Mathlib.Decide.{ℕ_discrete}
 use lib.ListN.{length, get_or, length-map}
-use Rattle.picoella.specs.Language.{leaves}
 use Rattle.records.specs.Words.{count, word_a, word_b}
-use Rattle.records.specs.Kinds.{Kind, expression, delay, leaf, leafs, part}
+use Rattle.records.specs.Kinds.{Kind, expression, delay, leafs, part}
 use Rattle.records.specs.Says.{kind_at}
 use Rattle.records.specs.Trees.{chain, circuit, delay_leaves}
 use Rattle.records.specs.Written.{Distinct, Written, WellNamed}

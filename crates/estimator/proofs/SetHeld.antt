@@ -28,7 +28,7 @@ use Rattle.meaning.proofs.Order.{value-length, bounds-length}
 use Rattle.values.specs.Chained.{Chained}
 use Rattle.evaluator.proofs.Frames.{back-part, back_long, lent-long, zeros-long}
 use Rattle.evaluator.proofs.Readiness.{ready-passes, ready-written, ready-there, in-circuit, room-few, entry-is}
-use Rattle.possibilities.specs.Sets.{ConstructorSet, sets_of, set_words}
+use Rattle.possibilities.specs.Sets.{ConstructorSet}
 use Rattle.possibilities.specs.Filling.{Positive, positive_none, positive_leaf}
 use Rattle.possible.proofs.FilledTerms.{positive-bounds}
 use Rattle.sets.specs.SetMatchings.{FewConstructors}

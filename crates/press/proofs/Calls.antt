@@ -1,12 +1,11 @@
 -- The call: the input in some room, and what each way out gives.
 -- Assumes nothing.
-use Prim.Native.Nat.{ℕ, ◌+◌, ◌-◌, ◌≤◌, ◌<◌}
+use Prim.Native.Nat.{ℕ, ◌≤◌, ◌<◌}
 use mathlib.Core.Path.{◌≡◌, refl, sym, ap, ◌∙◌}
-use mathlib.Core.List.{List, [], ◌∷◌, ◌++◌}
+use mathlib.Core.List.{List, [], ◌∷◌}
 use native.Mathlib.Omega.{arith}
 use borrow.Author.Tests.{le-leb, lt-leb}
-use lib.ListN.{length, get_or, take, drop}
-use lib.Seq.{length-take-le}
+use lib.ListN.{length, get_or}
 use Rattle.picoella.specs.Language.{bounds}
 use Rattle.records.specs.Words.{word_a, count}
 use Rattle.records.proofs.Types.{leaves-of-bounds}
@@ -26,22 +25,16 @@ use Rattle.accepted.specs.Accepting.{Accepting}
 use Rattle.accepted.proofs.Calls.{sheet-fault}
 use Rattle.accepted.proofs.Laws.{written, exact}
 use Rattle.records.proofs.TypeRecords.{input-type}
-use Rattle.accepted.proofs.Small.{accepted-few, type-few}
+use Rattle.accepted.proofs.Small.{type-few}
 use Rattle.meaning.proofs.Order.{within-length}
 use Rattle.stimulus.specs.Stimulus.{input_type}
 use Rattle.stimulus.specs.Holding.{HeldToOne}
-use Rattle.stimulus.proofs.Holding.{input-typed}
 use Rattle.stimulus.proofs.OneCycle.{one-cycle-passes, one-cycle-typed}
 use Rattle.stimulus.proofs.OneCycleCalls.{by-cycle}
-use Rattle.evaluator.proofs.Frames.{put_whole}
 use Rattle.behaviour.specs.Run.{output_leaves}
 use Rattle.probe.specs.OutputLeaf.{leaf_check}
-use Rattle.probe.specs.Looking.{Looking}
-use Rattle.stepper.proofs.CallCycles.{output-width}
 use Rattle.preview.proofs.Showing.{output-needed}
-use Rattle.probe.proofs.Rooms.{front-inside, front-is}
 use Rattle.press.specs.Press.{one_press, own_press_checks, press_answer, final_press, press_found, press_leaf, press_constructor, PressGiven}
-use Rattle.press.specs.Press.{Press}
 use Rattle.press.specs.Pressing.{PressingAll}
 
 pub stim-few : {s counts stim : List ℕ} → PressingAll s counts stim → length stim ≤ 64

@@ -3,8 +3,6 @@
 -- Assumes nothing.
 use mathlib.Core.Path.{refl}
 use mathlib.Core.List.{[], ◌∷◌}
-use native.Mathlib.Omega.{arith}
-use lib.ListN.{replicate}
 use Rattle.picoella.specs.Language.{bounds}
 use Rattle.records.specs.Words.{word, count}
 use Rattle.records.specs.Kinds.{row_of, kind_of, ask_of}

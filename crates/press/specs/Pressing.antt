@@ -1,10 +1,8 @@
 -- What the functions of one press away ask and give.
-use Rattle.std.specs.Prelude.{ℕ, ◌<◌, ◌≡◌, List}
-use Rattle.picoella.specs.Language.{bounds, leaves, OfType}
-use Rattle.records.specs.Trees.{type_at}
+use Rattle.std.specs.Prelude.{ℕ, ◌≡◌, List}
+use Rattle.picoella.specs.Language.{bounds, OfType}
 use Rattle.verdict.specs.Verdict.{verdict}
 use Rattle.answers.specs.Answers.{Accepted}
-use Rattle.accepted.specs.Accepting.{Accepting}
 use Rattle.stimulus.specs.Stimulus.{input_type}
 use Rattle.probe.specs.OutputLeaf.{leaf_for}
 

@@ -2,8 +2,8 @@
 -- Assumes nothing.
 use Prim.Native.Nat.{ℕ, ◌≤◌, ◌<◌}
 use mathlib.Core.Bool.{not}
-use mathlib.Core.List.{List, [], ◌∷◌, ◌++◌}
-use mathlib.Core.Option.{Option, none, some}
+use mathlib.Core.List.{List, [], ◌∷◌}
+use mathlib.Core.Option.{none, some}
 use mathlib.Core.Path.{◌≡◌, refl, sym, ap, ◌∙◌}
 use native.Mathlib.Omega.{arith}
 use lib.Dec.{eqb}
@@ -24,7 +24,7 @@ use Rattle.answers.specs.Answers.{Done, Refused}
 use Rattle.answers.specs.Answers.{Accepted}
 use Rattle.answers.proofs.Lowest.{lowest-some-passes}
 use Rattle.answers.proofs.First.{first-both, first_then}
-use Rattle.verdict.specs.Verdict.{sheet_checks, verdict}
+use Rattle.verdict.specs.Verdict.{verdict}
 use Rattle.accepted.specs.Accepting.{Accepting}
 use Rattle.accepted.proofs.Calls.{accepted-output, sheet-fault, sheet-accepted}
 use Rattle.accepted.proofs.Small.{output-typed, accepted-few}

@@ -9,7 +9,7 @@ use native.Mathlib.Omega.{arith}
 use lib.ListN.{length, get_or}
 use lib.Dec.{eqb}
 use Rattle.records.specs.Words.{word}
-use Rattle.answers.specs.Answers.{code, place, in_one, packed, Check, check, first_applying, NoneApplies, or_refused, SaysOf, verdict_answer, when, when_done, lowest}
+use Rattle.answers.specs.Answers.{place, packed, Check, check, first_applying, NoneApplies, or_refused, SaysOf, when, when_done, lowest}
 use Rattle.answers.specs.Answers.{Answer}
 use Rattle.answers.specs.Answers.{Done, Refused}
 use Rattle.answers.specs.GivenSlices.{no_slice, one_slice}

@@ -4,7 +4,7 @@ use Rattle.answers.specs.Answers.{Answer, Done, Refused}
 use Rattle.answers.specs.Results.{code_number}
 use Rattle.answers.specs.declared.Refusal.{Refusal}
 use Rattle.replay.specs.declared.Difference.{Difference}
-use Rattle.replay.specs.Replay.{Finding, Agrees, Differs, finding, replay_answer, final_replay, differs_given, cycle_given, leaf_given}
+use Rattle.replay.specs.Replay.{Finding, Agrees, Differs, finding, replay_answer, final_replay}
 
 abbrev pub found_of : Result ℕ Difference → Finding
 found_of (Ok cycles) = Agrees cycles

@@ -10,6 +10,11 @@ use Rattle.records.specs.Trees.{type_at}
 use Rattle.answers.specs.Answers.{code, place}
 use Rattle.printing.specs.Pieces.{told_text}
 use Rattle.run_listing.specs.Printout.{output_record, run_answer, run_outputs, printed, RunTold}
+use Rattle.std.specs.Prelude.{Err}
+use Rattle.answers.specs.declared.Refusal.{Refusal}
+use Rattle.answers.specs.Results.{code_number}
+use Rattle.listing.specs.Lines.{refused_line}
+use Rattle.run_listing.proofs.Telling.{AsTold, some-code}
 use Rattle.report.specs.Reported.{report_text, reported}
 use Rattle.report.specs.Promises.{RefusesAsRun, ReportOfListing}
 
@@ -21,6 +26,14 @@ module _ {s stim : List ℕ} {c p t w many : ℕ} {out' next' : List ℕ} (told 
       go : (k : ℕ) → c ≡ k → report_text k p w (take many out') ≡ report_text k p (leaves (type_at s (output_record s))) (run_outputs s stim)
       go zero e = rw (told.wide e, told.outputs e) refl
       go (suc k) e = refl
+
+-- of a refusal
+pub refused-reported : {s stim : List ℕ} (e : Refusal) {out' next' : List ℕ} → AsTold s stim (Err e) out' next'
+    → refused_line (code_number e.code) e.place ≡ reported s stim
+refused-reported e told = rw c.1 (rw c.1 at (told-reported told))
+  where
+    c : (k : ℕ) × (code_number e.code ≡ suc k)
+    c = some-code e.code
 
 pub refuses_as_run : RefusesAsRun
 unfolding reported printed

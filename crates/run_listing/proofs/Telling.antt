@@ -26,7 +26,10 @@ use Rattle.behaviour.specs.Run.{output_needed, answer, final_out, final_next}
 use Rattle.behaviour.specs.Afterwards.{WellFormed}
 use Rattle.behaviour.proofs.Answers.{run_laws, answer-by-lengths, refused-by-verdict, stimulus-refused}
 use Rattle.std.specs.Prelude.{Result, Ok, Err, IsErrAnd}
-use Rattle.answers.specs.Results.{refusal_of, answer_of, verdict_of}
+use Rattle.answers.specs.declared.Code.{Code}
+use Rattle.answers.specs.declared.Code.TheVariants as Coded
+use Rattle.listing.specs.Lines.{refused_line}
+use Rattle.answers.specs.Results.{code_number, refusal_of, answer_of, verdict_of}
 use Rattle.answers.specs.declared.Refusal.{Refusal}
 use Rattle.answers.specs.declared.Fault.{Fault}
 use Rattle.simulator.specs.Running.{RunAnswered, Measured}
@@ -167,7 +170,7 @@ told-printed {s} {stim} {c} {p} {t} {w} {many} {out'} told = rw (← told.coded,
     go (suc k) e = refl
 
 -- what is told, as it stands in the result
-abbrev AsTold : (s stim : List ℕ) → Result Listed Refusal → (out next : List ℕ) → Type 0
+abbrev pub AsTold : (s stim : List ℕ) → Result Listed Refusal → (out next : List ℕ) → Type 0
 AsTold s stim r out next = RunTold s stim (told_code r) (told_place r) (told_type r) (told_width r) (told_length r) out next
 
 -- of a sheet that is refused
@@ -204,3 +207,36 @@ module _ (s stim : List ℕ) (i o t many : ℕ) (m : Measured s i o t) (q : Outp
         (take_at ro (drop many out) many (lo ∙ out-long))
         (let l = length-append ro (drop many out) in let g = out-long in omega arith)
         (take_at rn (drop (length s) next) (length s) (ln ∙ next_long))
+
+-- no code of a refusal is 0
+pub some-code : (c : Code) → (k : ℕ) × (code_number c ≡ suc k)
+some-code Coded.SheetLength = (0, refl)
+some-code Coded.SheetHeader = (1, refl)
+some-code Coded.SheetRecord = (2, refl)
+some-code Coded.SheetNaming = (3, refl)
+some-code Coded.SheetType = (4, refl)
+some-code Coded.SheetDepth = (5, refl)
+some-code Coded.SheetTyping = (6, refl)
+some-code Coded.WrongStimulus = (7, refl)
+some-code Coded.WrongInput = (8, refl)
+some-code Coded.WrongOutputLength = (9, refl)
+some-code Coded.WrongNextLength = (10, refl)
+some-code Coded.NoFile = (11, refl)
+some-code Coded.WrongText = (12, refl)
+some-code Coded.WrongName = (13, refl)
+some-code Coded.NoRoom = (14, refl)
+some-code Coded.WrongWords = (15, refl)
+some-code Coded.WrongRecordedLength = (16, refl)
+some-code Coded.NewSheetRefused = (17, refl)
+some-code Coded.LabelTwice = (18, refl)
+some-code Coded.TooManyInputs = (19, refl)
+some-code Coded.NoOutputLeaf = (20, refl)
+some-code Coded.NotForSets = (21, refl)
+
+-- so what is told of a refusal gives its line
+pub refused-printed : {s stim : List ℕ} (e : Refusal) {out' next' : List ℕ} → AsTold s stim (Err e) out' next'
+    → refused_line (code_number e.code) e.place ≡ printed s stim
+refused-printed e told = rw c.1 (rw c.1 at (told-printed told))
+  where
+    c : (k : ℕ) × (code_number e.code ≡ suc k)
+    c = some-code e.code

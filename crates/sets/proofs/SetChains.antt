@@ -1,8 +1,7 @@
 -- Matching sets, alternative by alternative and part by part, is the match of the definition on the pattern that the records say.
 -- Assumes nothing.
 use Prim.Native.Nat.{ℕ, zero, suc, ◌+◌, ◌-◌, ◌≤◌, ◌<◌}
-use mathlib.Core.Bool.{Bool, true, ◌&&◌}
-use mathlib.Core.List.{List, [], ◌∷◌, map}
+use mathlib.Core.List.{List, [], ◌∷◌}
 use mathlib.Core.Path.{◌≡◌, refl, sym, ap, ap₂, subst, ◌∙◌}
 use native.Mathlib.Decide.{ℕ_discrete}
 use native.Mathlib.Omega.{arith}
@@ -32,7 +31,7 @@ use Rattle.accepted.proofs.Laws.{written, in-sheet, fits-typed}
 use Rattle.meaning.specs.Decisions.{Decision, No, pair_decision, chain_decision}
 use Rattle.values.specs.Matchings.{Matching, with_rest}
 use Rattle.values.proofs.ChainLaws.{one-with-rest, chain-with-rest, rest-of-grown}
-use Rattle.values.specs.MatchAnswers.{decision_of, Own, told}
+use Rattle.values.specs.MatchAnswers.{decision_of, Own}
 use Rattle.values.specs.declared.Match.{Match}
 use Rattle.values.specs.declared.Match.TheVariants as Matched'
 use Rattle.values.proofs.Matches.{past, next-matched, cut, cut_inside}

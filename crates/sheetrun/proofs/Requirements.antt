@@ -19,8 +19,10 @@ use Rattle.behaviour.specs.Terms.{circuit_term}
 use Rattle.behaviour.specs.Sheets.{write}
 use Rattle.behaviour.specs.Cycle.{output_by, after_by}
 use Rattle.listing.specs.Digits.{digits}
-use Rattle.listing.specs.Lines.{ascii}
-use Rattle.printing.specs.Pieces.{told_text, text_from}
+use Rattle.listing.specs.Lines.{ascii, listing, refused_line}
+use Rattle.answers.specs.Results.{code_number}
+use Rattle.answers.specs.declared.Code.TheVariants.{WrongInput}
+use Rattle.printing.specs.Pieces.{text_from}
 use Rattle.printing.specs.PutLines.{text_after}
 use Rattle.run_listing.specs.Printout.{printed, run_sheet}
 use Rattle.run_listing.proofs.Witness.{toggle_listed}
@@ -47,9 +49,17 @@ write-more : text_from 1 1 outputs ≡ ascii "1: 1\n2: 1\ncycles 3\n" ++ text_af
 unfolding outputs digits
 write-more = refl
 
-print : told_text 0 0 1 1 outputs ≡ printed toggle stimulus
+print-listing : listing 1 1 outputs ≡ printed toggle stimulus
 unfolding stimulus outputs digits
-print = sym toggle_listed.0
+print-listing = sym toggle_listed.0
+
+write-line : ascii "refused 9 at 1\n" ≡ printed toggle (1 ∷ 3 ∷ [])
+unfolding digits
+write-line = sym toggle_listed.1
+
+print-refusal : refused_line (code_number WrongInput) 1 ≡ printed toggle (1 ∷ 3 ∷ [])
+unfolding digits
+print-refusal = sym toggle_listed.1
 
 run-files : length toggle ≤ sheet_room
 run-files = lit≤ tt

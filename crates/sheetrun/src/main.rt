@@ -3,13 +3,16 @@
 #![tactic(auto)]
 
 ghost use Rattle.std.specs.Prelude.{◌≤◌, ◌≡◌, ◌++◌, length, take};
-ghost use Rattle.printing.specs.Pieces.{told_text, text_from};
+ghost use Rattle.listing.specs.Lines.{listing, refused_line};
+ghost use Rattle.answers.specs.Results.{code_number};
+ghost use Rattle.printing.specs.Pieces.{text_from};
 ghost use Rattle.printing.specs.PutLines.{text_after};
 ghost use Rattle.run_listing.specs.Printout.{printed, run_sheet};
 ghost use Rattle.rooms.specs.Rooms.{sheet_room};
 
+use answers::Refusal;
 use listing::Outputs;
-use printing::{Piece, first_piece, next_piece};
+use printing::{Piece, first_piece, next_piece, put_refusal};
 use program_io::{read_inputs, replace};
 use rooms::{output_room, sheet_room, stimulus_room, text_room};
 use run_listing::tell;
@@ -45,20 +48,12 @@ fn write_more(out: &impl Print, outputs: Outputs<'_>, k: usize, piece: Piece<'_>
     let _ = out.write_all(piece.text);
 }
 
-// Prints what was told of a sheet and a stimulus, piece by piece.
-fn print(
-    out: &impl Print,
-    sheet: &[u8],
-    stim: &[u8],
-    code: u64,
-    place: u64,
-    t: u64,
-    outputs: Outputs<'_>,
-)
-    requires { told_text code place t outputs.width outputs.leaves.now ≡ printed sheet.now stim.now }
+// Prints the listing of a sheet and a stimulus, piece by piece, of outputs whose type is at record t.
+fn print_listing(out: &impl Print, sheet: &[u8], stim: &[u8], t: u64, outputs: Outputs<'_>)
+    requires { listing t outputs.width outputs.leaves.now ≡ printed sheet.now stim.now }
 {
     let mut buffer = text_room();
-    let begun = first_piece(&mut buffer, code, place, t, outputs);
+    let begun = first_piece(&mut buffer, t, outputs);
     let mut next = begun.next;
     write_first(out, sheet, stim, outputs, begun);
     while let Some(k) = next {
@@ -68,21 +63,39 @@ fn print(
     }
 }
 
+// Writes all that is printed of a sheet and a stimulus.
+fn write_line(out: &impl Print, sheet: &[u8], stim: &[u8], line: &[u8])
+    requires { line.now ≡ printed sheet.now stim.now }
+{
+    let _ = out.write_all(line);
+}
+
+// Prints the line of a refused run.
+fn print_refusal(out: &impl Print, sheet: &[u8], stim: &[u8], refusal: Refusal)
+    requires { refused_line (code_number refusal.code) refusal.place ≡ printed sheet.now stim.now }
+{
+    let mut buffer = text_room();
+    let line = put_refusal(&mut buffer, refusal.code.number(), u64::from(refusal.place));
+    write_line(out, sheet, stim, line);
+}
+
 // next.bin is written first, so that it is there also where nobody reads what is printed.
 fn run_files(rt: &(impl Files<File = File> + Print), sheet: &[u8], stim: &[u8])
     requires { length sheet.now ≤ sheet_room }
 {
     let mut out = output_room();
     let mut next = sheet_room();
-    let run = tell(sheet, stim, &mut out, &mut next);
-    if run.code == 0 {
-        keep_next(rt, sheet, stim, &next);
+    match tell(sheet, stim, &mut out, &mut next) {
+        Ok(listed) => {
+            keep_next(rt, sheet, stim, &next);
+            let outputs = Outputs {
+                leaves: &out[..listed.length],
+                width: listed.width,
+            };
+            print_listing(rt, sheet, stim, listed.output_type, outputs);
+        }
+        Err(refusal) => print_refusal(rt, sheet, stim, refusal),
     }
-    let outputs = Outputs {
-        leaves: &out[..run.many],
-        width: run.w,
-    };
-    print(rt, sheet, stim, run.code, run.place, run.t, outputs);
 }
 
 fn main(rt: HostRuntime) {

@@ -1,30 +1,29 @@
 -- The checks of a stimulus: the counts of the input's leaves stand in front of some room, what is found among the bytes by them is
 -- what code 9 asks for, and each way out is the answer of the two checks.
 -- Assumes nothing.
-use Prim.Native.Nat.{ℕ, ◌+◌, ◌-◌, ◌*◌, ◌/◌, ◌%◌, ◌≤◌, ◌<◌}
+use Prim.Native.Nat.{ℕ, ◌*◌, ◌/◌, ◌%◌, ◌≤◌, ◌<◌}
 use mathlib.Core.Bool.{Bool, true, false}
-use mathlib.Core.List.{List, [], ◌∷◌, ◌++◌}
+use mathlib.Core.List.{List, ◌++◌}
 use mathlib.Core.Option.{none, some}
 use mathlib.Core.Path.{◌≡◌, refl, sym, ap, ◌∙◌}
 use native.Mathlib.Omega.{arith}
 use native.Mathlib.Nat.{mul-le-mul_left}
 use lib.Dec.{ltb}
-use lib.ListN.{length, get_or, take, drop, replicate, length-append, length-drop}
+use lib.ListN.{length, get_or, take, drop, replicate, length-append}
 use lib.Seq.{take_at, length-take-le}
 use Rattle.picoella.specs.Language.{bounds, leaves}
 use Rattle.records.specs.Words.{word, word_a}
 use Rattle.records.specs.Trees.{type_at, TypeRecord}
 use Rattle.records.proofs.Types.{few-leaves, some-leaves, leaves-of-bounds}
 use Rattle.records.proofs.TypeRecords.{input-type}
-use Rattle.answers.specs.Answers.{first_applying, lowest}
+use Rattle.answers.specs.Answers.{lowest}
 use Rattle.answers.specs.Searches.{found}
 use Rattle.std.specs.Prelude.{Option, Some, None}
-use Rattle.answers.specs.Answers.{Answer}
 use Rattle.answers.specs.Answers.{Done, Refused}
 use Rattle.answers.proofs.Lowest.{lowest-some-passes}
 use Rattle.accepted.specs.Accepting.{Accepting}
 use Rattle.accepted.proofs.Laws.{written, types-fit, exact}
-use Rattle.stimulus.specs.Stimulus.{input_leaves, cycle_count, wrong_stimulus, wrong_byte, stimulus_checks}
+use Rattle.stimulus.specs.Stimulus.{input_leaves, cycle_count, wrong_stimulus, wrong_byte}
 use Rattle.stimulus.specs.Tests.{not_whole, above}
 use Rattle.stimulus.specs.Holding.{Held}
 use Rattle.stimulus.proofs.Stimulus.{stimulus-whole}

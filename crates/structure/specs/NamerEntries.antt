@@ -3,17 +3,17 @@ use Rattle.std.specs.Prelude.{ℕ, ◌+◌, ◌*◌, ◌<◌, ◌≡◌, List, [
 use Rattle.records.specs.Limits.{most_records}
 use Rattle.records.specs.Says.{Naming}
 use Rattle.structure.specs.declared.naming.Named.{Named}
-use Rattle.structure.specs.declared.naming.Named.TheVariants.{Never, Well, Badly}
+use Rattle.structure.specs.declared.naming.Named.TheVariants.{Nowhere, Well, Badly}
 use Rattle.structure.specs.NamerTable.{named_several, summary, ByWords}
 
 abbrev pub entry_of : Named → ℕ
-entry_of Never = 0
+entry_of Nowhere = 0
 entry_of (Well n) = 8 * n.by + n.at + 1
 entry_of Badly = named_several
 
 -- the number has 16 bits, and gives the word back
 abbrev pub FitsEntry : Named → Type 0
-FitsEntry Never = Unit {0}
+FitsEntry Nowhere = Unit {0}
 FitsEntry (Well n) = (8 * n.by + n.at + 1 < named_several) × (n.at < 8)
 FitsEntry Badly = Unit {0}
 

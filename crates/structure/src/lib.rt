@@ -10,7 +10,7 @@ mod types;
 
 pub use depth::Placements;
 pub use naming::{Naming, NamingTable};
-pub use pairs::{PairIndex, pair_of};
+pub use pairs::PairIndex;
 pub use said::{first_wrong_record, wrong_header};
 pub use search::lowest_record;
 pub use types::{capped_sum, count_types, first_wrong_type, no_leaves};

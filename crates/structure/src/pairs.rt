@@ -3,7 +3,6 @@
 // each bit, and one more.
 ghost use Rattle.std.specs.Prelude.{◌≡◌, ℕ, ◌+◌, ◌<◌, ◌≤◌, List, get_or, true, false, MatchOption};
 ghost use Rattle.records.specs.Words.{count};
-ghost use Rattle.records.specs.Sized.{Sized};
 ghost use Rattle.records.specs.Limits.{most_records};
 ghost use Rattle.records.specs.Trees.{is_pair_of, pair_below};
 ghost use Rattle.structure.specs.PairIndex.{Linked, Indexed, SlotFound, another, lower_pair, pair_slots, some_record};
@@ -102,12 +101,4 @@ impl PairIndex {
         }
         lower
     }
-}
-
-// The pair type of a and b, or 0.
-pub fn pair_of(sheet: &[u8], n: usize, index: &PairIndex, a: usize, b: usize) -> usize
-    requires { Sized sheet.now n × Indexed sheet.now n index.now }
-    ensures { result ≡ pair_below sheet.now a b n }
-{
-    index.pair_of(&Sheet::of(sheet, n), a, b).unwrap_or(0)
 }

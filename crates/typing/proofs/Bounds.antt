@@ -1,11 +1,10 @@
 -- The constructor count of a leaf of a type, found by going down the type's parts: a leaf of a pair is one of its first part's where
 -- its number is below that part's leaves, and else one of its second's. Assumes nothing.
 use mathlib.Core.Path.{◌≡◌, refl, sym, ◌∙◌, ap}
-use mathlib.Core.Bool.{true, false}
+use mathlib.Core.Bool.{false}
 use mathlib.Core.List.{List, ◌++◌}
 use Prim.Native.Nat.{ℕ, ◌+◌, ◌-◌, ◌≤◌, ◌<◌}
 use native.Mathlib.Omega.{arith}
-use borrow.Author.Tests.{ne_eqb}
 use lib.ListN.{length, get_or, get_or-append}
 use lib.Seq.{get_or-append-add}
 use Rattle.picoella.specs.Language.{Ty, Flat, TyTuple, bounds, leaves}
@@ -16,14 +15,12 @@ use Rattle.records.specs.Trees.{type_at, TypeRecord}
 use Rattle.records.specs.Written.{Written, TypesFit}
 use Rattle.records.proofs.Tests.{never_both}
 use Rattle.records.proofs.Table.{kind-of-sort}
-use Rattle.records.proofs.CodeTable.{pair-number}
 use Rattle.records.proofs.Types.{leaves-of-bounds, flat-type, pair-type, few-leaves}
 use Rattle.records.proofs.TypeRecords.{first_part, second-part}
 use Rattle.records.proofs.Types.{pair_parts}
 use Rattle.structure.specs.Rules.{Passes}
 use Rattle.structure.specs.LeafTable.{LeavesCounted}
 use Rattle.structure.proofs.Passes.{written, types-fit}
-use Rattle.structure.proofs.LeafCounts.{pair-kind}
 use Rattle.typing.specs.Judging.{Ground}
 
 -- a table of leaf counts has the leaves of each type of a sheet that passes
@@ -41,9 +38,6 @@ module _ {s : List ℕ} {n : ℕ} {table : List ℕ} (g : Ground s n table) wher
   pub ground-types : TypesFit s
   ground-types = types-fit g.passes
 
-  pub below-count : (r : ℕ) → r < count s → r < n
-  below-count r h = let c = g.sized.counted in omega arith
-
   pub in_count : (r : ℕ) → r < n → r < count s
   in_count r h = let c = g.sized.counted in omega arith
 
@@ -59,9 +53,6 @@ module _ {s : List ℕ} {n : ℕ} {table : List ℕ} (g : Ground s n table) wher
     pub typed : TypeRecord s part
     pub below : at < leaves (type_at s part)
     pub same : get_or (bounds (type_at s t)) i 0 ≡ get_or (bounds (type_at s part)) at 0
-
-  pub reached-itself : (t i : ℕ) → TypeRecord s t → i < leaves (type_at s t) → LeafReached t i t i
-  reached-itself t i r h = record { typed = r; below = h; same = refl }
 
   module _ (t i part at : ℕ) (r : LeafReached t i part at) where
     module _ (e : kind_at s part ≡ type_of pair) where

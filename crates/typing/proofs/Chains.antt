@@ -1,7 +1,7 @@
 -- The leaves of a type taken off a chain: for a pair type those of its first part and then those of its second, for a flat type one
 -- leaf, no greater than the type's count. Assumes nothing.
 use mathlib.Core.Path.{◌≡◌, refl, sym, ◌∙◌, ap}
-use mathlib.Core.Bool.{true, false}
+use mathlib.Core.Bool.{false}
 use mathlib.Core.List.{List, [], ◌∷◌, ◌++◌, append_assoc, append-nil}
 use Rattle.std.specs.Prelude.{Option, Some, None}
 use Prim.Native.Nat.{ℕ, zero, suc, ◌≤◌, ◌<◌}
@@ -13,18 +13,15 @@ use Rattle.picoella.specs.Language.{bounds}
 use Rattle.records.specs.Words.{count, word, word_a, word_b, next_word}
 use Rattle.records.specs.Kinds.{type_of, flat, pair, types, TypeKind, leafs, is_pair}
 use Rattle.records.specs.Says.{kind_at, sort_at}
-use Rattle.records.specs.Sized.{Sized}
 use Rattle.records.specs.Trees.{type_at, TypeRecord, chain, follow}
 use Rattle.records.specs.Decoding.{leaf_values}
 use Rattle.records.specs.Written.{Written}
 use Rattle.records.proofs.Tests.{never_both}
 use Rattle.records.proofs.Table.{kind-of-sort}
-use Rattle.records.proofs.CodeTable.{pair-number}
 use Rattle.records.proofs.Asked.{past-header}
 use Rattle.records.proofs.Trees.{chain-of, next-leaf}
 use Rattle.records.proofs.Types.{flat-type, pair-type, pair_parts}
 use Rattle.records.proofs.TypeRecords.{first_part, second-part}
-use Rattle.structure.proofs.LeafCounts.{pair-kind}
 use Rattle.typing.specs.Judgements.{within}
 use Rattle.typing.specs.LeafChains.{LeafOrEnd, values_from, remains_within, TakenOff}
 
@@ -34,9 +31,6 @@ follows s (suc r) h = refl
 
 misfit-from : (r : ℕ) → ◌≡◌ {A = Option ℕ} None (Some r) → ⊥
 misfit-from r e = let z : ◌≡◌ {A = ℕ} 0 1 = cc in omega arith
-
-pub leaf-there : {s : List ℕ} {leaf : ℕ} → LeafOrEnd s leaf → (leaf ≡ 0 → ⊥) → leaf < count s
-leaf-there l g = (l.leaf (omega arith)).0
 
 module _ {s : List ℕ} (w : Written s) {t : ℕ} (r : TypeRecord s t) (leaf : ℕ) where
   -- of a pair type

@@ -1,28 +1,24 @@
 -- The last judgement of an expression: where its rule fails it is the fault, and where it holds the type's leaf count is noted.
 -- Assumes nothing.
 use mathlib.Core.Path.{◌≡◌, refl, sym, ◌∙◌, ap}
-use mathlib.Core.Bool.{Bool, true, false}
-use mathlib.Core.List.{List, ◌∷◌}
-use Prim.Native.Nat.{ℕ, zero, suc, ◌+◌, ◌-◌, ◌≤◌, ◌<◌}
+use mathlib.Core.Bool.{true, false}
+use mathlib.Core.List.{List}
+use Prim.Native.Nat.{ℕ, zero, suc, ◌<◌}
 use native.Mathlib.Omega.{arith}
-use native.Mathlib.Numerals.{add-one}
-use borrow.Author.Tests.{lt-ltb, ne_eqb, eq-eqb}
-use lib.ListN.{length, set, length-set}
-use lib.Seq.{get_or-set_same, get_or-set_other}
+use borrow.Author.Tests.{lt-ltb}
+use lib.ListN.{set, length-set}
+use lib.Seq.{get_or-set_other}
 use Rattle.picoella.specs.Language.{leaves}
 use Rattle.records.specs.Words.{word}
 use Rattle.records.specs.Kinds.{types, expressions, sort_number, is_pair}
 use Rattle.records.specs.Says.{kind_at, sort_at}
 use Rattle.records.specs.Trees.{type_at, TypeRecord, pair_of, pair_below}
-use Rattle.records.proofs.CodeTable.{pair-number}
 use Rattle.records.proofs.TypeRecords.{found-pair, first_part, second-part}
-use Rattle.structure.proofs.LeafCounts.{pair-kind}
-use Rattle.typing.specs.Judgements.{Rule, holds, pair_declared, pair_type, same_type}
+use Rattle.typing.specs.Judgements.{Rule, holds, pair_declared, pair_type}
 use Rattle.typing.specs.Judging.{TypesCounted, Closing, Closed}
 use Rattle.structure.specs.PairIndex.{some_record}
-use Rattle.std.specs.Prelude.{Option, Some, None}
+use Rattle.std.specs.Prelude.{Some, None}
 use Rattle.records.proofs.Table.{is-pair}
-use Rattle.typing.specs.Outcomes.{Outcome}
 use Rattle.typing.specs.Outcomes.{Sound, Fault}
 use Rattle.typing.proofs.Bounds.{ground-written}
 

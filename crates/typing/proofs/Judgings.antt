@@ -1,11 +1,9 @@
 -- The laws of `Parts` at a record: the tree of a record of each kind is made of the trees of its parts, so what judging the parts gave
 -- is what judging the record gives. Assumes nothing.
-use mathlib.Core.Path.{◌≡◌, refl, sym, ◌∙◌, ap}
+use mathlib.Core.Path.{◌≡◌, refl, ◌∙◌}
 use mathlib.Core.Bool.{true, false}
 use mathlib.Core.List.{List, ◌∷◌}
-use mathlib.Core.Option.{none}
-use Prim.Native.Nat.{ℕ, zero, suc, ◌-◌, ◌≤◌, ◌<◌}
-use native.Mathlib.Omega.{arith}
+use Prim.Native.Nat.{ℕ, ◌≤◌, ◌<◌}
 use borrow.Author.Tests.{lt-ltb, le-ltb}
 use lib.ListN.{length, get_or, set}
 use Rattle.picoella.specs.Language.{leaves}
@@ -26,8 +24,8 @@ use Rattle.records.specs.Says.{kind_at}
 use Rattle.records.specs.Trees.{type_at, TypeRecord, pair_of, tree_at, chain, alternatives, constant_of, tuple_of, let_of, feedback_of, if_of, delay_of}
 use Rattle.records.specs.Written.{Written}
 use Rattle.records.proofs.Trees.{tree-of}
-use Rattle.typing.specs.Judgements.{holds, leaves_fit, in_scope, pair_declared, pair_type, same_type, pattern_has, judge, first_failing}
-use Rattle.typing.specs.Judging.{TypesCounted, Judged, Closed, Closing, PartAt, at_first, at_second, lastly, scope_of, Context}
+use Rattle.typing.specs.Judgements.{holds, leaves_fit, in_scope, pair_declared, pair_type, same_type, pattern_has}
+use Rattle.typing.specs.Judging.{TypesCounted, Judged, Closed, Closing, PartAt, at_first, at_second, Context}
 use Rattle.typing.specs.Outcomes.{Outcome}
 use Rattle.typing.specs.Outcomes.{Sound, Fault}
 use Rattle.typing.proofs.Outcomes.{Passed, rule-holds, rule-fails}

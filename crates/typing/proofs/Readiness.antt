@@ -1,14 +1,12 @@
 -- An expression that is ready to be judged has parts that are: they are higher expressions, one deeper, so that there is room for
 -- one name more; and what an expression was judged to have is a type record. Assumes nothing.
-use mathlib.Core.Path.{◌≡◌, refl, sym, subst}
+use mathlib.Core.Path.{◌≡◌, refl}
 use mathlib.Core.Bool.{true, ◌&&◌}
 use mathlib.Core.List.{List, ◌∷◌}
-use Prim.Native.Nat.{ℕ, suc, ◌+◌, ◌≤◌, ◌<◌}
+use Prim.Native.Nat.{ℕ, suc, ◌<◌}
 use native.Mathlib.Omega.{arith}
 use lib.Dec.{ltb}
 use lib.ListN.{length}
-use mir.Syntax.{w64}
-use mir.Val.{Fits}
 use Rattle.records.specs.Words.{count, word}
 use Rattle.records.specs.Kinds.{Kind, expressions, patterns, leafs, part, lower_type, expression, first, second}
 use Rattle.records.specs.Says.{kind_at, sort_at}
@@ -21,7 +19,7 @@ use Rattle.records.proofs.TypeRecords.{type-word}
 use Rattle.structure.specs.Rules.{depth}
 use Rattle.structure.proofs.Passes.{written, well-named, not-deep}
 use Rattle.structure.proofs.Depths.{depth-of-part}
-use Rattle.typing.specs.Judging.{Ground, TypesCounted, Judging, Closing, Fitting, Context, scope_of, PartAt, at_first, at_second}
+use Rattle.typing.specs.Judging.{Ground, TypesCounted, Judging, Closing, Fitting, PartAt, at_first, at_second}
 use Rattle.typing.proofs.Judged.{passed-judged}
 use Rattle.typing.proofs.TypeRecordsOf.{type-of-record}
 use Rattle.typing.proofs.Outcomes.{Passed}

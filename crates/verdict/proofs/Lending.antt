@@ -19,6 +19,8 @@ use Rattle.structure.specs.Rules.{Passes, wrong_length}
 use Rattle.verdict.specs.Stages.{StagesChecked}
 use Rattle.verdict.specs.Verdict.{verdict}
 use Rattle.verdict.specs.CheckedTable.{PatternsFrom, Checked}
+use Rattle.verdict.specs.CheckedSheet.{checked_verdict}
+use Rattle.verdict.specs.declared.checked.Checked.{Checked as CheckedSheet}
 use Rattle.verdict.proofs.Exact.{exact}
 use Rattle.verdict.proofs.Stages.{length-passed}
 use Rattle.verdict.proofs.Widths.{judged-widths}
@@ -66,13 +68,14 @@ length-lent s (Err e) table p h = record {
   accepted = λ q. absurd (let e = rw (p, h.0) at q in let y : ◌≡◌ {A = ℕ} 0 1 = cc in omega arith);
 }
 
+pub length-checked : (s : List ℕ) {f : Fault} (r : Result CheckedSheet Fault) → IsErrAnd r (λ e. e ≡ f)
+    → (f ≡ Faulty.WrongLength) × (wrong_length s ≡ true) → checked_verdict r ≡ verdict s
+length-checked s (Ok x) p h = absurd p
+length-checked s (Err e) p h = rw p (length-verdict s h)
+
 module _ {s : List ℕ} {t : ℕ} {after : List ℕ} (c : StagesChecked s (count s) (Accepted t) after) where
-  pub stages-pass : Passes s
-  stages-pass = ((exact s t).0 (sym c.answered)).0
+  pub passes-accepted : Passes s
+  passes-accepted = ((exact s t).0 (sym c.answered)).0
 
   pub patterns-ready : Passes s × PatternsFrom s (count s) after
-  patterns-ready = let k = c.notes t refl in (stages-pass, rw k.2 (judged-widths stages-pass refl k.1))
-
--- an accepted sheet is whole records
-pub whole-accepted : (s : List ℕ) (t n : ℕ) → Accepted t ≡ verdict s → n ≡ length s / 12 → Sized s n
-whole-accepted s t n e c = (length-passed c ((exact s t).0 (sym e)).0.length).sized
+  patterns-ready = let k = c.notes t refl in (passes-accepted, rw k.2 (judged-widths passes-accepted refl k.1))

@@ -1,14 +1,13 @@
 -- The place of a verdict is a record of the sheet, so it is below 4,096.
 -- Assumes nothing.
-use mathlib.Core.Path.{◌≡◌, refl, sym, ◌∙◌}
+use mathlib.Core.Path.{◌≡◌, refl, sym}
 use mathlib.Core.List.{List}
 use Prim.Native.Nat.{ℕ, ◌<◌}
 use native.Mathlib.Omega.{arith}
 use Rattle.answers.specs.Answers.{place, verdict_answer}
-use Rattle.structure.specs.Rules.{Passes}
 use Rattle.structure.proofs.Passes.{length-fits}
 use Rattle.verdict.specs.Promises.{Says, PlacesBelow}
-use Rattle.verdict.specs.Verdict.{verdict, by_types}
+use Rattle.verdict.specs.Verdict.{verdict}
 use Rattle.answers.specs.Answers.{Verdict}
 use Rattle.answers.specs.Answers.{
   Accepted,
@@ -22,7 +21,7 @@ use Rattle.answers.specs.Answers.{
 }
 use Rattle.verdict.proofs.Exact.{exact}
 use Rattle.verdict.proofs.IllTypedExactly.{ill_typed_exactly}
-use Rattle.verdict.proofs.Places.{places-right, passes-by-types}
+use Rattle.verdict.proofs.Places.{places-right}
 
 -- the place of each verdict is below the count, or 0
 place-below : (s : List ℕ) (v : Verdict) → verdict s ≡ v → Says s v → place (verdict_answer v) < 4096
@@ -43,9 +42,6 @@ place-below s (IllTyped r) e says =
 pub verdict-place : PlacesBelow
 verdict-place s = place-below s (verdict s) refl (places-right s)
 
--- the record at which the type rules refuse, and the type of an accepted sheet
-pub ill-typed-place : {s : List ℕ} → Passes s → (r : ℕ) → IllTyped r ≡ by_types s → r < 4096
-ill-typed-place {s} p r e = let q : verdict s ≡ IllTyped r = passes-by-types p ∙ sym e in rw q at (verdict-place s)
-
+-- the type of an accepted sheet
 pub output-place : (s : List ℕ) (t : ℕ) → Accepted t ≡ verdict s → t < 4096
 output-place s t e = let q : verdict s ≡ Accepted t = sym e in rw q at (verdict-place s)

@@ -1,13 +1,12 @@
 -- The stages of the check, one after the other: where a stage finds no fault the next begins, and
 -- the first that finds one gives the verdict. Assumes nothing.
 use mathlib.Core.Path.{◌≡◌, sym, ◌∙◌, ap, subst}
-use mathlib.Core.Bool.{Bool, true, false, not, ◌||◌, or-true}
+use mathlib.Core.Bool.{Bool, true, false, not, ◌||◌}
 use mathlib.Core.List.{List, [], ◌∷◌}
 use mathlib.Core.Option.{none, some}
-use Prim.Native.Nat.{ℕ, ◌*◌, ◌/◌, ◌%◌, ◌≤◌, ◌<◌}
+use Prim.Native.Nat.{ℕ, ◌/◌, ◌%◌, ◌≤◌, ◌<◌}
 use native.Mathlib.Omega.{arith}
-use native.Mathlib.Decide.{ℕ_discrete}
-use borrow.Author.Tests.{ltb-false, eqb-true, lt-ltb, le-ltb, eq-eqb, ne_eqb, not-false}
+use borrow.Author.Tests.{ltb-false, eqb-true, le-ltb, eq-eqb, not-false}
 use lib.Dec.{eqb, ltb}
 use lib.ListN.{length}
 use Rattle.records.specs.Words.{count, word}
@@ -31,16 +30,7 @@ use Rattle.verdict.specs.Verdict.{verdict, by_types, by_records}
 use Rattle.verdict.specs.Scopes.{inputs}
 use Rattle.typing.specs.Outcomes.{Outcome, Sound, Fault}
 use Rattle.answers.specs.Answers.{Verdict}
-use Rattle.answers.specs.Answers.{
-  Accepted,
-  WrongLength,
-  WrongHeader,
-  WrongRecord,
-  WrongNaming,
-  WrongType,
-  TooDeep,
-  IllTyped,
-}
+use Rattle.answers.specs.Answers.{Accepted, WrongHeader, WrongRecord, WrongNaming, WrongType, TooDeep, IllTyped}
 use Rattle.typing.proofs.Bounds.{counts-leaves}
 use Rattle.typing.proofs.Outcomes.{passed, faulted}
 
@@ -94,26 +84,6 @@ module _ (s : List ℕ) {n : ℕ} (p : ℕ → Bool) {o : Option ℕ} (c : n ≡
 
   found_at : {r : ℕ} → o ≡ Some r → lowest p (count s) ≡ some r
   found_at q = rw (← c) (sym e ∙ ap found q)
-
--- the length
--- no signature here determines the sheet
-module _ (s : List ℕ) where
-  pub short-wrong : length s < 12 → true ≡ wrong_length s
-  unfolding wrong_length
-  short-wrong h = rw (lt-ltb (length s) 12 h)
-
-  pub long-wrong : 49152 < length s → true ≡ wrong_length s
-  unfolding wrong_length
-  long-wrong h = sym (rw (lt-ltb 49152 (length s) h) (or-true (ltb (length s) 12)))
-
-  pub length-tested : (n : ℕ) → n ≡ length s / 12 → 12 ≤ length s → length s ≤ 49152 → not (eqb (12 * n) (length s)) ≡ wrong_length s
-  unfolding wrong_length
-  length-tested n e low high =
-      rw (le-ltb (length s) 12 low, le-ltb 49152 (length s) high) (ap not (go (ℕ_discrete (length s % 12) 0)))
-    where
-      go : Dec (length s % 12 ≡ 0) → eqb (12 * n) (length s) ≡ eqb (length s % 12) 0
-      go (yes z) = rw (eq-eqb (length s % 12) 0 z) (eq-eqb (12 * n) (length s) (omega arith))
-      go (no z) = rw (ne_eqb (length s % 12) 0 z) (ne_eqb (12 * n) (length s) (λ q. z (omega arith)))
 
 -- a stage that finds nothing: the next may begin
 module _ {s : List ℕ} {n : ℕ} where
@@ -196,10 +166,6 @@ module _ {s : List ℕ} {n : ℕ} where
     answered = e;
     notes = λ t q. let z : code (verdict_answer answer) ≡ 0 = ap (λ (w : Verdict). code (verdict_answer w)) q in absurd (omega arith);
   }
-
-  pub length-refused : (after : List ℕ) → wrong_length s ≡ true → StagesChecked s n WrongLength after
-  unfolding verdict
-  length-refused after e = refused WrongLength after (omega arith) (rw e)
 
   pub header_refused : (after : List ℕ) → wrong_length s ≡ false → wrong_header s ≡ true → StagesChecked s n WrongHeader after
   unfolding verdict

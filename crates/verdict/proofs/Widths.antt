@@ -47,7 +47,6 @@ use Rattle.typing.specs.ExpressionWidth.{width}
 use Rattle.verdict.specs.Scopes.{inputs}
 use Rattle.verdict.specs.Widths.{pattern_leaves, pattern_entry, has_entry, Widths}
 use Rattle.verdict.specs.CheckedTable.{PatternsFrom}
-use Rattle.typing.proofs.PatternNumbers.{no-pattern}
 use Rattle.verdict.proofs.Stores.{notes, Stored}
 use Rattle.verdict.proofs.Noted.{circuit-expressions, scope-noting, scope-noted, circuit-stored}
 

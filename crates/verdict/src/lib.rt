@@ -24,7 +24,7 @@ ghost use Rattle.answers.specs.declared.Fault.TheVariants.{WrongLength};
 ghost use Rattle.records.specs.Limits.{most_records};
 
 use answers::{Answer, Fault, Verdict, packed};
-use records::{Kind, Sheet, WORD_A, WORD_B, WidthTable, no_widths, records_in};
+use records::{Kind, Sheet, WORD_A, WORD_B, WidthTable, no_widths};
 use structure::{
     NamingTable, PairIndex, Placements, capped_sum, count_types, first_wrong_record,
     first_wrong_type, no_leaves, wrong_header,
@@ -126,17 +126,25 @@ fn sheet_of(bytes: &[u8]) -> Result<Sheet<'_>, Fault>
     Sheet::new(bytes).ok_or(Fault::WrongLength)
 }
 
-// The check of a sheet, with the leaf counts of the types of expressions, patterns and types for an
-// accepted sheet.
+// The check of bytes of the right length, with the leaf counts of the types of expressions, patterns
+// and types for an accepted sheet.
+fn check_whole(sheet: &Sheet, table: &mut WidthTable) -> Verdict
+    requires { Sized sheet.now (count sheet.now) }
+    ensures { CheckedInto sheet.now (verdict_of result) table.old table.new }
+{
+    let mut widths = no_leaves();
+    let output_type = check_stages(sheet, &mut widths)?;
+    note_patterns(sheet, &mut widths);
+    *table = widths;
+    Ok(output_type)
+}
+
+// The check of a sheet into a lent table.
 pub fn check_into(bytes: &[u8], table: &mut WidthTable) -> Verdict
     ensures { CheckedInto bytes.now (verdict_of result) table.old table.new }
 {
     let sheet = sheet_of(bytes)?;
-    let mut widths = no_leaves();
-    let output_type = check_stages(&sheet, &mut widths)?;
-    note_patterns(&sheet, &mut widths);
-    *table = widths;
-    Ok(output_type)
+    check_whole(&sheet, table)
 }
 
 // The check of a sheet: the accepted sheet with what was found of it, or its first fault.
@@ -144,10 +152,11 @@ pub fn check(bytes: &[u8]) -> Result<Checked<'_>, Fault>
     ensures verdict { checked_verdict result ≡ verdict bytes.now }
     ensures same { IfOk result (λ checked. checked.sheet ≡ bytes.now) }
 {
+    let sheet = sheet_of(bytes)?;
     let mut widths = no_widths();
-    let output_type = check_into(bytes, &mut widths)?;
+    let output_type = check_whole(&sheet, &mut widths)?;
     Ok(Checked {
-        sheet: Sheet::of(bytes, records_in(bytes.len())),
+        sheet,
         widths,
         output_type,
     })

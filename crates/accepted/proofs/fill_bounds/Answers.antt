@@ -11,11 +11,9 @@ pub bound_at-requires : goal.bound_at-requires
 bound_at-requires c =
     let l = c.loop-i-test.true in
     let e = c.requires.1 in
-    rw (c.bytes.ensures, c.records.ensures.counted)
     (accepting-ground (accepting c.args.checked.now), c.requires.0, omega arith)
 
 pub overflow_cast-bound : goal.overflow_cast-bound
 overflow_cast-bound c =
     let b = bound-small (accepting c.args.checked.now) _ c.requires.0 c.loop-i.i in
-    let e = rw c.bytes.ensures at c.bound_at.ensures in
-    omega arith
+    omega (arith, c.bound_at.ensures)

@@ -5,4 +5,4 @@ use Rattle.accepted.proofs.LeafBounds.{BoundsFilled}
 use Rattle.accepted.proofs.fill_bounds.Given as goal
 
 abbrev pub invariant-loop-i : goal.invariant-loop-i
-invariant-loop-i l = BoundsFilled (bounds (type_at l.sheet l.t)) l.i l.out
+invariant-loop-i l = BoundsFilled (bounds (type_at l.checked.sheet l.t)) l.i l.out

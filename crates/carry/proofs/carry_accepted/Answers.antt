@@ -1,6 +1,5 @@
 -- Each way out, by the check that takes it. Assumes nothing.
 use Rattle.carry.proofs.Calls.{label-refused, old-twice, new-twice, wrong_next, carried-done}
-use mathlib.Core.Path.{◌∙◌}
 use Rattle.carry.proofs.carry_accepted.Goals as goal
 
 pub returns-in_err-check_labels : goal.returns-in_err-check_labels

@@ -3,7 +3,7 @@ use native.Mathlib.Omega.{arith}
 use mathlib.Core.Path.{refl, sym, ap, ◌∙◌}
 use Rattle.records.specs.Kinded.{kind_meant}
 use Rattle.values.proofs.LastKinds.{last-expression}
-use Rattle.records.specs.Kinds.{expression, constant, name, tuple, first, second, let_in, if_matches, kind_of}
+use Rattle.records.specs.Kinds.{tuple, first, second, let_in, if_matches}
 use Rattle.records.proofs.Table.{ask_of_kind}
 use Rattle.evaluator.proofs.Readiness.{ready-word, ready-there, ready-few, in-circuit, entry-there, part-higher}
 use Rattle.evaluator.proofs.LentParts.{fits-room, first-scope, second-scope}

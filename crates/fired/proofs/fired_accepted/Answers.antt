@@ -1,5 +1,5 @@
 -- Assumes nothing.
-use mathlib.Core.Path.{refl, sym, ◌∙◌}
+use mathlib.Core.Path.{refl, ◌∙◌}
 use Rattle.accepted.proofs.Calls.{accepting, same-refusal}
 use Rattle.fired.proofs.Telling.{told-input, told-length, telling, told-done}
 use Rattle.fired.proofs.fired_accepted.Goals as goal

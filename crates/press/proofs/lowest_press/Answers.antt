@@ -3,9 +3,8 @@ use native.Mathlib.Omega.{arith}
 use Prim.Native.Nat.{ℕ}
 use mathlib.Core.List.{List}
 use lib.ListN.{length, get_or}
-use Rattle.press.specs.Press.{constructor_for}
 use Rattle.press.proofs.Pressing.{press-lowest, press-none, constructor-small, counts-as-many, typed-as-many}
-use mathlib.Core.Path.{ap, ◌∙◌}
+use mathlib.Core.Path.{ap}
 use Rattle.press.proofs.lowest_press.Goals as goal
 
 pub lowest_constructor-requires : goal.lowest_constructor-requires

@@ -1,5 +1,5 @@
 -- Assumes nothing.
-use mathlib.Core.Path.{refl, ◌∙◌}
+use mathlib.Core.Path.{◌∙◌}
 use Rattle.press.proofs.Calls.{press-numbers}
 use Rattle.press.proofs.press_of.Goals as goal
 

@@ -2,7 +2,6 @@
 use borrow.Author.Rules.{rules}
 use native.Mathlib.Omega.{arith}
 use mathlib.Core.Path.{refl, sym}
-use mathlib.Core.Bool.{false}
 use lib.ListN.{length}
 use Rattle.answers.proofs.Lowest.{lowest-is, lowest_none}
 use Rattle.stimulus.specs.Tests.{above}

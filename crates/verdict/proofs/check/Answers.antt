@@ -1,6 +1,6 @@
--- An accepted sheet is whole records. Assumes nothing.
-use Rattle.verdict.proofs.Lending.{whole-accepted}
+-- Bytes of a wrong length. Assumes nothing.
+use Rattle.verdict.proofs.Lending.{length-checked}
 use Rattle.verdict.proofs.check.Goals as goal
 
-pub of-requires : goal.of-requires
-of-requires c = whole-accepted _ _ _ c.in_ok-output_type.ensures.answered c.records_in.ensures
+pub returns-in_err-sheet-clause-verdict : goal.returns-in_err-sheet-clause-verdict
+returns-in_err-sheet-clause-verdict c = length-checked _ _ c.from_residual.ensures.1 c.in_err-sheet.ensures.err

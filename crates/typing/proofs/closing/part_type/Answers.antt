@@ -1,6 +1,6 @@
 -- By the kind of the type's record. Assumes nothing.
 use mathlib.Core.Path.{◌∙◌, sym}
-use Rattle.typing.proofs.Closings.{fails-closed, part-is-type, part-closed}
+use Rattle.typing.proofs.Closings.{part-is-type, part-closed}
 use Rattle.typing.proofs.KindTests.{pair-tested}
 use Rattle.typing.proofs.closing.part_type.Goals as goal
 

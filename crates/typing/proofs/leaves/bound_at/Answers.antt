@@ -1,5 +1,4 @@
 -- The invariant: the leaf `at` of `flat` is leaf i of t. Each turn goes to a lower record. Assumes nothing.
-use mathlib.Core.Path.{refl}
 use native.Mathlib.Omega.{arith}
 use Rattle.typing.proofs.Bounds.{reached-first, reached-second, reached-flat, parts-lower}
 use Rattle.typing.proofs.KindTests.{is-pair-type, no-pair-type}

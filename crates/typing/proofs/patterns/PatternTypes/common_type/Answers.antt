@@ -1,6 +1,5 @@
 -- By what follows the alternative. Assumes nothing.
-use mathlib.Core.Path.{◌∙◌, sym}
-use Rattle.typing.proofs.TypedPatterns.{next_low, no-common-type, all-the-same, last-alternative, entry-same, entry-other}
+use Rattle.typing.proofs.TypedPatterns.{next_low, last-alternative, entry-same, entry-other}
 use Rattle.typing.proofs.patterns.PatternTypes.common_type.Goals as goal
 use Rattle.typing.proofs.patterns.PatternTypes.common_type.Goals.{else-following-ne0-via-then-following-ne0+else-ne, else-following-ne0-via-else-following-ne0}
 

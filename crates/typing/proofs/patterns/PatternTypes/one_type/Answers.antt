@@ -3,7 +3,7 @@ use mathlib.Core.Logic.{inl, inr}
 use mathlib.Core.Path.{◌∙◌, refl, sym}
 use native.Mathlib.Omega.{arith}
 use Rattle.typing.proofs.KindTests.{is-pair-pattern, no-pair-pattern}
-use Rattle.typing.proofs.TypedPatterns.{word-type, first-low, second-low, no-part-type, none-zero, some-number, pair-given}
+use Rattle.typing.proofs.TypedPatterns.{word-type, first-low, second-low, no-part-type, none-zero, pair-given}
 use Rattle.typing.proofs.patterns.PatternTypes.one_type.Goals as goal
 
 pub of-requires : goal.of-requires
