@@ -48,7 +48,7 @@ room-answer : (b : Bool) (n : ℕ) → cond b (Refused 15 n) (Done n) ≡ answer
 room-answer true n = refl
 room-answer false n = refl
 
--- a text whose names are good, by what is text-assembled
+-- a text whose names are good, by what is assembled
 assembly-answer : {ts : List Token} (t : Text) (room : ℕ) → ReadsText ts t → first_bad_place (name_checks t) ≡ none
     → assembly_answer (assembled_from ts) room ≡ text_answer t room
 assembly-answer (text d ds (identifier w p) e) room r g =

@@ -1,4 +1,4 @@
--- What is text-assembled from the instructions of a text is the text's, and what the steps after it find is the call's answer.
+-- What is assembled from the instructions of a text is the text's, and what the steps after it find is the call's answer.
 -- Assumes nothing.
 use Prim.Native.Nat.{ℕ, suc, ◌+◌, ◌*◌, ◌-◌, ◌≤◌, ◌<◌}
 use native.Mathlib.Omega.{arith}
@@ -29,7 +29,7 @@ use Rattle.instructions.specs.RecordOrder.{declared_types}
 use Rattle.instructions.specs.Emission.{emission, of_number, written_of, cursor_of, emit_all, records_written}
 use Rattle.instructions.proofs.Assembled.{text-assembled as assembled-parts}
 use Rattle.instructions.proofs.Written.{declared-many, emitted, laid-many, records-written}
-use Rattle.ordering.specs.Held.{place_of, text-assembled}
+use Rattle.ordering.specs.Held.{place_of, assembled}
 use Rattle.ordering.specs.Assembled.{types_in, input_in, code_in, records_assembled, untyped_in, Few}
 use Rattle.ordering.specs.declared.assembly.Assembly.{Assembly}
 use Rattle.ordering.proofs.FewLaws.{few-assembled}
@@ -45,14 +45,14 @@ use Rattle.translator.proofs.PlacesWithin.{names-within}
 
 module _ {bytes : List ℕ} (C : List Instruction) (a : Assembly) where
   of-text : {ts : List Token} (t : Text) → Keeps bytes → Reading bytes ts t → first_bad_place (name_checks t) ≡ none
-      → reverse C ≡ text_instructions t → length C ≤ 65535 → text-assembled a ≡ assemble_all nothing_assembled (reverse C) → TranslatingAssembled bytes a
+      → reverse C ≡ text_instructions t → length C ≤ 65535 → assembled a ≡ assemble_all nothing_assembled (reverse C) → TranslatingAssembled bytes a
   of-text {ts} (text d ds (identifier w p) e) k r g h f x =
       let t = text d ds (identifier w p) e in
       let q = x ∙ ap (assemble_all nothing_assembled) h ∙ assembled-parts d ds (identifier w p) e (none-bad (name_checks t) g) in
       let T : a.types ≡ declared_types (d ∷ ds) = ap types_in q in
       let many : length a.types ≡ length (d ∷ ds) = ap length T ∙ declared-many (d ∷ ds) in
       let R : a.records ≡ room_of (d ∷ ds) [] e = ap records_assembled q in
-      let few : Few (length (reverse C)) (text-assembled a) = subst (Few (length (reverse C))) (sym x) (few-assembled (reverse C)) in
+      let few : Few (length (reverse C)) (assembled a) = subst (Few (length (reverse C))) (sym x) (few-assembled (reverse C)) in
       let l = length-reverse C in
       record {
         tokens = ts;
@@ -74,7 +74,7 @@ module _ {bytes : List ℕ} (C : List Instruction) (a : Assembly) where
         small = let u = few.few_types in let v = few.few_records in omega (arith, u, v, f, l);
       }
 
-  pub laid_out : TranslatingResolved bytes C → text-assembled a ≡ assemble_all nothing_assembled (reverse C) → TranslatingAssembled bytes a
+  pub laid_out : TranslatingResolved bytes C → assembled a ≡ assemble_all nothing_assembled (reverse C) → TranslatingAssembled bytes a
   laid_out l x = of-text l.source l.keeps l.reading l.good l.held l.few x
 
 -- with so many types
