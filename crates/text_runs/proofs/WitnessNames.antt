@@ -69,22 +69,22 @@ none-hashed-yet : (text : List ℕ) → Hashed text 0 spans₀ spans₀ heads₀
 unfolding heads₀
 none-hashed-yet text = none-hashed text spans₀ spans₀ (four-long 0 0 0 0) (four-long 0 0 0 0)
 
-hashed₀ : Hashed toggle_text 0 spans₀ spans₀ heads₀
+pub hashed₀ : Hashed toggle_text 0 spans₀ spans₀ heads₀
 hashed₀ = none-hashed-yet toggle_text
 
 hashed₁ : Hashed toggle_text 1 spans₁ links₁ heads₁
 unfolding toggle_text
 hashed₁ = hashed-more hashed₀ 163 3341 (inside 163 tt) (omega arith) refl (omega arith)
 
-hashed₂ : Hashed toggle_text 2 spans₂ links₂ heads₂
+pub hashed₂ : Hashed toggle_text 2 spans₂ links₂ heads₂
 unfolding toggle_text
 hashed₂ = hashed-more hashed₁ 355 3686 (inside 355 tt) (omega arith) refl (omega arith)
 
-hashed₃ : Hashed toggle_text 3 spans₃ links₃ heads₃
+pub hashed₃ : Hashed toggle_text 3 spans₃ links₃ heads₃
 unfolding toggle_text
 hashed₃ = hashed-more hashed₂ 547 588 (inside 547 tt) (omega arith) refl (omega arith)
 
-hashed₄ : Hashed toggle_text 4 spans₄ links₄ heads₄
+pub hashed₄ : Hashed toggle_text 4 spans₄ links₄ heads₄
 unfolding toggle_text
 hashed₄ = hashed-more hashed₃ 1697 120 (inside 1697 tt) (omega arith) refl (omega arith)
 
@@ -121,7 +121,7 @@ abbrev pub roles₄ : List Role
 roles₄ = roles (TypeName ∷ Constructor ∷ Constructor ∷ Unknown ∷ [])
 
 roles-long : (rs : List Role) → length rs ≤ 65536 → length (role_codes (roles rs)) ≡ 65536
-roles-long rs h = length-map role_code (roles rs) ∙ padded-with-long Unknown rs h
+roles-long rs h = length-map (roles rs) role_code ∙ padded-with-long Unknown rs h
 
 roles-of : (c d : Role) (base : ℕ) → ((k : ℕ) → k < base → get_or (role_codes (roles (TypeName ∷ Constructor ∷ c ∷ d ∷ []))) k 0 < 2)
     → Roles (role_codes (roles (TypeName ∷ Constructor ∷ c ∷ d ∷ []))) base
@@ -138,19 +138,19 @@ first-three d (suc zero) h = omega arith
 first-three d (suc (suc zero)) h = omega arith
 first-three d (suc (suc (suc k))) h = absurd (omega arith)
 
-named₂ : Roles (role_codes roles₂) 2
+pub named₂ : Roles (role_codes roles₂) 2
 named₂ = roles-of Unknown Unknown 2 (first-two Unknown Unknown)
 
-named₃ : Roles (role_codes roles₃) 3
+pub named₃ : Roles (role_codes roles₃) 3
 named₃ = roles-of Constructor Unknown 3 (first-three Unknown)
 
-no-roles : Roles (role_codes roles₀) 0
+pub no-roles : Roles (role_codes roles₀) 0
 no-roles = record { roles_long = roles-long [] (omega arith); few_roles = λ k m. absurd (omega arith) }
 
-none-bound : (text spans roles : List ℕ) (base : ℕ) → BoundRoles text spans roles base base
+pub none-bound : (text spans roles : List ℕ) (base : ℕ) → BoundRoles text spans roles base base
 none-bound text spans roles base k l h = absurd (omega arith)
 
-x-bound : BoundRoles toggle_text spans₄ (role_codes roles₄) 3 4
+pub x-bound : BoundRoles toggle_text spans₄ (role_codes roles₄) 3 4
 unfolding toggle_text
 x-bound k l h =
     let e : 3 ≡ k = omega arith in
@@ -186,14 +186,14 @@ declared-role-asks = (inside 3555 tt, omega arith, named₃, x-bound)
 abbrev pub pendings : List ℕ
 pendings = padded (163 ∷ [])
 
-pendings-long : length pendings ≡ 65536
+pub pendings-long : length pendings ≡ 65536
 pendings-long = padded-long (163 ∷ []) (omega arith)
 
-bit-pending : (k : ℕ) → k < 1 → Inside toggle_text (get_or pendings k 0)
+pub bit-pending : (k : ℕ) → k < 1 → Inside toggle_text (get_or pendings k 0)
 bit-pending zero h = inside 163 tt
 bit-pending (suc k) h = absurd (omega arith)
 
-none-pending : (text : List ℕ) (k : ℕ) → k < 0 → Inside text (get_or pendings k 0)
+pub none-pending : (text : List ℕ) (k : ℕ) → k < 0 → Inside text (get_or pendings k 0)
 none-pending text k h = absurd (omega arith)
 
 -- at `one`, at the first `two`, after it, and at x at 101, in `IF x MATCHES two`
@@ -305,7 +305,7 @@ parity_heads = set heads₁ 3329 2
 abbrev parity_links : List ℕ
 parity_links = set (set links₁ 1 (get_or heads₁ 3329 0)) 2 (get_or parity_heads 3459 0)
 
-parity-hashed : Hashed parity_text 3 parity_spans parity_links (set parity_heads 3459 3)
+pub parity-hashed : Hashed parity_text 3 parity_spans parity_links (set parity_heads 3459 3)
 unfolding parity_text
 parity-hashed =
     hashed-more
@@ -317,7 +317,7 @@ parity-hashed =
 abbrev two_pending : List ℕ
 two_pending = padded (867 ∷ [])
 
-two-pending : (k : ℕ) → k < 1 → Inside parity_text (get_or two_pending k 0)
+pub two-pending : (k : ℕ) → k < 1 → Inside parity_text (get_or two_pending k 0)
 two-pending zero h = inside-parity 867 tt
 two-pending (suc k) h = absurd (omega arith)
 
