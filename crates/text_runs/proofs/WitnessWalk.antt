@@ -2,7 +2,7 @@
 -- instance of each struct of `recognizer` or `resolving`, with its invariants, and of what a `requires` asks of it, at x in
 -- `IF x MATCHES two`, place 101, or where a comment says.
 -- Assumes nothing.
-use Prim.Native.Nat.{ℕ, zero, suc, ◌+◌, ◌≤◌, ◌<◌}
+use Prim.Native.Nat.{ℕ, zero, suc, ◌≤◌, ◌<◌}
 use mathlib.Core.Path.{◌≡◌, refl}
 use mathlib.Core.Bool.{true}
 use mathlib.Core.List.{List, [], ◌∷◌, ◌++◌}
