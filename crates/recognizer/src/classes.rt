@@ -40,11 +40,13 @@ impl Class {
     pub fn of(b: u8) -> Class
         ensures { class_index result ≡ class_of b }
     {
-        match b {
-            b'a'..=b'z' => Class::SmallLetter,
-            b'A'..=b'Z' => Class::of_capital(b),
-            _ => Class::of_unlettered(b),
+        if b.is_ascii_lowercase() {
+            return Class::SmallLetter;
         }
+        if b.is_ascii_uppercase() {
+            return Class::of_capital(b);
+        }
+        Class::of_unlettered(b)
     }
 
     // The class of a capital: those that a keyword begins with have one each.

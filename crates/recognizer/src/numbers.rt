@@ -1,7 +1,6 @@
 // The sizes of the machine's tables, and the numbers that its states have in the code. States and
 // words stay numbers: the tables are proved to be the rows of `grammar` by computing them, and an
 // enum of 47 states would be no plainer, since each byte would turn it into a row's number and back.
-ghost use Rattle.std.specs.Prelude.{◌≡◌};
 
 // How many states there are.
 pub const STATES: usize = 47;
@@ -32,10 +31,3 @@ pub type StateTable = [[u8; LEAD_CLASSES]; STATES];
 
 // By a word's number the letter that it awaits.
 pub type LetterTable = [u8; WORD_STATES];
-
-// A byte as an index.
-pub fn wide(b: u8) -> usize
-    ensures { result ≡ b }
-{
-    b as usize
-}

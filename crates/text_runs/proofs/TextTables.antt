@@ -78,5 +78,5 @@ abbrev text_seconds : List ℕ
 text_seconds = 0 ∷ 0 ∷ 0 ∷ 0 ∷ 0 ∷ 0 ∷ 2 ∷ 0 ∷ 0 ∷ 0 ∷ 0 ∷ 1 ∷ 0 ∷ 0 ∷ 0 ∷ 2 ∷ 1 ∷ 2 ∷ 0 ∷ 0 ∷ 0 ∷ 0 ∷ 0 ∷ 0 ∷ []
 
 -- the first n of them, the last on top
-abbrev pub text_code : ℕ → List Instruction
-text_code n = instructions_held (padded_with DeclareType text_ops) (padded text_firsts) (padded text_seconds) n
+abbrev pub table_code : ℕ → List Instruction
+table_code n = instructions_held (padded_with DeclareType text_ops) (padded text_firsts) (padded text_seconds) n

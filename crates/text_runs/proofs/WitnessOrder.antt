@@ -23,7 +23,7 @@ use Rattle.ordering.specs.Held.{assembled, HasRoom}
 use Rattle.ordering.specs.Assembled.{types_in}
 use Rattle.ordering.specs.declared.assembly.Assembly.{Assembly}
 use Rattle.text_table.specs.Lexer.{tokens_in}
-use Rattle.text_runs.proofs.TextTables.{parity_text, padded_with, padded, text_code}
+use Rattle.text_runs.proofs.TextTables.{parity_text, padded_with, padded, table_code}
 
 -- The type bit, with its constructors so far.
 abbrev pairs_table : List Bool
@@ -112,7 +112,7 @@ wait_code =
     instructions_held (padded_with DeclareType (BeginPattern ∷ MatchOne ∷ BeginPattern ∷ MatchOne ∷ [])) (padded (80 ∷ 1 ∷ 103 ∷ 1 ∷ []))
     (padded (0 ∷ 1 ∷ 0 ∷ 2 ∷ [])) 4
 
-code-get-asks : 7 < length (text_code 24)
+code-get-asks : 7 < length (table_code 24)
 code-get-asks = omega arith
 
 code-push-asks : length (ordered_code 12) < 65536
@@ -134,7 +134,7 @@ assembly_seven = record {
   untyped = None;
 }
 
-seven-assembled : assembled assembly_seven ≡ assemble_all nothing_assembled (reverse (text_code 7))
+seven-assembled : assembled assembly_seven ≡ assemble_all nothing_assembled (reverse (table_code 7))
 seven-assembled = refl
 
 -- so ask `close_pair` and `constant_pair` of the length of the types
@@ -166,7 +166,7 @@ assembly_eighteen = record {
   untyped = None;
 }
 
-eighteen-assembled : assembled assembly_eighteen ≡ assemble_all nothing_assembled (reverse (text_code 18))
+eighteen-assembled : assembled assembly_eighteen ≡ assemble_all nothing_assembled (reverse (table_code 18))
 eighteen-assembled = refl
 
 assembling-step-asks : HasRoom assembly_eighteen
@@ -197,7 +197,7 @@ assembly_new = record {
   untyped = None;
 }
 
-read-asks : (assembled assembly_new ≡ nothing_assembled) × (length (text_code 24) ≤ 65535)
+read-asks : (assembled assembly_new ≡ nothing_assembled) × (length (table_code 24) ≤ 65535)
 read-asks = (refl, omega arith)
 
 -- and after the last
@@ -213,5 +213,5 @@ assembly_whole = record {
   untyped = None;
 }
 
-pub whole-assembled : assembled assembly_whole ≡ assemble_all nothing_assembled (reverse (text_code 24))
+pub whole-assembled : assembled assembly_whole ≡ assemble_all nothing_assembled (reverse (table_code 24))
 whole-assembled = refl

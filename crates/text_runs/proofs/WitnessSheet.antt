@@ -37,7 +37,7 @@ use Rattle.text_table.specs.Lexer.{tokens_in}
 use Rattle.text_table.specs.Computed.{assembled_from}
 use Rattle.text_table.proofs.Lexed.{tokens-are}
 use Rattle.text_runs.specs.RunRows.{text_at}
-use Rattle.text_runs.proofs.TextTables.{toggle_text, parity_text, padded_with, text_code}
+use Rattle.text_runs.proofs.TextTables.{toggle_text, parity_text, padded_with, table_code}
 use Rattle.text_runs.proofs.WitnessOrder.{bit, ordered_code, assembly_whole, whole-assembled}
 
 -- Crate `emitting`. The slice, and the stack before the inner IF's record, number 7, is written: its parts are 8, 9, 11 and 13.
@@ -135,14 +135,14 @@ names-good : first_bad_place (walk_checks begins first_scope (tokens_in toggle_t
 unfolding toggle_text
 names-good = refl
 
-said : reverse (text_code 24) ≡ walk_instructions begins first_scope (tokens_in toggle_text)
+said : reverse (table_code 24) ≡ walk_instructions begins first_scope (tokens_in toggle_text)
 unfolding toggle_text
 said = refl
 
-lay-out-asks : TranslatingResolved toggle_text (text_code 24)
+lay-out-asks : TranslatingResolved toggle_text (table_code 24)
 lay-out-asks = of-reading translate-legal-asks.legal.0 translate-legal-asks.legal.1 translate-legal-asks.legal.2
   where
-    of-reading : (ts : List Token) (t : Text) → Reading toggle_text ts t → TranslatingResolved toggle_text (text_code 24)
+    of-reading : (ts : List Token) (t : Text) → Reading toggle_text ts t → TranslatingResolved toggle_text (table_code 24)
     of-reading ts t r =
         let good : first_bad_place (name_checks t) ≡ none =
         sym (ap (λ l. first_bad_place (walk_checks begins first_scope l)) (tokens-are r.lexed) ∙ ap first_bad_place (by-tokens r.parsed)) ∙ names-good in
@@ -157,4 +157,4 @@ lay-out-asks = of-reading translate-legal-asks.legal.0 translate-legal-asks.lega
         }
 
 write-out-asks : TranslatingAssembled toggle_text assembly_whole
-write-out-asks = laid_out (text_code 24) assembly_whole lay-out-asks whole-assembled
+write-out-asks = laid_out (table_code 24) assembly_whole lay-out-asks whole-assembled

@@ -25,7 +25,7 @@ use Rattle.resolving.specs.Walked.{Saying, TakingToken}
 use Rattle.resolving.specs.declared.numbering.NameNumbers.{NameNumbers}
 use Rattle.resolving.specs.declared.walk.Walk.{Walk}
 use Rattle.text_table.specs.Lexer.{tokens_in}
-use Rattle.text_runs.proofs.TextTables.{toggle_text, parity_text, short, inside, padded, taken-long, four-long, text_code}
+use Rattle.text_runs.proofs.TextTables.{toggle_text, parity_text, short, inside, padded, taken-long, four-long, table_code}
 use Rattle.text_runs.proofs.WitnessNames.{roles₃, roles₄, scope_one, scope_two, scope_three, scope_x, scope_pair}
 
 -- Crate `recognizer`. Four states wait at x: in a REC's part, a delayed expression, a THEN and a tested expression.
@@ -176,7 +176,7 @@ goes-on-at-x : GoesOn toggle_text 30 13 13 4 stack (held scope_x)
 unfolding toggle_text
 goes-on-at-x = refl
 
-said-before-x : reverse (text_code 13) ≡ take 13 (walk_instructions begins first_scope (tokens_in toggle_text))
+said-before-x : reverse (table_code 13) ≡ take 13 (walk_instructions begins first_scope (tokens_in toggle_text))
 unfolding toggle_text
 said-before-x = refl
 
