@@ -22,24 +22,6 @@ estimate-kind-requires t c = ready-there c.requires.2.at_hand
 pub estimate-of_leaves-requires : goal.estimate-of_leaves-requires
 estimate-of_leaves-requires t c = ((_, _, c.requires.0, c.requires.1, c.requires.2), held-constant (sym c.in-Constant.ensures))
 
-pub estimate-copy_name-requires : goal.estimate-copy_name-requires
-estimate-copy_name-requires t c = (c.requires, sym c.in-Name.ensures)
-
-pub estimate-of_pair-requires : goal.estimate-of_pair-requires
-estimate-of_pair-requires t c = (omega (arith, c.decreases), (c.requires, sym c.in-Pair.ensures))
-
-pub estimate-of_first-requires : goal.estimate-of_first-requires
-estimate-of_first-requires t c = (omega (arith, c.decreases), (c.requires, sym c.in-First.ensures))
-
-pub estimate-of_second-requires : goal.estimate-of_second-requires
-estimate-of_second-requires t c = (omega (arith, c.decreases), (c.requires, sym c.in-Second.ensures))
-
-pub estimate-of_let-requires : goal.estimate-of_let-requires
-estimate-of_let-requires t c = (omega (arith, c.decreases), (c.requires, sym c.in-Let.ensures))
-
-pub estimate-of_if-requires : goal.estimate-of_if-requires
-estimate-of_if-requires t c = (omega (arith, c.decreases), (c.requires, sym c.in-If.ensures))
-
 pub estimate-of_leaves-requires-in_default : goal.estimate-of_leaves-requires-in_default
 estimate-of_leaves-requires-in_default t c = ((_, _, c.requires.0, c.requires.1, c.requires.2), held-delay (last-expression _ _ c.kind.ensures (in-circuit c.requires.2.at_hand c.requires.2.at_hand.scope).sort c.in_default.not-Constant c.in_default.not-Name c.in_default.not-Pair c.in_default.not-First c.in_default.not-Second c.in_default.not-Let (λ z. never-feedback c.requires.2 (sym c.kind.ensures ∙ ap kind_meant z)) c.in_default.not-If))
 
