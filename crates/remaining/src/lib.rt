@@ -15,7 +15,7 @@ ghost use Rattle.remaining.specs.Remaining.{Counting, InputSets, PossibleAnswere
 
 use accepted::fill_bounds;
 use answers::{Answer, Code, Refusal, packed};
-use estimator::{estimate, fill_sets};
+use estimator::{Estimator, fill_sets};
 use records::{ENVIRONMENT, Kind, Sheet, VALUE_BYTES, WORD_A, WORD_B};
 use sets::how_many;
 use stimulus::check_one_cycle;
@@ -81,7 +81,8 @@ fn root_sets(checked: &Checked, input: &[u8], env: &mut [u64], out: &mut [u64])
     input_sets(checked, input, &mut value[0..w]);
     enter_value(env, 0, &value[0..w]);
     let root = checked.sheet.word(0, WORD_B);
-    estimate(checked, env, 1, root, out);
+    let estimator = Estimator { checked };
+    estimator.estimate(env, 1, root, out);
 }
 
 // The counts of one cycle, with room of its own.

@@ -3,7 +3,7 @@ use native.Mathlib.Omega.{arith}
 use mathlib.Core.Path.{refl}
 use Rattle.evaluator.proofs.Readiness.{ready-word}
 use Rattle.estimator.proofs.SetHeld.{held_fits, held-bounds, held-chained, held-filling, held-done}
-use Rattle.estimator.proofs.of_leaves.Goals as goal
+use Rattle.estimator.proofs.Estimator.of_leaves.Goals as goal
 
 pub word-t-requires : goal.word-t-requires
 word-t-requires c = ready-word c.requires.0.4.at_hand (omega arith)

@@ -3,7 +3,7 @@ use native.Mathlib.Omega.{arith}
 use Rattle.evaluator.proofs.Readiness.{ready-word}
 use Rattle.evaluator.proofs.LentNames.{name-in-scope, name-room}
 use Rattle.estimator.proofs.SetNames.{set-name-done}
-use Rattle.estimator.proofs.copy_set_name.Goals as goal
+use Rattle.estimator.proofs.Estimator.copy_name.Goals as goal
 
 pub word-k-requires : goal.word-k-requires
 word-k-requires c = ready-word c.requires.0.2.at_hand (omega arith)
