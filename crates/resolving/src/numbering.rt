@@ -40,7 +40,7 @@ pub fn entry(k: Option<usize>, numbers: &Numbers) -> u16
 
 // Whether an entry is of a role, a type's or a constructor's.
 pub fn has_role(k: Option<usize>, kind: Role, roles: &NameRoles) -> bool
-    requires { (entry_number k ≤ text_table) × (role_code kind < 2) }
+    requires { entry_number k ≤ text_table }
     ensures { result ≡ role_at (role_code kind) (role_codes roles.now) (entry_number k) }
 {
     match k {

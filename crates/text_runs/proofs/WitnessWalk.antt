@@ -118,8 +118,8 @@ numbered-two = record {
 entry-asks : entry_number (Some 2) ≤ 65536
 entry-asks = omega arith
 
-has-role-asks : (entry_number (Some 2) ≤ 65536) × (role_code Constructor < 2)
-has-role-asks = (omega arith, omega arith)
+has-role-asks : entry_number (Some 2) ≤ 65536
+has-role-asks = omega arith
 
 -- so asks `ranks_after` too
 types-after-asks : 1 < 65535

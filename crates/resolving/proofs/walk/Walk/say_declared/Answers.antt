@@ -19,7 +19,7 @@ has_role-typed-requires c =
     let a = s.above in
     let b = c.requires.0.narrow in
     let e = c.find_declared-k.ensures in
-    (omega (arith, e), omega arith)
+    omega (arith, e)
 
 pub entry-requires : goal.entry-requires
 entry-requires c =
