@@ -3,7 +3,7 @@
 use Prim.Native.Nat.{ℕ, ◌+◌, ◌*◌, ◌/◌, ◌≤◌, ◌<◌}
 use mathlib.Core.List.{List, [], ◌∷◌}
 use lib.Dec.{lit≤}
-use lib.ListN.{length}
+use lib.ListN.{length, replicate}
 use Rattle.listing.specs.Wrote.{line_bytes}
 use Rattle.listing.specs.Texts.{HasRoom}
 
@@ -23,5 +23,5 @@ unfolding outputs
 changes-in = (lit≤ tt, lit≤ tt)
 
 -- and `put_changes`, `put_total` and `put_leaf_lines`
-put_report : HasRoom (record { bytes = []; room = 2 * line_bytes + line_bytes }) (2 * line_bytes + line_bytes)
+put_report : HasRoom (record { bytes = []; room = 2 * line_bytes + line_bytes; rest = replicate (2 * line_bytes + line_bytes) 0 }) (2 * line_bytes + line_bytes)
 put_report = lit≤ tt

@@ -5,6 +5,7 @@ use mathlib.Core.Path.{◌≡◌, ap, ◌∙◌}
 use mathlib.Core.List.{List, [], ◌∷◌, ◌++◌, append_assoc}
 use native.Mathlib.Omega.{arith}
 use lib.ListN.{length, length-append}
+use Rattle.std.proofs.lemmas.List.{drop-drop}
 use Rattle.listing.specs.Digits.{digit, digits}
 use Rattle.listing.specs.Texts.{Written, Added}
 use Rattle.listing.proofs.Digits.{digits-one, digits_more}
@@ -14,7 +15,11 @@ added-long {old} {new} {text} a = ap length a.bytes ∙ length-append old.bytes 
 
 pub added_then : {old mid new : Written} {text more : List ℕ} → Added old text mid → Added mid more new → Added old (text ++ more) new
 added_then {old} {text = text} {more = more} a b =
-    record { bytes = b.bytes ∙ rw a.bytes (append_assoc old.bytes text more); room = b.room ∙ a.room }
+    record {
+      bytes = b.bytes ∙ rw a.bytes (append_assoc old.bytes text more);
+      room = b.room ∙ a.room;
+      rest = b.rest ∙ rw (a.rest, length-append text more) (drop-drop (length more) (length text) old.rest);
+    }
 
 -- a number below 10 is one digit, and another has the digits of its tenth before the last
 module _ (n : ℕ) where

@@ -3,14 +3,14 @@
 use Prim.Native.Nat.{ℕ, ◌+◌, ◌^◌, ◌≤◌, ◌<◌}
 use mathlib.Core.List.{[], ◌∷◌}
 use lib.Dec.{lit≤}
-use lib.ListN.{length}
+use lib.ListN.{length, replicate}
 use Rattle.listing.specs.Digits.{digits}
 use Rattle.listing.specs.Lines.{ascii, leaf_text, leaf_texts}
 use Rattle.listing.specs.Texts.{Written, HasRoom}
 
 -- a text with nothing in it, in a buffer of 300 bytes
 abbrev empty : Written
-empty = record { bytes = []; room = 300 }
+empty = record { bytes = []; room = 300; rest = replicate 300 0 }
 
 put-byte : HasRoom empty 1
 put-byte = lit≤ tt

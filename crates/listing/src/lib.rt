@@ -15,7 +15,7 @@ use std::marker::Model;
 // The room that a line is given.
 pub const LINE_BYTES: usize = 280;
 
-// A text in the front of a buffer. It grows at its end, and what it held stays.
+// A text in the front of a buffer. It grows at its end; what it held and what lies behind it stay.
 #[derive(Drop)]
 pub struct Text<'a> {
     buffer: &'a mut [u8],
@@ -23,12 +23,12 @@ pub struct Text<'a> {
 }
 
 impl<'a> Model for Text<'a> {
-    ghost use Rattle.std.specs.Prelude.{◌≤◌, length, take};
+    ghost use Rattle.std.specs.Prelude.{◌≤◌, length, take, drop};
     ghost use Rattle.listing.specs.Texts.{Written};
 
     ghost Value = { Written };
 
-    ghost view = { λ t. record { bytes = take t.len t.buffer.now; room = length t.buffer.now } };
+    ghost view = { λ t. record { bytes = take t.len t.buffer.now; room = length t.buffer.now; rest = drop t.len t.buffer.now } };
 
     ghost invariant = { λ t. t.len ≤ length t.buffer.now };
 }
@@ -36,7 +36,7 @@ impl<'a> Model for Text<'a> {
 impl<'a> Text<'a> {
     // An empty text, with all of a buffer as its room.
     pub fn new(buffer: &'a mut [u8]) -> Text<'a>
-        ensures { result ≡ record { bytes = []; room = length buffer.old } }
+        ensures { result ≡ record { bytes = []; room = length buffer.old; rest = buffer.old } }
     {
         Text { buffer, len: 0 }
     }

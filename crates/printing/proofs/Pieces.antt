@@ -104,7 +104,7 @@ module _ {old : Written} {w k : ℕ} (outputs : List ℕ) {new : Written} {count
           }
 
 -- after the first line
-pub first-lines : {room w : ℕ} {outputs : List ℕ} (t : ℕ) {mid : Written} → Added (record { bytes = []; room = room }) (type_line t) mid
+pub first-lines : {room w : ℕ} {outputs rest : List ℕ} (t : ℕ) {mid : Written} → Added (record { bytes = []; room = room; rest = rest }) (type_line t) mid
     → t < 2 ^ 64 → 560 ≤ room → PuttingLines mid w 0 outputs
 first-lines t v small enough =
     let long = added-long v in

@@ -2,7 +2,7 @@
 -- the line's end. Assumes nothing.
 use native.Mathlib.Omega.{arith}
 use Rattle.listing.proofs.Lengths.{number-few, leaf-texts-short}
-use Rattle.listing.proofs.Added.{added-long}
+use Rattle.listing.proofs.Added.{added-long, added_then}
 use Rattle.listing.proofs.Text.put_cycle.Goals as goal
 
 pub put_number-requires : goal.put_number-requires
@@ -36,3 +36,6 @@ put_byte-requires-2 c =
     let leaves-room = c.put_leaves.ensures.room in
     let short = leaf-texts-short c.args.leaves.now (λ i. (c.type_inv.leaves i).fits) in
     omega arith
+
+pub returns : goal.returns
+returns c = added_then (added_then (added_then c.put_number.ensures c.put_byte.ensures) c.put_leaves.ensures) c.put_byte-2.ensures

@@ -2,7 +2,7 @@
 -- nothing.
 use native.Mathlib.Omega.{arith}
 use Rattle.listing.proofs.Lengths.{number-few}
-use Rattle.listing.proofs.Added.{added-long}
+use Rattle.listing.proofs.Added.{added-long, added_then}
 use Rattle.listing.proofs.Text.put_word_line.Goals as goal
 
 pub put_number-requires : goal.put_number-requires
@@ -16,3 +16,6 @@ put_byte-requires c =
     let room = c.put_text.ensures.room in
     let same = c.put_number.ensures.room in
     omega arith
+
+pub returns : goal.returns
+returns c = added_then (added_then c.put_text.ensures c.put_number.ensures) c.put_byte.ensures
