@@ -43,7 +43,7 @@ use Rattle.typing.specs.Judgements.{pattern_fits}
 use Rattle.structure.specs.Rules.{Passes}
 use Rattle.verdict.specs.Verdict.{verdict}
 use Rattle.verdict.specs.Scopes.{inputs}
-use Rattle.answers.specs.declared.Verdict.TheVariants.{Accepted}
+use Rattle.answers.specs.Answers.{Accepted}
 use Rattle.structure.proofs.Passes.{written}
 use Rattle.verdict.proofs.Places.{accepted-by-types}
 use Rattle.typing.proofs.Judged.{RulesHold, judged-passed}

@@ -1,5 +1,5 @@
 -- Every function of the check can be called: on every sheet that passes codes 1 to 6 the whole of each `requires` in `structure`, `typing`,
--- `verdict` and `accepted` that names more than `Sized` can be had, at every record of the kind that it asks for and with the input
+-- `verdict` and `accepted` that names more than bounds on numbers can be had, at every record of the kind that it asks for and with the input
 -- as the one name in scope. The tables are those of `Requirements` and `TypeTables`; `Witness` and `PairWitness` have two such sheets.
 -- Assumes nothing.
 use mathlib.Core.Path.{◌≡◌, refl}
@@ -10,8 +10,7 @@ use native.Mathlib.Omega.{arith}
 use lib.ListN.{length, replicate, length-replicate}
 use Rattle.picoella.specs.Language.{leaves}
 use Rattle.records.specs.Words.{count, word_b, kind_word}
-use Rattle.records.specs.Kinds.{ExpressionKind, constant, name, expression, expressions, patterns, leafs, row_of}
-use Rattle.records.specs.AskNumbers.{ask_numbers}
+use Rattle.records.specs.Kinds.{Ask, ExpressionKind, constant, name, expression, expressions, patterns, leafs, asks_in, row_of}
 use Rattle.records.specs.Says.{kind_at, sort_at, Naming, namings, well_named}
 use Rattle.records.specs.Sized.{Sized}
 use Rattle.records.specs.Trees.{type_at, TypeRecord}
@@ -27,10 +26,11 @@ use Rattle.structure.proofs.Depths.{depth-of}
 use Rattle.typing.specs.Judging.{Ground, Judging, Closing, Fitting, PartAt, at_first, at_second}
 use Rattle.typing.specs.LeafChains.{LeafOrEnd}
 use Rattle.typing.specs.PatternTable.{PatternsTyped, TypingPattern, TypeTables}
+use Rattle.verdict.specs.Scopes.{inputs}
 use Rattle.verdict.specs.Stages.{CheckingTypes}
 use Rattle.verdict.specs.CheckedTable.{PatternsFrom}
 use Rattle.verdict.specs.Verdict.{verdict}
-use Rattle.answers.specs.declared.Verdict.TheVariants.{Accepted}
+use Rattle.answers.specs.Answers.{Accepted}
 use Rattle.accepted.specs.Accepting.{Accepting}
 use Rattle.accepted.proofs.Requirements.{sized, fitted, counts, counts-below, none-held, namers-held, depths-placed, placing-begun, placing-at, ready, patterns-from, widths}
 use Rattle.accepted.proofs.TypeTables.{pairs_below, pairs-indexed, types-from, typing-pattern, type_tables}
@@ -45,19 +45,25 @@ module _ {s : List ℕ} (p : Passes s) (full : length s ≡ 12 * count s) where
   few : count s ≤ 4096
   few = w.few
 
-  -- `word`; the other functions of `records` and `structure` that ask for no record but `Sized` ask besides only for bounds on numbers
+  -- the bound that a function asks beside a record of the sheet
+  pub bound-callable : (r : ℕ) → r < count s → r < 4096
+  bound-callable r h = let f = few in omega arith
+
+  -- `Sheet::word`, by a sheet's value; the other functions of `records`, `structure` and `typing` that ask for no such record ask only
+  -- for bounds on numbers
   pub word-callable : (r k : ℕ) → r < count s → k < 6 → Sized s (count s) × (r < count s) × (k < 6)
   word-callable r k h l = (size, h, l)
 
-  -- structure: namings; `meets_at` of `records` and `note_record` ask for a part of what `note_word` does
+  -- structure: namings; `note_record` asks for the record, and `note` for bounds on it and on the word's number
   pub note-word-callable : (q k : ℕ) → q < count s → 0 < k → k < 6
-      → (asks : List ℕ) × (namers : List ℕ) × Sized s (count s) × (q < count s) × (asks ≡ ask_numbers (row_of (kind_word s q)))
+      → (asks : List Ask) × (namers : List ℕ) × Sized s (count s) × (q < count s) × (asks ≡ asks_in (row_of (kind_word s q)))
       × (0 < k)
       × (k < 6)
       × (length namers ≡ 4096)
   note-word-callable q k h low high =
-      (ask_numbers (row_of (kind_word s q)), replicate 4096 0, size, h, refl, low, high, none-held.long)
+      (asks_in (row_of (kind_word s q)), replicate 4096 0, size, h, refl, low, high, none-held.long)
 
+  -- what `NamingTable::of` begins with
   pub note-all-callable : (namers : List ℕ) × Sized s (count s) × NamingsHeld (λ _. []) namers
   note-all-callable = (replicate 4096 0, size, none-held)
 
@@ -81,6 +87,7 @@ module _ {s : List ℕ} (p : Passes s) (full : length s ≡ 12 * count s) where
   abbrev pub index : List ℕ
   index = (pairs-indexed s p full).0
 
+  -- `held` and `another`
   pub holds-another-callable : (slot : ℕ) → slot < 12288 → Sized s (count s) × Linked (count s) index × (slot < 12288)
   holds-another-callable slot h = (size, (pairs-indexed s p full).1.linked, h)
 
@@ -99,6 +106,7 @@ module _ {s : List ℕ} (p : Passes s) (full : length s ≡ 12 * count s) where
   place-callable r low h =
       let f = few in let x = placing-at p full r low (omega arith) in (x.0, x.1, x.2, x.3, h)
 
+  -- `Placements::of` asks for a part of this
   pub place-all-callable : (namers : List ℕ) × (depths : List ℕ) × (nestings : List ℕ) × Placing s (count s) 1 namers depths nestings
   place-all-callable = placing-begun p full
 
@@ -111,17 +119,14 @@ module _ {s : List ℕ} (p : Passes s) (full : length s ≡ 12 * count s) where
 
   -- typing: an expression, with the input in scope, a table of widths that has those of types, and
   -- the type tables
-  abbrev pub scope_stack : List ℕ
-  scope_stack = (ready p full).0
-
   abbrev pub widths_noted : List ℕ
-  widths_noted = (ready p full).1
+  widths_noted = (ready p full).0
 
   abbrev pub types_noted : List ℕ
   types_noted = (type_tables s p full).0
 
-  at-root : Judging s (count s) scope_stack 1 (word_b s 0) widths_noted
-  at-root = (ready p full).2
+  at-root : Judging s (count s) (inputs s) (word_b s 0) widths_noted
+  at-root = (ready p full).1
 
   pub tables-right : TypeTables s (count s) index types_noted
   tables-right = (type_tables s p full).1
@@ -133,10 +138,9 @@ module _ {s : List ℕ} (p : Passes s) (full : length s ≡ 12 * count s) where
       go [] e t = absurd (false≢true t)
       go (x ∷ ns) e t = let d = depth-of w r x ns low e in omega arith
 
-  pub judge-callable : (r : ℕ) → r < count s → sort_at s r ≡ expressions → Judging s (count s) scope_stack 1 r widths_noted
+  pub judge-callable : (r : ℕ) → r < count s → sort_at s r ≡ expressions → Judging s (count s) (inputs s) r widths_noted
   judge-callable r h e = record {
     ground = at-root.ground;
-    wide = at-root.wide;
     long = at-root.long;
     there = h;
     sort = e;
@@ -145,20 +149,21 @@ module _ {s : List ℕ} (p : Passes s) (full : length s ≡ 12 * count s) where
   }
 
   pub judge-root-callable : (r : ℕ) → r < count s → sort_at s r ≡ expressions
-      → Judging s (count s) scope_stack 1 r widths_noted × Indexed s (count s) index
+      → Judging s (count s) (inputs s) r widths_noted × Indexed s (count s) index
   judge-root-callable r h e = (judge-callable r h e, tables-right.indexed)
 
+  -- `Judge::expression`, with the tables that a judge has
   pub judge-expression-callable : (r : ℕ) → r < count s → sort_at s r ≡ expressions
-      → Judging s (count s) scope_stack 1 r widths_noted × TypeTables s (count s) index types_noted
+      → Judging s (count s) (inputs s) r widths_noted × TypeTables s (count s) index types_noted
   judge-expression-callable r h e = (judge-callable r h e, tables-right)
 
-  -- `of_pair`, `of_let`, `of_feedback`, `of_if` and `of_delay`
+  -- `of_pair`, `of_let`, `of_feedback`, `of_if` and `of_delay`, of a judge
   pub of-kind-callable : (k : ExpressionKind) (r : ℕ) → r < count s → kind_at s r ≡ expression k
-      → Judging s (count s) scope_stack 1 r widths_noted × (kind_at s r ≡ expression k) × TypeTables s (count s) index types_noted
+      → Judging s (count s) (inputs s) r widths_noted × (kind_at s r ≡ expression k) × TypeTables s (count s) index types_noted
   of-kind-callable k r h e = (judge-callable r h (rw e), e, tables-right)
 
   pub of-part-callable : (k r : ℕ) → r < count s → PartAt s r k
-      → Judging s (count s) scope_stack 1 r widths_noted × PartAt s r k × TypeTables s (count s) index types_noted
+      → Judging s (count s) (inputs s) r widths_noted × PartAt s r k × TypeTables s (count s) index types_noted
   of-part-callable k r h q = (judge-callable r h (sort q), q, tables-right)
     where
       sort : {k : ℕ} → PartAt s r k → sort_at s r ≡ expressions
@@ -166,7 +171,7 @@ module _ {s : List ℕ} (p : Passes s) (full : length s ≡ 12 * count s) where
       sort (at_second e) = rw e
 
   pub of-name-callable : (r : ℕ) → r < count s → kind_at s r ≡ expression name
-      → Judging s (count s) scope_stack 1 r widths_noted × (kind_at s r ≡ expression name)
+      → Judging s (count s) (inputs s) r widths_noted × (kind_at s r ≡ expression name)
   of-name-callable r h e = (judge-callable r h (rw e), e)
 
   -- typing: a last judgement
@@ -199,7 +204,6 @@ module _ {s : List ℕ} (p : Passes s) (full : length s ≡ 12 * count s) where
       → Sized s (count s) × Passes s × TypeRecord s t × LeafOrEnd s r
   take-off-callable t r u h e = (size, p, u, record { leaf = λ _. (h, e) })
 
-  -- `leaves_fit` and `leaves_type`
   pub leaves-fit-callable : (t r : ℕ) → TypeRecord s t → r < count s → sort_at s r ≡ leafs
       → Sized s (count s) × Passes s × TypeRecord s t × (r < count s) × (sort_at s r ≡ leafs)
   leaves-fit-callable t r u h e = (size, p, u, h, e)
@@ -213,9 +217,11 @@ module _ {s : List ℕ} (p : Passes s) (full : length s ≡ 12 * count s) where
       → (above : List ℕ) × TypingPattern s (count s) index above r × (sort_at s r ≡ patterns)
   one-type-callable r h e = let x = typing-pattern s p full r h in (x.0, x.1, e)
 
+  -- `note_all`
   pub note-types-callable : (none : List ℕ) × Sized s (count s) × Passes s × Indexed s (count s) index × PatternsTyped s (count s) none
   note-types-callable = let x = types-from s p full (count s) (omega arith) in (x.0, size, p, (pairs-indexed s p full).1, x.1)
 
+  -- `fits`
   pub pattern-type-callable : (r t : ℕ) → r < count s → sort_at s r ≡ patterns → TypeRecord s t
       → Fitting s (count s) r t × PatternsTyped s 0 types_noted
   pattern-type-callable r t h e u = (record { sized = size; passes = p; there = h; sort = e; typed = u }, tables-right.typed)
@@ -225,6 +231,7 @@ module _ {s : List ℕ} (p : Passes s) (full : length s ≡ 12 * count s) where
   unfolding count
   check-stages-callable = let c = counts-below p full 0 (omega arith) in (c.0, refl, c.1)
 
+  -- what the check of names begins with
   pub check-names-callable : (none : List ℕ) × Sized s (count s) × NamingsHeld (λ _. []) none
   check-names-callable = note-all-callable
 
@@ -249,10 +256,10 @@ module _ {s : List ℕ} (p : Passes s) (full : length s ≡ 12 * count s) where
   note-patterns-callable = let x = patterns-from p full (count s) (omega arith) in (x.0, size, p, x.1)
 
   -- accepted
-  pub accepting : (t : ℕ) → verdict s ≡ Accepted t → Accepting s (count s) (widths p full).0
-  accepting t e = record { sized = size; type = t; accepted = e; table = (widths p full).1 }
+  accepting_at : (t : ℕ) → verdict s ≡ Accepted t → Accepting s (count s) (widths p full).0
+  accepting_at t e = record { sized = size; type = t; accepted = e; table = (widths p full).1 }
 
   pub fill-bounds-callable : (t u : ℕ) → verdict s ≡ Accepted t → TypeRecord s u
       → (out : List ℕ) × Accepting s (count s) (widths p full).0 × TypeRecord s u × (length out ≡ leaves (type_at s u))
   fill-bounds-callable t u e h =
-      (replicate (leaves (type_at s u)) 0, accepting t e, h, length-replicate {A = ℕ} (leaves (type_at s u)) 0)
+      (replicate (leaves (type_at s u)) 0, accepting_at t e, h, length-replicate {A = ℕ} (leaves (type_at s u)) 0)

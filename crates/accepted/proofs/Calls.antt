@@ -11,15 +11,23 @@ use lib.ListN.{length}
 use Rattle.answers.specs.Answers.{place, on_done, Check, first_applying, NoneApplies, verdict_answer}
 use Rattle.answers.specs.StandardLaws.{LentSlice, StandardLaws}
 use Rattle.answers.specs.GivenSlices.{codes_above, SmallPlaces, GivenSlices}
-use Rattle.answers.specs.declared.Answer.{Answer}
-use Rattle.answers.specs.declared.Answer.TheVariants.{Done, Refused}
+use Rattle.answers.specs.Answers.{Answer}
+use Rattle.answers.specs.Answers.{Done, Refused}
 use Rattle.answers.proofs.First.{first-both, first_then, none_both}
 use Rattle.answers.proofs.StandardLaws.{first-place, standard-laws}
 use Rattle.verdict.specs.Verdict.{sheet_checks, output_type, verdict}
 use Rattle.verdict.specs.CheckedTable.{Checked}
-use Rattle.answers.specs.declared.Verdict.{Verdict}
-use Rattle.answers.specs.declared.Verdict.TheVariants.{Accepted}
-use Rattle.answers.specs.declared.Verdict.TheVariants as Verdicts
+use Rattle.answers.specs.Answers.{Verdict}
+use Rattle.answers.specs.Answers.{Accepted}
+use Rattle.answers.specs.Answers as Verdicts
+use Rattle.std.specs.Prelude.{Result, Ok, Err, IsErrAnd}
+use Rattle.answers.specs.declared.Refusal.{Refusal}
+use Rattle.answers.specs.declared.Fault.{Fault}
+use Rattle.answers.specs.declared.Fault.TheVariants as Faulty
+use Rattle.answers.specs.Results.{refusal_of, verdict_of, answer_of}
+use Rattle.records.specs.Words.{count}
+use Rattle.verdict.specs.declared.checked.Checked as Checking
+use Rattle.verdict.proofs.Lending.{refused-answer}
 use Rattle.verdict.proofs.PlacesSmall.{verdict-place}
 use Rattle.verdict.proofs.VerdictFirst.{verdict-first, accepted-first}
 use Rattle.accepted.specs.Accepting.{Accepting}
@@ -89,3 +97,33 @@ pub accepting-checked : (s : List ℕ) (n : ℕ) → n ≡ length s / 12 → (w 
 accepting-checked s n c w before table t l e =
     let v : verdict s ≡ Accepted t = sym l.answered ∙ e in
     (record { sized = rw c (accepted-sized v); type = t; accepted = v; table = l.accepted (rw e refl) }, v)
+
+-- a checked sheet is accepted, with its table
+pub accepting : (c : Checking.Checked) → Accepting c.sheet (count c.sheet) c.widths
+unfolding count
+accepting c = record { sized = accepted-sized c.accepted; type = c.output_type; accepted = c.accepted; table = c.counted }
+
+-- the fault of a sheet as the answer of a call
+pub sheet-fault : (s : List ℕ) (own : List Check) (done : Answer) (r : Result ℕ Refusal) (f : Fault) → IsErrAnd r (λ e. e ≡ refusal_of f)
+    → verdict_of (Err f) ≡ verdict s → answer_of r ≡ first_applying (sheet_checks s ++ own) done
+sheet-fault s own done r f p q = refused-answer r f p q ∙ sym (by-verdict s own done ∙ of-fault f q)
+  where
+    rest : ℕ → Answer
+    rest t = first_applying own done
+
+    stays : (f : Fault) → on_done (verdict_answer (verdict_of (Err f))) rest ≡ verdict_answer (verdict_of (Err f))
+    stays Faulty.WrongLength = refl
+    stays Faulty.WrongHeader = refl
+    stays (Faulty.WrongRecord r) = refl
+    stays (Faulty.WrongNaming r) = refl
+    stays (Faulty.WrongType r) = refl
+    stays (Faulty.TooDeep r) = refl
+    stays (Faulty.IllTyped r) = refl
+
+    of-fault : (f : Fault) → verdict_of (Err f) ≡ verdict s → on_done (verdict_answer (verdict s)) rest ≡ verdict_answer (verdict s)
+    of-fault f q = rw (← q) (stays f)
+
+-- a refusal handed on is the same answer
+pub same-refusal : (r : Result ℕ Refusal) (e : Refusal) → IsErrAnd r (λ x. x ≡ e) → answer_of r ≡ answer_of (Err e)
+same-refusal (Ok x) e p = absurd p
+same-refusal (Err x) e p = rw p refl

@@ -41,7 +41,7 @@ use Rattle.typing.specs.ExpressionWidth.{width}
 use Rattle.verdict.specs.Verdict.{verdict}
 use Rattle.verdict.specs.Scopes.{Scope, if_tested}
 use Rattle.verdict.specs.Widths.{pattern_leaves, Widths}
-use Rattle.answers.specs.declared.Verdict.TheVariants.{Accepted}
+use Rattle.answers.specs.Answers.{Accepted}
 use Rattle.accepted.proofs.Scopes.{scope-checked, judged-by-kind, checked-type}
 
 pub fitting-leaves : {s : List ℕ} → Written s → (p : Alternatives) (t : ℕ) → TypeRecord s t → GrownPattern s p

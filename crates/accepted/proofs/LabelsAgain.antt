@@ -5,7 +5,7 @@ use Prim.Native.Nat.{ℕ}
 use mathlib.Core.Bool.{Bool, cond}
 use mathlib.Core.List.{List, [], ◌∷◌}
 use mathlib.Core.Option.{some}
-use mathlib.Core.Path.{◌≡◌, refl, ap, ap₂, fun_ext, ◌∙◌}
+use mathlib.Core.Path.{◌≡◌, refl, ap₂, fun_ext}
 use native.Mathlib.Omega.{arith}
 use Rattle.records.specs.Words.{count}
 use Rattle.records.specs.Trees.{
@@ -29,7 +29,7 @@ use Rattle.records.specs.OnlyLabels.{OnlyLabels}
 use Rattle.records.proofs.Rewritten.{same_count, same_kind, same-type, same-pair-of, same-circuit}
 use Rattle.records.proofs.Labels.{labels-words, labels-rewritten, said_same}
 use Rattle.answers.specs.Answers.{lowest}
-use Rattle.structure.specs.Rules.{wrong_length, wrong_header, wrong_record, wrong_naming, wrong_type, too_deep}
+use Rattle.structure.specs.Rules.{wrong_header, wrong_record, wrong_naming, wrong_type, too_deep}
 use Rattle.typing.specs.Judgements.{
   Rule,
   leaves_fit,

@@ -49,7 +49,8 @@ use Rattle.typing.specs.Judgements.{pattern_fits}
 use Rattle.typing.specs.Judging.{Judging, Closing, Fitting, PartAt, at_first, at_second}
 use Rattle.typing.specs.PatternTable.{PatternsTyped, TypingPattern, TypeTables}
 use Rattle.verdict.specs.Verdict.{by_types, by_records, verdict}
-use Rattle.answers.specs.declared.Verdict.TheVariants.{Accepted}
+use Rattle.verdict.specs.Scopes.{inputs}
+use Rattle.answers.specs.Answers.{Accepted}
 use Rattle.verdict.proofs.Exact.{exact}
 use Rattle.accepted.proofs.TypeTables.{search-ends}
 use Rattle.accepted.proofs.Callable as Callable
@@ -93,7 +94,7 @@ type-there : TypeRecord sheet 3
 type-there = record { past = omega arith; there = below 3 (omega arith); sort = sorts.0 }
 
 abbrev scope : List ℕ
-scope = Callable.scope_stack passes full
+scope = inputs sheet
 
 abbrev noted : List ℕ
 noted = Callable.widths_noted passes full
@@ -157,21 +158,21 @@ pattern-type-found =
 
 -- the forms of expressions that T has not
 of-let-there
-    : Judging sheet (count sheet) scope 1 4 noted
+    : Judging sheet (count sheet) scope 4 noted
     × (kind_at sheet 4 ≡ expression let_in)
     × TypeTables sheet (count sheet) index types
 of-let-there = Callable.of-kind-callable passes full let_in 4 (below 4 (omega arith)) kinds.0
 
 of-pair-there
-    : Judging sheet (count sheet) scope 1 5 noted
+    : Judging sheet (count sheet) scope 5 noted
     × (kind_at sheet 5 ≡ expression tuple)
     × TypeTables sheet (count sheet) index types
 of-pair-there = Callable.of-kind-callable passes full tuple 5 (below 5 (omega arith)) kinds.1
 
-of-first-there : Judging sheet (count sheet) scope 1 6 noted × PartAt sheet 6 2 × TypeTables sheet (count sheet) index types
+of-first-there : Judging sheet (count sheet) scope 6 noted × PartAt sheet 6 2 × TypeTables sheet (count sheet) index types
 of-first-there = Callable.of-part-callable passes full 2 6 (below 6 (omega arith)) (at_first kinds.2)
 
-of-second-there : Judging sheet (count sheet) scope 1 8 noted × PartAt sheet 8 3 × TypeTables sheet (count sheet) index types
+of-second-there : Judging sheet (count sheet) scope 8 noted × PartAt sheet 8 3 × TypeTables sheet (count sheet) index types
 of-second-there = Callable.of-part-callable passes full 3 8 (below 8 (omega arith)) (at_second kinds.3)
 
 pair-type-there : Closing sheet (count sheet) 5 noted × Indexed sheet (count sheet) index

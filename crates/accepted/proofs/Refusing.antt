@@ -2,10 +2,10 @@
 -- Assumes nothing.
 use Prim.Native.Nat.{ℕ}
 use mathlib.Core.Path.{◌≡◌, refl}
-use Rattle.answers.specs.declared.Answer.TheVariants.{Refused}
+use Rattle.answers.specs.Answers.{Refused}
 use Rattle.answers.specs.Answers.{verdict_answer}
-use Rattle.answers.specs.declared.Verdict.{Verdict}
-use Rattle.answers.specs.declared.Verdict.TheVariants as Verdicts
+use Rattle.answers.specs.Answers.{Verdict}
+use Rattle.answers.specs.Answers as Verdicts
 
 -- what code knows of a verdict that it has not matched with `Accepted`
 abbrev pub Refusing : Verdict → Type 0

@@ -10,7 +10,7 @@ use borrow.Author.Tests.{lt-ltb, le-ltb}
 use lib.Dec.{ltb}
 use lib.ListN.{length, get_or, replicate, length-append, length-replicate, get_or-replicate, get_or-append}
 use lib.Seq.{get_or_at}
-use Rattle.records.specs.Words.{count, word_a, word_b}
+use Rattle.records.specs.Words.{count, word_b}
 use Rattle.records.specs.Kinds.{Sort, sort_number}
 use Rattle.records.specs.Kinds as Kinds
 use Rattle.records.specs.Says.{sort_at, namings}
@@ -22,6 +22,7 @@ use Rattle.structure.specs.DepthTable.{Capped, Placed, Placing}
 use Rattle.structure.proofs.Passes.{written, well-named, length-fits}
 use Rattle.typing.specs.Judging.{Ground, Judging, Closing}
 use Rattle.typing.proofs.Bounds.{counts-leaves}
+use Rattle.verdict.specs.Scopes.{inputs}
 use Rattle.verdict.specs.Stages.{CheckingDepths}
 use Rattle.verdict.specs.Widths.{pattern_entry, Widths}
 use Rattle.verdict.specs.CheckedTable.{PatternsFrom}
@@ -122,17 +123,14 @@ module _ {s : List ℕ} (p : Passes s) (whole : length s ≡ 12 * count s) where
       let c = counts in
       (c.0, record { sized = sized; passes = p; leaves = counts-leaves s (count s) c.0 refl p c.1 }, c.1.long)
 
-  pub ready : (stack : List ℕ) × (widths : List ℕ) × Judging s (count s) stack 1 (word_b s 0) widths
-  ready =
-      let g = ground in
-      let t = tabulated (λ r. word_a s 0) 64 in
-      (t.0, g.0, root-ready g.1 t.0 refl refl (ap (λ (x : ℕ). x ∷ []) (t.2 0 (omega arith))) t.1 g.2)
+  pub ready : (widths : List ℕ) × Judging s (count s) (inputs s) (word_b s 0) widths
+  ready = let g = ground in (g.0, root-ready g.1 (inputs s) refl refl refl g.2)
 
   pub closing : (widths : List ℕ) × Closing s (count s) (word_b s 0) widths
   closing =
       let r = ready in (
-        r.1,
-        record { ground = r.2.ground; there = r.2.there; sort = r.2.sort; long = r.2.long },
+        r.0,
+        record { ground = r.1.ground; there = r.1.there; sort = r.1.sort; long = r.1.long },
       )
 
   pub patterns-judged : (table : List ℕ) × PatternsFrom s (count s) table

@@ -53,7 +53,7 @@ use Rattle.verdict.specs.Scopes.{
   if_else,
   of-delay,
 }
-use Rattle.answers.specs.declared.Verdict.TheVariants.{Accepted}
+use Rattle.answers.specs.Answers.{Accepted}
 use Rattle.structure.proofs.Passes.{written, well-named, types-fit, not-deep}
 use Rattle.structure.proofs.Depths.{depth-of-part, depth-of-root}
 use Rattle.typing.proofs.Judged.{RulesHold}

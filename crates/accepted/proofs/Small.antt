@@ -1,6 +1,6 @@
 -- An accepted sheet is of whole records, at most 49,152 bytes long, and its types have at most 64 leaves.
 -- Assumes nothing.
-use Prim.Native.Nat.{ℕ, ◌*◌, ◌/◌, ◌%◌, ◌≤◌, ◌<◌}
+use Prim.Native.Nat.{ℕ, ◌*◌, ◌/◌, ◌%◌, ◌≤◌}
 use mathlib.Core.Bool.{not, ◌||◌}
 use mathlib.Core.List.{List}
 use mathlib.Core.Path.{◌≡◌}
@@ -18,7 +18,7 @@ use Rattle.records.proofs.Types.{few-leaves}
 use Rattle.structure.specs.Rules.{Passes, wrong_length}
 use Rattle.structure.proofs.Passes.{types-fit}
 use Rattle.verdict.specs.Verdict.{verdict}
-use Rattle.answers.specs.declared.Verdict.TheVariants.{Accepted}
+use Rattle.answers.specs.Answers.{Accepted}
 use Rattle.verdict.proofs.Exact.{exact}
 use Rattle.accepted.proofs.Requirements.{sized}
 

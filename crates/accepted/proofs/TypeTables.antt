@@ -2,7 +2,7 @@
 -- each record and a table of the types of the patterns from each record on. The index is made record by record: every search in one
 -- comes to its end, as each slot leads to a later one, and a pair type that is new goes into the slot where the search for its parts
 -- ended. The types of patterns are found from the last record down. Assumes nothing.
-use mathlib.Core.Path.{◌≡◌, refl, sym, subst}
+use mathlib.Core.Path.{◌≡◌, refl, subst}
 use mathlib.Core.Bool.{Bool, true, false}
 use mathlib.Core.List.{List}
 use Prim.Native.Nat.{ℕ, zero, suc, ◌+◌, ◌*◌, ◌-◌, ◌/◌, ◌%◌, ◌≤◌, ◌<◌}
@@ -11,7 +11,7 @@ use native.Mathlib.Decide.{ℕ_discrete, dec_lt}
 use native.Mathlib.Numerals.{add-one}
 use lib.ListN.{length, get_or, set, replicate}
 use Rattle.records.specs.Words.{count, word}
-use Rattle.records.specs.Kinds.{PatternKind, pattern, whole, constructor, parts, patterns, type_of, flat}
+use Rattle.records.specs.Kinds.{PatternKind, pattern, whole, constructor, parts, patterns, type_of, flat, is_pair}
 use Rattle.records.specs.Kinds as Kinds
 use Rattle.records.specs.Says.{kind_at, sort_at}
 use Rattle.records.specs.Trees.{pair_below}
@@ -23,7 +23,7 @@ use Rattle.structure.specs.PairIndex.{another, onwards, Ends, SlotFound, Linked,
 use Rattle.structure.proofs.Passes.{written}
 use Rattle.structure.proofs.PairSearch.{no-pairs-indexed, goes_on, no-pair-noted, lower-noted, pair-noted}
 use Rattle.typing.specs.PatternTable.{TypedOne, TypedAll, PatternsTyped, TypingPattern, TypeTables}
-use Rattle.typing.proofs.PatternNumbers.{no-pattern}
+use Rattle.typing.proofs.PatternNumbers.{no-pattern, pattern-kind, number-of-pattern}
 use Rattle.typing.proofs.TypedPatterns.{
   no-types-typed,
   word-type,
@@ -49,9 +49,9 @@ module _ (s index : List ℕ) (a b : ℕ) {m : ℕ} (links : Linked m index) (fe
           → (k : ℕ) × (end : ℕ) × Ends s index a b k slot bits end
       go false e later = (0, slot, (e, refl))
       go true e later =
-          let g = goes_on s index a b {slot = slot} links few bits (sym e) refl in
-          let r = later (onwards index slot bits) (bits / 2) (omega (arith, g.0)) g.1 in
-          (suc r.0, r.1, (g.2, r.2))
+          let g = goes_on s index a b {slot = slot} links few bits e refl in
+          let r = later (onwards index slot bits) (bits / 2) (omega (arith, g.1)) g.2 in
+          (suc r.0, r.1, (e, r.2))
 
   pub search-ends : (end : ℕ) × SlotFound s index a b end
   search-ends =
@@ -61,18 +61,19 @@ module _ (s index : List ℕ) (a b : ℕ) {m : ℕ} (links : Linked m index) (fe
 
 -- the index with one more record
 one-more-indexed : (s : List ℕ) (r : ℕ) → r < 4096 → (index : List ℕ) → Indexed s r index → (more : List ℕ) × Indexed s (r + 1) more
-one-more-indexed s r few index ix = go (ℕ_discrete (word s r 0) 17)
+one-more-indexed s r few index ix = go (is_pair (kind_at s r)) refl
   where
-    paired : word s r 0 ≡ 17 → ((end : ℕ) × SlotFound s index (word s r 2) (word s r 3) end) → (more : List ℕ) × Indexed s (r + 1) more
+    paired : is_pair (kind_at s r) ≡ true → ((end : ℕ) × SlotFound s index (word s r 2) (word s r 3) end)
+        → (more : List ℕ) × Indexed s (r + 1) more
     paired e q = by (ℕ_discrete (get_or index q.0 0) 0)
       where
         by : Dec (get_or index q.0 0 ≡ 0) → (more : List ℕ) × Indexed s (r + 1) more
-        by (yes z) = (set index q.0 r, (pair-noted ix refl e refl refl q.1 few z).1)
-        by (no z) = (index, (lower-noted ix refl e refl refl q.1 z).1)
+        by (yes z) = (set index q.0 r, (pair-noted ix e refl refl q.1 few z).1)
+        by (no z) = (index, (lower-noted ix e refl refl q.1 z).1)
 
-    go : Dec (word s r 0 ≡ 17) → (more : List ℕ) × Indexed s (r + 1) more
-    go (yes e) = paired e (search-ends s index (word s r 2) (word s r 3) ix.linked (omega arith))
-    go (no f) = (index, (no-pair-noted ix refl f).1)
+    go : (t : Bool) → is_pair (kind_at s r) ≡ t → (more : List ℕ) × Indexed s (r + 1) more
+    go true e = paired e (search-ends s index (word s r 2) (word s r 3) ix.linked (omega arith))
+    go false f = (index, (no-pair-noted ix f).1)
 
 -- a pattern has a type, or none that its alternatives share
 module _ {s : List ℕ} {n : ℕ} {index types : List ℕ} {r : ℕ} (q : TypingPattern s n index types r) (sort : sort_at s r ≡ patterns) where
@@ -108,12 +109,13 @@ module _ {s : List ℕ} {n : ℕ} {index types : List ℕ} {r : ℕ} (q : Typing
   one-type-found = go (ℕ_discrete (word s r 0) 50)
     where
       go : Dec (word s r 0 ≡ 50) → (x : ℕ) × TypedOne s r x × (x < 65536)
-      go (yes e) = (
-        pair_below s (get_or types (word s r 2) 0) (get_or types (word s r 3) 0) n,
-        pair-type-of-parts q sort refl e refl refl refl,
-        pair_small q sort refl e refl refl refl,
-      )
-      go (no f) = (word s r 2, word-type q sort refl f refl, first-word-small)
+      go (yes e) =
+          let k = pattern-kind s r (word s r 0) refl parts e in (
+            pair_below s (get_or types (word s r 2) 0) (get_or types (word s r 3) 0) n,
+            pair-type-of-parts q sort k refl refl refl,
+            pair_small q sort k refl refl refl,
+          )
+      go (no f) = (word s r 2, word-type q sort (λ z. f (number-of-pattern s r (word s r 0) refl parts z)) refl, first-word-small)
 
   common-type-found : (x : ℕ) × TypedAll s r x × (x < 65536)
   common-type-found = go one-type-found (ℕ_discrete (word s r 1) 0)

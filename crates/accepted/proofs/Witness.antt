@@ -5,8 +5,7 @@ use Prim.Native.Nat.{ℕ, ◌+◌, ◌*◌, ◌%◌, ◌/◌, ◌<◌}
 use mathlib.Core.List.{List, [], ◌∷◌}
 use mathlib.Core.Path.{◌≡◌, refl}
 use Rattle.records.specs.Words.{word, count, word_b, kind_word}
-use Rattle.records.specs.Kinds.{row_of, kind_of, ask_of, expression, feedback, delay, if_matches, name, constant}
-use Rattle.records.specs.AskNumbers.{ask_numbers}
+use Rattle.records.specs.Kinds.{Ask, asks_in, row_of, kind_of, ask_of, expression, feedback, delay, if_matches, name, constant}
 use Rattle.records.specs.Kinds as Kinds
 use Rattle.records.specs.Says.{well_said, kind_at, sort_at, namings}
 use Rattle.records.specs.Trees.{
@@ -38,7 +37,7 @@ use Rattle.structure.specs.Rules.{
 use Rattle.verdict.specs.Verdict.{by_types, by_records, verdict}
 use Rattle.verdict.specs.Scopes.{inputs, root}
 use Rattle.verdict.specs.Promises.{WellTyped}
-use Rattle.answers.specs.declared.Verdict.TheVariants.{Accepted}
+use Rattle.answers.specs.Answers.{Accepted}
 use native.Mathlib.Omega.{arith}
 use lib.ListN.{length}
 use Rattle.records.specs.Sized.{Sized}
@@ -114,7 +113,7 @@ placing-there = placing-begun passes.0 full
 placed-there : (depths : List ℕ) × (nestings : List ℕ) × Placed sheet (count sheet) depths nestings
 placed-there = depths-placed passes.0 full
 
-ready-there : (stack : List ℕ) × (widths : List ℕ) × Judging sheet (count sheet) stack 1 (word_b sheet 0) widths
+ready-there : (widths : List ℕ) × Judging sheet (count sheet) (inputs sheet) (word_b sheet 0) widths
 ready-there = ready passes.0 full
 
 closing-there : (widths : List ℕ) × Closing sheet (count sheet) (word_b sheet 0) widths
@@ -136,7 +135,7 @@ matching-there = record {
 
 -- and what each function of the check asks, at a record of T and with the tables of `Callable`
 abbrev scope : List ℕ
-scope = Callable.scope_stack passes.0 full
+scope = inputs sheet
 
 abbrev noted : List ℕ
 noted = Callable.widths_noted passes.0 full
@@ -172,8 +171,8 @@ unfolding type_at type_within kind_of row_of word
 one-leaf = let e : leaves (type_at sheet 1) ≡ 1 = refl in omega arith
 
 note-word-there
-    : (asks : List ℕ) × (namers : List ℕ) × Sized sheet (count sheet) × (2 < count sheet)
-    × (asks ≡ ask_numbers (row_of (kind_word sheet 2)))
+    : (asks : List Ask) × (namers : List ℕ) × Sized sheet (count sheet) × (2 < count sheet)
+    × (asks ≡ asks_in (row_of (kind_word sheet 2)))
     × (0 < 3)
     × (3 < 6)
     × (length namers ≡ 4096)
@@ -198,31 +197,31 @@ place-there
     × (3 < count sheet)
 place-there = Callable.place-callable passes.0 full 3 (omega arith) (below 3 (omega arith))
 
-judge-root-there : Judging sheet (count sheet) scope 1 2 noted × Indexed sheet (count sheet) index
+judge-root-there : Judging sheet (count sheet) scope 2 noted × Indexed sheet (count sheet) index
 judge-root-there = Callable.judge-root-callable passes.0 full 2 (below 2 (omega arith)) sorts.1
 
-judge-expression-there : Judging sheet (count sheet) scope 1 2 noted × TypeTables sheet (count sheet) index types
+judge-expression-there : Judging sheet (count sheet) scope 2 noted × TypeTables sheet (count sheet) index types
 judge-expression-there = Callable.judge-expression-callable passes.0 full 2 (below 2 (omega arith)) sorts.1
 
 of-feedback-there
-    : Judging sheet (count sheet) scope 1 2 noted
+    : Judging sheet (count sheet) scope 2 noted
     × (kind_at sheet 2 ≡ expression feedback)
     × TypeTables sheet (count sheet) index types
 of-feedback-there = Callable.of-kind-callable passes.0 full feedback 2 (below 2 (omega arith)) kinds.0
 
 of-delay-there
-    : Judging sheet (count sheet) scope 1 3 noted
+    : Judging sheet (count sheet) scope 3 noted
     × (kind_at sheet 3 ≡ expression delay)
     × TypeTables sheet (count sheet) index types
 of-delay-there = Callable.of-kind-callable passes.0 full delay 3 (below 3 (omega arith)) kinds.1
 
 of-if-there
-    : Judging sheet (count sheet) scope 1 5 noted
+    : Judging sheet (count sheet) scope 5 noted
     × (kind_at sheet 5 ≡ expression if_matches)
     × TypeTables sheet (count sheet) index types
 of-if-there = Callable.of-kind-callable passes.0 full if_matches 5 (below 5 (omega arith)) kinds.2
 
-of-name-there : Judging sheet (count sheet) scope 1 6 noted × (kind_at sheet 6 ≡ expression name)
+of-name-there : Judging sheet (count sheet) scope 6 noted × (kind_at sheet 6 ≡ expression name)
 of-name-there = Callable.of-name-callable passes.0 full 6 (below 6 (omega arith)) kinds.3
 
 of-constant-there : Closing sheet (count sheet) 11 noted × (kind_at sheet 11 ≡ expression constant)

@@ -5,20 +5,16 @@
 ghost use Rattle.std.specs.Prelude.{◌≡◌, length};
 ghost use Rattle.picoella.specs.Language.{bounds, leaves};
 ghost use Rattle.records.specs.Trees.{type_at, TypeRecord};
-ghost use Rattle.accepted.specs.Accepting.{Accepting};
 
-use records::WidthTable;
 use typing::bound_at;
+use verdict::Checked;
 
 // The constructor counts of the leaves of type t.
-pub fn fill_bounds(sheet: &[u8], n: usize, widths: &WidthTable, t: usize, out: &mut [u8])
-    requires { Accepting sheet.now n widths.now × TypeRecord sheet.now t × (length out.old ≡ leaves (type_at sheet.now t)) }
-    ensures { out.new ≡ bounds (type_at sheet.now t) }
+pub fn fill_bounds(checked: &Checked, t: usize, out: &mut [u8])
+    requires { TypeRecord checked.now.sheet t × (length out.old ≡ leaves (type_at checked.now.sheet t)) }
+    ensures { out.new ≡ bounds (type_at checked.now.sheet t) }
 {
-    let all = out.len();
-    let mut i = 0;
-    while i < all {
-        out[i] = bound_at(sheet, n, widths, t, i) as u8;
-        i += 1;
+    for (i, bound) in out.iter_mut().enumerate() {
+        *bound = bound_at(&checked.sheet, &checked.widths, t, i) as u8;
     }
 }

@@ -12,8 +12,8 @@ use native.Mathlib.Omega.{arith}
 use lib.Dec.{eqb}
 use borrow.Author.Tests.{eqb-true, not-false}
 use Rattle.answers.specs.Answers.{code, when_done, on_done, Check, when, or_refused, first_applying, NoneApplies, Refuses, SaysOf}
-use Rattle.answers.specs.declared.Answer.{Answer}
-use Rattle.answers.specs.declared.Answer.TheVariants.{Done, Refused}
+use Rattle.answers.specs.Answers.{Answer}
+use Rattle.answers.specs.Answers.{Done, Refused}
 
 -- a test that does not apply fails
 pub when-none : (b : Bool) (p : ℕ) → when b p ≡ none → b ≡ false

@@ -14,8 +14,8 @@ use borrow.Author.Tests.{ltb-true}
 use Rattle.answers.specs.Answers.{code, place, packed, Check, or_refused, first_applying, NoneApplies, Refuses, SaysOf}
 use Rattle.answers.specs.StandardLaws.{LentSlice, AllUnaltered, SaysOfCall, StandardLaws}
 use Rattle.answers.specs.GivenSlices.{codes_above, SmallPlaces, GivenSlices, no_slice, one_slice}
-use Rattle.answers.specs.declared.Answer.{Answer}
-use Rattle.answers.specs.declared.Answer.TheVariants.{Done, Refused}
+use Rattle.answers.specs.Answers.{Answer}
+use Rattle.answers.specs.Answers.{Done, Refused}
 use Rattle.answers.proofs.First.{first_says, says_first, kept-bytes}
 
 -- the place of the first that applies

@@ -4,8 +4,8 @@ use mathlib.Core.Path.{◌≡◌}
 use Prim.Native.Nat.{ℕ, ◌<◌}
 use native.Mathlib.Omega.{arith}
 use Rattle.answers.specs.Answers.{code, verdict_answer}
-use Rattle.answers.specs.declared.Verdict.{Verdict}
-use Rattle.answers.specs.declared.Verdict.TheVariants.{
+use Rattle.answers.specs.Answers.{Verdict}
+use Rattle.answers.specs.Answers.{
   Accepted,
   WrongLength,
   WrongHeader,

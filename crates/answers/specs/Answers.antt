@@ -1,23 +1,14 @@
 -- The answer of a call, the lowest number that passes a test, and the checks of a call as a list.
 use Rattle.std.specs.Prelude.{ℕ, ◌+◌, ◌*◌, ◌/◌, ◌%◌, ◌^◌, zero, suc, List, [], ◌∷◌, ◌++◌, Bool, true, false, ◌≡◌}
-use Rattle.answers.specs.declared.Answer.{Answer}
-use Rattle.answers.specs.declared.Answer.TheVariants.{Done, Refused}
-use Rattle.answers.specs.declared.Verdict.{Verdict}
-use Rattle.answers.specs.declared.Verdict.TheVariants.{
-  Accepted,
-  WrongLength,
-  WrongHeader,
-  WrongRecord,
-  WrongNaming,
-  WrongType,
-  TooDeep,
-  IllTyped,
-}
 use Rattle.std.proofs.Math.Option.{Option, none, some}
 
 -- The answer of a call (docs/SHEETS.md, "Codes"): done, with the place that the call gives beside 0, or refused, with a code and its
--- place; both in one number of 64 bits. One data type for all calls, the enum of `src/lib.rt`; a call that answers by another enum says
--- once what each of its cases stands for here.
+-- place; both in one number of 64 bits. One data type for all calls; `Results` says what a result of the code stands for here, and a call
+-- that answers by another type says once what each of its cases stands for.
+
+pub data Answer : Type 0 where
+  Done : (place : ℕ) → Answer
+  Refused : (code place : ℕ) → Answer
 
 abbrev pub code : Answer → ℕ
 code (Done p) = 0
@@ -46,7 +37,13 @@ abbrev pub when_done : Answer → (computed entry : List ℕ) → List ℕ
 when_done (Done p) new old = new
 when_done (Refused c p) new old = old
 
--- the answer of the check: the code and the place of each case of its enum
+-- what the check finds: the output type's record of an accepted sheet, or which rule is broken, and the record that breaks it
+pub data Verdict : Type 0 where
+  Accepted : ℕ → Verdict
+  WrongLength WrongHeader : Verdict
+  WrongRecord WrongNaming WrongType TooDeep IllTyped : ℕ → Verdict
+
+-- the answer of the check: the code and the place of each case
 abbrev pub verdict_answer : Verdict → Answer
 verdict_answer (Accepted t) = Done t
 verdict_answer WrongLength = Refused 1 0

@@ -4,7 +4,7 @@ use Rattle.std.specs.Prelude.{ℕ, ◌^◌, ◌<◌, ◌≡◌, Bool, true, ◌&
 use Rattle.std.proofs.Math.Option.{none, some}
 use Rattle.answers.specs.Answers.{when_done, Check}
 use Rattle.answers.specs.StandardLaws.{LentSlice, lent_slice}
-use Rattle.answers.specs.declared.Answer.{Answer}
+use Rattle.answers.specs.Answers.{Answer}
 
 -- the code of each check is above 0
 abbrev pub codes_above : List Check → Bool

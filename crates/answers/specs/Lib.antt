@@ -5,5 +5,6 @@ pub mod Answers
 pub mod StandardLaws
 pub mod Promises
 -- What functions ask and give, and their proofs need:
+pub mod Results
 pub mod Searches
 pub mod GivenSlices

@@ -2,8 +2,8 @@
 use Rattle.std.specs.Prelude.{ℕ, ◌^◌, ◌<◌, ◌≡◌, ◌↔◌, Bool, true, false, List}
 use Rattle.std.proofs.Math.Option.{none, some}
 use Rattle.answers.specs.Answers.{in_one, code_of_result, place_of_result, lowest, Check, first_applying, SaysOf}
-use Rattle.answers.specs.declared.Answer.{Answer}
-use Rattle.answers.specs.declared.Answer.TheVariants.{Done}
+use Rattle.answers.specs.Answers.{Answer}
+use Rattle.answers.specs.Answers.{Done}
 
 -- the number r passes the test, and no lower one does
 abbrev pub LowestBreaking : (ℕ → Bool) → ℕ → ℕ → Type 0

@@ -1,12 +1,10 @@
 -- What the answer of a search over records stands for, and the bound of places.
-use Rattle.std.specs.Prelude.{ℕ}
-use Rattle.std.proofs.Math.Option.{Option, none, some}
-use Rattle.answers.specs.declared.Found.{Found}
-use Rattle.answers.specs.declared.Found.TheVariants.{At, Nothing}
+use Rattle.std.specs.Prelude.{ℕ, Option, Some, None}
+use Rattle.std.proofs.Math.Option as maybe
 
-abbrev pub found : Found → Option ℕ
-found (At r) = some r
-found Nothing = none
+abbrev pub found : Option ℕ → maybe.Option ℕ
+found (Some r) = maybe.some r
+found None = maybe.none
 
 -- a place is below this
 abbrev pub place_bound : ℕ

@@ -6,8 +6,8 @@
 -- every list of checks.
 use Rattle.std.specs.Prelude.{ℕ, ◌^◌, ◌<◌, ◌≡◌, ◌↔◌, ◌≢◌, List, [], ◌∷◌}
 use Rattle.answers.specs.Answers.{code, place, Check, NoneApplies, Refuses}
-use Rattle.answers.specs.declared.Answer.{Answer}
-use Rattle.answers.specs.declared.Answer.TheVariants.{Done, Refused}
+use Rattle.answers.specs.Answers.{Answer}
+use Rattle.answers.specs.Answers.{Done, Refused}
 
 -- a slice that a call may write to: its content at entry and at the end
 pub record LentSlice : Type 0 where

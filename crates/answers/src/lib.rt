@@ -1,81 +1,109 @@
-// The answers of all calls, and the check's own: code and place in one number; and what a search found.
+// The answers of all calls: a place, or a refusal with its code and place, and both in one number; and why the check refuses a sheet.
 #![tactic(auto)]
 
 ghost use Rattle.std.specs.Prelude.{◌≡◌, ◌<◌};
-ghost use Rattle.answers.specs.Answers.{in_one, code, place, packed, code_of_result, place_of_result, verdict_answer};
+ghost use Rattle.answers.specs.Answers.{in_one, packed, code_of_result, place_of_result};
+ghost use Rattle.answers.specs.Results.{code_number, refusal_of, answer_of};
 ghost use Rattle.answers.specs.Searches.{place_bound};
 
 // The places that a code has: a result is code * PLACES + place.
 const PLACES: u64 = 4294967296;
 
 // The codes of refusals (docs/SHEETS.md, "Codes").
-pub const WRONG_LENGTH: u64 = 1;
-
-pub const WRONG_HEADER: u64 = 2;
-
-pub const WRONG_RECORD: u64 = 3;
-
-pub const WRONG_NAMING: u64 = 4;
-
-pub const WRONG_TYPE: u64 = 5;
-
-pub const TOO_DEEP: u64 = 6;
-
-pub const ILL_TYPED: u64 = 7;
-
-pub const WRONG_STIMULUS: u64 = 8;
-
-pub const WRONG_INPUT: u64 = 9;
-
-pub const WRONG_OUTPUT_LENGTH: u64 = 10;
-
-pub const WRONG_NEXT_LENGTH: u64 = 11;
-
-pub const NO_FILE: u64 = 12;
-
-pub const WRONG_TEXT: u64 = 13;
-
-pub const WRONG_NAME: u64 = 14;
-
-pub const NO_ROOM: u64 = 15;
-
-pub const WRONG_WORDS: u64 = 16;
-
-pub const NEW_SHEET_REFUSED: u64 = 18;
-
-pub const LABEL_TWICE: u64 = 19;
-
-pub const TOO_MANY_INPUTS: u64 = 20;
-
-pub const NO_OUTPUT_LEAF: u64 = 21;
-
-// The number that a search found, if it found one.
-#[derive(Clone, Copy)]
-pub enum Found {
-    At(usize),
-    Nothing,
+#[derive(Clone, Copy, Debug, PartialEq, Eq)]
+pub enum Code {
+    SheetLength = 1,
+    SheetHeader = 2,
+    SheetRecord = 3,
+    SheetNaming = 4,
+    SheetType = 5,
+    SheetDepth = 6,
+    SheetTyping = 7,
+    WrongStimulus = 8,
+    WrongInput = 9,
+    WrongOutputLength = 10,
+    WrongNextLength = 11,
+    NoFile = 12,
+    WrongText = 13,
+    WrongName = 14,
+    NoRoom = 15,
+    WrongWords = 16,
+    WrongRecordedLength = 17,
+    NewSheetRefused = 18,
+    LabelTwice = 19,
+    TooManyInputs = 20,
+    NoOutputLeaf = 21,
+    NotForSets = 22,
 }
 
-// The answer of a call: done, with a place, or refused, with a code and a place.
-#[derive(Clone, Copy)]
-pub enum Answer {
-    Done(u64),
-    Refused(u64, u64),
+impl Code {
+    pub fn number(self) -> u64
+        ensures { result ≡ code_number self }
+    {
+        self as u64
+    }
 }
 
-// The answer of the check. `verdict_answer` gives the code and the place of each case (docs/SHEETS.md, "Codes").
-#[derive(Clone, Copy)]
-pub enum Verdict {
-    // The output type's record.
-    Accepted(usize),
+// Why a call is refused, and where.
+#[derive(Clone, Copy, Debug, PartialEq, Eq)]
+pub struct Refusal {
+    pub code: Code,
+    pub place: u32,
+}
+
+// The answer of a call: the place that it gives, or a refusal.
+pub type Answer = Result<u32, Refusal>;
+
+// Why the check refuses a sheet; each case but the first two holds the record at fault.
+#[derive(Clone, Copy, Debug, PartialEq, Eq)]
+pub enum Fault {
     WrongLength,
     WrongHeader,
-    // Each of these holds the record at fault.
-    WrongRecord(usize),
-    WrongNaming(usize),
-    WrongType(usize),
-    TooDeep(usize),
-    IllTyped(usize),
+    WrongRecord(u32),
+    WrongNaming(u32),
+    WrongType(u32),
+    TooDeep(u32),
+    IllTyped(u32),
+}
+
+// The answer of the check: the output type's record, or a fault.
+pub type Verdict = Result<usize, Fault>;
+
+impl From<Fault> for Refusal {
+    ghost from_gives = { λ fault r. r ≡ refusal_of fault };
+
+    fn from(fault: Fault) -> Refusal {
+        match fault {
+            Fault::WrongLength => Refusal {
+                code: Code::SheetLength,
+                place: 0,
+            },
+            Fault::WrongHeader => Refusal {
+                code: Code::SheetHeader,
+                place: 0,
+            },
+            Fault::WrongRecord(place) => Refusal {
+                code: Code::SheetRecord,
+                place,
+            },
+            Fault::WrongNaming(place) => Refusal {
+                code: Code::SheetNaming,
+                place,
+            },
+            Fault::WrongType(place) => Refusal {
+                code: Code::SheetType,
+                place,
+            },
+            Fault::TooDeep(place) => Refusal {
+                code: Code::SheetDepth,
+                place,
+            },
+            Fault::IllTyped(place) => Refusal {
+                code: Code::SheetTyping,
+                place,
+            },
+        }
+    }
 }
 
 // A code and a place in one number.
@@ -87,13 +115,12 @@ pub fn in_one(code: u64, place: u64) -> u64
 }
 
 // The code and the place of an answer in one number.
-pub fn packed(a: Answer) -> u64
-    requires { (code a < 256) × (place a < place_bound) }
-    ensures { result ≡ packed a }
+pub fn packed(answer: Answer) -> u64
+    ensures { result ≡ packed (answer_of answer) }
 {
-    match a {
-        Answer::Done(place) => place,
-        Answer::Refused(code, place) => in_one(code, place),
+    match answer {
+        Ok(place) => u64::from(place),
+        Err(refusal) => in_one(refusal.code.number(), u64::from(refusal.place)),
     }
 }
 
@@ -108,44 +135,4 @@ pub fn place_of(res: u64) -> u64
     ensures { result ≡ place_of_result res }
 {
     res % PLACES
-}
-
-// The code of a verdict, 0 where it accepts.
-pub fn verdict_code(v: Verdict) -> u64
-    ensures { result ≡ code (verdict_answer v) }
-{
-    match v {
-        Verdict::Accepted(_) => 0,
-        Verdict::WrongLength => WRONG_LENGTH,
-        Verdict::WrongHeader => WRONG_HEADER,
-        Verdict::WrongRecord(_) => WRONG_RECORD,
-        Verdict::WrongNaming(_) => WRONG_NAMING,
-        Verdict::WrongType(_) => WRONG_TYPE,
-        Verdict::TooDeep(_) => TOO_DEEP,
-        Verdict::IllTyped(_) => ILL_TYPED,
-    }
-}
-
-// The record that a verdict speaks of, 0 where it speaks of none.
-fn verdict_place(v: Verdict) -> u64
-    ensures { result ≡ place (verdict_answer v) }
-{
-    match v {
-        Verdict::Accepted(t) => t as u64,
-        Verdict::WrongLength => 0,
-        Verdict::WrongHeader => 0,
-        Verdict::WrongRecord(r) => r as u64,
-        Verdict::WrongNaming(r) => r as u64,
-        Verdict::WrongType(r) => r as u64,
-        Verdict::TooDeep(r) => r as u64,
-        Verdict::IllTyped(r) => r as u64,
-    }
-}
-
-// The code and the place of a verdict in one number.
-pub fn packed_verdict(v: Verdict) -> u64
-    requires { place (verdict_answer v) < place_bound }
-    ensures { result ≡ packed (verdict_answer v) }
-{
-    in_one(verdict_code(v), verdict_place(v))
 }

@@ -19,7 +19,7 @@ use Rattle.behaviour.specs.Cycle.{output, sheet_after_cycle}
 use Rattle.behaviour.proofs.Cycle.{after-only-delays}
 use Rattle.stimulus.specs.Stimulus.{input_type, cycle_count, end_to_end, cycles}
 use Rattle.answers.specs.Answers.{packed}
-use Rattle.answers.specs.declared.Answer.TheVariants.{Done}
+use Rattle.answers.specs.Answers.{Done}
 use Rattle.behaviour.specs.Run.{outputs_by, sheet_after, output_needed, by_slices, answer, final_out, final_next}
 use Rattle.behaviour.specs.Midway.{sheet_before}
 use Rattle.stimulus.proofs.Pieces.{joined_length, joined_at, typed-wide}

@@ -13,8 +13,8 @@ use lib.Dec.{eqb}
 use borrow.Author.Tests.{eq-eqb, ne_eqb}
 use Rattle.answers.specs.Answers.{in_one, on_done, first_applying, NoneApplies, SaysOf, verdict_answer}
 use Rattle.answers.specs.GivenSlices.{SmallPlaces, no_slice, one_slice}
-use Rattle.answers.specs.declared.Answer.{Answer}
-use Rattle.answers.specs.declared.Answer.TheVariants.{Done, Refused}
+use Rattle.answers.specs.Answers.{Answer}
+use Rattle.answers.specs.Answers.{Done, Refused}
 use Rattle.answers.proofs.Lowest.{lowest-some-passes}
 use Rattle.answers.proofs.First.{
   when-none,
@@ -26,9 +26,9 @@ use Rattle.answers.proofs.First.{
   same-length-by,
 }
 use Rattle.verdict.specs.Verdict.{sheet_checks, output_type, verdict}
-use Rattle.answers.specs.declared.Verdict.{Verdict}
-use Rattle.answers.specs.declared.Verdict.TheVariants.{Accepted}
-use Rattle.answers.specs.declared.Verdict.TheVariants as Verdicts
+use Rattle.answers.specs.Answers.{Verdict}
+use Rattle.answers.specs.Answers.{Accepted}
+use Rattle.answers.specs.Answers as Verdicts
 use Rattle.picoella.specs.Language.{leaves}
 use Rattle.records.specs.Trees.{type_at}
 use Rattle.records.proofs.Types.{some-leaves}

@@ -11,7 +11,7 @@ use Rattle.records.specs.Words.{word_a}
 use Rattle.records.specs.Trees.{type_at, Declared}
 use Rattle.records.proofs.Rewritten.{same-type}
 use Rattle.verdict.specs.Verdict.{verdict}
-use Rattle.answers.specs.declared.Verdict.TheVariants.{Accepted}
+use Rattle.answers.specs.Answers.{Accepted}
 use Rattle.meaning.specs.Values.{no_values, more_values}
 use Rattle.meaning.specs.RuleLaws.{Lawful}
 use Rattle.meaning.specs.Evaluation.{next}

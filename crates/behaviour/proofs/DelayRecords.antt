@@ -64,7 +64,7 @@ use Rattle.verdict.specs.Scopes.{
   if_else,
   of-delay,
 }
-use Rattle.answers.specs.declared.Verdict.TheVariants.{Accepted}
+use Rattle.answers.specs.Answers.{Accepted}
 use Rattle.accepted.proofs.Laws.{accepted-by-types}
 use Rattle.accepted.proofs.Scopes.{scope-checked}
 use Rattle.meaning.specs.Elaboration.{Term}

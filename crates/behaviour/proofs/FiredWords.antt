@@ -41,7 +41,7 @@ use Rattle.records.proofs.Trees.{from-above, tree-of}
 use Rattle.structure.specs.Rules.{Passes}
 use Rattle.verdict.specs.Verdict.{verdict}
 use Rattle.verdict.specs.Scopes.{inputs}
-use Rattle.answers.specs.declared.Verdict.TheVariants.{Accepted}
+use Rattle.answers.specs.Answers.{Accepted}
 use Rattle.accepted.proofs.Laws.{written, accepted-by-types}
 use Rattle.accepted.proofs.Scopes.{scope-checked}
 use Rattle.meaning.specs.Undecided.{undecided_rule}

@@ -14,7 +14,7 @@ use Rattle.records.specs.Says.{well_said, namings}
 use Rattle.records.specs.Trees.{type_within, type_at, pair_of, chain_within, chain, alternatives_within, alternatives, tree_within, tree_at, circuit}
 use Rattle.structure.specs.Rules.{ancestry_within, ancestry, depth, nesting, wrong_length, wrong_header, wrong_record, wrong_naming, wrong_type, too_deep}
 use Rattle.verdict.specs.Verdict.{by_types, by_records, verdict}
-use Rattle.answers.specs.declared.Verdict.TheVariants.{Accepted}
+use Rattle.answers.specs.Answers.{Accepted}
 use Rattle.meaning.specs.Values.{below_none, below_leaf}
 use Rattle.meaning.specs.Undecided.{undecided_rule}
 use Rattle.meaning.specs.Evaluation.{eval, next}

@@ -9,7 +9,7 @@ use Rattle.picoella.specs.Language.{Ty, Expr}
 use Rattle.records.specs.Decoding.{decode}
 use Rattle.records.proofs.Decoding.{decodes}
 use Rattle.verdict.specs.Verdict.{verdict}
-use Rattle.answers.specs.declared.Verdict.TheVariants.{Accepted}
+use Rattle.answers.specs.Answers.{Accepted}
 use Rattle.meaning.specs.Elaboration.{erase}
 use Rattle.meaning.specs.Values.{AllOf, all_none, all_more}
 use Rattle.meaning.specs.Constants.{ConstantTree, AllConstantsOf, of_none, of_all_none, of_all_more, flatten}

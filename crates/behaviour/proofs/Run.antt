@@ -11,7 +11,7 @@ use Rattle.picoella.specs.Language.{OfType}
 use Rattle.records.specs.Words.{word_a}
 use Rattle.records.specs.Trees.{type_at}
 use Rattle.verdict.specs.Verdict.{verdict}
-use Rattle.answers.specs.declared.Verdict.TheVariants.{Accepted}
+use Rattle.answers.specs.Answers.{Accepted}
 use Rattle.meaning.specs.Values.{AllOf, all_none, all_more}
 use Rattle.meaning.specs.RuleLaws.{Lawful}
 use Rattle.meaning.specs.Undecided.{undecided_rule}

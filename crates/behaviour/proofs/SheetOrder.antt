@@ -18,7 +18,7 @@ use Rattle.picoella.specs.Language.{Ty, Within, within_none, within_leaf}
 use Rattle.records.specs.Words.{word_a}
 use Rattle.records.specs.Trees.{type_at, Declared, circuit, delay_leaves}
 use Rattle.verdict.specs.Verdict.{verdict}
-use Rattle.answers.specs.declared.Verdict.TheVariants.{Accepted}
+use Rattle.answers.specs.Answers.{Accepted}
 use Rattle.meaning.specs.Values.{LeafBelow, Both, both_none, both_leaf}
 use Rattle.meaning.specs.Elaboration.{
   Term,

@@ -12,7 +12,7 @@ use Rattle.records.specs.Words.{word_a}
 use Rattle.records.specs.Trees.{type_at, Declared}
 use Rattle.records.proofs.Rewritten.{same-type}
 use Rattle.verdict.specs.Verdict.{verdict}
-use Rattle.answers.specs.declared.Verdict.TheVariants.{Accepted}
+use Rattle.answers.specs.Answers.{Accepted}
 use Rattle.meaning.specs.Values.{◌⊑◌, below_none, below_leaf, both_no_values, AllOf, all_none, all_more}
 use Rattle.meaning.specs.Undecided.{undecided_rule}
 use Rattle.meaning.specs.RuleLaws.{Lawful}

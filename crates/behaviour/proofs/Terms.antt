@@ -41,7 +41,7 @@ use Rattle.accepted.proofs.Laws.{written}
 use Rattle.typing.specs.Judging.{Context}
 use Rattle.verdict.specs.Verdict.{verdict}
 use Rattle.verdict.specs.Scopes.{inputs}
-use Rattle.answers.specs.declared.Verdict.TheVariants.{Accepted}
+use Rattle.answers.specs.Answers.{Accepted}
 use Rattle.accepted.proofs.Laws.{RulesHold}
 use Rattle.accepted.proofs.Laws.{type-of-record}
 use Rattle.accepted.proofs.Laws.{fits-typed}

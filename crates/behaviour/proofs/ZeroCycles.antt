@@ -13,9 +13,9 @@ use lib.ListN.{length}
 use Rattle.picoella.specs.Language.{leaves}
 use Rattle.records.specs.Trees.{type_at}
 use Rattle.answers.specs.Answers.{first_applying}
-use Rattle.answers.specs.declared.Answer.TheVariants.{Done, Refused}
+use Rattle.answers.specs.Answers.{Done, Refused}
 use Rattle.verdict.specs.Verdict.{verdict}
-use Rattle.answers.specs.declared.Verdict.TheVariants.{Accepted}
+use Rattle.answers.specs.Answers.{Accepted}
 use Rattle.stimulus.specs.Stimulus.{input_leaves, cycle_count, pieces, cycles, wrong_stimulus, stimulus_checks}
 use Rattle.behaviour.specs.Run.{output_needed, answer, final_out, final_next}
 use Rattle.behaviour.specs.Afterwards.{WellFormed}

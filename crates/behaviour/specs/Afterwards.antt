@@ -11,7 +11,7 @@ use Rattle.records.specs.Decoding.{expression_of, is_all_there, when_there}
 use Rattle.answers.specs.Answers.{in_one, lowest}
 use Rattle.verdict.specs.Verdict.{verdict}
 use Rattle.verdict.specs.Scopes.{Scope}
-use Rattle.answers.specs.declared.Verdict.TheVariants.{Accepted}
+use Rattle.answers.specs.Answers.{Accepted}
 use Rattle.meaning.specs.Values.{undefined, ◌⊑◌, ValuesOf}
 use Rattle.meaning.specs.Elaboration.{Term, erase}
 use Rattle.meaning.specs.Constants.{ConstantTree, ConstantOf, ConstantsOf, flatten, bottom_of_type}

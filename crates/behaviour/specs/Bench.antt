@@ -8,7 +8,7 @@ use Rattle.records.specs.Trees.{type_at, alternatives, tree_at}
 use Rattle.records.specs.Decoding.{pattern_of}
 use Rattle.verdict.specs.Verdict.{verdict}
 use Rattle.verdict.specs.Scopes.{inputs}
-use Rattle.answers.specs.declared.Verdict.TheVariants.{Accepted}
+use Rattle.answers.specs.Answers.{Accepted}
 use Rattle.meaning.specs.Matching.{matches}
 use Rattle.meaning.specs.Decisions.{Decision, Yes, Undecided}
 use Rattle.meaning.specs.Undecided.{undecided_rule}

@@ -4,7 +4,7 @@
 use Rattle.std.specs.Prelude.{ℕ, ◌≡◌, List, [], ◌∷◌, replicate}
 use Rattle.records.specs.Words.{count}
 use Rattle.verdict.specs.Verdict.{verdict}
-use Rattle.answers.specs.declared.Verdict.TheVariants.{Accepted}
+use Rattle.answers.specs.Answers.{Accepted}
 use Rattle.behaviour.specs.Entries.{Entry, put_all, enter}
 use Rattle.behaviour.specs.Bench.{bytes, gate_and, either_bit, equal_bits, not_fed_back, toggle, agreeing}
 use Rattle.behaviour.specs.Firing.{fired}

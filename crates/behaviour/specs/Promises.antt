@@ -6,10 +6,10 @@ use Rattle.picoella.specs.Language.{Expr}
 use Rattle.records.specs.Trees.{type_at, Declared, tree_at, type_record_of}
 use Rattle.records.specs.Decoding.{decode, expression_of}
 use Rattle.answers.specs.StandardLaws.{lent_slice, StandardLaws}
-use Rattle.answers.specs.declared.Answer.TheVariants.{Done, Refused}
+use Rattle.answers.specs.Answers.{Done, Refused}
 use Rattle.verdict.specs.Verdict.{verdict}
 use Rattle.verdict.specs.Scopes.{Scope}
-use Rattle.answers.specs.declared.Verdict.TheVariants.{Accepted}
+use Rattle.answers.specs.Answers.{Accepted}
 use Rattle.meaning.specs.Elaboration.{Term, Elaborated, erase}
 use Rattle.meaning.specs.Values.{◌⊑◌, AllOf}
 use Rattle.meaning.specs.Constants.{ConstantTree, AllConstantsOf, flatten}

@@ -7,8 +7,8 @@ use Rattle.std.specs.Prelude.{ℕ, ◌*◌, ◌≡◌, not, List, [], ◌∷◌,
 use Rattle.picoella.specs.Language.{leaves, Expr}
 use Rattle.records.specs.Trees.{type_at}
 use Rattle.answers.specs.Answers.{packed, when_done, on_done, Check, check, when, first_applying, verdict_answer}
-use Rattle.answers.specs.declared.Answer.{Answer}
-use Rattle.answers.specs.declared.Answer.TheVariants.{Done}
+use Rattle.answers.specs.Answers.{Answer}
+use Rattle.answers.specs.Answers.{Done}
 use Rattle.verdict.specs.Verdict.{sheet_checks, output_type, verdict}
 use Rattle.meaning.specs.Undecided.{undecided_rule, undecided_constant}
 use Rattle.behaviour.specs.Cycle.{output_by, after_by}

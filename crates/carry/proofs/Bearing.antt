@@ -18,22 +18,24 @@ use Rattle.records.specs.Kinds.{expression, delay, is_delay}
 use Rattle.records.specs.Says.{kind_at}
 use Rattle.records.proofs.Tests.{both_left, both_right}
 use Rattle.records.proofs.Table.{is-delay}
-use Rattle.records.proofs.CodeTable.{delay-number}
 use Rattle.records.proofs.Asked.{past-header}
 use Rattle.answers.specs.Answers.{lowest, or_here, is_some}
-use Rattle.answers.specs.declared.Found.TheVariants.{At, Nothing}
+use Rattle.std.specs.Prelude.{Some, None}
+use Rattle.records.specs.declared.kinds.Kind.{Kind}
+use Rattle.records.specs.declared.kinds.Kind.TheVariants as Coded
+use Rattle.records.specs.Kinded.{kind_meant}
+use Rattle.records.proofs.Kinded.{not-delay}
 use Rattle.answers.proofs.Lowest.{lowest_none, lowest-is}
 use Rattle.carry.specs.Labels.{label, bears, label_twice}
 use Rattle.carry.specs.Bearers.{entry_bearer, Bearers, Labelling, Labelled, AllLabelled}
 
 -- a record that is no delay has no label
-pub label-none : (s : List ℕ) (r k : ℕ) → k ≡ word s r 0 → (k ≡ 40 → ⊥) → 0 ≡ label s r
-label-none s r k e f =
-    rw (delay-number (word s r 0), ne_eqb (word s r 0) 40 (λ z. f (e ∙ z))) refl
+pub label-none : (s : List ℕ) (r : ℕ) (k : Kind) → kind_meant k ≡ kind_at s r → (k ≡ Coded.Delay → ⊥) → 0 ≡ label s r
+label-none s r k e f = rw (← e, not-delay k f) refl
 
 -- a delay's is its word d
-pub label_is : (s : List ℕ) (r k : ℕ) → k ≡ word s r 0 → k ≡ 40 → (l : ℕ) → l ≡ word s r 5 → l ≡ label s r
-label_is s r k e z l el = rw (delay-number (word s r 0), eq-eqb (word s r 0) 40 (sym e ∙ z)) el
+pub label_is : (s : List ℕ) (r : ℕ) → kind_at s r ≡ expression delay → (l : ℕ) → l ≡ word s r 5 → l ≡ label s r
+label_is s r e l el = rw e el
 
 -- a record with a label is a delay
 pub labelled-delay : (s : List ℕ) (r : ℕ) → 0 < label s r → kind_at s r ≡ expression delay
@@ -156,7 +158,7 @@ module _ {s : List ℕ} {n rec : ℕ} {table : List ℕ} (g : Labelling s n rec 
 
 -- all records up to one whose label a lower one bears
 pub found-twice : {s : List ℕ} {n rec : ℕ} {twice : Bool} {table : List ℕ} → rec < n → ((q : ℕ) → q < rec → label_twice s q ≡ false)
-    → Labelled s rec twice table → twice ≡ true → AllLabelled s n (At rec) table
+    → Labelled s rec twice table → twice ≡ true → AllLabelled s n (Some rec) table
 found-twice {s} {n} {rec} h below g e =
     record {
       answered = sym (lowest-is (label_twice s) n rec h (sym g.answered ∙ e) below);
@@ -165,7 +167,7 @@ found-twice {s} {n} {rec} h below g e =
 
 -- or all of them
 pub none-twice : {s : List ℕ} {n rec : ℕ} {table : List ℕ} → rec ≤ n → n ≤ rec → ((q : ℕ) → q < rec → label_twice s q ≡ false)
-    → Bearers s rec table → AllLabelled s n Nothing table
+    → Bearers s rec table → AllLabelled s n None table
 none-twice {s} {n} {rec} {table} h f below b =
     let e : rec ≡ n = omega arith in
     record {

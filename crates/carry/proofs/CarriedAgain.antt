@@ -38,13 +38,13 @@ use Rattle.records.proofs.Trees.{from-above, tree-of}
 use Rattle.records.proofs.Leaves.{chain-leaves}
 use Rattle.records.proofs.Rewritten.{same-type}
 use Rattle.verdict.specs.Verdict.{verdict}
-use Rattle.answers.specs.declared.Verdict.TheVariants.{Accepted}
+use Rattle.answers.specs.Answers.{Accepted}
 use Rattle.accepted.proofs.Small.{accepted-passes}
 use Rattle.accepted.proofs.AcceptedAgain.{ValuesFit, accepted-again}
 use Rattle.accepted.proofs.Scopes.{scope-checked, constant-fits}
-use Rattle.behaviour.specs.Entries.{Entry, assigned, put_word}
+use Rattle.behaviour.specs.Entries.{Entry, assigned}
 use Rattle.behaviour.proofs.Entries.{places_of, put-elsewhere}
-use Rattle.behaviour.proofs.Cells.{InSheet, sheet-cells}
+use Rattle.behaviour.proofs.Cells.{sheet-cells}
 use Rattle.behaviour.proofs.Members.{member-or-not}
 use Rattle.behaviour.proofs.Scoped.{every-expression}
 use Rattle.behaviour.proofs.Sheets.{entry-at, leaf-small}

@@ -24,7 +24,7 @@ use Rattle.records.proofs.Leaves.{circuit-leaves}
 use Rattle.answers.specs.Answers.{lowest, is_some}
 use Rattle.answers.proofs.Lowest.{lowest-is, lowest-none-fails}
 use Rattle.verdict.specs.Verdict.{verdict}
-use Rattle.answers.specs.declared.Verdict.TheVariants.{Accepted}
+use Rattle.answers.specs.Answers.{Accepted}
 use Rattle.behaviour.specs.Afterwards.{OnlyDelays}
 use Rattle.behaviour.proofs.Cells.{word-a}
 use Rattle.behaviour.proofs.Members.{member-or-not}

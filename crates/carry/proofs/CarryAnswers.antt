@@ -12,11 +12,11 @@ use lib.Dec.{eqb}
 use Rattle.records.specs.Words.{count}
 use Rattle.answers.specs.Answers.{lowest, code, NoneApplies, verdict_answer}
 use Rattle.answers.specs.GivenSlices.{SmallPlaces, no_slice, one_slice}
-use Rattle.answers.specs.declared.Answer.{Answer}
-use Rattle.answers.specs.declared.Answer.TheVariants.{Done, Refused}
+use Rattle.answers.specs.Answers.{Answer}
+use Rattle.answers.specs.Answers.{Done, Refused}
 use Rattle.answers.proofs.Lowest.{lowest-some-passes}
 use Rattle.verdict.specs.Verdict.{sheet_checks, output_type, verdict}
-use Rattle.answers.specs.declared.Verdict.TheVariants.{Accepted}
+use Rattle.answers.specs.Answers.{Accepted}
 use Rattle.answers.proofs.VerdictCodes.{code-small}
 use Rattle.accepted.proofs.Laws.{first-accepted}
 use Rattle.accepted.proofs.Calls.{none-of-call, call-laws}

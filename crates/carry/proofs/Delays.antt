@@ -13,9 +13,8 @@ use Rattle.records.specs.Written.{Written, WellNamed}
 use Rattle.records.proofs.Table.{ask_of_kind}
 use Rattle.records.proofs.Asked.{part-of-kind, past-header}
 use Rattle.records.proofs.TypeRecords.{type-word}
-use Rattle.structure.specs.Rules.{Passes}
 use Rattle.verdict.specs.Verdict.{verdict}
-use Rattle.answers.specs.declared.Verdict.TheVariants.{Accepted}
+use Rattle.answers.specs.Answers.{Accepted}
 use Rattle.accepted.proofs.Laws.{written, well-named}
 use Rattle.accepted.proofs.Small.{accepted-passes}
 use Rattle.accepted.proofs.Scopes.{scope-checked, delay-fits, as-many-leaves}

@@ -9,9 +9,8 @@ use mathlib.Core.Path.{◌≡◌, refl, sym, ap, subst, ◌∙◌}
 use native.Mathlib.Omega.{arith}
 use native.Mathlib.Decide.{ℕ_discrete}
 use lib.ListN.{length, get_or, length-map}
-use Rattle.picoella.specs.Language.{leaves}
 use Rattle.records.specs.Words.{count, word_a, word_b}
-use Rattle.records.specs.Kinds.{Kind, expression, delay, leaf, leafs, part}
+use Rattle.records.specs.Kinds.{Kind, expression, delay, leafs, part}
 use Rattle.records.specs.Says.{kind_at}
 use Rattle.records.specs.Trees.{chain, circuit, delay_leaves}
 use Rattle.records.specs.Written.{Distinct, Written, WellNamed}
@@ -23,7 +22,7 @@ use Rattle.records.proofs.Distinct.{chain-only}
 use Rattle.records.proofs.Rewritten.{same-chain}
 use Rattle.answers.specs.Answers.{when}
 use Rattle.verdict.specs.Verdict.{verdict}
-use Rattle.answers.specs.declared.Verdict.TheVariants.{Accepted}
+use Rattle.answers.specs.Answers.{Accepted}
 use Rattle.behaviour.specs.Entries.{Entry, put_all, put_word}
 use Rattle.behaviour.specs.Afterwards.{OnlyDelays}
 use Rattle.behaviour.proofs.Entries.{places_of, place-of-member, put-append, put-leaves, put-elsewhere, put-read}

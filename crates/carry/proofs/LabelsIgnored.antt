@@ -39,8 +39,8 @@ use Rattle.records.specs.OnlyLabels.{OnlyLabels}
 use Rattle.records.proofs.Rewritten.{same-type, same-circuit}
 use Rattle.records.proofs.Labels.{labels-words, labels-rewritten}
 use Rattle.answers.specs.Answers.{lowest, when_done, on_done, check, when, first_applying, verdict_answer}
-use Rattle.answers.specs.declared.Answer.{Answer}
-use Rattle.answers.specs.declared.Answer.TheVariants.{Done, Refused}
+use Rattle.answers.specs.Answers.{Answer}
+use Rattle.answers.specs.Answers.{Done, Refused}
 use Rattle.verdict.specs.Scopes.{inputs}
 use Rattle.accepted.proofs.LabelsAgain.{leaf-values-same, type-record-same, verdict-same}
 use Rattle.meaning.specs.Undecided.{undecided_rule}

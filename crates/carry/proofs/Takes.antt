@@ -2,13 +2,12 @@
 -- delay that bears it, and the rest is by the shapes of the two types. And all records, one after the other.
 -- Assumes nothing.
 use Prim.Native.Nat.{ℕ, zero, suc, ◌+◌, ◌≤◌, ◌<◌}
-use mathlib.Core.Bool.{Bool, true, false, not}
+use mathlib.Core.Bool.{Bool, true, false}
 use mathlib.Core.List.{List}
 use mathlib.Core.Option.{none, some}
 use mathlib.Core.Path.{◌≡◌, refl, sym, ap, ◌∙◌}
 use native.Mathlib.Omega.{arith}
 use native.Mathlib.Numerals.{add-one}
-use borrow.Author.Tests.{not-true, not-false}
 use lib.ListN.{length, get_or}
 use Rattle.picoella.specs.Language.{leaves}
 use Rattle.records.specs.Words.{count, word, word_b}
@@ -17,6 +16,8 @@ use Rattle.records.specs.Says.{kind_at}
 use Rattle.records.specs.Trees.{type_at, chain}
 use Rattle.records.specs.Decoding.{leaf_values}
 use Rattle.records.proofs.Types.{leaves-of-bounds}
+use Rattle.std.specs.Prelude as Std
+use Rattle.answers.specs.Searches.{found}
 use Rattle.answers.specs.Answers.{when}
 use Rattle.answers.proofs.Lowest.{lowest-some-passes}
 use Rattle.behaviour.specs.Entries.{assigned, put_all, put_word}
@@ -45,10 +46,6 @@ pub shape-leaves : (old new : List ℕ) (q r : ℕ) → same_shape (delay_type o
 shape-leaves old new q r e =
     leaves-of-bounds (delay_type old q) ∙ ap length (shape-bounds (delay_type old q) (delay_type new r) e) ∙ sym (leaves-of-bounds (delay_type new r))
 
-entry-bearer : (x : ℕ) → (x ≡ 0 → ⊥) → entry_bearer x ≡ some x
-entry-bearer zero f = absurd (f refl)
-entry-bearer (suc x) f = refl
-
 module _ {old : List ℕ} {n : ℕ} {new : List ℕ} {m : ℕ} {table next : List ℕ} (g : Carrying old n new m table next)
     {rec : ℕ} (h : rec < m) {l : ℕ} (el : l ≡ label new rec) (small : l < 65536) where
   by-table : entry_bearer (get_or table l 0) ≡ bearer old (label new rec)
@@ -71,52 +68,52 @@ module _ {old : List ℕ} {n : ℕ} {new : List ℕ} {m : ℕ} {table next : Lis
           omega arith
 
   -- no delay of the old sheet bears the label
-  pub none-takes : get_or table l 0 ≡ 0 → next ≡ put_all put_word (taken_from old new rec (giver old new rec)) next
+  pub none-takes : {o : Std.Option ℕ} → found o ≡ entry_bearer (get_or table l 0) → o ≡ Std.None → next ≡ put_all put_word (taken_from old new rec (giver old new rec)) next
   unfolding giver
-  none-takes z = let b : bearer old (label new rec) ≡ none = sym by-table ∙ rw z refl in rw b refl
+  none-takes {o} s z = let b : bearer old (label new rec) ≡ none = sym by-table ∙ sym s ∙ ap found z in rw b refl
 
-  module _ (f : get_or table l 0 ≡ 0 → ⊥) where
-    found : bearer old (label new rec) ≡ some (get_or table l 0)
-    found = sym by-table ∙ entry-bearer (get_or table l 0) f
+  module _ {q : ℕ} {o : Std.Option ℕ} (s : found o ≡ entry_bearer (get_or table l 0)) (z : o ≡ Std.Some q) where
+    bearer-is : bearer old (label new rec) ≡ some q
+    bearer-is = sym by-table ∙ sym s ∙ ap found z
 
-    pub bearer-in : get_or table l 0 < n
+    pub bearer-in : q < n
     bearer-in =
-        let d = bearer-delay old (label new rec) (get_or table l 0) found in let c = g.before.sized.counted in let i = d.0 in omega arith
+        let d = bearer-delay old (label new rec) q bearer-is in let c = g.before.sized.counted in let i = d.0 in omega arith
 
-    giving-kind : kind_at old (get_or table l 0) ≡ expression delay
-    giving-kind = (bearer-delay old (label new rec) (get_or table l 0) found).3
+    giving-kind : kind_at old q ≡ expression delay
+    giving-kind = (bearer-delay old (label new rec) q bearer-is).3
 
     taking-kind : kind_at new rec ≡ expression delay
-    taking-kind = labelled-delay new rec (bearer-delay old (label new rec) (get_or table l 0) found).1
+    taking-kind = labelled-delay new rec (bearer-delay old (label new rec) q bearer-is).1
 
-    module _ {t u : ℕ} (et : t ≡ word old (get_or table l 0) 2) (eu : u ≡ word new rec 2) where
+    module _ {t u : ℕ} (et : t ≡ word old q 2) (eu : u ≡ word new rec 2) where
       pub comparing : Comparing old n t new m u
       comparing =
           record {
-            before = delay-type g.before (get_or table l 0) bearer-in giving-kind t et;
+            before = delay-type g.before q bearer-in giving-kind t et;
             after = delay-type g.after rec h taking-kind u eu;
           }
 
       module _ {x : Bool} (ex : x ≡ same_shape (type_at old t) (type_at new u)) where
-        shape_is : same_shape (delay_type old (get_or table l 0)) (delay_type new rec) ≡ x
+        shape_is : same_shape (delay_type old q) (delay_type new rec) ≡ x
         shape_is = sym (ex ∙ rw (et, eu) refl)
 
-        giver-is : giver old new rec ≡ when x (get_or table l 0)
+        giver-is : giver old new rec ≡ when x q
         unfolding giver
-        giver-is = rw (found, shape_is) refl
+        giver-is = rw (bearer-is, shape_is) refl
 
-        pub other-shape : not x ≡ true → next ≡ put_all put_word (taken_from old new rec (giver old new rec)) next
-        other-shape z = rw (giver-is, not-true x z) refl
+        pub other-shape : x ≡ false → next ≡ put_all put_word (taken_from old new rec (giver old new rec)) next
+        other-shape z = rw (giver-is, z) refl
 
-        module _ (nz : not x ≡ false) {b d : ℕ} (eb : b ≡ word old (get_or table l 0) 3) (ed : d ≡ word new rec 3) where
+        module _ (nz : x ≡ true) {b d : ℕ} (eb : b ≡ word old q 3) (ed : d ≡ word new rec 3) where
           pub taking : Taking old n b new m d next
           taking =
-              let many : length (chain old (word_b old (get_or table l 0))) ≡ length (chain new (word_b new rec)) =
-              delay-many old g.before.accepted (get_or table l 0) (delay-in g.before (get_or table l 0) bearer-in giving-kind) giving-kind
-              ∙ shape-leaves old new (get_or table l 0) rec (shape_is ∙ not-false x nz)
+              let many : length (chain old (word_b old q)) ≡ length (chain new (word_b new rec)) =
+              delay-many old g.before.accepted q (delay-in g.before q bearer-in giving-kind) giving-kind
+              ∙ shape-leaves old new q rec (shape_is ∙ nz)
               ∙ sym (delay-many new g.after.accepted rec (delay-in g.after rec h taking-kind) taking-kind) in
               record {
-                before = delay-leaves g.before (get_or table l 0) bearer-in giving-kind b eb;
+                before = delay-leaves g.before q bearer-in giving-kind b eb;
                 after = delay-leaves g.after rec h taking-kind d ed;
                 many = rw (eb, ed) many;
                 long = g.long;
@@ -124,7 +121,7 @@ module _ {old : List ℕ} {n : ℕ} {new : List ℕ} {m : ℕ} {table next : Lis
 
           pub takes-from-giver : (next' : List ℕ) → next' ≡ put_all put_word (assigned (chain new d) (leaf_values old (chain old b))) next
               → next' ≡ put_all put_word (taken_from old new rec (giver old new rec)) next
-          takes-from-giver next' e = e ∙ rw (giver-is, not-false x nz, eb, ed) refl
+          takes-from-giver next' e = e ∙ rw (giver-is, nz, eb, ed) refl
 
 -- the records below rec have taken what they take
 pub record RecordsTaken (old new before : List ℕ) (m rec : ℕ) (now : List ℕ) : Type 0 where

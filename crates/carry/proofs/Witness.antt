@@ -1,11 +1,10 @@
 -- What the functions of carrying ask of their callers can be had: at the sheet T with a label, running and as it began, there is an
 -- instance of each record that a `requires` names. The table of an accepted sheet's labels is made record by record.
 -- Assumes nothing.
-use Prim.Native.Nat.{ℕ, zero, suc, ◌+◌, ◌≤◌, ◌<◌}
+use Prim.Native.Nat.{ℕ, zero, suc, ◌≤◌, ◌<◌}
 use mathlib.Core.Bool.{false, not}
 use mathlib.Core.List.{List}
-use mathlib.Core.Option.{none}
-use mathlib.Core.Path.{◌≡◌, refl, sym, subst, ◌∙◌}
+use mathlib.Core.Path.{◌≡◌, refl, subst}
 use native.Mathlib.Omega.{arith}
 use native.Mathlib.Decide.{ℕ_discrete}
 use native.Mathlib.Numerals.{add-one}
@@ -19,10 +18,9 @@ use Rattle.records.specs.Trees.{type_within, type_at, pair_of, chain_within, cha
 use Rattle.records.specs.Sized.{Sized}
 use Rattle.records.specs.Written.{Written}
 use Rattle.structure.specs.Rules.{ancestry_within, ancestry, depth, nesting, wrong_length, wrong_header, wrong_record, wrong_naming, wrong_type, too_deep}
-use Rattle.answers.specs.Answers.{lowest}
 use Rattle.answers.proofs.Lowest.{lowest-none-fails}
 use Rattle.verdict.specs.Verdict.{by_types, by_records, verdict}
-use Rattle.answers.specs.declared.Verdict.TheVariants.{Accepted}
+use Rattle.answers.specs.Answers.{Accepted}
 use Rattle.accepted.proofs.Small.{accepted-sized}
 use Rattle.carry.specs.Labels.{label, label_twice}
 use Rattle.carry.specs.Bearers.{Bearers, Labelling, Labelled}

@@ -1,13 +1,13 @@
 -- A table of the delays below a record by their labels, one number a label: the lowest delay that bears it, 0 for none. What the
 -- functions that fill it are called with, and what they give.
 use Rattle.std.specs.Prelude.{ℕ, zero, suc, ◌+◌, ◌<◌, ◌≡◌, Bool, false, List, length, get_or}
+use Rattle.std.specs.Prelude as Std
 use Rattle.std.proofs.Math.Option.{Option, none, some}
 use Rattle.records.specs.Limits.{word_bound}
 use Rattle.records.specs.Sized.{Sized}
 use Rattle.records.specs.Written.{Written}
 use Rattle.answers.specs.Answers.{lowest}
 use Rattle.answers.specs.Searches.{found}
-use Rattle.answers.specs.declared.Found.{Found}
 use Rattle.carry.specs.Labels.{bears, label_twice}
 
 -- the record that an entry stands for
@@ -34,6 +34,6 @@ pub record Labelled (s : List ℕ) (rec : ℕ) (twice : Bool) (table : List ℕ)
   pub entered : twice ≡ false → Bearers s (rec + 1) table
 
 -- and all records, up to the first whose label stands twice
-pub record AllLabelled (s : List ℕ) (n : ℕ) (twice : Found) (table : List ℕ) : Type 0 where
+pub record AllLabelled (s : List ℕ) (n : ℕ) (twice : Std.Option ℕ) (table : List ℕ) : Type 0 where
   pub answered : found twice ≡ lowest (label_twice s) n
   pub entered : found twice ≡ none → Bearers s n table

@@ -5,8 +5,8 @@ use Rattle.std.specs.Prelude.{ℕ, ◌≡◌, not, List, [], ◌∷◌, ◌++◌
 use Rattle.std.proofs.Math.Option.{Option, none, some}
 use Rattle.records.specs.Words.{count}
 use Rattle.answers.specs.Answers.{lowest, packed, when_done, Check, check, when, first_applying, verdict_answer}
-use Rattle.answers.specs.declared.Answer.{Answer}
-use Rattle.answers.specs.declared.Answer.TheVariants.{Done, Refused}
+use Rattle.answers.specs.Answers.{Answer}
+use Rattle.answers.specs.Answers.{Done, Refused}
 use Rattle.verdict.specs.Verdict.{sheet_checks, verdict}
 use Rattle.carry.specs.Labels.{label_twice}
 use Rattle.carry.specs.Carried.{carried}

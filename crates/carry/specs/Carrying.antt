@@ -1,6 +1,7 @@
 -- What the functions are called with that carry from an accepted sheet to another: two types to compare, two delays' leaves, and all
 -- delays.
 use Rattle.std.specs.Prelude.{ℕ, ◌<◌, ◌≡◌, List, length}
+use Rattle.std.specs.Prelude as Std
 use Rattle.std.proofs.Math.Option.{none}
 use Rattle.records.specs.Kinds.{leafs}
 use Rattle.records.specs.Says.{sort_at}
@@ -8,10 +9,9 @@ use Rattle.records.specs.Sized.{Sized}
 use Rattle.records.specs.Written.{Written}
 use Rattle.records.specs.Trees.{TypeRecord, chain}
 use Rattle.verdict.specs.Verdict.{verdict}
-use Rattle.answers.specs.declared.Verdict.TheVariants.{Accepted}
+use Rattle.answers.specs.Answers.{Accepted}
 use Rattle.answers.specs.Answers.{lowest}
 use Rattle.answers.specs.Searches.{found}
-use Rattle.answers.specs.declared.Found.{Found}
 use Rattle.behaviour.specs.Entries.{put_all, put_word}
 use Rattle.carry.specs.Labels.{label_twice}
 use Rattle.carry.specs.Bearers.{Bearers}
@@ -57,6 +57,6 @@ pub record Carrying (old : List ℕ) (n : ℕ) (new : List ℕ) (m : ℕ) (table
 
 -- the lowest delay of the old sheet whose label a lower one bears; where there is none and the
 -- slice is as long as the new sheet, the delays there take those of the old one
-pub record ValuesCarried (old : List ℕ) (n : ℕ) (new : List ℕ) (m : ℕ) (before : List ℕ) (twice : Found) (after : List ℕ) : Type 0 where
+pub record ValuesCarried (old : List ℕ) (n : ℕ) (new : List ℕ) (m : ℕ) (before : List ℕ) (twice : Std.Option ℕ) (after : List ℕ) : Type 0 where
   pub answered : found twice ≡ lowest (label_twice old) n
   pub taken : found twice ≡ none → length before ≡ length new → after ≡ put_all put_word (taken_below old new m) before

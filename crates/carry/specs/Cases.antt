@@ -2,7 +2,7 @@
 -- record: kind, next, a, b, c, d.
 use Rattle.std.specs.Prelude.{ℕ, ◌≡◌, List, [], ◌∷◌, length, replicate}
 use Rattle.records.specs.SheetOf.{words, sheet_of}
-use Rattle.answers.specs.declared.Answer.TheVariants.{Done, Refused}
+use Rattle.answers.specs.Answers.{Done, Refused}
 use Rattle.carry.specs.Carry.{carry_answer, final_carried}
 
 -- a delay of a flat type of so many constructors, with this label and value

@@ -9,3 +9,4 @@ pub mod Cases
 -- What functions ask and give, and their proofs need:
 pub mod Bearers
 pub mod Carrying
+pub mod CarryAnswered

@@ -8,9 +8,9 @@ use Rattle.records.specs.Says.{kind_at}
 use Rattle.records.specs.OnlyLabels.{OnlyLabels}
 use Rattle.answers.specs.Answers.{lowest, in_one}
 use Rattle.answers.specs.StandardLaws.{lent_slice, StandardLaws}
-use Rattle.answers.specs.declared.Answer.TheVariants.{Done}
+use Rattle.answers.specs.Answers.{Done}
 use Rattle.verdict.specs.Verdict.{verdict}
-use Rattle.answers.specs.declared.Verdict.TheVariants.{Accepted}
+use Rattle.answers.specs.Answers.{Accepted}
 use Rattle.meaning.specs.Values.{AllOf}
 use Rattle.meaning.specs.RuleLaws.{Lawful}
 use Rattle.stimulus.specs.Stimulus.{input_type}

@@ -4,5 +4,5 @@ pub mod Loops
 pub mod Lines
 pub mod Pairs
 pub mod Listed
-pub mod Witness
+pub mod Requirements
 pub mod Kept

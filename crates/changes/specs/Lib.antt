@@ -3,5 +3,5 @@
 pub mod Changes
 pub mod ReportLines
 pub mod Promises
--- What functions ask and give, and their proofs need:
-pub mod Counting
+-- What a function gives, and the proofs need:
+pub mod Places

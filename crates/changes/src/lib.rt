@@ -1,108 +1,94 @@
 // The changes in the outputs of a run: counted for a leaf, and over all pairs of cycle and leaf; and the report's lines.
 #![tactic(auto)]
 
-ghost use Rattle.std.specs.Prelude.{◌≡◌, suc, ◌+◌, ◌*◌, ◌≤◌, ◌<◌, length, not, eqb};
-ghost use Rattle.listing.specs.Wrote.{TextPut, line_bytes};
-ghost use Rattle.changes.specs.Changes.{one_where, changes_of, changes_in, total_changes};
+ghost use Rattle.std.specs.Prelude.{◌≡◌, ◌+◌, ◌*◌, ◌/◌, ◌≤◌, ◌<◌, length};
+ghost use Rattle.listing.specs.Wrote.{line_bytes};
+ghost use Rattle.listing.specs.Texts.{HasRoom, Added};
+ghost use Rattle.changes.specs.Changes.{changes_of, changes_in, total_changes};
+ghost use Rattle.changes.specs.Places.{change_here};
 ghost use Rattle.changes.specs.ReportLines.{leaf_line, leaf_lines, total_line, report};
-ghost use Rattle.changes.specs.Counting.{CountingCycle, Reporting};
 
-use listing::{put_numbers_line, put_word_line};
+use listing::{Outputs, Text};
 
-// 1 where two leaves differ, else 0.
-fn one_where_differ(a: u8, b: u8) -> usize
-    ensures { result ≡ one_where (not (eqb a b)) }
+// 1 where the leaf at a place differs from the one in the cycle before, else 0.
+fn changed(outputs: Outputs<'_>, at: usize) -> usize
+    requires later { outputs.width ≤ at }
+    requires inside { at < length outputs.leaves.now }
+    ensures { result ≡ change_here outputs.entry.width outputs.entry.leaves.now at }
 {
-    if a != b {
-        return 1;
-    }
-    0
+    usize::from(outputs.leaves[at - outputs.width] != outputs.leaves[at])
 }
 
 // In how many cycles a leaf changes.
-fn changes_of(outputs: &[u8], w: usize, leaf: usize) -> usize
-    requires { leaf < w }
-    ensures { result ≡ changes_of w outputs.now leaf }
+fn changes_of(outputs: Outputs<'_>, leaf: usize) -> usize
+    requires { leaf < outputs.width }
+    ensures { result ≡ changes_of outputs.entry.width outputs.entry.leaves.now leaf }
 {
-    let cycles = outputs.len() / w;
     let mut changes = 0;
-    let mut at = leaf;
-    let mut k = 0;
-    while k + 1 < cycles {
-        changes += one_where_differ(outputs[at], outputs[at + w]);
-        at += w;
-        k += 1;
+    for k in 1..outputs.cycles() {
+        changes += changed(outputs, k * outputs.width + leaf);
     }
     changes
 }
 
-// In how many leaves the cycle after cycle k, which begins at `at`, differs from it.
-fn changes_in(outputs: &[u8], w: usize, k: usize, at: usize) -> usize
-    requires { CountingCycle w outputs.now k at }
-    ensures { (result ≡ length (changes_in w outputs.now (suc k) w)) × (result ≤ w) }
+// In how many leaves cycle k differs from the one before.
+fn changes_in(outputs: Outputs<'_>, k: usize) -> usize
+    requires first { 0 < k }
+    requires inside { k < length outputs.leaves.now / outputs.width }
+    ensures changes { result ≡ length (changes_in outputs.entry.width outputs.entry.leaves.now k outputs.entry.width) }
+    ensures few { result ≤ outputs.entry.width }
 {
+    let start = k * outputs.width;
     let mut changes = 0;
-    let mut leaf = 0;
-    while leaf < w {
-        changes += one_where_differ(outputs[at + leaf], outputs[at + w + leaf]);
-        leaf += 1;
+    for at in start..start + outputs.width {
+        changes += changed(outputs, at);
     }
     changes
 }
 
 // The pairs of cycle and leaf at which a change stands, counted through the outputs.
-fn all_changes(outputs: &[u8], w: usize) -> usize
-    requires { 0 < w }
-    ensures { result ≡ total_changes w outputs.now }
+fn all_changes(outputs: Outputs<'_>) -> usize
+    ensures { result ≡ total_changes outputs.entry.width outputs.entry.leaves.now }
 {
-    let cycles = outputs.len() / w;
     let mut changes = 0;
-    let mut at = 0;
-    let mut k = 0;
-    while k + 1 < cycles {
-        changes += changes_in(outputs, w, k, at);
-        at += w;
-        k += 1;
+    for k in 1..outputs.cycles() {
+        changes += changes_in(outputs, k);
     }
     changes
 }
 
 // The line of a leaf.
-fn put_changes(buffer: &mut [u8], at: usize, leaf: usize, changes: usize) -> usize
-    requires { at + line_bytes ≤ length buffer.old }
-    ensures { TextPut buffer.old at (leaf_line leaf changes) buffer.new result × (result ≤ at + line_bytes) }
+fn put_changes(text: &mut Text<'_>, leaf: usize, changes: usize)
+    requires { HasRoom text.old line_bytes }
+    ensures { Added text.old (leaf_line leaf changes) text.new }
 {
-    put_numbers_line(buffer, at, b"leaf ", leaf as u64, b": ", changes as u64)
+    text.put_numbers_line(b"leaf ", leaf as u64, b": ", changes as u64);
 }
 
 // The last line.
-fn put_total(buffer: &mut [u8], at: usize, changes: usize) -> usize
-    requires { at + line_bytes ≤ length buffer.old }
-    ensures { TextPut buffer.old at (total_line changes) buffer.new result }
+fn put_total(text: &mut Text<'_>, changes: usize)
+    requires { HasRoom text.old line_bytes }
+    ensures { Added text.old (total_line changes) text.new }
 {
-    put_word_line(buffer, at, b"total ", changes as u64)
+    text.put_word_line(b"total ", changes as u64);
 }
 
-// The lines of all leaves, from the buffer's front.
-fn put_leaf_lines(buffer: &mut [u8], w: usize, outputs: &[u8]) -> usize
-    requires { Reporting buffer.old w }
-    ensures { TextPut buffer.old 0 (leaf_lines w outputs.now w) buffer.new result × (result ≤ w * line_bytes) }
+// The lines of all leaves.
+fn put_leaf_lines(text: &mut Text<'_>, outputs: Outputs<'_>)
+    requires { HasRoom text.old (outputs.width * line_bytes) }
+    ensures lines { Added text.old (leaf_lines outputs.entry.width outputs.entry.leaves.now outputs.entry.width) text.new }
+    ensures short { length text.new.bytes ≤ length text.old.bytes + outputs.entry.width * line_bytes }
 {
-    let mut at = 0;
-    let mut leaf = 0;
-    while leaf < w {
-        let changes = changes_of(outputs, w, leaf);
-        at = put_changes(buffer, at, leaf, changes);
-        leaf += 1;
+    for leaf in 0..outputs.width {
+        put_changes(text, leaf, changes_of(outputs, leaf));
     }
-    at
 }
 
-// The report of outputs of w leaves each.
-pub fn put_report(buffer: &mut [u8], w: usize, outputs: &[u8]) -> usize
-    requires { Reporting buffer.old w }
-    ensures { TextPut buffer.old 0 (report w outputs.now) buffer.new result }
+// The report of outputs.
+pub fn put_report(text: &mut Text<'_>, outputs: Outputs<'_>)
+    requires { HasRoom text.old (outputs.width * line_bytes + line_bytes) }
+    ensures { Added text.old (report outputs.entry.width outputs.entry.leaves.now) text.new }
 {
-    let at = put_leaf_lines(buffer, w, outputs);
-    put_total(buffer, at, all_changes(outputs, w))
+    put_leaf_lines(text, outputs);
+    put_total(text, all_changes(outputs));
 }

@@ -9,8 +9,7 @@ use Rattle.records.specs.SheetOf.{Record, words}
 use Rattle.instructions.specs.Instruction.{Instruction, declare_type, count_constructor, first_type, second_type, input_has, use_name, use_constant, use_undefined, open_pair, open_let, open_rec, open_if, open_delay, take_first, take_second, close, close_if, begin_pattern, match_type, match_one, open_parts, next_part, close_parts, next_alternative, use_leaf, use_zeros, open_constant, close_constant, end_constant, constant_has}
 use Rattle.instructions.specs.Assembly.{DeclaredType, leaves_numbered}
 use Rattle.instructions.specs.Emission.{Slot, of_number, barrier, first_waits, second_waits, Emission, emission, top, pop, completed, zeros_written, emit, emit_all, written_of, cursor_of}
-use Rattle.emitting.proofs.AdvanceLaws.{completed-grows}
-use Rattle.emitting.proofs.PartLaws.{zeros-written-length}
+use Rattle.emitting.proofs.AdvanceLaws.{completed-grows, zeros-written-length}
 
 completed-lower : (R : List Record) (c : ℕ) (S : List Slot) → cursor_of (completed R c S) ≤ c
 completed-lower R c [] = omega arith

@@ -1,11 +1,9 @@
 -- The laws that the proofs of the functions cite.
-pub mod ByteLaws
-pub mod StackLaws
-pub mod ZeroLaws
+pub mod RecordLaws
+pub mod SlotLaws
 pub mod AdvanceLaws
-pub mod PartLaws
-pub mod StepLaws
-pub mod InstructionLaws
+pub mod ZeroLaws
 pub mod EmissionLaws
+pub mod StepLaws
 pub mod CodeLaws
 pub mod TypeLaws

@@ -1,71 +1,50 @@
--- The instructions one by one.
+-- An instruction by its op.
 -- Assumes nothing.
-use Prim.Native.Nat.{ℕ, suc, ◌-◌, ◌≤◌, ◌<◌}
-use mathlib.Core.Path.{◌≡◌, refl, ap, ap₂, sym, ◌∙◌}
-use mathlib.Core.List.{List, ◌∷◌}
+use Prim.Native.Nat.{ℕ, zero, suc, ◌-◌, ◌≤◌}
+use mathlib.Core.Path.{◌≡◌, ap, sym, subst}
+use mathlib.Core.List.{List, [], ◌∷◌}
 use native.Mathlib.Omega.{arith}
-use lib.ListN.{get_or}
-use Rattle.records.specs.SheetOf.{Record}
-use Rattle.instructions.specs.Assembly.{DeclaredType, leaves_numbered}
-use Rattle.instructions.specs.Emission.{Slot, emission, top, pop, zeros_written, zeros_next}
-use Rattle.emitting.specs.Tables.{held_stack, LeavesHeld}
-use Rattle.emitting.specs.Emitting.{RecordPut, ZerosPut, Stacking, Advanced}
-use Rattle.emitting.proofs.StackLaws.{pop-held}
-use Rattle.emitting.proofs.ByteLaws.{record-on}
-use Rattle.emitting.proofs.PartLaws.{zeros-written-length}
+use lib.ListN.{length}
+use Rattle.records.specs.SheetOf.{words}
+use Rattle.instructions.specs.Instruction.{instruction_of}
+use Rattle.instructions.specs.Said.{number_of, said}
+use Rattle.instructions.specs.declared.Op.{Op}
+use Rattle.instructions.specs.declared.Instruction.{Instruction as CodeInstruction}
+use Rattle.instructions.specs.Assembly.{DeclaredType}
+use Rattle.instructions.specs.Emission.{Slot, emission, emit, pop, zeros_written, zeros_next}
+use Rattle.emitting.specs.Slots.{popped}
+use Rattle.emitting.specs.Emitting.{InstructionWritten, ZerosPut, standing}
+use Rattle.emitting.specs.declared.writer.Writer.{Writer}
+use Rattle.emitting.proofs.AdvanceLaws.{the_same, zeros-alone}
 
--- the leaves of a type in the table
-module _ {leaves : List ℕ} {types declared d : ℕ} (same : d ≡ declared) {T : List DeclaredType} (held : LeavesHeld T leaves types) where
-  pub no-leaves-of-zero : d ≡ 0 → 0 ≡ leaves_numbered T declared
-  no-leaves-of-zero e = sym (ap (leaves_numbered T) (sym same ∙ e) ∙ held.none_of_zero)
+-- what is known of the op's number is known of the instruction
+pub step-by : (T : List DeclaredType) (w : Writer) {before after : List ℕ} {w' : Writer} (i : CodeInstruction) {o : Op} → i.op ≡ o
+    → InstructionWritten (λ R. emit T (standing w R) (instruction_of (number_of o) i.first i.second)) before after w w'
+    → InstructionWritten (λ R. emit T (standing w R) (said i)) before after w w'
+step-by T w {before} {after} {w'} i e h =
+    subst (λ (o : Op). InstructionWritten (λ R. emit T (standing w R) (instruction_of (number_of o) i.first i.second)) before after w w') (sym e) h
 
-  pub no-leaves-above : types < d → 0 ≡ leaves_numbered T declared
-  no-leaves-above h = sym (held.none_above declared (omega arith))
+-- the end of a part of a pattern, and where the other begins, stand on the stack
+pub parts-put : (w : Writer) {a a' b b' : ℕ} {before after : List ℕ} {w' : Writer} → a ≡ a' → b ≡ b'
+    → InstructionWritten (λ R. emission (words 50 a w.cursor b 0 0 ∷ R) (w.cursor - 1) (pop (pop w.stack)) 0) before after w w'
+    → InstructionWritten (λ R. emission (words 50 a' w.cursor b' 0 0 ∷ R) (w.cursor - 1) (pop (pop w.stack)) 0) before after w w'
+parts-put w {a} {a'} {b} {b'} e f h = (
+  λ R.
+      let same : emission (words 50 a w.cursor b 0 0 ∷ R) (w.cursor - 1) (pop (pop w.stack)) 0
+      ≡ emission (words 50 a' w.cursor b' 0 0 ∷ R) (w.cursor - 1) (pop (pop w.stack)) 0 = cc in
+      the_same same (h.0 R),
+  h.1,
+)
 
-  pub declared-leaves-there : ¬ (d ≡ 0) → d ≤ types → get_or leaves (d - 1) 0 ≡ leaves_numbered T declared
-  declared-leaves-there n h =
-      let e : suc (d - 1) ≡ declared = omega arith in
-      held.counted (d - 1) (omega arith) ∙ ap (leaves_numbered T) e
+-- undefined leaves
+pub zeros-step : (w : Writer) {k l : ℕ} {before after : List ℕ} {w' : Writer} → k ≡ l → ZerosPut k before after w.cursor w.next w'.cursor w'.next
+    → w'.stack ≡ w.stack → InstructionWritten (λ R. emission (zeros_written l R w.cursor w.next) (w.cursor - l) w.stack (zeros_next l w.cursor w.next)) before after w w'
+zeros-step w {k} {l} {before} {after} {w'} e put s =
+    let n = ap length s in
+    let put' = subst (λ (j : ℕ). ZerosPut j before after w.cursor w.next w'.cursor w'.next) e put in
+    (λ R. zeros-alone put' s, omega arith)
 
--- slots below the top
-module _ (kinds values : List ℕ) (h : ℕ) where
-  pub pop-two : pop (pop (held_stack kinds values h)) ≡ held_stack kinds values (h - 2)
-  pop-two =
-      let e : h - 1 - 1 ≡ h - 2 = omega arith in
-      ap pop (pop-held kinds values h) ∙ pop-held kinds values (h - 1) ∙ ap (held_stack kinds values) e
-
-  pub pop-three : pop (pop (pop (held_stack kinds values h))) ≡ held_stack kinds values (h - 3)
-  pop-three =
-      let e : h - 2 - 1 ≡ h - 3 = omega arith in
-      ap pop pop-two ∙ pop-held kinds values (h - 2) ∙ ap (held_stack kinds values) e
-
-  pub pop-five : pop (pop (pop (pop (pop (held_stack kinds values h))))) ≡ held_stack kinds values (h - 5)
-  pop-five =
-      let e : h - 3 - 1 ≡ h - 4 = omega arith in
-      let f : h - 4 - 1 ≡ h - 5 = omega arith in
-      ap (λ (S : List Slot). pop (pop S)) pop-three ∙ ap pop (pop-held kinds values (h - 3) ∙ ap (held_stack kinds values) e)
-      ∙ pop-held kinds values (h - 4) ∙ ap (held_stack kinds values) f
-
--- the records do not change
-pub kept : {R : List Record} {c h x y : ℕ} {S : List Slot} {sheet kinds values : List ℕ} → S ≡ held_stack kinds values h → x ≡ y → Stacking kinds values h
-    → Advanced R c (emission R c S x) sheet sheet kinds values c h y
-kept {R} {c} e f s =
-    record { state = ap₂ (emission R c) e f; laid_out = λ tail g l. g; as_long = refl; stacking = s }
-
--- one record
-pub put_alone : {R : List Record} {c r h x y : ℕ} {w : Record} {S : List Slot} {before after kinds values : List ℕ} → RecordPut before after c w r
-    → S ≡ held_stack kinds values h → x ≡ y → Stacking kinds values h → Advanced R c (emission (w ∷ R) (c - 1) S x) before after kinds values r h y
-put_alone {R} {c} {r} {h} {x} {y} {w} {S} {kinds = kinds} {values} put e f s =
-    let one = put.one_less in
-    let same : emission (w ∷ R) (c - 1) S x ≡ emission (w ∷ R) r (held_stack kinds values h) y = cc in
-    record { state = same; laid_out = λ tail g l. record-on R tail put (omega arith) g; as_long = put.as_long; stacking = s }
-
--- so many undefined leaves
-pub zeros-alone : {R : List Record} {k c x r y h : ℕ} {before after kinds values : List ℕ} → ZerosPut k before after c x r y → Stacking kinds values h
-    → Advanced R c (emission (zeros_written k R c x) (c - k) (held_stack kinds values h) (zeros_next k c x)) before after kinds values r h y
-zeros-alone {R} {k} {c} {x} {r} {y} {h} {kinds = kinds} {values} put s =
-    let moved = put.cursor_moved in
-    let told = put.next_told in
-    let same : emission (zeros_written k R c x) (c - k) (held_stack kinds values h) (zeros_next k c x) ≡ emission (zeros_written k R c x) r (held_stack kinds values h) y = cc in
-    let long = zeros-written-length k R c x in
-    record { state = same; laid_out = λ tail g l. put.laid_out R tail g (omega arith); as_long = put.as_long; stacking = s }
+pub popped-fewer : (n : ℕ) (S : List Slot) → length (popped n S) ≤ length S
+popped-fewer zero S = omega arith
+popped-fewer (suc n) [] = popped-fewer n []
+popped-fewer (suc n) (x ∷ S) = let h = popped-fewer n S in omega arith

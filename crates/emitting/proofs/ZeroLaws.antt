@@ -1,14 +1,17 @@
 -- Undefined leaves are written one after the other, the last first.
 -- Assumes nothing.
-use Prim.Native.Nat.{ℕ, zero, suc, ◌+◌, ◌-◌, ◌*◌, ◌≤◌}
-use mathlib.Core.Path.{◌≡◌, refl, ap, sym, ◌∙◌, subst}
+use Prim.Native.Nat.{ℕ, zero, suc, ◌-◌, ◌*◌, ◌≤◌}
+use mathlib.Core.Path.{◌≡◌, refl, sym, ◌∙◌, subst}
 use mathlib.Core.List.{List, ◌∷◌, ◌++◌}
 use native.Mathlib.Omega.{arith}
 use lib.ListN.{length, drop}
 use Rattle.records.specs.SheetOf.{Record, words, sheet_of}
 use Rattle.instructions.specs.Emission.{zeros_written, zeros_next}
-use Rattle.emitting.specs.Emitting.{RecordPut, ZerosPut}
-use Rattle.emitting.proofs.ByteLaws.{less_one, record-on}
+use Rattle.emitting.specs.Emitting.{RecordPut}
+use Rattle.emitting.proofs.AdvanceLaws.{record-on}
+
+less_one : (k : ℕ) → suc k - 1 ≡ k
+less_one k = omega arith
 
 -- so many are left
 pub record ZerosLeft (sheet₀ : List ℕ) (cursor next count : ℕ) (sheet : List ℕ) (at after left : ℕ) : Type 0 where
@@ -18,10 +21,6 @@ pub record ZerosLeft (sheet₀ : List ℕ) (cursor next count : ℕ) (sheet : Li
       → (R' : List Record) × (zeros_written left R' at after ≡ zeros_written count R cursor next) × (drop (12 * at) sheet ≡ sheet_of R' ++ tail) × (left ≤ at)
   pub room : 12 * at ≤ length sheet
   pub as_long : length sheet ≡ length sheet₀
-
-pub all-zeros-left : (sheet : List ℕ) (cursor next count : ℕ) → 12 * cursor ≤ length sheet → ZerosLeft sheet cursor next count sheet cursor next count
-all-zeros-left sheet cursor next count h =
-    record { cursor-same = refl; next-same = refl; laid_out = λ R tail e l. (R, refl, e, l); room = h; as_long = refl }
 
 one-put : {s₀ : List ℕ} {cursor next count : ℕ} {s s' : List ℕ} {at after : ℕ} (k r : ℕ) → r ≡ at - 1 → ZerosLeft s₀ cursor next count s at after (suc k)
     → RecordPut s s' at (words 64 after 0 0 0 0) (at - 1) → ZerosLeft s₀ cursor next count s' (at - 1) (at - 1) k
@@ -51,17 +50,3 @@ zero-put {s₀} {cursor} {next} {count} {s} {s'} {at} {after} {left} {r} h z put
         rw (less_one k)
         (subst (λ (q : ℕ). ZerosLeft s₀ cursor next count s' q q k) (sym put.one_less)
         (one-put k r put.one_less z (subst (λ (q : ℕ). RecordPut s s' at (words 64 after 0 0 0 0) q) put.one_less put)))
-
-pub no-zeros-left : {s₀ : List ℕ} {cursor next count : ℕ} {s : List ℕ} {at after left : ℕ} → left ≡ 0 → ZerosLeft s₀ cursor next count s at after left
-    → ZerosPut count s₀ s cursor next at after
-no-zeros-left {s₀} {cursor} {next} {count} {s} {at} {after} e z = go (subst (λ (k : ℕ). ZerosLeft s₀ cursor next count s at after k) e z)
-  where
-    go : ZerosLeft s₀ cursor next count s at after 0 → ZerosPut count s₀ s cursor next at after
-    go z =
-        let moved = z.cursor-same in
-        record {
-          cursor_moved = omega arith;
-          next_told = z.next-same;
-          laid_out = λ R tail f l. let done = z.laid_out R tail f l in done.2 ∙ ap (λ (Q : List Record). sheet_of Q ++ tail) done.1;
-          as_long = z.as_long;
-        }

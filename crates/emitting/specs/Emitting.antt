@@ -5,11 +5,17 @@ use Rattle.std.specs.Prelude.{ℕ, suc, ◌+◌, ◌-◌, ◌*◌, ◌≤◌, �
 use Rattle.grammar.specs.Legal.{text_bytes}
 use Rattle.records.specs.Limits.{most_records}
 use Rattle.grammar.specs.Sizes.{text_table}
-use Rattle.records.specs.SheetOf.{Record, sheet_of}
-use Rattle.instructions.specs.Instruction.{Instruction, held_code}
-use Rattle.instructions.specs.Assembly.{DeclaredType, leaves_numbered, held_types}
-use Rattle.instructions.specs.Emission.{Slot, Emission, emission, written_of, cursor_of, zeros_written, zeros_next, emit, emit_all, types_written, records_written}
-use Rattle.emitting.specs.Tables.{held_stack, LeavesHeld}
+use Rattle.records.specs.SheetOf.{Record, words, sheet_of}
+use Rattle.records.specs.Kinded.{kind_number}
+use Rattle.records.specs.declared.kinds.Kind.{Kind}
+use Rattle.instructions.specs.Instruction.{Instruction}
+use Rattle.instructions.specs.Assembly.{DeclaredType}
+use Rattle.instructions.specs.Emission.{Emission, emission, written_of, cursor_of, zeros_written, zeros_next, emit_all, types_written, records_written}
+use Rattle.emitting.specs.declared.writer.Writer.{Writer}
+
+-- the record of a kind and the five words after its own
+abbrev pub record_of : Kind → List ℕ → Record
+record_of kind w = words (kind_number kind) (get_or w 0 0) (get_or w 1 0) (get_or w 2 0) (get_or w 3 0) (get_or w 4 0)
 
 -- a record put before the one at the cursor
 pub record RecordPut (before after : List ℕ) (cursor : ℕ) (w : Record) (r : ℕ) : Type 0 where
@@ -17,35 +23,29 @@ pub record RecordPut (before after : List ℕ) (cursor : ℕ) (w : Record) (r : 
   pub put_there : 0 < cursor → drop (12 * r) after ≡ sheet_of (w ∷ []) ++ drop (12 * cursor) before
   pub as_long : length after ≡ length before
 
--- the tables of a stack with so many slots
-pub record Stacking (kinds values : List ℕ) (height : ℕ) : Type 0 where
-  pub kinds_long : length kinds ≡ text_table
-  pub values_long : length values ≡ text_table
-  pub high : height ≤ text_table
+-- what the functions that write records ask: room for those before the cursor, and for one slot more
+pub record Advancing (sheet : List ℕ) (w : Writer) : Type 0 where
+  pub sheet_long : 12 * w.cursor ≤ length sheet
+  pub room : length w.stack < text_table
 
--- a slot more
-pub record Stacked (s : Slot) (kinds values kinds' values' : List ℕ) (height : ℕ) : Type 0 where
-  pub on-top : held_stack kinds' values' (height + 1) ≡ s ∷ held_stack kinds values height
-  pub stacking : Stacking kinds' values' (height + 1)
-
--- what a function that writes records asks: room for those before the cursor, and for one slot more
-pub record Advancing (sheet kinds values : List ℕ) (cursor height : ℕ) : Type 0 where
-  pub sheet_long : 12 * cursor ≤ length sheet
-  pub stacking : Stacking kinds values height
-  pub room : height < text_table
-
--- what it gives: from records R and a cursor on, the emission F
-pub record Advanced (R : List Record) (c : ℕ) (F : Emission) (before after kinds values : List ℕ) (cursor height next : ℕ) : Type 0 where
-  pub state : F ≡ emission (written_of F) cursor (held_stack kinds values height) next
+-- what one gives: from records R and a cursor on, the emission F
+pub record Advanced (R : List Record) (c : ℕ) (F : Emission) (before after : List ℕ) (w : Writer) : Type 0 where
+  pub state : F ≡ emission (written_of F) w.cursor w.stack w.next
   pub laid_out : (tail : List ℕ) → drop (12 * c) before ≡ sheet_of R ++ tail → length (written_of F) ≤ c + length R
-      → drop (12 * cursor) after ≡ sheet_of (written_of F) ++ tail
+      → drop (12 * w.cursor) after ≡ sheet_of (written_of F) ++ tail
   pub as_long : length after ≡ length before
-  pub stacking : Stacking kinds values height
 
--- an expression is written, onto whatever records, and the stack is at most one slot higher
-abbrev pub ExpressionCompleted : (F : List Record → Emission) (c height : ℕ) (before after kinds values : List ℕ) (cursor height' next : ℕ) → Type 0
-ExpressionCompleted F c height before after kinds values cursor height' next =
-    ((R : List Record) → Advanced R c (F R) before after kinds values cursor height' next) × (height' ≤ height + 1)
+-- from a writer to another, onto whatever records, with at most one slot more
+abbrev pub InstructionWritten : (F : List Record → Emission) (before after : List ℕ) (w w' : Writer) → Type 0
+InstructionWritten F before after w w' = ((R : List Record) → Advanced R w.cursor (F R) before after w') × (length w'.stack ≤ length w.stack + 1)
+
+-- the emission of a writer, onto records
+abbrev pub standing : Writer → List Record → Emission
+standing w R = emission R w.cursor w.stack w.next
+
+-- the record of an expression, by its kind and four words
+abbrev pub expression_record : Kind → List ℕ → Record
+expression_record kind w = words (kind_number kind) 0 (get_or w 0 0) (get_or w 1 0) (get_or w 2 0) (get_or w 3 0)
 
 -- so many undefined leaves
 pub record ZerosPut (count : ℕ) (before after : List ℕ) (c x cursor next : ℕ) : Type 0 where
@@ -55,41 +55,30 @@ pub record ZerosPut (count : ℕ) (before after : List ℕ) (c x cursor next : �
       → drop (12 * cursor) after ≡ sheet_of (zeros_written count R c x) ++ tail
   pub as_long : length after ≡ length before
 
--- an instruction is done, whatever the types, if the table has their leaves
-abbrev pub InstructionDone : (leaves : List ℕ) (types : ℕ) (i : Instruction) (sheet kinds values : List ℕ) (cursor height next : ℕ)
-    (sheet' kinds' values' : List ℕ) (cursor' height' next' : ℕ) → Type 0
-InstructionDone leaves types i sheet kinds values cursor height next sheet' kinds' values' cursor' height' next' =
-    ((T : List DeclaredType) → LeavesHeld T leaves types → (R : List Record)
-    → Advanced R cursor (emit T (emission R cursor (held_stack kinds values height) next) i) sheet sheet' kinds' values' cursor' height' next')
-    × (height' ≤ height + 1)
-
--- the emission of instructions in tables, for a sheet of so many records
-abbrev pub emitted_from : List DeclaredType → (ops firsts seconds : List ℕ) (m records : ℕ) → Emission
-emitted_from T ops firsts seconds m records = emit_all T (emission [] records [] 0) (held_code ops firsts seconds m)
+-- the emission of instructions, the last first, for a sheet of so many records
+abbrev pub emitted_from : List DeclaredType → List Instruction → (records : ℕ) → Emission
+emitted_from T C records = emit_all T (emission [] records [] 0) C
 
 -- the records of instructions, if they fit in front of the tail
-pub record CodeWritten (ops firsts seconds : List ℕ) (m : ℕ) (leaves : List ℕ) (types records : ℕ) (before after : List ℕ) : Type 0 where
-  pub laid_out : (T : List DeclaredType) → LeavesHeld T leaves types
-      → length (written_of (emitted_from T ops firsts seconds m records)) + cursor_of (emitted_from T ops firsts seconds m records) ≡ records
-      → drop (12 * cursor_of (emitted_from T ops firsts seconds m records)) after
-      ≡ sheet_of (written_of (emitted_from T ops firsts seconds m records)) ++ drop (12 * records) before
+pub record CodeWritten (T : List DeclaredType) (C : List Instruction) (records : ℕ) (before after : List ℕ) : Type 0 where
+  pub laid_out : length (written_of (emitted_from T C records)) + cursor_of (emitted_from T C records) ≡ records
+      → drop (12 * cursor_of (emitted_from T C records)) after ≡ sheet_of (written_of (emitted_from T C records)) ++ drop (12 * records) before
   pub as_long : length after ≡ length before
 
 -- the records of the types before others
-pub record TypesPut (pairs firsts seconds : List ℕ) (types : ℕ) (before after : List ℕ) : Type 0 where
-  pub laid_out : (R : List Record) (tail : List ℕ) → drop (12 * (types + 1)) before ≡ sheet_of R ++ tail
-      → drop 12 after ≡ sheet_of (types_written (held_types pairs firsts seconds types) 0 R) ++ tail
+pub record TypesPut (T : List DeclaredType) (before after : List ℕ) : Type 0 where
+  pub laid_out : (R : List Record) (tail : List ℕ) → drop (12 * (length T + 1)) before ≡ sheet_of R ++ tail
+      → drop 12 after ≡ sheet_of (types_written T 0 R) ++ tail
   pub as_long : length after ≡ length before
 
 -- what `write_sheet` asks, and gives
-pub record Emitting (T : List DeclaredType) (ops firsts seconds : List ℕ) (m : ℕ) (leaves : List ℕ) (types records : ℕ) (sheet : List ℕ) : Type 0 where
+pub record Emitting (T : List DeclaredType) (C : List Instruction) (records : ℕ) (sheet : List ℕ) : Type 0 where
   pub few : records ≤ most_records
   pub sheet_long : 12 * records ≤ length sheet
-  pub code_few : m ≤ text_bytes
-  pub types_few : types < records
-  pub counted : (k : ℕ) → k < types → get_or leaves k 0 ≡ leaves_numbered T (suc k)
-  pub ends : cursor_of (emitted_from T ops firsts seconds m records) ≡ suc types
-  pub fits : length (written_of (emitted_from T ops firsts seconds m records)) + suc types ≡ records
+  pub code_few : length C ≤ text_bytes
+  pub types_few : length T < records
+  pub ends : cursor_of (emitted_from T C records) ≡ suc (length T)
+  pub fits : length (written_of (emitted_from T C records)) + suc (length T) ≡ records
 
 pub record Emitted (T : List DeclaredType) (E : Emission) (input records : ℕ) (before after : List ℕ) : Type 0 where
   pub written_out : after ≡ sheet_of (records_written T input (written_of E)) ++ replicate (length before - 12 * records) 0

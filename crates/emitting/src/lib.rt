@@ -5,143 +5,69 @@
 
 ghost use Rattle.std.specs.Prelude.{◌≡◌, ◌+◌, ◌*◌, ◌≤◌, ◌<◌, length};
 ghost use Rattle.instructions.specs.Emission.{type_record};
-ghost use Rattle.instructions.specs.Assembly.{type_held, held_types};
-ghost use Rattle.emitting.specs.Tables.{SomeLeaves};
+ghost use Rattle.instructions.specs.Types.{type_declared};
 ghost use Rattle.emitting.specs.Emitting.{RecordPut, emitted_from, Emitting, Emitted, CodeWritten, TypesPut};
 ghost use Rattle.grammar.specs.Legal.{text_bytes};
 ghost use Rattle.records.specs.Limits.{most_records};
 
 use bytes::{clear_from, put_record};
-use instructions::{Operands, Ops};
-use records::{KIND_FLAT_TYPE, KIND_HEADER, KIND_PAIR_TYPE, RECORD_BYTES};
-use stack::{no_kinds, no_values};
-use steps::emission_step;
+use instructions::code::Code;
+use instructions::types::{DeclaredType, DeclaredTypes};
+use records::{Kind, RECORD_BYTES};
+use writer::Writer;
 
 pub mod bytes;
-pub mod constants;
-pub mod expressions;
-pub mod patterns;
 pub mod stack;
-pub mod steps;
-
-const HEADER: u16 = KIND_HEADER as u16;
-
-const FLAT_TYPE: u16 = KIND_FLAT_TYPE as u16;
-
-const PAIR_TYPE: u16 = KIND_PAIR_TYPE as u16;
+pub mod writer;
 
 // The records of the instructions.
-fn write_code(
-    ops: &Ops,
-    firsts: &Operands,
-    seconds: &Operands,
-    m: usize,
-    leaves: &Ops,
-    types: usize,
-    records: u16,
-    sheet: &mut [u8],
-)
-    requires { (m ≤ text_bytes) × (12 * records ≤ length sheet.old) × SomeLeaves leaves.now types }
-    ensures { CodeWritten ops.now firsts.now seconds.now m leaves.now types records sheet.old sheet.new }
+fn write_code(code: &Code, types: &DeclaredTypes, records: u16, sheet: &mut [u8])
+    requires { (length code.now ≤ text_bytes) × (12 * records ≤ length sheet.old) }
+    ensures { CodeWritten types.now code.now records sheet.old sheet.new }
 {
-    let mut kinds = no_kinds();
-    let mut values = no_values();
-    let mut cursor = records;
-    let mut height = 0;
-    let mut next = 0;
-    let mut k = m;
-    while k != 0 {
-        k -= 1;
-        let place = emission_step(
-            sheet,
-            &mut kinds,
-            &mut values,
-            leaves,
-            types,
-            cursor,
-            height,
-            next,
-            ops[k],
-            firsts[k],
-            seconds[k],
-        );
-        cursor = place.cursor;
-        height = place.height;
-        next = place.next;
+    let mut writer = Writer::before(records);
+    for k in (0..code.len()).rev() {
+        writer.step(sheet, types, code.get(k));
     }
 }
 
 // A type's record.
-fn put_type_record(
-    sheet: &mut [u8],
-    cursor: u16,
-    next: u16,
-    pair: u8,
-    first: u16,
-    second: u16,
-) -> u16
+fn put_type_record(sheet: &mut [u8], cursor: u16, next: u16, declared: DeclaredType) -> u16
     requires { 12 * cursor ≤ length sheet.old }
-    ensures { RecordPut sheet.old sheet.new cursor (type_record (type_held pair first second) next) result }
+    ensures { RecordPut sheet.old sheet.new cursor (type_record (type_declared declared) next) result }
 {
-    if pair == 0 {
-        return put_record(sheet, cursor, FLAT_TYPE, next, first, 0, 0, 0);
+    match declared {
+        DeclaredType::Flat(constructors) => {
+            put_record(sheet, cursor, Kind::FlatType, [next, constructors, 0, 0, 0])
+        }
+        DeclaredType::Paired(first, second) => {
+            put_record(sheet, cursor, Kind::PairType, [next, first, second, 0, 0])
+        }
     }
-    put_record(sheet, cursor, PAIR_TYPE, next, first, second, 0, 0)
 }
 
 // The records of the types, before those that stand.
-fn write_types(pairs: &Ops, firsts: &Operands, seconds: &Operands, types: usize, sheet: &mut [u8])
-    requires { (12 * (types + 1) ≤ length sheet.old) × (types < most_records) }
-    ensures { TypesPut pairs.now firsts.now seconds.now types sheet.old sheet.new }
+fn write_types(types: &DeclaredTypes, sheet: &mut [u8])
+    requires { (12 * (length types.now + 1) ≤ length sheet.old) × (length types.now < most_records) }
+    ensures { TypesPut types.now sheet.old sheet.new }
 {
-    let mut k = types;
-    let mut cursor = (types + 1) as u16;
+    let mut cursor = (types.len() + 1) as u16;
     let mut next = 0;
-    while k != 0 {
-        k -= 1;
-        cursor = put_type_record(sheet, cursor, next, pairs[k], firsts[k], seconds[k]);
+    for k in (0..types.len()).rev() {
+        cursor = put_type_record(sheet, cursor, next, types.get(k));
         next = cursor;
     }
 }
 
 // The whole sheet, and zeros after it.
-pub fn write_sheet(
-    ops: &Ops,
-    firsts: &Operands,
-    seconds: &Operands,
-    m: usize,
-    pairs: &Ops,
-    parts: &Operands,
-    others: &Operands,
-    leaves: &Ops,
-    types: usize,
-    input: u16,
-    records: usize,
-    sheet: &mut [u8],
-)
-    requires { Emitting (held_types pairs.now parts.now others.now types) ops.now firsts.now seconds.now m leaves.now types records sheet.old }
-    ensures { Emitted (held_types pairs.now parts.now others.now types) (emitted_from (held_types pairs.now parts.now others.now types) ops.now firsts.now seconds.now m records) input records sheet.old sheet.new }
+pub fn write_sheet(code: &Code, types: &DeclaredTypes, input: u16, records: usize, sheet: &mut [u8])
+    requires { Emitting types.now code.now records sheet.old }
+    ensures { Emitted types.now (emitted_from types.now code.now records) input records sheet.old sheet.new }
 {
     clear_from(sheet, RECORD_BYTES * records);
-    write_code(
-        ops,
-        firsts,
-        seconds,
-        m,
-        leaves,
-        types,
-        records as u16,
-        sheet,
-    );
-    write_types(pairs, parts, others, types, sheet);
-    put_record(
-        sheet,
-        1,
-        HEADER,
-        1,
-        input,
-        (types + 1) as u16,
-        records as u16,
-        0,
-    );
+    write_code(code, types, records as u16, sheet);
+    write_types(types, sheet);
+    let expression = (types.len() + 1) as u16;
+    let words = [1, input, expression, records as u16, 0];
+    put_record(sheet, 1, Kind::Header, words);
 }

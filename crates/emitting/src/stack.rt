@@ -1,91 +1,95 @@
 // The stack of the emission: numbers, where the parts of an expression end, and indices that wait.
-ghost use Rattle.std.specs.Prelude.{◌≡◌, List, ℕ, ◌-◌, ◌≤◌, ◌<◌, length};
+ghost use Rattle.std.specs.Prelude.{◌≡◌, [], ◌∷◌, ◌≤◌, ◌<◌, length};
 ghost use Rattle.instructions.specs.Emission.{top};
-ghost use Rattle.emitting.specs.Tables.{slot_of, held_stack, waiting_kind};
-ghost use Rattle.emitting.specs.Emitting.{Stacking, Stacked};
+ghost use Rattle.emitting.specs.Slots.{slot_of, popped, Unwaited};
 ghost use Rattle.grammar.specs.Sizes.{text_table};
 
-use instructions::{INSTRUCTIONS, Operands, Ops};
-use records::{KIND_FIRST, KIND_SECOND};
+use instructions::INSTRUCTIONS;
+use records::Kind;
+use std::marker::Model;
 
-pub const NUMBER: u8 = 0;
-
-pub const BARRIER: u8 = 1;
-
-pub const FIRST_WAITS: u8 = 2;
-
-pub const SECOND_WAITS: u8 = 3;
-
-const FIRST: u16 = KIND_FIRST as u16;
-
-const SECOND: u16 = KIND_SECOND as u16;
-
-pub fn no_kinds() -> Ops
-    ensures { length result ≡ text_table }
-{
-    [0; INSTRUCTIONS]
+// The number of a record or a type, where the parts of an expression end, or an index that waits.
+#[derive(Clone, Copy, Debug, PartialEq, Eq)]
+pub enum Slot {
+    Number(u16),
+    Barrier,
+    FirstWaits,
+    SecondWaits,
 }
 
-pub fn no_values() -> Operands
-    ensures { length result ≡ text_table }
-{
-    [0; INSTRUCTIONS]
+#[derive(Drop)]
+pub struct Stack {
+    slots: [Slot; INSTRUCTIONS],
+    len: usize,
 }
 
-// The height with so many slots less.
-pub fn below(height: usize, n: usize) -> usize
-    ensures { result ≡ height - n }
-{
-    if height < n {
-        return 0;
-    }
-    height - n
+// Clauses see the slots, the top one first.
+impl Model for Stack {
+    ghost use Rattle.std.specs.Prelude.{List, ◌≤◌};
+    ghost use Rattle.instructions.specs.Emission.{Slot as EmissionSlot};
+    ghost use Rattle.grammar.specs.Sizes.{text_table};
+    ghost use Rattle.emitting.specs.Slots.{held_slots};
+
+    ghost Value = { List EmissionSlot };
+
+    ghost view = { λ s. held_slots s.slots s.len };
+
+    ghost invariant = { λ s. s.len ≤ text_table };
 }
 
-// The number on top, 0 for none.
-pub fn top(kinds: &Ops, values: &Operands, height: usize) -> u16
-    requires { Stacking kinds.now values.now height }
-    ensures { result ≡ top (held_stack kinds.now values.now height) }
-{
-    if height == 0 {
-        return 0;
+impl Stack {
+    pub fn new() -> Self
+        ensures { result ≡ [] }
+    {
+        Stack {
+            slots: [Slot::Number(0); INSTRUCTIONS],
+            len: 0,
+        }
     }
-    if kinds[height - 1] != NUMBER {
-        return 0;
-    }
-    values[height - 1]
-}
 
-// The number so many slots below the top.
-pub fn top_below(kinds: &Ops, values: &Operands, height: usize, n: usize) -> u16
-    requires { Stacking kinds.now values.now height }
-    ensures { result ≡ top (held_stack kinds.now values.now (height - n)) }
-{
-    top(kinds, values, below(height, n))
-}
+    // A slot more.
+    pub fn push(&mut self, slot: Slot)
+        requires { length self.old < text_table }
+        ensures { self.new ≡ slot_of slot ∷ self.old }
+    {
+        let last = self.len;
+        self.slots[last] = slot;
+        self.len = last + 1;
+    }
 
-// The kind of the index that waits on top, 0 for none.
-pub fn waiting_kind(kinds: &Ops, values: &Operands, height: usize) -> u16
-    requires { Stacking kinds.now values.now height }
-    ensures { result ≡ waiting_kind (held_stack kinds.now values.now height) }
-{
-    if height == 0 {
-        return 0;
+    // The number so many slots below the top, 0 for none.
+    pub fn below(&self, n: usize) -> u16
+        ensures { result ≡ top (popped n self.now) }
+    {
+        if self.len <= n {
+            return 0;
+        }
+        match self.slots[self.len - n - 1] {
+            Slot::Number(number) => number,
+            _ => 0,
+        }
     }
-    if kinds[height - 1] < FIRST_WAITS {
-        return 0;
-    }
-    if kinds[height - 1] == FIRST_WAITS {
-        return FIRST;
-    }
-    SECOND
-}
 
-// A slot more.
-pub fn push_slot(kinds: &mut Ops, values: &mut Operands, height: usize, kind: u8, value: u16)
-    requires { Stacking kinds.old values.old height × (height < text_table) }
-    ensures { Stacked (slot_of kind value) kinds.old values.old kinds.new values.new height }
-{
-    kinds[height] = kind;
-    values[height] = value;
+    // So many slots less.
+    pub fn pop(&mut self, n: usize)
+        ensures { self.new ≡ popped n self.old }
+    {
+        self.len = self.len.saturating_sub(n);
+    }
+
+    // The kind of the index that waits on top, which waits no more.
+    pub fn pop_waiting(&mut self) -> Option<Kind>
+        ensures { Unwaited result self.old self.new }
+    {
+        if self.len == 0 {
+            return None;
+        }
+        let kind = match self.slots[self.len - 1] {
+            Slot::FirstWaits => Kind::First,
+            Slot::SecondWaits => Kind::Second,
+            _ => return None,
+        };
+        self.len -= 1;
+        Some(kind)
+    }
 }

@@ -22,13 +22,13 @@ use Rattle.records.proofs.Types.{pair_parts, flat-type, pair-type}
 use Rattle.records.proofs.TypeRecords.{first_part, second-part, type-word}
 use Rattle.records.proofs.Trees.{tree-of}
 use Rattle.accepted.specs.Accepting.{Accepting}
-use Rattle.accepted.proofs.Laws.{within-fits, numbered}
+use Rattle.accepted.proofs.Laws.{within-fits}
 use Rattle.accepted.proofs.Scopes.{judged-by-kind}
 use Rattle.meaning.proofs.Order.{value-length, bounds-length}
 use Rattle.values.specs.Chained.{Chained}
 use Rattle.evaluator.proofs.Frames.{back-part, back_long, lent-long, zeros-long}
 use Rattle.evaluator.proofs.Readiness.{ready-passes, ready-written, ready-there, in-circuit, room-few, entry-is}
-use Rattle.possibilities.specs.Sets.{ConstructorSet, sets_of, set_words}
+use Rattle.possibilities.specs.Sets.{ConstructorSet}
 use Rattle.possibilities.specs.Filling.{Positive, positive_none, positive_leaf}
 use Rattle.possible.proofs.FilledTerms.{positive-bounds}
 use Rattle.sets.specs.SetMatchings.{FewConstructors}
@@ -203,9 +203,8 @@ pub held-delay : {k : Kind} → k ≡ expression delay → HoldsLeaves k
 held-delay e = rw e holds_delay
 
 pub never-feedback : {s : List ℕ} {n : ℕ} {W env : List ℕ} {names rec : ℕ} {out Γ : List ℕ} {ρ : List (List ConstructorSet)}
-    → EstimatingIn s n W env names rec out Γ ρ → {k : ℕ} → k ≡ word s rec 0 → k ≡ 38 → ⊥
-never-feedback {s} {rec = rec} r {k} ek e =
-    let f = numbered s rec k 38 (expression feedback) ek e (unfold kind_of in refl) in
+    → EstimatingIn s n W env names rec out Γ ρ → kind_at s rec ≡ expression feedback → ⊥
+never-feedback {s} {rec = rec} r f =
     let g = no-feedback-at s r.for_sets rec (ready-there r.at_hand) in
     let h : true ≡ false = rw f at g in
     let z : ◌≡◌ {A = ℕ} 0 1 = cc in

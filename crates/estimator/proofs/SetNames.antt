@@ -1,7 +1,7 @@
 -- Names and LETs: the sets of a name stand in its slot, and a LET's body is estimated with one name more.
 -- Assumes nothing.
 use Prim.Native.Nat.{ℕ, ◌+◌, ◌-◌, ◌*◌, ◌≤◌, ◌<◌}
-use mathlib.Core.List.{List, [], ◌∷◌, ◌++◌, map}
+use mathlib.Core.List.{List, [], ◌∷◌, ◌++◌}
 use mathlib.Core.Path.{◌≡◌, refl, sym, ap, ap₂, ◌∙◌}
 use lib.ListN.{length, get_or, take, drop, replicate, length-map}
 use Rattle.picoella.specs.Language.{leaves}
@@ -11,7 +11,7 @@ use Rattle.records.specs.Says.{kind_at}
 use Rattle.records.specs.Trees.{type_at, tree_at, type_record_of}
 use Rattle.records.specs.Written.{Written}
 use Rattle.verdict.specs.Scopes.{Scope}
-use Rattle.values.specs.Slots.{slot, entered, frames}
+use Rattle.values.specs.Slots.{slot, entered}
 use Rattle.evaluator.proofs.Readiness.{ready-written, ready-there, entry-is}
 use Rattle.evaluator.proofs.LentNames.{name-stands, defining-scope, defined-inside, defined-room, body-frames, body-at-hand, kept-by-body}
 use Rattle.possibilities.specs.Sets.{ConstructorSet, set_word, set_words}

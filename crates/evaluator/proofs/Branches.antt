@@ -29,7 +29,7 @@ use Rattle.values.specs.Matchings.{Matching, Chosen}
 use Rattle.values.specs.Slots.{frames}
 use Rattle.evaluator.specs.Evaluating.{Wanted, EvaluatingIn, EvaluatedIn, Evaluated}
 use Rattle.evaluator.proofs.Readiness.{ready-passes, ready-written, ready-there, ready-value, evaluating-at, in-circuit, entry-is, value-long, same-frames, values-again}
-use Rattle.evaluator.proofs.LentBranches.{own-entry, tested-scope, then-scope, else-scope, then-lent, otherwise-fits, else-lent, otherwise-is, else-inside, otherwise-long, tested-is, test-inside, test-matching}
+use Rattle.evaluator.proofs.LentBranches.{own-entry, tested-scope, then-scope, else-scope, then-lent, otherwise-fits, else-lent, otherwise-is, otherwise-long, tested-is, test-matching}
 use Rattle.evaluator.proofs.Wanted.{wanted-one, wanted-both, wanted-whole, wanted-value}
 use Rattle.evaluator.proofs.Parts.{room-done, room-wide}
 use Rattle.evaluator.proofs.Frames.{lent-long}
@@ -114,20 +114,11 @@ module _ {s : List ℕ} {n : ℕ} {W env : List ℕ} {names rec : ℕ} {out Γ :
           else-back : otherwise ≡ o₃
           else-back = otherwise-is r.at_hand e o₂ then-long e_q o₃ else-long
 
-          pub tested-inside : c ≤ length (o₁ ++ drop (c - 0) R)
-          tested-inside = test-inside r.at_hand e ex ec e_r o₁ wide₁
-
-          pub otherwise-inside : length o₂ ≤ length (o₃ ++ drop (length o₂ - 0) Q)
-          otherwise-inside = else-inside r.at_hand e o₂ then-long e_q o₃ else-long
-
           pub as_long : length otherwise ≡ length o₂
           as_long = otherwise-long r.at_hand e o₂ then-long e_q o₃ else-long
 
           pub pattern-matching : Matching s n W p tested
           pattern-matching = test-matching r.at_hand e ex ec e_r o₁ wide₁ ep
-
-          pub if-wide : length env₃ ≡ length env
-          if-wide = d₃.wide ∙ sym r.at_hand.wide
 
           -- the number is entered where the whole is wanted
           pub if-done : {out' fired₄ : List ℕ} {number : ℕ} → Chosen s p tested otherwise o₂ out' number

@@ -2,7 +2,7 @@
 -- Assumes nothing.
 use Prim.Native.Nat.{ℕ, ◌+◌, ◌-◌, ◌*◌, ◌≤◌, ◌<◌}
 use mathlib.Core.Bool.{Bool}
-use mathlib.Core.List.{List, [], ◌∷◌, ◌++◌, map}
+use mathlib.Core.List.{List, ◌∷◌, ◌++◌, map}
 use mathlib.Core.Path.{◌≡◌, refl, sym, ◌∙◌}
 use lib.ListN.{length, get_or, take, drop, replicate}
 use Rattle.picoella.specs.Language.{OfType}
@@ -23,7 +23,7 @@ use Rattle.values.specs.Slots.{slot, entered, frames}
 use Rattle.evaluator.specs.Evaluating.{Wanted, EvaluatingIn, EvaluatedIn, Evaluated}
 use Rattle.evaluator.proofs.Readiness.{ready-written, ready-there, value-typed}
 use Rattle.evaluator.proofs.Wanted.{wanted-none, wanted-one, wanted-both}
-use Rattle.evaluator.proofs.LentNames.{name-stands, defining-scope, defined-inside, defined-room, body-frames, body-at-hand, kept-by-body}
+use Rattle.evaluator.proofs.LentNames.{name-stands, defining-scope, defined-room, body-frames, body-at-hand, kept-by-body}
 use Rattle.evaluator.proofs.Parts.{room-done, room-wide}
 
 module _ {s : List ℕ} {n : ℕ} {W env : List ℕ} {names rec : ℕ} {out Γ : List ℕ} (r : EvaluatingIn s n W env names rec out Γ) where
@@ -64,9 +64,6 @@ module _ {s : List ℕ} {n : ℕ} {W env : List ℕ} {names rec : ℕ} {out Γ :
 
     typed : OfType (type_at s t) o₁
     typed = rw d₁.value (value-typed r.at_hand scope r.values)
-
-    pub let-inside : c ≤ length (o₁ ++ drop (c - 0) R)
-    let-inside = defined-inside r.at_hand e ex ec e_r o₁ long
 
     pub let-room : (64 * names + length (take (c - 0) (o₁ ++ drop (c - 0) R)) ≤ length env₁) × (length env₁ ≤ 4096)
     let-room = defined-room r.at_hand e ex ec e_r o₁ long ey env₁ d₁.wide d₁.kept

@@ -7,7 +7,7 @@ use mathlib.Core.Path.{◌≡◌, refl, sym, ap, ◌∙◌}
 use native.Mathlib.Omega.{arith}
 use lib.ListN.{length, get_or, take, drop, replicate, length-map}
 use Rattle.records.specs.Words.{word, word_a, word_b, count}
-use Rattle.records.specs.Kinds.{expression, constant, tuple, leafs, part}
+use Rattle.records.specs.Kinds.{expression, constant, tuple, leafs}
 use Rattle.records.specs.Says.{kind_at}
 use Rattle.records.specs.Trees.{chain}
 use Rattle.records.specs.Decoding.{leaf_values}
@@ -26,7 +26,7 @@ use Rattle.values.specs.Slots.{frames}
 use Rattle.evaluator.specs.Evaluating.{Wanted, EvaluatingIn, EvaluatedIn, Evaluated}
 use Rattle.evaluator.proofs.Readiness.{ready-written, ready-there, ready-value, evaluating-at, value-long, same-frames, values-again}
 use Rattle.evaluator.proofs.Wanted.{wanted-none, wanted-one, wanted-both}
-use Rattle.evaluator.proofs.LentParts.{left-scope, right-scope, left-inside, left-lent, right-inside, right-lent, both-stand, room-lent, stands-wide}
+use Rattle.evaluator.proofs.LentParts.{left-scope, right-scope, left-inside, left-lent, right-lent, both-stand, room-lent, stands-wide}
 
 module _ {s : List ℕ} {n : ℕ} {W env : List ℕ} {names rec : ℕ} {out Γ : List ℕ} (r : EvaluatingIn s n W env names rec out Γ) where
   abbrev ρ : List (List ℕ)
@@ -94,9 +94,6 @@ module _ {s : List ℕ} {n : ℕ} {W env : List ℕ} {names rec : ℕ} {out Γ :
     module _ {whole : Bool} {held fired env₁ held₁ fired₁ o₁ : List ℕ} (p₁ : Evaluated whole s n W env names x held fired (take (w - 0) out) env₁ held₁ fired₁ o₁) where
       d₁ : EvaluatedIn whole s Γ env names x held fired env₁ held₁ fired₁ o₁
       d₁ = p₁.done Γ pair-first-ready
-
-      pub pair-rest : w ≤ length (o₁ ++ drop (w - 0) out)
-      pair-rest = right-inside r.at_hand val long scope-a scope-b parts ew d₁.value
 
       abbrev rest : List ℕ
       rest = take (length (o₁ ++ drop (w - 0) out) - w) (drop w (o₁ ++ drop (w - 0) out))

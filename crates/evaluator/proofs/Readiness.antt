@@ -13,7 +13,6 @@ use Rattle.picoella.specs.Language.{leaves, OfType}
 use Rattle.records.specs.Words.{word, count}
 use Rattle.records.specs.Kinds.{ExpressionKind, expression, expressions, part}
 use Rattle.records.specs.Says.{kind_at}
-use Rattle.records.specs.Sized.{Sized}
 use Rattle.records.specs.Trees.{type_at, TypeRecord, Declared, tree_at, type_record_of}
 use Rattle.records.specs.Written.{Written}
 use Rattle.records.proofs.Table.{ask_of_kind}
@@ -103,8 +102,8 @@ module _ {s : List ℕ} {n : ℕ} {W env : List ℕ} {names rec : ℕ} {out Γ :
   pub ready-low : rec < 4096
   ready-low = let c = r.sized.counted in let t = ready-there in let f = r.sized.few in omega arith
 
-  pub ready-word : {k : ℕ} → k < 6 → Sized s n × (rec < n) × (k < 6)
-  ready-word h = let c = r.sized.counted in let t = ready-there in (r.sized, omega arith, h)
+  pub ready-word : {k : ℕ} → k < 6 → (rec < count s) × (k < 6)
+  ready-word h = (ready-there, h)
 
   pub room-few : length out ≤ 64
   room-few = let e = entry-few r.scope in let l = r.room in omega arith

@@ -2,7 +2,7 @@
 -- value leaves fewer undefined leaves, and leads where the approximation leads; a value without any is settled. No round enters next
 -- values of delays or numbers of IFs, and the evaluation at the settled value enters them where they are wanted.
 -- Assumes nothing.
-use Prim.Native.Nat.{ℕ, zero, suc, ◌+◌, ◌-◌, ◌*◌, ◌≤◌, ◌<◌, suc-le-suc}
+use Prim.Native.Nat.{ℕ, zero, suc, ◌+◌, ◌*◌, ◌≤◌, ◌<◌, suc-le-suc}
 use mathlib.Core.Bool.{Bool, true, false}
 use mathlib.Core.List.{List, [], ◌∷◌, map}
 use mathlib.Core.Path.{◌≡◌, refl, sym, ap, ap₂, ◌∙◌}
@@ -16,7 +16,7 @@ use Rattle.meaning.proofs.Order.{zeros, both-lower}
 use Rattle.meaning.proofs.FixedPoint.{same-or-fewer, chain-rises}
 use Rattle.meaning.specs.Elaboration.{Term, Elaborated}
 use Rattle.meaning.specs.Undecided.{undecided_rule}
-use Rattle.meaning.specs.Evaluation.{application, iterate, settled}
+use Rattle.meaning.specs.Evaluation.{application, iterate}
 use Rattle.meaning.proofs.Order.{value-length}
 use Rattle.meaning.proofs.UndecidedRule.{rule-lawful}
 use Rattle.meaning.proofs.FeedbackLeast.{application-monotone, application-typed, application-falls, iterate-unchanged, iterate-again}
@@ -240,9 +240,6 @@ module _ {s : List ℕ} {n : ℕ} {W env : List ℕ} {names d : ℕ} {value : Li
     settled-frames =
         ap₂ ◌∷◌ (rw around f₁.reached)
         (frames-kept s Γ env₁ env (λ k h. names-small r.at_hand r.at_hand.scope (suc k) (omega arith)) (rw around f₁.kept))
-
-    pub settled-value : {whole : Bool} → whole ≡ false → SettledIn whole s t Γ env names d held fired env₁ held₁ fired₁
-    settled-value w = rw w f₁
 
     pub settled-ready : (o : List ℕ) → length o ≡ length value → EvaluatingIn s n W env₁ (names + 1) d o (t ∷ Γ)
     settled-ready o l =

@@ -8,7 +8,7 @@ use Rattle.records.specs.Trees.{type_at, tree_at, type_record_of}
 use Rattle.verdict.specs.Verdict.{verdict}
 use Rattle.verdict.specs.Scopes.{Scope}
 use Rattle.verdict.specs.Widths.{Widths}
-use Rattle.answers.specs.declared.Verdict.TheVariants.{Accepted}
+use Rattle.answers.specs.Answers.{Accepted}
 use Rattle.meaning.specs.Values.{Both, ValuesOf}
 use Rattle.meaning.specs.Undecided.{undecided_rule}
 use Rattle.meaning.specs.Evaluation.{iterate}

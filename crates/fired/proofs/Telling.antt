@@ -3,24 +3,31 @@
 -- that of the stimulus say of it, and that the words told are the first of the evaluation's table.
 -- Assumes nothing.
 use Prim.Native.Nat.{ℕ, ◌-◌, ◌≤◌}
-use mathlib.Core.List.{List, [], ◌∷◌}
+use mathlib.Core.List.{List, [], ◌∷◌, ◌++◌}
 use mathlib.Core.Logic.{◌≢◌}
-use mathlib.Core.Path.{◌≡◌, refl, ◌∙◌}
+use mathlib.Core.Path.{◌≡◌, refl, sym, ◌∙◌}
 use native.Mathlib.Omega.{arith}
 use lib.ListN.{length, get_or, take, replicate}
 use lib.Seq.{length-take-le}
 use Rattle.records.specs.Words.{count, word_b}
 use Rattle.records.proofs.Asked.{past-header}
-use Rattle.answers.specs.Answers.{in_one, packed, verdict_answer}
-use Rattle.answers.specs.declared.Answer.{Answer}
-use Rattle.answers.specs.declared.Answer.TheVariants.{Done, Refused}
+use Rattle.answers.specs.Answers.{check, when}
+use Rattle.answers.specs.Answers.{Answer}
+use Rattle.answers.specs.Answers.{Done, Refused}
 use Rattle.answers.specs.GivenSlices.{no_slice, one_slice}
 use Rattle.verdict.specs.Verdict.{verdict}
 use Rattle.verdict.specs.Scopes.{inputs}
-use Rattle.answers.specs.declared.Verdict.{Verdict}
-use Rattle.answers.specs.declared.Verdict.TheVariants.{Accepted}
+use Rattle.std.specs.Prelude.{Result, Ok, Err, IsErrAnd}
+use Rattle.answers.specs.Results.{refusal_of, answer_of, verdict_of}
+use Rattle.answers.specs.declared.Refusal.{Refusal}
+use Rattle.answers.specs.declared.Fault.{Fault}
+use mathlib.Core.Bool.{not}
+use lib.Dec.{eqb}
+use Rattle.stimulus.specs.OneCycle.{one_cycle_checks}
+use Rattle.accepted.proofs.Calls.{sheet-fault}
+use Rattle.answers.specs.Answers.{Accepted}
 use Rattle.accepted.specs.Accepting.{Accepting}
-use Rattle.accepted.proofs.Laws.{written, Refusing}
+use Rattle.accepted.proofs.Laws.{written}
 use Rattle.accepted.proofs.Scopes.{scope-checked}
 use Rattle.accepted.proofs.Small.{accepted-passes, accepted-length, accepted-records}
 use Rattle.meaning.specs.Undecided.{undecided_rule}
@@ -29,7 +36,6 @@ use Rattle.stimulus.proofs.OneCycle.{one-cycle-passes, one-cycle-typed}
 use Rattle.stimulus.proofs.OneCycleCalls.{
   one-cycle-laws,
   one-cycle-done,
-  one-cycle-sheet,
   one-cycle-input,
   one-cycle-length,
   one-cycle-good,
@@ -41,8 +47,8 @@ use Rattle.behaviour.proofs.FiredWords.{fired-words, fired-first}
 use Rattle.behaviour.proofs.FirstYes.{tells_first}
 use Rattle.stepper.specs.Cycling.{Cycling}
 use Rattle.stepper.proofs.CallCycles.{output-width, output-few}
-use Rattle.fired.specs.Telling.{fired_answer, final_fired, ToldFired}
-use Rattle.fired.specs.TellingCycle.{TellingFired}
+use Rattle.fired.specs.Telling.{fired_answer, final_fired}
+use Rattle.fired.specs.TellingCycle.{TellingFired, FiredAnswered}
 use Rattle.fired.specs.Promises.{
   FiredLaws,
   ReachedOnce,
@@ -78,52 +84,51 @@ first_yes_tells s t v d h e x =
     let w = written (accepted-passes v) in tells_first w d (past-header w d (rw e)) h e x
 
 -- a call that is refused
-told-refusal : (s stim words : List ℕ) (c p : ℕ) → fired_answer s stim words ≡ Refused c p → ToldFired s stim words (in_one c p) words
+told-refusal : (s stim words : List ℕ) (c p : ℕ) → Refused c p ≡ fired_answer s stim words → FiredAnswered s stim words (Refused c p) words
 unfolding final_fired
-told-refusal s stim words c p e = record { result_is = rw e refl; words_is = rw e refl }
+told-refusal s stim words c p e = record { answer_is = e; words_is = rw (← e) refl }
 
 -- 1 to 7
-pub told-sheet : (s stim words : List ℕ) (w : Verdict) → w ≡ verdict s → Refusing w → (result : ℕ) → result ≡ packed (verdict_answer w)
-    → ToldFired s stim words result words
+pub told-sheet : (s stim words : List ℕ) (r : Result ℕ Refusal) (f : Fault) → IsErrAnd r (λ e. e ≡ refusal_of f)
+    → verdict_of (Err f) ≡ verdict s → FiredAnswered s stim words (answer_of r) words
 unfolding fired_answer
-told-sheet s stim words w e o result q =
-    let r = one-cycle-sheet 16 (count s) s stim words w e o in
-    rw (q, r.2) (told-refusal s stim words r.0 r.1 r.3)
+told-sheet s stim words (Ok x) f p q = absurd p
+told-sheet s stim words (Err x) f p q =
+    told-refusal s stim words _ _
+    (sheet-fault s (one_cycle_checks s stim ++ (check 16 (when (not (eqb (length words) (count s))) (count s)) ∷ [])) (Done 0) (Err x) f p q)
 
 module _ {s : List ℕ} {n : ℕ} {W : List ℕ} {t : ℕ} (g : Accepting s n W) (v : verdict s ≡ Accepted t) where
   module _ (stim words : List ℕ) (a : Answer) (h : HeldToOne s stim a) where
     -- 8 and 9
-    pub told-input : (c p : ℕ) → a ≡ Refused c p → (result : ℕ) → result ≡ packed a → ToldFired s stim words result words
+    pub told-input : (c p : ℕ) → a ≡ Refused c p → FiredAnswered s stim words a words
     unfolding fired_answer
-    told-input c p e result q =
-        rw (q, e) (told-refusal s stim words c p (one-cycle-input 16 (count s) words v h c p e))
+    told-input c p e = rw e (told-refusal s stim words c p (sym (one-cycle-input 16 (count s) words v h c p e)))
 
     module _ (k : ℕ) (e : a ≡ Done k) where
       -- 16
-      pub told-length : length words ≢ n → (result : ℕ) → result ≡ in_one 16 n → ToldFired s stim words result words
+      pub told-length : (m : ℕ) → m ≡ count s → length words ≢ m → FiredAnswered s stim words (Refused 16 m) words
       unfolding fired_answer
-      told-length d result q =
-          let same = g.sized.counted in
-          rw (q, same)
+      told-length m same d =
+          rw same
           (told-refusal s stim words 16 (count s)
-          (one-cycle-length 16 (count s) words v h k e (λ y. d (y ∙ rw same refl))))
+          (sym (one-cycle-length 16 (count s) words v h k e (λ y. d (y ∙ sym same)))))
 
-      module _ (y : length words ≡ n) where
+      module _ (y : length words ≡ count s) where
         pub telling : TellingFired s n W t stim words
         telling =
             record {
               accepting = g;
               accepted = v;
               typed = one-cycle-typed s stim (one-cycle-passes s stim h e);
-              room = y ∙ g.sized.counted;
+              room = y;
             }
 
-        pub told-done : (words' : List ℕ) → words' ≡ fired s stim → ToldFired s stim words 0 words'
+        pub told-done : (words' : List ℕ) → words' ≡ fired s stim → FiredAnswered s stim words (Done 0) words'
         unfolding final_fired fired_answer
         told-done words' o =
-            let f = one-cycle-good {lent = words} v h k e (y ∙ g.sized.counted) in
+            let f = one-cycle-good {lent = words} v h k e y in
             let d : fired_answer s stim words ≡ Done 0 = one-cycle-done 16 f in
-            record { result_is = rw d refl; words_is = rw (o, d) refl }
+            record { answer_is = sym d; words_is = rw (o, d) refl }
 
 -- the cycle whose words are told begins from the sheet that was checked
 module _ {s : List ℕ} {n : ℕ} {W : List ℕ} {t : ℕ} {input words : List ℕ} (g : TellingFired s n W t input words) where
@@ -155,8 +160,8 @@ module _ {s : List ℕ} {n : ℕ} {W : List ℕ} {t : ℕ} {input words : List �
 
   -- the room lent for the cycle
   pub told-looking : (names held output : List ℕ) → length names ≡ 4096 → length held ≡ 4096 → length output ≡ 64
-      → Cycling s n W (take 4096 names) held input s (take (get_or W t 0 - 0) output)
+      → Cycling s n W names held input s (take (get_or W t 0 - 0) output)
   told-looking names held output wide long room =
       let f = output-few g.accepting g.accepted in
-      told-cycling (take 4096 names) held (take (get_or W t 0 - 0) output) (length-take-le 4096 names (omega arith)) long
+      told-cycling names held (take (get_or W t 0 - 0) output) wide long
       (length-take-le (get_or W t 0 - 0) output (omega arith) ∙ omega arith)

@@ -23,7 +23,7 @@ use Rattle.structure.specs.Rules.{
   Passes,
 }
 use Rattle.verdict.specs.Verdict.{by_types, by_records, verdict}
-use Rattle.answers.specs.declared.Verdict.TheVariants.{Accepted}
+use Rattle.answers.specs.Answers.{Accepted}
 use Rattle.accepted.specs.Accepting.{Accepting}
 use Rattle.accepted.proofs.Small.{accepted-passes, accepted-records}
 use Rattle.accepted.proofs.Requirements as Requirements

@@ -5,9 +5,9 @@ use Rattle.records.specs.Words.{count}
 use Rattle.records.specs.Kinds.{expressions, patterns}
 use Rattle.records.specs.Says.{sort_at}
 use Rattle.answers.specs.StandardLaws.{lent_slice, StandardLaws}
-use Rattle.answers.specs.declared.Answer.TheVariants.{Done, Refused}
+use Rattle.answers.specs.Answers.{Done, Refused}
 use Rattle.verdict.specs.Verdict.{verdict}
-use Rattle.answers.specs.declared.Verdict.TheVariants.{Accepted}
+use Rattle.answers.specs.Answers.{Accepted}
 use Rattle.stimulus.specs.OneCycleCalls.{FormedOneCycle}
 use Rattle.behaviour.specs.Bench.{toggle}
 use Rattle.behaviour.specs.Reaching.{Evaluates, EvaluatedOnce, FiredWords, TellsFirst}

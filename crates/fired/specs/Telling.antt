@@ -6,8 +6,8 @@
 use Rattle.std.specs.Prelude.{ℕ, ◌≡◌, not, List, [], ◌∷◌, ◌++◌, length, eqb}
 use Rattle.records.specs.Words.{count}
 use Rattle.answers.specs.Answers.{packed, when_done, Check, check, when, first_applying}
-use Rattle.answers.specs.declared.Answer.{Answer}
-use Rattle.answers.specs.declared.Answer.TheVariants.{Done}
+use Rattle.answers.specs.Answers.{Answer}
+use Rattle.answers.specs.Answers.{Done}
 use Rattle.verdict.specs.Verdict.{sheet_checks}
 use Rattle.stimulus.specs.OneCycle.{one_cycle_checks}
 use Rattle.behaviour.specs.Firing.{fired}

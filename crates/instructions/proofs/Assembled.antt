@@ -22,7 +22,7 @@ use Rattle.grammar.specs.Source.{
   DelayExpression,
 }
 use Rattle.name_rules.specs.Declared.{is_among, is_declared, type_role, constructor_role, at_first}
-use Rattle.name_rules.specs.Checks.{PlacedCheck, check_at, AllPass, no_check_left, one_holds, first_bad_place}
+use Rattle.name_rules.specs.Checks.{check_at, AllPass, first_bad_place}
 use Rattle.name_rules.specs.Constants.{letters, constant_type, is_typed, constant_place, constant_checks, constants_of_text}
 use Rattle.name_rules.specs.Names.{after_all, bind, is_one, declarations_checks, pattern_checks, constant_names, expression_checks, name_checks}
 use Rattle.name_rules.specs.RecordsNeeded.{leaf_counts, pattern_records, constant_leaves}
@@ -171,11 +171,11 @@ module _ (ds : List Declaration) (good : AllPass (declarations_checks at_first d
       ∙ bad-both u (check_at (constant_place c) (is_typed (constant_type ds c)) ∷ []) (constant_checks ds e))))
 
 -- all parts that the records are made of
-pub assembled : (d : Declaration) (ds : List Declaration) (n : Identifier) (e : Expression) → AllPass (name_checks (text d ds n e))
+pub text-assembled : (d : Declaration) (ds : List Declaration) (n : Identifier) (e : Expression) → AllPass (name_checks (text d ds n e))
     → assemble_all nothing_assembled (text_instructions (text d ds n e))
     ≡ assembly (declared_types (d ∷ ds)) (type_number (type_entries (d ∷ ds)) (letters n)) (text_code (text d ds n e)) [] [] (last_place 0 e) (room_of (d ∷ ds) [] e)
     (first_bad_place (constants_of_text (text d ds n e)))
-assembled d ds (identifier w q) e h =
+text-assembled d ds (identifier w q) e h =
     let D = after_all at_first (d ∷ ds) in
     let both = pass-both (declarations_checks at_first (d ∷ ds)) (is_one type_role D (identifier w q) ∷ expression_checks D [] e) h in
     let i = type_number (type_entries (d ∷ ds)) w in

@@ -1,6 +1,6 @@
 -- The instructions run on texts: put into the order of the records they are the text's code, as many records are counted as are laid, and what
 -- they write is what is laid. Assumes nothing.
-use Prim.Native.Nat.{ℕ, suc, ◌+◌}
+use Prim.Native.Nat.{ℕ, suc}
 use mathlib.Core.Path.{◌≡◌, refl}
 use mathlib.Core.List.{List, [], ◌∷◌}
 use mathlib.Core.Option.{none}

@@ -17,45 +17,13 @@ use Rattle.grammar.specs.Rows.{in_pair_first, in_pair_second, in_let_bound, in_l
 use Rattle.grammar.specs.Rows.{in_pattern_first, in_pattern_second, in_constant_first, in_constant_second, in_delay_constant, in_delayed}
 use Rattle.grammar.specs.Machine.{Config, live, no_word, back, begins}
 use Rattle.name_rules.specs.Declared.{a_type, a_constructor, DeclaredName, declared_as, is_among, is_declared, type_role, constructor_role, pattern_roles, at_first}
-use Rattle.name_rules.specs.Checks.{PlacedCheck, AllPass}
+use Rattle.name_rules.specs.Checks.{AllPass}
 use Rattle.name_rules.specs.Names.{after_declaration, after_all, add_all, declaration_checks, declarations_checks, pattern_checks, constant_names, expression_checks, name_checks, is_one}
 use Rattle.name_rules.specs.TokenWalk.{NameScope, scope}
 use Rattle.name_rules.proofs.ByTokens.{first_scope}
 use Rattle.layout.specs.Resolved.{TypeEntry, type_number, after_entry, type_entries, type_entries_from, distance}
 use Rattle.layout.proofs.ConstructorTables.{pass-both, passes, pass-rest, type-or-constructor}
-use Rattle.instructions.specs.Instruction.{
-  Instruction,
-  instruction_of,
-  declare_type,
-  count_constructor,
-  first_type,
-  second_type,
-  input_has,
-  use_name,
-  use_constant,
-  use_undefined,
-  open_pair,
-  open_let,
-  open_rec,
-  open_if,
-  open_delay,
-  take_first,
-  take_second,
-  close,
-  close_if,
-  begin_pattern,
-  open_parts,
-  next_part,
-  close_parts,
-  next_alternative,
-  match_type,
-  match_one,
-  use_leaf,
-  use_zeros,
-  open_constant,
-  close_constant,
-  end_constant,
-}
+use Rattle.instructions.specs.Instruction.{Instruction, instruction_of, count_constructor, first_type, second_type, input_has, use_name, use_constant, use_undefined, open_pair, open_rec, next_alternative, match_type, match_one, use_leaf, use_zeros}
 use Rattle.instructions.specs.TextOrder.{
   count_each,
   number_of_type,

@@ -94,6 +94,6 @@ pub leaves-numbered : (ds : List Declaration) (w : List ℕ)
 leaves-numbered ds w = (types-numbered ds).leaves-agree w
 
 -- tables of types hold as many as are asked for
-pub types-counted : (pairs firsts seconds : List ℕ) (k : ℕ) → length (held_types pairs firsts seconds k) ≡ k
+pub types-counted : (pairs : List Bool) (firsts seconds : List ℕ) (k : ℕ) → length (held_types pairs firsts seconds k) ≡ k
 types-counted pairs firsts seconds zero = refl
 types-counted pairs firsts seconds (suc k) = ap suc (types-counted pairs firsts seconds k)

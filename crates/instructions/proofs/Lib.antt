@@ -10,3 +10,6 @@ pub mod Written
 pub mod NameNumbers
 pub mod Instructed
 pub mod FewInstructions
+pub mod CodeLaws
+pub mod TypeLaws
+pub mod FromBottom

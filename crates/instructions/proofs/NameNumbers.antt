@@ -1,19 +1,19 @@
 -- The numbers of a declared name, counted among the names declared up to it, are those of the text's tables. A type's needs only that the
 -- name stands for a type; a constructor's that each name is declared once, as the checks on declarations say.
 -- Assumes nothing.
-use Prim.Native.Nat.{ℕ, suc, ◌+◌}
+use Prim.Native.Nat.{ℕ, suc}
 use native.Mathlib.Omega.{arith}
-use mathlib.Core.Path.{◌≡◌, refl, sym, ap, ap₂, subst, ◌∙◌}
+use mathlib.Core.Path.{◌≡◌, refl, sym, ap, subst, ◌∙◌}
 use mathlib.Core.Logic.{◌⊎◌, inl, inr}
 use mathlib.Core.Bool.{Bool, true, false, cond, not}
 use mathlib.Core.List.{List, [], ◌∷◌, ◌++◌}
 use lib.ListN.{length}
 use Rattle.picoella.specs.Language.{Ty, Flat, TyTuple}
 use Rattle.grammar.specs.Source.{Identifier, identifier, Declaration, Constructors, PairOf}
-use Rattle.name_rules.specs.Declared.{Role, a_type, a_constructor, the_input, DeclaredName, declared_as, same_name, is_taken, is_declared, type_role, constructor_role, at_first, input}
-use Rattle.name_rules.specs.Checks.{PlacedCheck, check_at, AllPass}
+use Rattle.name_rules.specs.Declared.{Role, a_type, a_constructor, DeclaredName, declared_as, same_name, is_taken, is_declared, type_role, constructor_role, at_first, input}
+use Rattle.name_rules.specs.Checks.{AllPass}
 use Rattle.name_rules.specs.Constants.{letters}
-use Rattle.name_rules.specs.Names.{add, add_all, after_declaration, after_all, constructor_checks, declaration_checks, declarations_checks}
+use Rattle.name_rules.specs.Names.{add_all, after_declaration, after_all, constructor_checks, declaration_checks, declarations_checks}
 use Rattle.name_rules.proofs.SameName.{same-equal}
 use Rattle.layout.specs.Resolved.{
   TypeEntry,

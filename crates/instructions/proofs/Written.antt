@@ -6,18 +6,18 @@ use mathlib.Core.Path.{◌≡◌, refl, sym, ap, ap₂, ◌∙◌}
 use mathlib.Core.List.{List, [], ◌∷◌, ◌++◌, append-nil}
 use lib.ListN.{length}
 use Rattle.records.specs.SheetOf.{Record, words}
-use Rattle.grammar.specs.Source.{Identifier, identifier, Declaration, Constructors, PairOf, Expression, Text, text}
+use Rattle.grammar.specs.Source.{identifier, Declaration, Constructors, PairOf, Expression, text}
 use Rattle.name_rules.specs.Checks.{AllPass}
 use Rattle.name_rules.specs.Constants.{letters}
 use Rattle.name_rules.specs.Names.{text_checks}
 use Rattle.name_rules.specs.RecordsNeeded.{records_needed}
 use Rattle.layout.specs.Resolved.{TypeEntry, after_entry, type_number, type_entries}
-use Rattle.layout.specs.Layout.{next_type, types_laid, room_of, laid, text_records}
+use Rattle.layout.specs.Layout.{next_type, types_laid, laid, text_records}
 use Rattle.layout.proofs.Sizes.{expression-length}
 use Rattle.layout.proofs.Kept.{names-good, in-its-sheet}
 use Rattle.instructions.specs.Assembly.{DeclaredType, flat_type, paired_type}
 use Rattle.instructions.specs.RecordOrder.{types_onto, declared_types, text_code}
-use Rattle.instructions.specs.Emission.{emission, of_number, emit_all, type_record, types_written, records_written}
+use Rattle.instructions.specs.Emission.{emission, of_number, emit_all, types_written, records_written}
 use Rattle.instructions.proofs.Emitted.{expression-emitted}
 
 types_many : (i : ℕ) (E : List TypeEntry) (ds : List Declaration) (T : List DeclaredType) → length (types_onto i E ds T) ≡ length T + length ds

@@ -158,13 +158,14 @@ abbrev pub assemble_all : Assembly → List Instruction → Assembly
 assemble_all A [] = A
 assemble_all A (i ∷ is) = assemble_all (assemble_one A i) is
 
--- a declared type that three tables hold: a flat type's first number is that of its constructors
-abbrev pub type_held : (pair first second : ℕ) → DeclaredType
-type_held zero a b = flat_type a
-type_held (suc n) a b = paired_type a b
+-- a declared type that three tables hold, of which one says whether it is a pair type: a flat type's first number is that of its
+-- constructors
+abbrev pub type_held : Bool → (first second : ℕ) → DeclaredType
+type_held false a b = flat_type a
+type_held true a b = paired_type a b
 
 -- the first n of them, the last first
-abbrev pub held_types : (pairs firsts seconds : List ℕ) → ℕ → List DeclaredType
+abbrev pub held_types : (pairs : List Bool) (firsts seconds : List ℕ) → ℕ → List DeclaredType
 held_types pairs firsts seconds zero = []
 held_types pairs firsts seconds (suc k) =
-    type_held (get_or pairs k 0) (get_or firsts k 0) (get_or seconds k 0) ∷ held_types pairs firsts seconds k
+    type_held (get_or pairs k false) (get_or firsts k 0) (get_or seconds k 0) ∷ held_types pairs firsts seconds k

@@ -1,7 +1,7 @@
 -- The records that instructions write, from the last record to the first: of an expression the parts are written before it, so that where they
 -- begin is known. Where the parts begin stands on a stack, and there too an index waits until its expression is written. `next` is the word
 -- next of the leaf or the alternative that comes next.
-use Rattle.std.specs.Prelude.{ℕ, zero, suc, ◌+◌, ◌-◌, List, [], ◌∷◌, ◌++◌, length}
+use Rattle.std.specs.Prelude.{ℕ, zero, suc, ◌+◌, ◌-◌, List, [], ◌∷◌, length}
 use Rattle.records.specs.SheetOf.{Record, words}
 use Rattle.instructions.specs.Instruction.{
   Instruction,

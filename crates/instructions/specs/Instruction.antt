@@ -1,6 +1,6 @@
 -- An instruction is what a token of a text says, with its names as numbers: a type is the number of its declaration, a constructor the number
 -- of its type and its own among that type's, from 1, and any other name its distance. In the code an instruction is three numbers.
-use Rattle.std.specs.Prelude.{ℕ, zero, suc, List, [], ◌∷◌, get_or}
+use Rattle.std.specs.Prelude.{ℕ, [], ◌∷◌, get_or}
 
 pub data Instruction : Type 0 where
   -- a declaration begins; a constructor of it; the two types of a pair type; the input's type
@@ -128,15 +128,3 @@ instruction_of op a b =
     ∷ open_let ∷ open_rec a ∷ open_if ∷ open_delay ∷ take_first ∷ take_second ∷ close ∷ close_if ∷ begin_pattern ∷ match_type a
     ∷ match_one a b ∷ open_parts ∷ next_part ∷ close_parts ∷ next_alternative ∷ use_leaf a b ∷ use_zeros a ∷ open_constant a
     ∷ close_constant ∷ end_constant ∷ constant_has a ∷ []) op close_constant
-
--- the first n instructions that three tables hold, the last first
-abbrev pub held_code : (ops firsts seconds : List ℕ) → ℕ → List Instruction
-held_code ops firsts seconds zero = []
-held_code ops firsts seconds (suc k) =
-    instruction_of (get_or ops k 0) (get_or firsts k 0) (get_or seconds k 0) ∷ held_code ops firsts seconds k
-
--- those from number k on, so many, in order
-abbrev pub held_from : (ops firsts seconds : List ℕ) (k count : ℕ) → List Instruction
-held_from ops firsts seconds k zero = []
-held_from ops firsts seconds k (suc count) =
-    instruction_of (get_or ops k 0) (get_or firsts k 0) (get_or seconds k 0) ∷ held_from ops firsts seconds (suc k) count

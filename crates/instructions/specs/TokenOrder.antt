@@ -1,14 +1,14 @@
 -- The instructions of a text once more, token by token: what the code goes by, and no part of what is promised. In each state of the
 -- grammar's machine a token says one instruction or none; the bracket of a pair says none for itself, and what follows it says it first.
 -- A declared name has the number of the types up to it, and that of the constructors up to it since the last type.
-use Rattle.std.specs.Prelude.{ℕ, suc, Bool, true, false, cond, List, [], ◌∷◌, ◌++◌, eqb}
+use Rattle.std.specs.Prelude.{ℕ, suc, Bool, false, cond, List, [], ◌∷◌, ◌++◌, eqb}
 use Rattle.grammar.specs.Tokens.{Token, keyword, symbol, name_token, IF, MATCHES, DELAY, opens, closes, comma, bar, query, one, two, between}
 use Rattle.grammar.specs.Rows.{State, state_number, Lead, a_symbol, a_keyword, a_name}
 use Rattle.grammar.specs.Rows.{type_name, type_body, constructor_next, pair_first_type, pair_second_type, input_type, expression, undefined_type, bracket}
 use Rattle.grammar.specs.Rows.{in_pair_second, let_name, in_let_body, init_type, in_rec_body, in_tested, pattern, in_matched, in_pattern_first, in_pattern_second}
 use Rattle.grammar.specs.Rows.{in_else, constant, in_delay_constant, in_constant_second, in_delayed, index}
 use Rattle.grammar.specs.Machine.{Config, dead, live, lead_byte, on_token}
-use Rattle.name_rules.specs.Declared.{Role, a_type, a_constructor, the_input, DeclaredName, declared_as, same_name, is_among, is_declared, type_role, constructor_role}
+use Rattle.name_rules.specs.Declared.{a_type, a_constructor, the_input, DeclaredName, declared_as, same_name, is_among, is_declared, type_role, constructor_role}
 use Rattle.name_rules.specs.TokenWalk.{NameScope, bound_in, declared_in, scope_after}
 use Rattle.layout.specs.Resolved.{distance}
 use Rattle.instructions.specs.Instruction.{

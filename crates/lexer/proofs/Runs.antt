@@ -1,22 +1,20 @@
 -- Blanks and letters by their classes, byte by byte.
 -- Assumes nothing.
-use Prim.Native.Nat.{ℕ, suc, ◌+◌, ◌≤◌, ◌<◌}
+use Rattle.std.specs.Prelude.{IsTrue, ◌↔◌, take_while}
+use Rattle.std.specs.List.{prefix_len}
+use Rattle.std.proofs.lemmas.List.{take_all}
+use Rattle.std.proofs.lemmas.List.Sums.{prefix_len-le-length}
+use Rattle.std.proofs.lemmas.List.Folds.{length-prefix_len}
+use Prim.Native.Nat.{ℕ, suc, ◌+◌, ◌-◌, ◌≤◌}
 use native.Mathlib.Omega.{arith}
-use native.Mathlib.Numerals.{add-one}
-use mathlib.Core.Path.{◌≡◌, refl, sym, ap, subst, ◌∙◌}
+use mathlib.Core.Path.{◌≡◌, refl, sym, ap, ◌∙◌}
 use mathlib.Core.Bool.{Bool, true, false, cond}
 use mathlib.Core.List.{List, [], ◌∷◌}
-use lib.ListN.{length, drop, get_or, drop_of_length-le}
-use lib.Seq.{drop-cons}
+use lib.ListN.{length, take, drop, length-drop}
 use Rattle.grammar.specs.Tokens.{ByteClass, is_blank, is_lower, is_upper, is_other, is_symbol, byte_class, is_letter}
 use Rattle.recognizer.specs.Coded.{class_number, class_of, capitals}
 use Rattle.recognizer.proofs.ClassLaws.{symbol-below, position-below}
 use Rattle.lexer.specs.Scanned.{blank_class, blanks_in, letters_in}
-
--- a test of bytes, and how many bytes pass it at the beginning
-abbrev run_of : (ℕ → Bool) → List ℕ → ℕ
-run_of test [] = 0
-run_of test (b ∷ bs) = cond (test b) (suc (run_of test bs)) 0
 
 abbrev pub blank_byte : ℕ → Bool
 blank_byte b = blank_class (byte_class b)
@@ -24,30 +22,30 @@ blank_byte b = blank_class (byte_class b)
 abbrev pub letter_byte : ℕ → Bool
 letter_byte b = is_letter (byte_class b)
 
-blanks-run : (bs : List ℕ) → blanks_in bs ≡ run_of blank_byte bs
-blanks-run [] = refl
-blanks-run (b ∷ bs) = ap (λ n. cond (blank_byte b) (suc n) 0) (blanks-run bs)
+-- what is counted is how many bytes pass a test at the beginning
+blanks-prefix : (bs : List ℕ) → blanks_in bs ≡ prefix_len blank_byte bs
+blanks-prefix [] = refl
+blanks-prefix (b ∷ bs) = let e : suc (blanks_in bs) ≡ 1 + prefix_len blank_byte bs = omega (arith, blanks-prefix bs) in ap (λ n. cond (blank_byte b) n 0) e
 
-letters-run : (bs : List ℕ) → letters_in bs ≡ run_of letter_byte bs
-letters-run [] = refl
-letters-run (b ∷ bs) = ap (λ n. cond (letter_byte b) (suc n) 0) (letters-run bs)
+letters-prefix : (bs : List ℕ) → letters_in bs ≡ prefix_len letter_byte bs
+letters-prefix [] = refl
+letters-prefix (b ∷ bs) = let e : suc (letters_in bs) ≡ 1 + prefix_len letter_byte bs = omega (arith, letters-prefix bs) in ap (λ n. cond (letter_byte b) n 0) e
 
-module _ (test : ℕ → Bool) (text : List ℕ) (j : ℕ) where
-  here : (h : j < length text) → run_of test (drop j text) ≡ cond (test (get_or text j 0)) (suc (run_of test (drop (suc j) text))) 0
-  here h = ap (run_of test) (drop-cons text j 0 h)
+rest-all : (text : List ℕ) (i : ℕ) → take (length text - i) (drop i text) ≡ drop i text
+rest-all text i = take_all (length text - i) (drop i text) (omega (arith, length-drop i text))
 
-  run_on : j < length text → test (get_or text j 0) ≡ true → j + run_of test (drop j text) ≡ j + 1 + run_of test (drop (j + 1) text)
-  run_on h e =
-      let f : run_of test (drop j text) ≡ suc (run_of test (drop (suc j) text)) = here h ∙ ap (λ x. cond x (suc (run_of test (drop (suc j) text))) 0) e in
-      let g : run_of test (drop (suc j) text) ≡ run_of test (drop (j + 1) text) = ap (λ n. run_of test (drop n text)) (sym (add-one j)) in
-      omega (arith, f, g)
+module _ (text : List ℕ) (i : ℕ) (h : i ≤ length text) {n : ℕ} where
+  counted : (p : ℕ → Bool) → n ≡ length (take_while p (take (length text - i) (drop i text))) → n ≡ prefix_len p (drop i text)
+  counted p e = e ∙ ap (λ l. length (take_while p l)) (rest-all text i) ∙ length-prefix_len p (drop i text)
 
-  run-over : j < length text → test (get_or text j 0) ≡ false → j + run_of test (drop j text) ≡ j
-  run-over h e =
-      let f : run_of test (drop j text) ≡ 0 = here h ∙ ap (λ x. cond x (suc (run_of test (drop (suc j) text))) 0) e in omega (arith, f)
+  within : (p : ℕ → Bool) → n ≡ prefix_len p (drop i text) → i + n ≤ length text
+  within p e = omega (arith, prefix_len-le-length p (drop i text), length-drop i text)
 
-  run_out : length text ≤ j → j + run_of test (drop j text) ≡ j
-  run_out h = let f : run_of test (drop j text) ≡ 0 = ap (run_of test) (drop_of_length-le text {i = j} h) in omega (arith, f)
+  pub blanks-counted : n ≡ length (take_while blank_byte (take (length text - i) (drop i text))) → (i + n ≡ i + blanks_in (drop i text)) × (i + n ≤ length text)
+  blanks-counted e = (ap (λ m. i + m) (counted blank_byte e ∙ sym (blanks-prefix (drop i text))), within blank_byte (counted blank_byte e))
+
+  pub letters-counted : n ≡ length (take_while letter_byte (take (length text - i) (drop i text))) → (i + n ≡ i + letters_in (drop i text)) × (i + n ≤ length text)
+  letters-counted e = (ap (λ m. i + m) (counted letter_byte e ∙ sym (letters-prefix (drop i text))), within letter_byte (counted letter_byte e))
 
 -- a byte's class says what it is
 class-blank : (b : ℕ) → class_of b ≡ 19 → blank_byte b ≡ true
@@ -80,61 +78,26 @@ class-letter b = go (byte_class b)
     go is_lower l h = refl
     go is_upper l h = refl
 
-class-symbol : (b : ℕ) → class_of b < 10 → letter_byte b ≡ false
-class-symbol b = go (byte_class b)
+class-unletter : (b : ℕ) → (((10 ≤ class_of b) × (class_of b ≤ 18)) → ⊥) → letter_byte b ≡ false
+class-unletter b = go (byte_class b)
   where
-    go : (k : ByteClass) → class_number k b < 10 → is_letter k ≡ false
-    go (is_symbol s) h = refl
-    go is_other h = refl
-    go is_blank h = refl
-    go is_lower h = absurd (omega arith)
-    go is_upper h = absurd (omega arith)
+    go : (k : ByteClass) → (((10 ≤ class_number k b) × (class_number k b ≤ 18)) → ⊥) → is_letter k ≡ false
+    go (is_symbol s) n = refl
+    go is_other n = refl
+    go is_blank n = refl
+    go is_lower n = absurd (n (omega arith, omega arith))
+    go is_upper n = absurd (n (omega arith, omega (arith, position-below b capitals)))
 
-class-high : (b : ℕ) → 18 < class_of b → letter_byte b ≡ false
-class-high b = go (byte_class b)
+-- two tests of the same
+told-alike : {P : Type 0} {r t : Bool} → IsTrue r ↔ P → (P → t ≡ true) → ((P → ⊥) → t ≡ false) → r ≡ t
+told-alike {P} {r} {t} i y n = go r i
   where
-    go : (k : ByteClass) → 18 < class_number k b → is_letter k ≡ false
-    go (is_symbol s) h = refl
-    go is_other h = refl
-    go is_blank h = refl
-    go is_lower h = absurd (omega arith)
-    go is_upper h = absurd (omega (arith, position-below b capitals))
+    go : (x : Bool) → IsTrue x ↔ P → x ≡ t
+    go true i = sym (y (i.0 refl))
+    go false i = sym (n (λ p. let z : false ≡ true = i.1 p in let o : ◌≡◌ {A = ℕ} 0 1 = cc in omega arith))
 
--- the loops: what is counted from j on is what is counted from the beginning
-abbrev pub CountsFrom : (List ℕ → ℕ) → List ℕ → (i j : ℕ) → Type 0
-CountsFrom f text i j = i + f (drop i text) ≡ j + f (drop j text)
+pub blank-told : {r : Bool} {class : ℕ} (b : ℕ) → class ≡ class_of b → IsTrue r ↔ (class ≡ 19) → r ≡ blank_byte b
+blank-told b c i = told-alike i (λ h. class-blank b (sym c ∙ h)) (λ n. class-unblank b (λ h. n (c ∙ h)))
 
-module _ {class : ℕ} (i : ℕ) (text : List ℕ) (j : ℕ) (h : j < length text) (c : class ≡ class_of (get_or text j 0)) where
-  pub blank-on : CountsFrom blanks_in text i j → class ≡ 19 → CountsFrom blanks_in text i (j + 1)
-  blank-on e f =
-      e
-      ∙ ap (λ n. j + n) (blanks-run (drop j text))
-      ∙ run_on blank_byte text j h (class-blank (get_or text j 0) (sym c ∙ f))
-      ∙ ap (λ n. j + 1 + n) (sym (blanks-run (drop (j + 1) text)))
-
-  pub blank-over : CountsFrom blanks_in text i j → (class ≡ 19 → ⊥) → j ≡ i + blanks_in (drop i text)
-  blank-over e n =
-      sym
-      (e ∙ ap (λ n. j + n) (blanks-run (drop j text)) ∙ run-over blank_byte text j h (class-unblank (get_or text j 0) (λ f. n (c ∙ f))))
-
-  pub letter-on : CountsFrom letters_in text i j → 10 ≤ class → class ≤ 18 → CountsFrom letters_in text i (j + 1)
-  letter-on e l m =
-      e
-      ∙ ap (λ n. j + n) (letters-run (drop j text))
-      ∙ run_on letter_byte text j h (class-letter (get_or text j 0) (omega (arith, c)) (omega (arith, c)))
-      ∙ ap (λ n. j + 1 + n) (sym (letters-run (drop (j + 1) text)))
-
-  letter-over : CountsFrom letters_in text i j → letter_byte (get_or text j 0) ≡ false → j ≡ i + letters_in (drop i text)
-  letter-over e f = sym (e ∙ ap (λ n. j + n) (letters-run (drop j text)) ∙ run-over letter_byte text j h f)
-
-  pub symbol-over : CountsFrom letters_in text i j → class < 10 → j ≡ i + letters_in (drop i text)
-  symbol-over e l = letter-over e (class-symbol (get_or text j 0) (omega (arith, c)))
-
-  pub high-over : CountsFrom letters_in text i j → 18 < class → j ≡ i + letters_in (drop i text)
-  high-over e l = letter-over e (class-high (get_or text j 0) (omega (arith, c)))
-
-pub blank-out : (i : ℕ) (text : List ℕ) (j : ℕ) → CountsFrom blanks_in text i j → length text ≤ j → j ≡ i + blanks_in (drop i text)
-blank-out i text j e h = sym (e ∙ ap (λ n. j + n) (blanks-run (drop j text)) ∙ run_out blank_byte text j h)
-
-pub letter-out : (i : ℕ) (text : List ℕ) (j : ℕ) → CountsFrom letters_in text i j → length text ≤ j → j ≡ i + letters_in (drop i text)
-letter-out i text j e h = sym (e ∙ ap (λ n. j + n) (letters-run (drop j text)) ∙ run_out letter_byte text j h)
+pub letter-told : {r : Bool} {class : ℕ} (b : ℕ) → class ≡ class_of b → IsTrue r ↔ ((10 ≤ class) × (class ≤ 18)) → r ≡ letter_byte b
+letter-told b c i = told-alike i (λ h. class-letter b (omega (arith, c, h.0)) (omega (arith, c, h.1))) (λ n. class-unletter b (λ h. n (omega (arith, c, h.0), omega (arith, c, h.1))))

@@ -1,8 +1,8 @@
 -- The tokens of a text as the code finds them: past the blanks, a symbol or a run of letters.
-use Rattle.std.specs.Prelude.{ℕ, suc, ◌+◌, ◌-◌, ◌≤◌, ◌<◌, ◌≡◌, Bool, true, false, cond, List, [], ◌∷◌, length, take, drop, get_or, eqb, leb, ltb}
+use Rattle.std.specs.Prelude.{ℕ, suc, ◌+◌, ◌-◌, ◌≤◌, ◌<◌, ◌≡◌, Bool, true, false, cond, List, [], ◌∷◌, length, take, drop, get_or, ltb}
 use Rattle.grammar.specs.Tokens.{ByteClass, is_blank, is_lower, is_upper, is_other, is_symbol, byte_class, is_letter, Token, Tokens, keyword, symbol, name_token}
 use Rattle.grammar.specs.Machine.{lead_byte, lead_of}
-use Rattle.recognizer.specs.Coded.{lead_bytes, class_of}
+use Rattle.recognizer.specs.Coded.{lead_bytes}
 
 abbrev pub blank_class : ByteClass → Bool
 blank_class is_blank = true

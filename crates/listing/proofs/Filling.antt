@@ -1,18 +1,18 @@
--- Lines of cycles joined, a buffer filled with them, and the pieces of a listing laid end to end.
+-- Lines of cycles joined and added chunk by chunk, and the pieces of a listing laid end to end.
 -- Assumes nothing.
 use Prim.Native.Nat.{ℕ, zero, suc, ◌+◌, ◌*◌, ◌-◌, ◌/◌, ◌≤◌, ◌<◌}
 use mathlib.Core.Path.{◌≡◌, refl, sym, ap, ◌∙◌}
 use mathlib.Core.List.{List, ◌++◌, append_assoc, append-nil}
 use native.Mathlib.Omega.{arith}
-use native.Mathlib.Nat.{zero-add, suc-add, add-zero, add_comm, zero-mul, suc-mul, add-mul, le-div_iff_mul-le, div-lt_iff_lt-mul}
+use native.Mathlib.Nat.{zero-add, suc-add, add-zero, add_comm, zero-mul, suc-mul, add-mul, mul-le-mul_left, le-div_iff_mul-le, div-lt_iff_lt-mul}
 use native.Mathlib.Numerals.{add-one}
-use lib.ListN.{length, take, drop}
-use lib.Seq.{drop-drop}
+use lib.ListN.{length, take, drop, length-append, length-drop}
+use lib.Seq.{drop-drop, take_at, drop-append_seam}
 use Rattle.listing.specs.Lines.{cycle_line, cycle_lines}
-use Rattle.listing.specs.Wrote.{TextPut}
-use Rattle.listing.specs.Fills.{FillingLines, Filling, FilledLines}
-use Rattle.listing.specs.Promises.{LinesLaid, nothing, piece, WholeListing}
-use Rattle.listing.proofs.Written.{wrote_none, wrote_then}
+use Rattle.listing.specs.Promises.{LinesLaid, nothing, piece, LinesFill, WholeListing}
+use Rattle.listing.specs.Texts.{Written, Added}
+use Rattle.listing.proofs.Added.{added-long, added_then}
+use Rattle.listing.proofs.Chunks.{Adding}
 
 -- the lines of m cycles and then of n more
 pub lines_join :
@@ -33,54 +33,53 @@ line-more :
     cycle_lines w (count + 1) k leaves ≡ cycle_lines w count k leaves ++ cycle_line (k + count) (take w (drop (count * w) leaves))
 line-more w count k leaves = lines_join w count 1 k leaves ∙ rw append-nil refl
 
-module _ {buffer : List ℕ} {at k w : ℕ} {outputs : List ℕ} {first : ℕ} (asked : FillingLines buffer at k w outputs first) where
-  pub no-line-filled : Filling buffer at k w outputs first buffer 0 first at
-  no-line-filled =
+-- a chunk more
+module _ {old : Written} {k w : ℕ} {leaves : List ℕ} {now : Written} {count : ℕ} {rest : List ℕ} {size : ℕ} (a : Adding old k w leaves now count rest size) where
+  rest-long : length rest ≡ length leaves - count * w
+  rest-long = rw (a.left, length-drop (count * w) leaves) refl
+
+  pub line-added :
+      (line more : List ℕ) {new : Written} {left : ℕ} →
+      left ≡ size →
+      (rest ≡ line ++ more) × (length line ≡ size) →
+      0 < w →
+      Added now (cycle_line (k + count) line) new →
+      Adding old k w leaves new (count + 1) more left
+  line-added line more same step some b =
+      let long : length line ≡ w = step.1 ∙ a.long in
+      let first : take w rest ≡ line = rw step.0 (take_at line more w long) in
+      let after : drop w rest ≡ more = rw (step.0, ← long) (drop-append_seam line more) in
+      let all : length rest ≡ length line + length more = ap length step.0 ∙ length-append line more in
+      let from = rest-long in
+      let m : (count + 1) * w ≡ count * w + w = ap (λ c. c * w) (add-one count) ∙ suc-mul count w in
       record {
-        wrote = wrote_none buffer at asked.room;
-        taken = rw (zero-mul w) (omega arith);
-        numbered = let n = asked.numbered in omega arith;
-        inside = asked.inside;
+        lines = rw (line-more w count k leaves, ← a.left, first) (added_then a.lines b);
+        inside = omega arith;
+        left = sym after ∙ ap (drop w) a.left ∙ drop-drop w (count * w) leaves ∙ ap (λ n. drop n leaves) (sym m);
+        long = same ∙ a.long;
       }
 
-  pub one-filled :
-      {now after : List ℕ} {count next end place : ℕ} →
-      Filling buffer at k w outputs first now count next end →
-      w ≤ length outputs - next →
-      TextPut now end (cycle_line (k + count) (take (next + w - next) (drop next outputs))) after place →
-      Filling buffer at k w outputs first after (count + 1) (next + w) place
-  one-filled {count = count} {next = next} f left v =
-      let i = f.inside in
-      let n = f.numbered in
-      let s = asked.some in
-      let e = f.taken in
-      let m : (count + 1) * w ≡ count * w + w = ap (λ c. c * w) (add-one count) ∙ suc-mul count w in
-      let width : next + w - next ≡ w = omega arith in
-      let leaves : drop next outputs ≡ drop (count * w) (drop first outputs) =
-      ap (λ i. drop i outputs) e ∙ sym (drop-drop (count * w) first outputs)
-      in
-      record {
-        wrote = rw (line-more w count k (drop first outputs)) (wrote_then f.wrote (rw (width, leaves) at v));
-        taken = omega arith;
+-- of the lines added to a text in the front of a buffer, what `FilledLines` says
+pub lines_fill : LinesFill
+lines_fill old new k w count first outputs buffer room fits number inside some a =
+    let lines : List ℕ = cycle_lines w count k (drop first outputs) in
+    let long = added-long a.lines in
+    let same = a.lines.room in
+    let left = length-drop first outputs in
+    let i = a.inside in
+    let m : count * 1 ≤ count * w = mul-le-mul_left count some in
+    record {
+      lines = record {
+        wrote = record { bytes = refl; place = long; inside = omega arith };
+        taken = refl;
         numbered = omega arith;
         inside = omega arith;
-      }
-
--- where a line surely has room and a cycle is left, lines are written
-pub filled-some :
-    {buffer : List ℕ} {at k w : ℕ} {outputs : List ℕ} {first : ℕ} {after : List ℕ} (count : ℕ) {next end : ℕ} →
-    FilledLines buffer at k w outputs first after count next end →
-    0 < w →
-    at + 280 ≤ length buffer →
-    first + w ≤ length outputs →
-    first < next
-filled-some {w = w} zero f some room left =
-    let e = f.lines.taken in
-    let z = zero-mul w in
-    let p = f.lines.wrote.place in
-    let h = f.full (omega arith) in
-    absurd (omega arith)
-filled-some {w = w} (suc count) f some room left = let e = f.lines.taken in let m = suc-mul count w in omega arith
+      };
+      full = λ h.
+          let n : (count + 1) * w ≡ count * w + w = ap (λ c. c * w) (add-one count) ∙ suc-mul count w in
+          let f = a.full (omega arith) in
+          omega arith;
+    }
 
 -- what is printed are the lines of the first k cycles
 printed-lines :

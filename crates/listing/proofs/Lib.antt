@@ -2,8 +2,8 @@
 pub mod Digits
 pub mod Numerals
 pub mod Lengths
-pub mod Written
-pub mod Numbers
+pub mod Added
 pub mod Items
+pub mod Chunks
 pub mod Filling
 pub mod Requirements

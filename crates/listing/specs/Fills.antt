@@ -2,17 +2,17 @@
 use Rattle.std.specs.Prelude.{ℕ, ◌+◌, ◌*◌, ◌≤◌, ◌<◌, ◌≡◌, List, length, drop}
 use Rattle.listing.specs.Lines.{cycle_lines}
 use Rattle.listing.specs.Wrote.{TextPut, line_bytes}
+use Rattle.listing.specs.Texts.{Written, Added}
 
--- what is asked: lines of 1 to 64 leaves; cycle k's begin at the leaf `first`
-pub record FillingLines (buffer : List ℕ) (at k w : ℕ) (outputs : List ℕ) (first : ℕ) : Type 0 where
-  pub room : at ≤ length buffer
-  pub some : 0 < w
-  pub few : w ≤ 64
-  -- every cycle has a leaf, so a cycle's number fits where a leaf's place does
-  pub numbered : k ≤ first
-  pub inside : first ≤ length outputs
+-- the lines of `count` cycles from k on are added, w leaves each; more only where no cycle is left
+-- or a line might not fit
+pub record LinesAdded (old : Written) (k w : ℕ) (leaves : List ℕ) (new : Written) (count : ℕ) : Type 0 where
+  pub lines : Added old (cycle_lines w count k leaves) new
+  pub inside : count * w ≤ length leaves
+  pub full : (count + 1) * w ≤ length leaves → new.room < length new.bytes + line_bytes
 
--- the lines of `count` cycles are written, up to the leaf `next`
+-- the same in a buffer, from a place on: the lines of `count` cycles are written, up to the leaf
+-- `next`
 pub record Filling (buffer : List ℕ) (at k w : ℕ) (outputs : List ℕ) (first : ℕ) (after : List ℕ) (count next end : ℕ) : Type 0 where
   pub wrote : TextPut buffer at (cycle_lines w count k (drop first outputs)) after end
   pub taken : next ≡ first + count * w

@@ -3,7 +3,9 @@
 use Rattle.std.specs.Prelude.{ℕ, ◌+◌, ◌*◌, ◌-◌, ◌/◌, ◌≤◌, ◌<◌, ◌≡◌, ◌≢◌, ◌↔◌, List, [], ◌∷◌, ◌++◌, length, get_or, drop}
 use Rattle.listing.specs.Digits.{digit, digits}
 use Rattle.listing.specs.Lines.{cycle_lines}
-use Rattle.listing.specs.Fills.{FilledLines}
+use Rattle.listing.specs.Wrote.{with_text}
+use Rattle.listing.specs.Texts.{Written}
+use Rattle.listing.specs.Fills.{LinesAdded, FilledLines}
 
 abbrev pub AllDigits : List ℕ → Type 0
 AllDigits [] = Unit {0}
@@ -24,6 +26,20 @@ pub record Numeral (n : ℕ) (text : List ℕ) : Type 0 where
 -- the digits of n are the one text that is a numeral of n; kept by `digits-exactly` (proofs/Numerals.antt)
 abbrev pub DigitsExactly : Type 0
 DigitsExactly = (n : ℕ) (text : List ℕ) → Numeral n text ↔ (text ≡ digits n)
+
+-- Lines added to a text that is in the front of a buffer are written there, from the text's end on,
+-- and are those of outputs from the leaf `first` on; kept by `lines_fill` (proofs/Filling.antt)
+abbrev pub LinesFill : Type 0
+LinesFill =
+    (old new : Written) (k w count first : ℕ) (outputs buffer : List ℕ) →
+    length buffer ≡ old.room →
+    length new.bytes ≤ new.room →
+    k ≤ first →
+    first ≤ length outputs →
+    0 < w →
+    LinesAdded old k w (drop first outputs) new count →
+    FilledLines buffer (length old.bytes) k w outputs first
+    (with_text buffer (length old.bytes) (cycle_lines w count k (drop first outputs))) count (first + count * w) (length new.bytes)
 
 -- pieces laid end to end, each written from where the one before stopped: up to cycle k, whose leaves begin at `first`
 pub data LinesLaid (w : ℕ) (outputs : List ℕ) : (k first : ℕ) (text : List ℕ) → Type 0 where

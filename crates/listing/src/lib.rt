@@ -1,164 +1,204 @@
-// The lines of the program's listing, written as bytes to a buffer that the caller lends. Each function gives the place after what it
-// wrote. A line has at most 278 bytes: a cycle's number of 20 digits, a colon, 64 leaves of 4 bytes and the line's end.
+// The lines of the program's listing, written as bytes to a buffer that the caller lends. A line
+// has at most 278 bytes: a cycle's number of 20 digits, a colon, 64 leaves of 4 bytes and the
+// line's end.
 #![tactic(auto)]
 
-ghost use Rattle.std.specs.Prelude.{◌≡◌, [], ◌∷◌, ◌+◌, ◌≤◌, ◌<◌, length};
+ghost use Rattle.std.specs.Prelude.{◌≡◌, [], ◌∷◌, ◌+◌, ◌*◌, ◌/◌, ◌^◌, ◌≤◌, ◌<◌, length, drop};
 ghost use Rattle.listing.specs.Digits.{digits};
 ghost use Rattle.listing.specs.Lines.{word_line, numbers_line, type_line, cycles_line, refused_line, leaf_text, leaf_texts, cycle_line};
-ghost use Rattle.listing.specs.Wrote.{TextPut, line_bytes};
-ghost use Rattle.listing.specs.Fills.{FillingLines, FilledLines};
+ghost use Rattle.listing.specs.Wrote.{line_bytes};
+ghost use Rattle.listing.specs.Texts.{HasRoom, Added};
+ghost use Rattle.listing.specs.Fills.{LinesAdded};
+
+use std::marker::Model;
 
 // The room that a line is given.
 pub const LINE_BYTES: usize = 280;
 
-fn put_byte(buffer: &mut [u8], at: usize, b: u8) -> usize
-    requires { at < length buffer.old }
-    ensures { TextPut buffer.old at (b ∷ []) buffer.new result }
-{
-    buffer[at] = b;
-    at + 1
+// A text in the front of a buffer. It grows at its end; what it held and what lies behind it stay.
+#[derive(Drop)]
+pub struct Text<'a> {
+    buffer: &'a mut [u8],
+    len: usize,
 }
 
-fn put_text(buffer: &mut [u8], at: usize, text: &[u8]) -> usize
-    requires { at + length text.now ≤ length buffer.old }
-    ensures { TextPut buffer.old at text.now buffer.new result }
-{
-    let mut place = at;
-    let mut i = 0;
-    while i < text.len() {
-        place = put_byte(buffer, place, text[i]);
-        i += 1;
+impl<'a> Model for Text<'a> {
+    ghost use Rattle.std.specs.Prelude.{◌≤◌, length, take, drop};
+    ghost use Rattle.listing.specs.Texts.{Written};
+
+    ghost Value = { Written };
+
+    ghost view = { λ t. record { bytes = take t.len t.buffer.now; room = length t.buffer.now; rest = drop t.len t.buffer.now } };
+
+    ghost invariant = { λ t. t.len ≤ length t.buffer.now };
+}
+
+impl<'a> Text<'a> {
+    // An empty text, with all of a buffer as its room.
+    pub fn new(buffer: &'a mut [u8]) -> Text<'a>
+        ensures { result ≡ record { bytes = []; room = length buffer.old; rest = buffer.old } }
+    {
+        Text { buffer, len: 0 }
     }
-    place
-}
 
-// A number in decimal: its front digits, which are those of a tenth of it, and the last one.
-pub fn put_number(buffer: &mut [u8], at: usize, n: u64) -> usize
-    requires { at + length (digits n) ≤ length buffer.old }
-    ensures { TextPut buffer.old at (digits n) buffer.new result }
-{
-    let last = b'0' + (n % 10) as u8;
-    if n < 10 {
-        return put_byte(buffer, at, last);
+    // How many bytes more have room.
+    pub fn left(&self) -> usize
+        ensures { length self.now.bytes + result ≡ self.now.room }
+    {
+        self.buffer.len() - self.len
     }
-    let place = put_number(buffer, at, n / 10);
-    put_byte(buffer, place, last)
-}
 
-// A word, a number and the line's end.
-pub fn put_word_line(buffer: &mut [u8], at: usize, word: &[u8], n: u64) -> usize
-    requires { at + length word.now + 21 ≤ length buffer.old }
-    ensures { TextPut buffer.old at (word_line word.now n) buffer.new result }
-{
-    let number = put_text(buffer, at, word);
-    let end = put_number(buffer, number, n);
-    put_byte(buffer, end, b'\n')
-}
-
-// The first line: the output type's record.
-pub fn put_type(buffer: &mut [u8], at: usize, t: u64) -> usize
-    requires { at + line_bytes ≤ length buffer.old }
-    ensures { TextPut buffer.old at (type_line t) buffer.new result }
-{
-    put_word_line(buffer, at, b"type ", t)
-}
-
-// The last line: how many cycles were done.
-pub fn put_cycles(buffer: &mut [u8], at: usize, count: usize) -> usize
-    requires { at + line_bytes ≤ length buffer.old }
-    ensures { TextPut buffer.old at (cycles_line count) buffer.new result }
-{
-    put_word_line(buffer, at, b"cycles ", count as u64)
-}
-
-// A word, a number, another word, another number and the line's end.
-pub fn put_numbers_line(
-    buffer: &mut [u8],
-    at: usize,
-    word: &[u8],
-    n: u64,
-    second: &[u8],
-    m: u64,
-) -> usize
-    requires { at + length word.now + length second.now + 41 ≤ length buffer.old }
-    ensures { TextPut buffer.old at (numbers_line word.now n second.now m) buffer.new result }
-{
-    let number = put_text(buffer, at, word);
-    let end = put_number(buffer, number, n);
-    put_word_line(buffer, end, second, m)
-}
-
-// The line of a refusal.
-pub fn put_refused(buffer: &mut [u8], at: usize, code: u64, place: u64) -> usize
-    requires { at + line_bytes ≤ length buffer.old }
-    ensures { TextPut buffer.old at (refused_line code place) buffer.new result }
-{
-    put_numbers_line(buffer, at, b"refused ", code, b" at ", place)
-}
-
-fn put_leaf(buffer: &mut [u8], at: usize, leaf: u8) -> usize
-    requires { at + length (leaf_text leaf) ≤ length buffer.old }
-    ensures { TextPut buffer.old at (leaf_text leaf) buffer.new result }
-{
-    let number = put_byte(buffer, at, b' ');
-    put_number(buffer, number, leaf as u64)
-}
-
-fn put_leaves(buffer: &mut [u8], at: usize, leaves: &[u8]) -> usize
-    requires { at + length (leaf_texts leaves.now) ≤ length buffer.old }
-    ensures { TextPut buffer.old at (leaf_texts leaves.now) buffer.new result }
-{
-    let mut place = at;
-    let mut i = 0;
-    while i < leaves.len() {
-        place = put_leaf(buffer, place, leaves[i]);
-        i += 1;
+    // The bytes written, which keep the buffer.
+    pub fn into_bytes(self) -> &'a [u8]
+        ensures { result.now ≡ self.entry.bytes }
+    {
+        let Text { buffer, len } = self;
+        &buffer[..len]
     }
-    place
-}
 
-// The line of cycle k.
-pub fn put_cycle(buffer: &mut [u8], at: usize, k: usize, leaves: &[u8]) -> usize
-    requires { (at + line_bytes ≤ length buffer.old) × (length leaves.now ≤ 64) }
-    ensures { TextPut buffer.old at (cycle_line k leaves.now) buffer.new result }
-{
-    let colon = put_number(buffer, at, k as u64);
-    let first = put_byte(buffer, colon, b':');
-    let end = put_leaves(buffer, first, leaves);
-    put_byte(buffer, end, b'\n')
-}
+    fn put_byte(&mut self, b: u8)
+        requires { HasRoom self.old 1 }
+        ensures { Added self.old (b ∷ []) self.new }
+    {
+        self.buffer[self.len] = b;
+        self.len += 1;
+    }
 
-// How far lines were written: so many of them, up to the leaf `next`, and the place after them.
-#[derive(Clone, Copy)]
-pub struct Filled {
-    pub count: usize,
-    pub next: usize,
-    pub end: usize,
-}
+    fn put_text(&mut self, text: &[u8])
+        requires { HasRoom self.old (length text.now) }
+        ensures { Added self.old text.now self.new }
+    {
+        let end = self.len + text.len();
+        self.buffer[self.len..end].copy_from_slice(text);
+        self.len = end;
+    }
 
-// The lines of cycles from k on, whose leaves begin at `first`: all that are left, or as many as surely have room.
-pub fn put_lines(
-    buffer: &mut [u8],
-    at: usize,
-    k: usize,
-    w: usize,
-    outputs: &[u8],
-    first: usize,
-) -> Filled
-    requires { FillingLines buffer.old at k w outputs.now first }
-    ensures { FilledLines buffer.old at k w outputs.now first buffer.new result.count result.next result.end }
-{
-    let mut count = 0;
-    let mut next = first;
-    let mut end = at;
-    while w <= outputs.len() - next {
-        if buffer.len() - end < LINE_BYTES {
-            return Filled { count, next, end };
+    // A number in decimal: its front digits, which are those of a tenth of it, and the last one.
+    pub fn put_number(&mut self, n: u64)
+        requires { HasRoom self.old (length (digits n)) }
+        ensures { Added self.old (digits n) self.new }
+    {
+        if n >= 10 {
+            self.put_number(n / 10);
         }
-        let until = next + w;
-        end = put_cycle(buffer, end, k + count, &outputs[next..until]);
-        count += 1;
-        next = until;
+        self.put_byte(b'0' + (n % 10) as u8);
     }
-    Filled { count, next, end }
+
+    // A word, a number and the line's end.
+    pub fn put_word_line(&mut self, word: &[u8], n: u64)
+        requires { HasRoom self.old (length word.now + 21) }
+        ensures { Added self.old (word_line word.now n) self.new }
+    {
+        self.put_text(word);
+        self.put_number(n);
+        self.put_byte(b'\n');
+    }
+
+    // The first line: the output type's record.
+    pub fn put_type(&mut self, t: u64)
+        requires { HasRoom self.old line_bytes }
+        ensures { Added self.old (type_line t) self.new }
+    {
+        self.put_word_line(b"type ", t);
+    }
+
+    // The last line: how many cycles were done.
+    pub fn put_cycles(&mut self, count: usize)
+        requires { HasRoom self.old line_bytes }
+        ensures { Added self.old (cycles_line count) self.new }
+    {
+        self.put_word_line(b"cycles ", count as u64);
+    }
+
+    // A word, a number, another word, another number and the line's end.
+    pub fn put_numbers_line(&mut self, word: &[u8], n: u64, second: &[u8], m: u64)
+        requires { HasRoom self.old (length word.now + length second.now + 41) }
+        ensures { Added self.old (numbers_line word.now n second.now m) self.new }
+    {
+        self.put_text(word);
+        self.put_number(n);
+        self.put_word_line(second, m);
+    }
+
+    // The line of a refusal.
+    pub fn put_refused(&mut self, code: u64, place: u64)
+        requires { HasRoom self.old line_bytes }
+        ensures { Added self.old (refused_line code place) self.new }
+    {
+        self.put_numbers_line(b"refused ", code, b" at ", place);
+    }
+
+    fn put_leaf(&mut self, leaf: u8)
+        requires { HasRoom self.old (length (leaf_text leaf)) }
+        ensures { Added self.old (leaf_text leaf) self.new }
+    {
+        self.put_byte(b' ');
+        self.put_number(u64::from(leaf));
+    }
+
+    fn put_leaves(&mut self, leaves: &[u8])
+        requires { HasRoom self.old (length (leaf_texts leaves.now)) }
+        ensures { Added self.old (leaf_texts leaves.now) self.new }
+    {
+        for &leaf in leaves {
+            self.put_leaf(leaf);
+        }
+    }
+
+    // The line of cycle k.
+    pub fn put_cycle(&mut self, k: usize, leaves: &[u8])
+        requires { HasRoom self.old line_bytes × (length leaves.now ≤ 64) }
+        ensures { Added self.old (cycle_line k leaves.now) self.new }
+    {
+        self.put_number(k as u64);
+        self.put_byte(b':');
+        self.put_leaves(leaves);
+        self.put_byte(b'\n');
+    }
+
+    // The lines of cycles from k on, of w leaves each: all, or as many as surely have room. It
+    // gives how many.
+    pub fn put_lines(&mut self, k: usize, w: usize, leaves: &[u8]) -> usize
+        requires some { 0 < w }
+        requires few { w ≤ 64 }
+        requires numbered { k + length leaves.now < 2 ^ 64 }
+        ensures { LinesAdded self.old k w leaves.now self.new result }
+    {
+        let mut count = 0;
+        for line in leaves.chunks_exact(w) {
+            if self.left() < LINE_BYTES {
+                break;
+            }
+            self.put_cycle(k + count, line);
+            count += 1;
+        }
+        count
+    }
+}
+
+// The outputs of all cycles end to end, so many leaves each, and no more of them than a line has
+// room for.
+#[derive(Clone, Copy)]
+pub struct Outputs<'a> {
+    pub leaves: &'a [u8],
+    pub width: usize,
+    pub ghost some: { 0 < width },
+    pub ghost few: { width ≤ 64 },
+}
+
+impl<'a> Outputs<'a> {
+    // How many cycles there are.
+    pub fn cycles(self) -> usize
+        ensures { result ≡ length self.entry.leaves.now / self.entry.width }
+    {
+        self.leaves.len() / self.width
+    }
+
+    // The leaves from cycle k on.
+    pub fn from_cycle(self, k: usize) -> &'a [u8]
+        requires { k * self.width ≤ length self.leaves.now }
+        ensures { result.now ≡ drop (k * self.entry.width) self.entry.leaves.now }
+    {
+        &self.leaves[k * self.width..]
+    }
 }

@@ -1,7 +1,6 @@
 -- The laws that the proofs of the functions cite.
-pub mod TypeLaws
+pub mod ListLaws
 pub mod PairLaws
-pub mod CodeLaws
+pub mod NumberLaws
 pub mod OpLaws
-pub mod StepLaws
-pub mod LoopLaws
+pub mod FewLaws

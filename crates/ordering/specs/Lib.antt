@@ -2,3 +2,4 @@
 -- Nothing here is to be believed: what functions ask and give, and their proofs need.
 pub mod Held
 pub mod Assembled
+pub mod Numbers

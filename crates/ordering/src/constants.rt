@@ -1,60 +1,91 @@
-// The types of the constants that are being read, the last on top; 0 for none, and for a bracket that is open.
-ghost use Rattle.std.specs.Prelude.{◌≡◌, List, ◌∷◌, ℕ, ◌+◌, ◌≤◌, ◌<◌, length};
+// The types of the constants that are being read, the last on top; 0 for none, and for a bracket
+// that is open.
+ghost use Rattle.std.specs.Prelude.{◌≡◌, [], ◌∷◌, ◌≤◌, ◌<◌, length};
 ghost use Rattle.instructions.specs.Assembly.{outermost, pair_closed, top_constant};
-ghost use Rattle.ordering.specs.Held.{held_numbers};
-ghost use Rattle.instructions.specs.Assembly.{held_types};
 ghost use Rattle.grammar.specs.Legal.{text_bytes};
 ghost use Rattle.grammar.specs.Sizes.{text_table};
 
 use crate::types::constant_pair;
-use instructions::{Operands, Ops};
+use instructions::INSTRUCTIONS;
+use instructions::types::DeclaredTypes;
+use std::marker::Model;
 
-// One number more.
-pub fn push_number(x: u16, n: usize, numbers: &mut Operands)
-    requires { (length numbers.old ≡ text_table) × (n < text_table) }
-    ensures { (length numbers.new ≡ text_table) × (held_numbers numbers.new (n + 1) ≡ x ∷ held_numbers numbers.old n) }
-{
-    numbers[n] = x;
+#[derive(Drop)]
+pub struct ConstantTypes {
+    numbers: [u16; INSTRUCTIONS],
+    len: usize,
 }
 
-// The last number, or 0.
-pub fn top_number(n: usize, numbers: &Operands) -> u16
-    requires { n ≤ text_table }
-    ensures { result ≡ top_constant (held_numbers numbers.now n) }
-{
-    if n == 0 {
-        return 0;
-    }
-    numbers[n - 1]
+// Clauses see the numbers, the last first.
+impl Model for ConstantTypes {
+    ghost use Rattle.std.specs.Prelude.{ℕ, List, ◌≤◌};
+    ghost use Rattle.grammar.specs.Sizes.{text_table};
+    ghost use Rattle.ordering.specs.Numbers.{held_numbers};
+
+    ghost Value = { List ℕ };
+
+    ghost view = { λ c. held_numbers c.numbers c.len };
+
+    ghost invariant = { λ c. c.len ≤ text_table };
 }
 
-// The outermost constant's place.
-pub fn outer_place(n: usize, old: u16, new: u16, numbers: &Operands) -> u16
-    ensures { result ≡ outermost (held_numbers numbers.now n) old new }
-{
-    if n == 0 {
-        return new;
+impl ConstantTypes {
+    pub fn new() -> Self
+        ensures { result ≡ [] }
+    {
+        ConstantTypes {
+            numbers: [0; INSTRUCTIONS],
+            len: 0,
+        }
     }
-    old
-}
 
-// The end of a pair.
-pub fn close_pair(
-    n: usize,
-    k: usize,
-    numbers: &mut Operands,
-    pairs: &Ops,
-    firsts: &Operands,
-    seconds: &Operands,
-) -> usize
-    requires { (length numbers.old ≡ text_table) × (n ≤ text_table) × (length pairs.now ≡ text_table) × (length firsts.now ≡ text_table) × (length seconds.now ≡ text_table) × (k ≤ text_bytes) }
-    ensures { (length numbers.new ≡ text_table) × (result ≤ n) × (held_numbers numbers.new result ≡ pair_closed (held_types pairs.now firsts.now seconds.now k) (held_numbers numbers.old n)) }
-{
-    if n < 3 {
-        return 0;
+    // One number more.
+    pub fn push(&mut self, number: u16)
+        requires { length self.old < text_table }
+        ensures { self.new ≡ number ∷ self.old }
+    {
+        let last = self.len;
+        self.numbers[last] = number;
+        self.len = last + 1;
     }
-    let b = numbers[n - 1];
-    let a = numbers[n - 2];
-    numbers[n - 3] = constant_pair(a, b, k, pairs, firsts, seconds);
-    n - 2
+
+    pub fn clear(&mut self)
+        ensures { self.new ≡ [] }
+    {
+        self.len = 0;
+    }
+
+    // The last number, or 0.
+    pub fn top(&self) -> u16
+        ensures { result ≡ top_constant self.now }
+    {
+        if self.len == 0 {
+            0
+        } else {
+            self.numbers[self.len - 1]
+        }
+    }
+
+    // The outermost constant's place.
+    pub fn outer_place(&self, old: u16, new: u16) -> u16
+        ensures { result ≡ outermost self.now old new }
+    {
+        if self.len == 0 { new } else { old }
+    }
+
+    // The end of a pair: its type stands for the bracket and the two parts.
+    pub fn close_pair(&mut self, types: &DeclaredTypes)
+        requires { length types.now ≤ text_bytes }
+        ensures { self.new ≡ pair_closed types.now self.old }
+    {
+        if self.len < 3 {
+            self.len = 0;
+            return;
+        }
+        let bracket = self.len - 3;
+        let first = self.numbers[bracket + 1];
+        let second = self.numbers[bracket + 2];
+        self.numbers[bracket] = constant_pair(types, first, second);
+        self.len = bracket + 1;
+    }
 }

@@ -5,5 +5,4 @@
 pub mod assembly;
 pub mod code;
 pub mod constants;
-pub mod steps;
 pub mod types;

@@ -52,7 +52,7 @@ use Rattle.records.proofs.Grown.{Alternative, Grown, grown-circuit}
 use Rattle.typing.specs.Judging.{Context}
 use Rattle.verdict.specs.Verdict.{verdict}
 use Rattle.verdict.specs.Scopes.{inputs}
-use Rattle.answers.specs.declared.Verdict.TheVariants.{Accepted}
+use Rattle.answers.specs.Answers.{Accepted}
 use Rattle.accepted.proofs.Laws.{RulesHold, type-of-record, fits-typed, within-fits, written, accepted-by-types, input-context, accepted-judged}
 use Rattle.accepted.proofs.AcceptedAgain.{ValuesFit}
 use Rattle.accepted.proofs.LeafBounds.{bounds-positive}

@@ -19,7 +19,7 @@ use Rattle.records.proofs.Grown.{grown-circuit}
 use Rattle.answers.specs.Answers.{lowest}
 use Rattle.verdict.specs.Verdict.{verdict}
 use Rattle.verdict.specs.Scopes.{inputs}
-use Rattle.answers.specs.declared.Verdict.TheVariants.{Accepted}
+use Rattle.answers.specs.Answers.{Accepted}
 use Rattle.accepted.proofs.Laws.{written, accepted-by-types, input-context, accepted-judged}
 use Rattle.accepted.proofs.AcceptedAgain.{ValuesFit, judged-fitting}
 use Rattle.stimulus.specs.Stimulus.{input_type}

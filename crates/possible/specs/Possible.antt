@@ -7,8 +7,8 @@ use Rattle.records.specs.Kinds.{is_flat}
 use Rattle.records.specs.Says.{kind_at}
 use Rattle.structure.specs.Rules.{is_feedback}
 use Rattle.answers.specs.Answers.{packed, when_done, lowest, Check, check, when, first_applying}
-use Rattle.answers.specs.declared.Answer.{Answer}
-use Rattle.answers.specs.declared.Answer.TheVariants.{Done}
+use Rattle.answers.specs.Answers.{Answer}
+use Rattle.answers.specs.Answers.{Done}
 use Rattle.verdict.specs.Verdict.{sheet_checks}
 use Rattle.stimulus.specs.Stimulus.{input_type}
 use Rattle.stimulus.specs.OneCycle.{one_cycle_checks}

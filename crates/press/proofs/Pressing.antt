@@ -16,18 +16,16 @@ use lib.Seq.{set-set, set-get_or}
 use borrow.Author.Tests.{eq-eqb, ne_eqb}
 use Rattle.picoella.specs.Language.{bounds}
 use Rattle.answers.specs.Answers.{is_some}
+use Rattle.std.specs.Prelude.{Option, Some, None}
 use Rattle.answers.specs.Searches.{found}
-use Rattle.answers.specs.declared.Found.{Found}
-use Rattle.answers.specs.declared.Found.TheVariants.{At, Nothing}
 use Rattle.answers.proofs.Lowest.{lowest-is, lowest_none, lowest-some-passes}
 use Rattle.records.proofs.Types.{leaves-of-bounds}
 use Rattle.meaning.proofs.Order.{within-length}
 use Rattle.stimulus.specs.Stimulus.{input_type, input_leaves}
 use Rattle.probe.specs.OutputLeaf.{leaf_for}
 use Rattle.press.specs.Press.{alters_to, constructor_for, leaf_found, one_press}
-use Rattle.press.specs.declared.Press.TheVariants.{Change, NoChange}
-use Rattle.probe.proofs.Looking.{kept-twice}
-use Rattle.press.specs.Pressing.{Pressing, InputKept}
+use Rattle.press.specs.Press.{Change, NoChange}
+use Rattle.press.specs.Pressing.{Pressing}
 
 module _ (s i : List ℕ) (l j c : ℕ) where
   -- its present value alters nothing
@@ -42,14 +40,14 @@ module _ (s i : List ℕ) (l j c : ℕ) where
 
 -- the constructors of a leaf
 pub constructor-lowest : (s i : List ℕ) (l j k last : ℕ) → last ≡ get_or (bounds (input_type s)) j 0 → k < last → alters_to s i l j (k + 1) ≡ true
-    → ((q : ℕ) → q < k → alters_to s i l j (suc q) ≡ false) → found (At k) ≡ constructor_for s i l j
+    → ((q : ℕ) → q < k → alters_to s i l j (suc q) ≡ false) → found (Some k) ≡ constructor_for s i l j
 unfolding constructor_for
 constructor-lowest s i l j k last e h a f =
     sym (lowest-is (λ q. alters_to s i l j (suc q)) (get_or (bounds (input_type s)) j 0) k (omega arith)
     (ap (alters_to s i l j) (sym (add-one k)) ∙ a) f)
 
 pub constructor-none : (s i : List ℕ) (l j k last : ℕ) → last ≡ get_or (bounds (input_type s)) j 0 → last ≤ k
-    → ((q : ℕ) → q < k → alters_to s i l j (suc q) ≡ false) → found Nothing ≡ constructor_for s i l j
+    → ((q : ℕ) → q < k → alters_to s i l j (suc q) ≡ false) → found None ≡ constructor_for s i l j
 unfolding constructor_for
 constructor-none s i l j k last e h f =
     sym (lowest_none (λ q. alters_to s i l j (suc q)) (get_or (bounds (input_type s)) j 0) (λ q g. f q (omega arith)))
@@ -57,13 +55,6 @@ constructor-none s i l j k last e h f =
 -- the input was put back
 pub pressing-again : {s : List ℕ} {leaf : ℕ} {input input' : List ℕ} {present : ℕ} → input' ≡ input → Pressing s leaf input present → Pressing s leaf input' present
 pressing-again e p = rw e p
-
-pub kept_again : {env held out input env' held' out' input' env'' held'' out'' input'' : List ℕ} → InputKept env held out input env' held' out' input'
-    → InputKept env' held' out' input' env'' held'' out'' input'' → InputKept env held out input env'' held'' out'' input''
-kept_again a b = record { kept = kept-twice a.kept b.kept; same = b.same ∙ a.same }
-
-pub kept-first : {env held out input : List ℕ} → InputKept env held out input env held out input
-kept-first = record { kept = record { wide = refl; long = refl; room = refl }; same = refl }
 
 -- a test on the input as it is
 pub told_of : (s : List ℕ) {i i' : List ℕ} (l j c : ℕ) {b : Bool} → i' ≡ i → b ≡ alters_to s i' l j c → alters_to s i l j c ≡ b
@@ -74,7 +65,7 @@ told-next s {i} l j k e q = ap (alters_to s i l j) (sym (add-one k)) ∙ told_of
 
 -- the leaves of the input
 module _ (s i : List ℕ) (l j : ℕ) (before : (q : ℕ) → q < j → is_some (constructor_for s i l q) ≡ false) where
-  pub press-lowest : j < input_leaves s → (k : ℕ) (f : Found) → f ≡ At k → found f ≡ constructor_for s i l j → Change j (k + 1) ≡ one_press s i l
+  pub press-lowest : j < input_leaves s → (k : ℕ) (f : Option ℕ) → f ≡ Some k → found f ≡ constructor_for s i l j → Change j (k + 1) ≡ one_press s i l
   unfolding one_press leaf_found
   press-lowest h k f e q =
       let c : constructor_for s i l j ≡ some k = sym q ∙ ap found e in
@@ -87,12 +78,12 @@ module _ (s i : List ℕ) (l j : ℕ) (before : (q : ℕ) → q < j → is_some 
       let a : leaf_found s i l ≡ none = lowest_none (λ q. is_some (constructor_for s i l q)) (input_leaves s) (λ q g. before q (omega arith)) in
       rw a refl
 
-  pub none_here : (f : Found) → f ≡ Nothing → found f ≡ constructor_for s i l j → is_some (constructor_for s i l j) ≡ false
+  pub none_here : (f : Option ℕ) → f ≡ None → found f ≡ constructor_for s i l j → is_some (constructor_for s i l j) ≡ false
   none_here f e q = ap is_some (sym q ∙ ap found e)
 
 -- what is found is a constructor, less 1, of a leaf whose count is a byte
 pub constructor-small : (s i : List ℕ) (l j : ℕ) (counts : List ℕ) → counts ≡ bounds (input_type s) → ((q : ℕ) → Fits w8 (get_or counts q 0))
-    → (f : Found) {k : ℕ} → f ≡ At k → found f ≡ constructor_for s i l j → Fits w64 (k + 1)
+    → (f : Option ℕ) {k : ℕ} → f ≡ Some k → found f ≡ constructor_for s i l j → Fits w64 (k + 1)
 unfolding constructor_for
 constructor-small s i l j counts e b f {k} g q =
     let c : constructor_for s i l j ≡ some k = sym q ∙ ap found g in

@@ -16,8 +16,8 @@ use borrow.Author.Tests.{eq-eqb, leb-false, lt-leb, ne_eqb}
 use Rattle.picoella.specs.Language.{bounds}
 use Rattle.answers.specs.Answers.{code, lowest, NoneApplies, is_some}
 use Rattle.answers.specs.GivenSlices.{no_slice}
-use Rattle.answers.specs.declared.Answer.{Answer}
-use Rattle.answers.specs.declared.Answer.TheVariants.{Done, Refused}
+use Rattle.answers.specs.Answers.{Answer}
+use Rattle.answers.specs.Answers.{Done, Refused}
 use Rattle.answers.proofs.First.{none-split, when-none, when-some}
 use Rattle.answers.proofs.StandardLaws.{zero-done}
 use Rattle.answers.proofs.Lowest.{lowest-is, lowest_none, lowest-none-fails, lowest-some-passes}
@@ -34,8 +34,8 @@ use Rattle.probe.specs.OutputLeaf.{leaf_for, leaf_check}
 use Rattle.probe.proofs.Inputs.{set-within}
 use Rattle.probe.proofs.Shown.{shown-at}
 use Rattle.press.specs.Press.{alters_to, constructor_for, leaf_found, change_to, change_at, one_press, own_press_checks, press_checks, press_answer, press_done, final_press, press_found, press_leaf, press_constructor}
-use Rattle.press.specs.declared.Press.{Press}
-use Rattle.press.specs.declared.Press.TheVariants.{Change, NoChange}
+use Rattle.press.specs.Press.{Press}
+use Rattle.press.specs.Press.{Change, NoChange}
 use Rattle.press.specs.Promises.{Alters, LowestChange, PressTold, PressNone, FormedPress, PressLaws, PressRefusedUntold, PressAsShown}
 
 never_both : (b : Bool) → b ≡ true → b ≡ false → ⊥

@@ -3,8 +3,6 @@
 -- Assumes nothing.
 use mathlib.Core.Path.{refl}
 use mathlib.Core.List.{[], ◌∷◌}
-use native.Mathlib.Omega.{arith}
-use lib.ListN.{replicate}
 use Rattle.picoella.specs.Language.{bounds}
 use Rattle.records.specs.Words.{word, count}
 use Rattle.records.specs.Kinds.{row_of, kind_of, ask_of}
@@ -23,31 +21,22 @@ use Rattle.press.specs.Promises.{PressExamples}
 use Rattle.stimulus.specs.Stimulus.{input_type}
 use Rattle.stimulus.proofs.OneCycle.{one-cycle-typed}
 use Rattle.behaviour.specs.Bench.{toggle}
-use Rattle.evaluator.proofs.Frames.{zeros-long}
-use Rattle.preview.proofs.Witness.{toggle-accepted, toggle_table, toggle-accepting}
-use Rattle.probe.specs.Looking.{Looking}
+use Rattle.preview.proofs.Witness.{toggle-accepted}
 use Rattle.press.specs.Pressing.{Pressing, PressingAll}
-use Rattle.press.proofs.Calls.{press-looking}
 
 pub pressed-examples : PressExamples
 unfolding final_press press_answer one_press leaf_found constructor_for leaf_for not_one_cycle wrong_stimulus wrong_byte wrong_length wrong_header wrong_record wrong_naming wrong_type too_deep depth nesting ancestry ancestry_within circuit tree_at tree_within alternatives alternatives_within chain chain_within pair_of type_at type_within namings well_said ask_of kind_of row_of word count eval undecided_rule circuit_term output_by
 pressed-examples = (refl, refl, refl, refl, refl, refl, refl)
 
-toggle-pressing-all : PressingAll toggle (count toggle) toggle_table (bounds (input_type toggle)) (1 ∷ []) 1 0
+toggle-pressing-all : PressingAll toggle (bounds (input_type toggle)) (1 ∷ [])
 unfolding not_one_cycle wrong_stimulus wrong_byte type_at type_within kind_of row_of word
 toggle-pressing-all =
     record {
-      accepting = toggle-accepting;
       type = 1;
       accepted = toggle-accepted;
       counts_are = refl;
       typed = one-cycle-typed toggle (1 ∷ []) (refl, (refl, tt));
-      gives = refl;
-      there = omega arith;
     }
-
-toggle-looking : Looking toggle (count toggle) toggle_table (replicate 4096 0) (replicate 4096 0) (9 ∷ []) 0
-toggle-looking = press-looking toggle-pressing-all (zeros-long 4096) (zeros-long 4096) refl
 
 toggle-pressing : Pressing toggle 0 (1 ∷ []) 2
 unfolding leaf_for circuit tree_at tree_within alternatives alternatives_within chain chain_within pair_of type_at type_within namings well_said ask_of kind_of row_of word count eval undecided_rule circuit_term output_by

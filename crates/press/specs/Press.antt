@@ -6,14 +6,17 @@ use Rattle.std.specs.Prelude.{ℕ, suc, ◌≡◌, Bool, not, ◌&&◌, List, []
 use Rattle.std.proofs.Math.Option.{Option, none, some}
 use Rattle.picoella.specs.Language.{bounds}
 use Rattle.answers.specs.Answers.{packed, lowest, is_some, Check, first_applying}
-use Rattle.answers.specs.declared.Answer.{Answer}
-use Rattle.answers.specs.declared.Answer.TheVariants.{Done, Refused}
+use Rattle.answers.specs.Answers.{Answer}
+use Rattle.answers.specs.Answers.{Done, Refused}
 use Rattle.verdict.specs.Verdict.{sheet_checks}
 use Rattle.stimulus.specs.Stimulus.{input_type, input_leaves}
 use Rattle.stimulus.specs.OneCycle.{one_cycle_checks}
 use Rattle.probe.specs.OutputLeaf.{leaf_for, leaf_check}
-use Rattle.press.specs.declared.Press.{Press}
-use Rattle.press.specs.declared.Press.TheVariants.{Change, NoChange}
+
+-- what is found: the change of an input leaf to a constructor, or none
+pub data Press : Type 0 where
+  Change : (leaf constructor : ℕ) → Press
+  NoChange : Press
 
 -- input leaf j set to c, which is not its present value, alters output leaf l
 abbrev pub alters_to : (sheet input : List ℕ) (leaf j c : ℕ) → Bool

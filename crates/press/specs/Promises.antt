@@ -5,9 +5,9 @@ use Rattle.std.proofs.Math.Option.{none}
 use Rattle.picoella.specs.Language.{bounds}
 use Rattle.answers.specs.Answers.{code, lowest}
 use Rattle.answers.specs.StandardLaws.{StandardLaws}
-use Rattle.answers.specs.declared.Answer.TheVariants.{Refused}
+use Rattle.answers.specs.Answers.{Refused}
 use Rattle.verdict.specs.Verdict.{output_type, verdict}
-use Rattle.answers.specs.declared.Verdict.TheVariants.{Accepted}
+use Rattle.answers.specs.Answers.{Accepted}
 use Rattle.stimulus.specs.Stimulus.{input_type, input_leaves, wrong_byte}
 use Rattle.stimulus.specs.OneCycle.{not_one_cycle}
 use Rattle.behaviour.specs.Bench.{gate_and, toggle}
@@ -15,7 +15,7 @@ use Rattle.behaviour.specs.Run.{output_leaves}
 use Rattle.preview.specs.Preview.{Previewed}
 use Rattle.probe.specs.OutputLeaf.{leaf_for}
 use Rattle.press.specs.Press.{one_press, press_checks, press_answer, final_press, PressGiven}
-use Rattle.press.specs.declared.Press.TheVariants.{Change, NoChange}
+use Rattle.press.specs.Press.{Change, NoChange}
 
 -- a change of one input leaf, to a constructor other than its present value, that alters the output
 -- leaf

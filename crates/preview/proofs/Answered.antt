@@ -10,12 +10,12 @@ use lib.ListN.{length}
 use lib.Dec.{eqb}
 use borrow.Author.Tests.{eq-eqb}
 use Rattle.answers.specs.Answers.{on_done, Check, check, when, first_applying, NoneApplies}
-use Rattle.answers.specs.declared.Answer.{Answer}
-use Rattle.answers.specs.declared.Answer.TheVariants.{Done, Refused}
+use Rattle.answers.specs.Answers.{Answer}
+use Rattle.answers.specs.Answers.{Done, Refused}
 use Rattle.answers.specs.GivenSlices.{no_slice, one_slice}
 use Rattle.answers.proofs.First.{first-both, first_then}
 use Rattle.verdict.specs.Verdict.{sheet_checks, output_type, verdict}
-use Rattle.answers.specs.declared.Verdict.TheVariants.{Accepted}
+use Rattle.answers.specs.Answers.{Accepted}
 use Rattle.accepted.proofs.Calls.{accepted-output}
 use Rattle.accepted.proofs.Small.{accepted-few}
 use Rattle.meaning.proofs.UndecidedRule.{rule-lawful}

@@ -2,8 +2,8 @@
 -- are 1 to 10, with 10 for the outputs of one cycle. Where nothing refuses, it gives 0 at place 0.
 use Rattle.std.specs.Prelude.{ℕ, ◌≡◌, not, List, [], ◌∷◌, ◌++◌, length, eqb}
 use Rattle.answers.specs.Answers.{packed, when_done, Check, check, when, first_applying}
-use Rattle.answers.specs.declared.Answer.{Answer}
-use Rattle.answers.specs.declared.Answer.TheVariants.{Done}
+use Rattle.answers.specs.Answers.{Answer}
+use Rattle.answers.specs.Answers.{Done}
 use Rattle.verdict.specs.Verdict.{sheet_checks}
 use Rattle.stimulus.specs.OneCycle.{one_cycle_checks}
 use Rattle.behaviour.specs.Cycle.{output}

@@ -5,7 +5,7 @@ use Rattle.picoella.specs.Language.{OfType}
 use Rattle.records.specs.Trees.{type_at}
 use Rattle.answers.specs.Answers.{on_done}
 use Rattle.answers.specs.StandardLaws.{lent_slice, StandardLaws}
-use Rattle.answers.specs.declared.Answer.TheVariants.{Done, Refused}
+use Rattle.answers.specs.Answers.{Done, Refused}
 use Rattle.verdict.specs.Verdict.{output_type}
 use Rattle.stimulus.specs.Stimulus.{input_leaves}
 use Rattle.stimulus.specs.OneCycleCalls.{FormedOneCycle}

@@ -1,8 +1,7 @@
 -- What each function asks of its caller can be had: for the outputs of sheet T on 1 2 1, of one leaf each, and a buffer of 600 bytes.
 -- Assumes nothing.
-use Prim.Native.Nat.{ℕ, ◌≤◌, ◌<◌}
+use Prim.Native.Nat.{ℕ, ◌*◌, ◌≤◌}
 use mathlib.Core.List.{List, [], ◌∷◌}
-use mathlib.Core.Path.{refl}
 use native.Mathlib.Omega.{arith}
 use lib.Dec.{lit≤}
 use lib.ListN.{length, replicate, length-replicate}
@@ -16,16 +15,16 @@ room : (n : ℕ) → n ≤ 600 → n ≤ length buffer
 unfolding buffer
 room n h = let l = length-replicate {A = ℕ} 600 0 in omega arith
 
-first_piece : (560 ≤ length buffer) × (0 < 1) × (1 ≤ 64)
-first_piece = (room 560 (lit≤ tt), lit≤ tt, lit≤ tt)
+first_piece : 560 ≤ length buffer
+first_piece = room 560 (lit≤ tt)
 
 -- from the first cycle on
-put_rest : PuttingLines buffer 7 1 0 0 (2 ∷ 1 ∷ 1 ∷ [])
-put_rest = record { room = room 287 (lit≤ tt); some = lit≤ tt; few = lit≤ tt; start = refl; inside = lit≤ tt }
+put_rest : PuttingLines (record { bytes = []; room = 600; rest = replicate 600 0 }) 1 0 (2 ∷ 1 ∷ 1 ∷ [])
+put_rest = record { room = lit≤ tt; inside = lit≤ tt }
 
 -- from the second on
-next-piece : PuttingLines buffer 0 1 1 1 (2 ∷ 1 ∷ 1 ∷ [])
-next-piece = record { room = room 280 (lit≤ tt); some = lit≤ tt; few = lit≤ tt; start = refl; inside = lit≤ tt }
+next-piece : (280 ≤ length buffer) × (1 * 1 ≤ length {A = ℕ} (2 ∷ 1 ∷ 1 ∷ []))
+next-piece = (room 280 (lit≤ tt), lit≤ tt)
 
 put-no-file : 280 ≤ length buffer
 put-no-file = room 280 (lit≤ tt)

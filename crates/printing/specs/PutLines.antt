@@ -1,21 +1,35 @@
--- What the function that fills a buffer with lines asks and gives.
-use Rattle.std.specs.Prelude.{ℕ, ◌+◌, ◌*◌, ◌≤◌, ◌<◌, ◌≡◌, Bool, List, ◌++◌, length}
-use Rattle.records.specs.Limits.{most_leaves}
-use Rattle.listing.specs.Wrote.{TextPut, line_bytes}
-use Rattle.printing.specs.Pieces.{text_from, text_left}
+-- What the functions that write lines and pieces ask and give.
+use Rattle.std.specs.Prelude.{ℕ, ◌*◌, ◌≤◌, ◌<◌, ◌≡◌, Bool, true, false, Option, Some, None, List, ◌++◌, length}
+use Rattle.listing.specs.Wrote.{line_bytes}
+use Rattle.listing.specs.Texts.{Written, HasRoom, Added}
+use Rattle.printing.specs.Pieces.{text_from, text_left, Pieced}
 
--- lines of 1 to 64 leaves are written from cycle k on, whose leaves begin at `first`
-pub record PuttingLines (buffer : List ℕ) (at w k first : ℕ) (outputs : List ℕ) : Type 0 where
-  pub room : at + line_bytes ≤ length buffer
-  pub some : 0 < w
-  pub few : w ≤ most_leaves
-  pub start : first ≡ k * w
-  pub inside : first ≤ length outputs
+-- lines of w leaves are written from cycle k on, which begins inside the outputs or at their end
+pub record PuttingLines (old : Written) (w k : ℕ) (outputs : List ℕ) : Type 0 where
+  pub room : HasRoom old line_bytes
+  pub inside : k * w ≤ length outputs
 
-pub record PutLines (buffer : List ℕ) (at w k : ℕ) (outputs after : List ℕ) (end k' first' : ℕ) (last : Bool) : Type 0 where
+-- whether nothing is left, and the cycle at which what is left begins
+abbrev pub is_last : Option ℕ → Bool
+is_last None = true
+is_last (Some k) = false
+
+abbrev pub next_cycle : Option ℕ → ℕ
+next_cycle None = 0
+next_cycle (Some k) = k
+
+-- what is left where the next piece begins there
+abbrev pub text_after : (w : ℕ) (outputs : List ℕ) → Option ℕ → List ℕ
+text_after w outputs next = text_left (is_last next) w (next_cycle next) outputs
+
+pub record PutLines (old : Written) (w k : ℕ) (outputs : List ℕ) (new : Written) (next : Option ℕ) : Type 0 where
   pub part : List ℕ
-  pub wrote : TextPut buffer at part after end
-  pub text : text_from w k outputs ≡ part ++ text_left last w k' outputs
-  pub more : at < end
-  pub start : first' ≡ k' * w
-  pub inside : first' ≤ length outputs
+  pub wrote : Added old part new
+  pub text : text_from w k outputs ≡ part ++ text_after w outputs next
+  pub more : 0 < length part
+  pub inside : next_cycle next * w ≤ length outputs
+
+-- a piece of the text `before`, all of it in `text`
+abbrev pub IsPiece : (before : List ℕ) (w : ℕ) (outputs text : List ℕ) (next : Option ℕ) → Type 0
+IsPiece before w outputs text next =
+    Pieced before w outputs text (length text) (next_cycle next) (next_cycle next * w) (is_last next)

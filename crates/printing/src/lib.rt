@@ -1,85 +1,78 @@
 // Text in pieces of one buffer: a call's result, and the line of a file that cannot be opened.
 #![tactic(auto)]
 
-ghost use Rattle.std.specs.Prelude.{◌≡◌, ◌≤◌, ◌<◌, ◌*◌, length};
-ghost use Rattle.listing.specs.Wrote.{TextPut, line_bytes};
-ghost use Rattle.printing.specs.Pieces.{no_file_line, told_text, text_from, Pieced};
-ghost use Rattle.printing.specs.PutLines.{PuttingLines, PutLines};
-ghost use Rattle.records.specs.Limits.{most_leaves};
+ghost use Rattle.std.specs.Prelude.{◌≡◌, ◌≤◌, ◌*◌, length};
+ghost use Rattle.listing.specs.Wrote.{line_bytes};
+ghost use Rattle.listing.specs.Lines.{listing, refused_line};
+ghost use Rattle.printing.specs.Pieces.{no_file_line, text_from};
+ghost use Rattle.printing.specs.PutLines.{PuttingLines, PutLines, IsPiece};
 
-use answers::NO_FILE;
-use listing::{LINE_BYTES, put_cycles, put_lines, put_refused, put_type};
+use answers::Code;
+use listing::{LINE_BYTES, Outputs, Text};
 
-// A piece of text in a buffer, up to `end`; the next begins at cycle k, whose leaves begin at `first`, if this is not the last.
+// A piece of text, and the cycle at which the next one begins, if this is not the last.
 #[derive(Clone, Copy)]
-pub struct Piece {
-    pub end: usize,
-    pub k: usize,
-    pub first: usize,
-    pub last: bool,
+pub struct Piece<'b> {
+    pub text: &'b [u8],
+    pub next: Option<usize>,
 }
 
 // The lines from cycle k on, as many as surely have room, and after the last of them their count.
-fn put_rest(buffer: &mut [u8], at: usize, w: usize, outputs: &[u8], k: usize, first: usize) -> Piece
-    requires { PuttingLines buffer.old at w k first outputs.now }
-    ensures { PutLines buffer.old at w k outputs.now buffer.new result.end result.k result.first result.last }
+// It gives the cycle that comes next.
+fn put_rest(text: &mut Text<'_>, outputs: Outputs<'_>, k: usize) -> Option<usize>
+    requires { PuttingLines text.old outputs.width k outputs.leaves.now }
+    ensures { PutLines text.old outputs.entry.width k outputs.entry.leaves.now text.new result }
 {
-    let filled = put_lines(buffer, at, k, w, outputs, first);
-    let after = k + filled.count;
-    if buffer.len() - filled.end < LINE_BYTES {
-        return Piece {
-            end: filled.end,
-            k: after,
-            first: filled.next,
-            last: false,
-        };
+    let after = k + text.put_lines(k, outputs.width, outputs.from_cycle(k));
+    if text.left() < LINE_BYTES {
+        return Some(after);
     }
-    let end = put_cycles(buffer, filled.end, after);
-    Piece {
-        end,
-        k: after,
-        first: filled.next,
-        last: true,
-    }
+    text.put_cycles(after);
+    None
 }
 
-// The first piece of what was told: a refusal, or the listing's beginning.
-pub fn first_piece(
-    buffer: &mut [u8],
-    code: u64,
-    place: u64,
-    t: u64,
-    w: usize,
-    outputs: &[u8],
-) -> Piece
-    requires { (2 * line_bytes ≤ length buffer.old) × (0 < w) × (w ≤ most_leaves) }
-    ensures { Pieced (told_text code place t w outputs.now) w outputs.now buffer.new result.end result.k result.first result.last }
+// The first piece of a listing, whose outputs have the type at record t.
+pub fn first_piece<'b>(buffer: &'b mut [u8], t: u64, outputs: Outputs<'_>) -> Piece<'b>
+    requires { 2 * line_bytes ≤ length buffer.old }
+    ensures { IsPiece (listing t outputs.entry.width outputs.entry.leaves.now) outputs.entry.width outputs.entry.leaves.now result.text.now result.next }
 {
-    if code != 0 {
-        let end = put_refused(buffer, 0, code, place);
-        return Piece {
-            end,
-            k: 0,
-            first: 0,
-            last: true,
-        };
+    let mut text = Text::new(buffer);
+    text.put_type(t);
+    let next = put_rest(&mut text, outputs, 0);
+    Piece {
+        text: text.into_bytes(),
+        next,
     }
-    let start = put_type(buffer, 0, t);
-    put_rest(buffer, start, w, outputs, 0, 0)
 }
 
 // A piece more, from cycle k on.
-pub fn next_piece(buffer: &mut [u8], w: usize, outputs: &[u8], k: usize, first: usize) -> Piece
-    requires { PuttingLines buffer.old 0 w k first outputs.now }
-    ensures { Pieced (text_from w k outputs.now) w outputs.now buffer.new result.end result.k result.first result.last }
+pub fn next_piece<'b>(buffer: &'b mut [u8], outputs: Outputs<'_>, k: usize) -> Piece<'b>
+    requires room { line_bytes ≤ length buffer.old }
+    requires inside { k * outputs.width ≤ length outputs.leaves.now }
+    ensures { IsPiece (text_from outputs.entry.width k outputs.entry.leaves.now) outputs.entry.width outputs.entry.leaves.now result.text.now result.next }
 {
-    put_rest(buffer, 0, w, outputs, k, first)
+    let mut text = Text::new(buffer);
+    let next = put_rest(&mut text, outputs, k);
+    Piece {
+        text: text.into_bytes(),
+        next,
+    }
+}
+
+// The line of a refusal.
+pub fn put_refusal<'b>(buffer: &'b mut [u8], code: u64, place: u64) -> &'b [u8]
+    requires { line_bytes ≤ length buffer.old }
+    ensures { result.now ≡ refused_line code place }
+{
+    let mut text = Text::new(buffer);
+    text.put_refused(code, place);
+    text.into_bytes()
 }
 
 // The line for a file that could not be opened, from its place among the files of a program: 1 for the first.
-pub fn put_no_file(buffer: &mut [u8], place: u64) -> usize
+pub fn put_no_file<'b>(buffer: &'b mut [u8], place: u64) -> &'b [u8]
     requires { line_bytes ≤ length buffer.old }
-    ensures { TextPut buffer.old 0 (no_file_line place) buffer.new result }
+    ensures { result.now ≡ no_file_line place }
 {
-    put_refused(buffer, 0, NO_FILE, place)
+    put_refusal(buffer, Code::NoFile.number(), place)
 }

@@ -29,9 +29,9 @@ module _ (o A : List ℕ) {w : ℕ} (k : length o ≡ w) where
   front-is = take_at o (drop (w - 0) A) (w - 0) (omega arith)
 
 pub counts-front : {s : List ℕ} {n : ℕ} {W : List ℕ} (g : Accepting s n W) {a : ℕ} → a ≡ word s 0 2 → (A : List ℕ) {o : List ℕ} → A ≡ replicate 64 0
-    → o ≡ bounds (type_at s a) → take (get_or W a 0 - 0) (o ++ drop (get_or W a 0 - 0) A) ≡ bounds (input_type s)
+    → o ≡ bounds (type_at s a) → take (get_or W a 0) (o ++ drop (get_or W a 0) A) ≡ bounds (input_type s)
 counts-front {s} {W = W} g {a} e A {o} z b =
     let l = ap length b in
     let m = leaves-of-bounds (type_at s a) in
     let k = input-takes g e in
-    take_at o (drop (get_or W a 0 - 0) A) (get_or W a 0 - 0) (omega arith) ∙ b ∙ ap (λ (x : ℕ). bounds (type_at s x)) e
+    take_at o (drop (get_or W a 0) A) (get_or W a 0) (omega arith) ∙ b ∙ ap (λ (x : ℕ). bounds (type_at s x)) e

@@ -13,10 +13,10 @@ use Rattle.picoella.specs.Language.{bounds, Within, within_none, within_leaf, Of
 use Rattle.records.specs.Words.{word_a}
 use Rattle.records.proofs.Types.{leaves-of-bounds, some-leaves}
 use Rattle.answers.specs.Answers.{lowest}
-use Rattle.answers.specs.declared.Answer.TheVariants.{Done}
+use Rattle.answers.specs.Answers.{Done}
 use Rattle.answers.proofs.Lowest.{lowest_none}
 use Rattle.verdict.specs.Verdict.{verdict}
-use Rattle.answers.specs.declared.Verdict.TheVariants.{Accepted}
+use Rattle.answers.specs.Answers.{Accepted}
 use Rattle.accepted.proofs.Calls.{accepted-output}
 use Rattle.accepted.proofs.Laws.{written, exact}
 use Rattle.accepted.proofs.Small.{type-few}

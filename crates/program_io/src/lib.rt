@@ -2,7 +2,7 @@
 // opened, and a file replaced.
 #![tactic(auto)]
 
-ghost use Rattle.std.specs.Prelude.{◌≡◌, ◌≤◌, length, MatchResult};
+ghost use Rattle.std.specs.Prelude.{◌≡◌, IfOk, IfSome, MatchResult};
 ghost use Rattle.printing.specs.Pieces.{no_file_line, unopened_file};
 ghost use Rattle.program_io.specs.Files.{Counts, Ended};
 
@@ -13,39 +13,20 @@ use std::io::{ErrorKind, Read, Seek, Write};
 use std::rt::Files;
 use std::{fs, io, str};
 
-// What reading gave: so many bytes, unless it failed.
-#[derive(Clone, Copy)]
-pub struct Got {
-    pub ok: bool,
-    pub n: usize,
-}
-
-// Reads once; 0 bytes at the file's end.
-fn read_some(file: &mut File, buffer: &mut [u8]) -> Got
-    ensures { result.n ≤ length buffer.new }
-{
-    match file.read(buffer) {
-        Ok(n) => Got { ok: true, n },
-        Err(_) => Got { ok: false, n: 0 },
-    }
-}
-
-// Reads a file to its end, or until the buffer is full.
-fn read_file(file: &mut File, buffer: &mut [u8]) -> Got
-    ensures { Counts result.n buffer.new }
+// Reads a file to its end, or until the buffer is full, and gives how many bytes were read. A loop
+// of reads, since the library's `read_to_end` takes a Vec and a program's memory is fixed.
+fn read_file(file: &mut File, buffer: &mut [u8]) -> io::Result<usize>
+    ensures { IfOk result (λ n. Counts n buffer.new) }
 {
     let mut n = 0;
     while n < buffer.len() {
-        let got = read_some(file, &mut buffer[n..]);
-        if !got.ok {
-            return Got { ok: false, n: 0 };
+        let got = file.read(&mut buffer[n..])?;
+        if got == 0 {
+            break;
         }
-        if got.n == 0 {
-            return Got { ok: true, n };
-        }
-        n += got.n;
+        n += got;
     }
-    Got { ok: true, n }
+    Ok(n)
 }
 
 // The file, if the call that opens it gave a descriptor. 0 is one too, where standard input was
@@ -58,10 +39,7 @@ fn opened(file: io::Result<File>) -> Option<File>
 
 // A path as text, which is how the library takes it. Another path opens nothing.
 fn path_text(path: &[u8]) -> io::Result<&str> {
-    match str::from_utf8(path) {
-        Ok(text) => Ok(text),
-        Err(_) => Err(io::Error::from(ErrorKind::InvalidInput)),
-    }
+    str::from_utf8(path).map_err(|_| io::Error::from(ErrorKind::InvalidInput))
 }
 
 // Opens a file to be read.
@@ -69,15 +47,13 @@ fn open_read(files: &impl Files<File = File>, path: &[u8]) -> io::Result<File> {
     fs::open(files, path_text(path)?)
 }
 
-// Opens a file and reads it, to its end or until the buffer is full: a buffer of one byte more than
-// a limit tells a longer file.
-pub fn read_named(files: &impl Files<File = File>, path: &[u8], buffer: &mut [u8]) -> Got
-    ensures { Counts result.n buffer.new }
+// Opens a file and reads it, to its end or until the buffer is full, and gives how many bytes were
+// read: a buffer of one byte more than a limit tells a longer file.
+pub fn read_named(files: &impl Files<File = File>, path: &[u8], buffer: &mut [u8]) -> Option<usize>
+    ensures { IfSome result (λ n. Counts n buffer.new) }
 {
-    match opened(open_read(files, path)) {
-        Some(mut file) => read_file(&mut file, buffer),
-        None => Got { ok: false, n: 0 },
-    }
+    let mut file = opened(open_read(files, path))?;
+    read_file(&mut file, buffer).ok()
 }
 
 // Writes the line for a file that could not be opened. Where nobody can read it nothing is done
@@ -92,35 +68,33 @@ fn write_no_file(out: &impl Print, place: u64, line: &[u8])
 // 1 for the first.
 pub fn refuse_file(out: &impl Print, place: u64) {
     let mut line = [0u8; LINE_BYTES];
-    let end = put_no_file(&mut line, place);
-    write_no_file(out, place, &line[0..end]);
+    write_no_file(out, place, put_no_file(&mut line, place));
 }
 
-// The places of the files of a program, by which one that cannot be opened is refused.
-const SHEET_FILE: u64 = 1;
-
-const STIMULUS_FILE: u64 = 2;
-
-const RECORD_FILE: u64 = 3;
+// The files of a program, by their places: one that cannot be opened is refused by its place.
+#[derive(Clone, Copy)]
+enum Input {
+    Sheet = 1,
+    Stimulus = 2,
+    Record = 3,
+}
 
 // The place of the file that could not be opened: the sheet's, or where that was opened the
 // stimulus's, or where both were the record's.
 pub fn unopened_file(sheet: bool, stim: bool) -> u64
     ensures { result ≡ unopened_file sheet stim }
 {
-    if !sheet {
-        return SHEET_FILE;
-    }
-    if !stim {
-        return STIMULUS_FILE;
-    }
-    RECORD_FILE
+    let file = match (sheet, stim) {
+        (false, _) => Input::Sheet,
+        (true, false) => Input::Stimulus,
+        (true, true) => Input::Record,
+    };
+    file as u64
 }
 
-// The lengths of the sheet and of the stimulus, unless one could not be read.
+// The lengths of the sheet and of the stimulus.
 #[derive(Clone, Copy)]
 pub struct Inputs {
-    pub ok: bool,
     pub sheet: usize,
     pub stim: usize,
 }
@@ -130,32 +104,18 @@ pub fn read_inputs(
     rt: &(impl Files<File = File> + Print),
     sheet: &mut [u8],
     stim: &mut [u8],
-) -> Inputs
-    ensures { Counts result.sheet sheet.new × Counts result.stim stim.new }
+) -> Option<Inputs>
+    ensures { IfSome result (λ got. Counts got.sheet sheet.new × Counts got.stim stim.new) }
 {
-    let sheet_got = read_named(rt, b"sheet.bin", sheet);
-    if !sheet_got.ok {
+    let Some(sheet) = read_named(rt, b"sheet.bin", sheet) else {
         refuse_file(rt, unopened_file(false, false));
-        return Inputs {
-            ok: false,
-            sheet: 0,
-            stim: 0,
-        };
-    }
-    let stim_got = read_named(rt, b"stim.bin", stim);
-    if !stim_got.ok {
+        return None;
+    };
+    let Some(stim) = read_named(rt, b"stim.bin", stim) else {
         refuse_file(rt, unopened_file(true, false));
-        return Inputs {
-            ok: false,
-            sheet: 0,
-            stim: 0,
-        };
-    }
-    Inputs {
-        ok: true,
-        sheet: sheet_got.n,
-        stim: stim_got.n,
-    }
+        return None;
+    };
+    Some(Inputs { sheet, stim })
 }
 
 // The bytes of a path that the system reads at most, with the 0 at its end.
@@ -169,14 +129,8 @@ fn c_path(path: &[u8]) -> [u8; PATH_MAX]
     ensures { Ended result }
 {
     let mut name = [0u8; PATH_MAX];
-    let mut i = 0;
-    while i < path.len() {
-        if i >= PATH_END {
-            break;
-        }
-        name[i] = path[i];
-        i += 1;
-    }
+    let end = path.len().min(PATH_END);
+    name[..end].copy_from_slice(&path[..end]);
     name[PATH_END] = 0;
     name
 }
@@ -185,10 +139,7 @@ fn c_path(path: &[u8]) -> [u8; PATH_MAX]
 fn before_end(name: &[u8; PATH_MAX]) -> &[u8]
     requires { Ended name.now }
 {
-    let mut end = 0;
-    while name[end] != 0 {
-        end += 1;
-    }
+    let end = name.iter().position(|&b| b == 0).unwrap_or(PATH_END);
     &name[..end]
 }
 
@@ -207,18 +158,12 @@ fn is_link(files: &impl Files, path: &[u8]) -> bool {
 // Whether a new file may take the name of one that was opened: it is no pipe and no link leads to
 // it.
 fn is_plain(files: &impl Files, file: &mut File, path: &[u8]) -> bool {
-    if file.stream_position().is_err() {
-        return false;
-    }
-    !is_link(files, path)
+    file.stream_position().is_ok() && !is_link(files, path)
 }
 
 // Whether nothing has the name, after it could not be opened.
 fn is_free(files: &impl Files, why: ErrorKind, path: &[u8]) -> bool {
-    if why != ErrorKind::NotFound {
-        return false;
-    }
-    !is_link(files, path)
+    why == ErrorKind::NotFound && !is_link(files, path)
 }
 
 fn may_take(files: &impl Files, old: &mut io::Result<File>, path: &[u8]) -> bool {
@@ -255,33 +200,24 @@ fn unlink(files: &impl Files, path: &[u8]) {
     }
 }
 
-// Whether one file took the name of another.
-fn renamed(files: &impl Files, from: &[u8], to: &[u8]) -> bool {
-    let Ok(old) = path_text(from) else {
-        return false;
-    };
-    let Ok(new) = path_text(to) else {
-        return false;
-    };
-    fs::rename(files, old, new).is_ok()
+// Gives one file the name of another.
+fn rename(files: &impl Files, from: &[u8], to: &[u8]) -> io::Result<()> {
+    fs::rename(files, path_text(from)?, path_text(to)?)
 }
 
 // Writes all of a new file and closes it. A full disk may show only as the file reaches it, so that
 // is waited for.
-fn is_written(mut file: File, bytes: &[u8]) -> bool {
-    if file.write_all(bytes).is_err() {
-        return false;
-    }
-    file.sync_all().is_ok()
+fn write_whole(mut file: File, bytes: &[u8]) -> io::Result<()> {
+    file.write_all(bytes)?;
+    file.sync_all()
 }
 
 // Writes the new file and gives it the name. Where not all of it can be written it goes again, and
 // what had the name keeps it.
 fn write_new(files: &impl Files, made: File, path: &[u8], beside: &[u8], bytes: &[u8]) {
-    if is_written(made, bytes) && renamed(files, beside, path) {
-        return;
+    if write_whole(made, bytes).is_err() || rename(files, beside, path).is_err() {
+        unlink(files, beside);
     }
-    unlink(files, beside);
 }
 
 // A file to be written where it stands: the one that was opened, or else, where it may not be read,
@@ -312,15 +248,9 @@ pub fn replace(files: &impl Files<File = File>, path: &[u8], beside: &[u8], byte
     if may_take(files, &mut old, path) {
         unlink(files, beside);
         match create(files, beside) {
-            Ok(made) => {
-                write_new(files, made, path, beside, bytes);
-                return;
-            }
-            Err(e) => {
-                if e.kind() == ErrorKind::StorageFull {
-                    return;
-                }
-            }
+            Ok(made) => return write_new(files, made, path, beside, bytes),
+            Err(e) if e.kind() == ErrorKind::StorageFull => return,
+            Err(_) => {}
         }
     }
     if let Some(file) = in_place(files, old, path) {

@@ -1,5 +1,6 @@
 -- The machine of `grammar` in the numbers of the code: states, words, the stack as a table, and the tables that the code is lent.
-use Rattle.std.specs.Prelude.{ℕ, zero, suc, ◌+◌, ◌-◌, ◌≤◌, ◌<◌, ◌≡◌, Bool, true, false, cond, List, [], ◌∷◌, ◌++◌, map, length, get_or, drop, replicate, eqb, ltb, leb}
+use Rattle.std.specs.Prelude.{ℕ, zero, suc, ◌+◌, ◌-◌, ◌≤◌, ◌<◌, ◌≡◌, Bool, cond, List, [], ◌∷◌, ◌++◌, map, length, get_or, drop, replicate, eqb, ltb, leb}
+use Rattle.std.specs.Prelude.{Option as Found, Some, None}
 use Rattle.std.proofs.Math.Option.{Option, none, some}
 use Rattle.grammar.specs.Sizes.{text_table}
 use Rattle.grammar.specs.Tokens.{Keyword, TYPE, IN, INPUT, LET, INIT, REC, IF, MATCHES, THEN, ELSE, DELAY}
@@ -7,14 +8,11 @@ use Rattle.grammar.specs.Tokens.{Symbol, opens, closes, comma, equals, bar, quer
 use Rattle.grammar.specs.Tokens.{ByteClass, is_blank, is_lower, is_upper, is_other, is_symbol, byte_class}
 use Rattle.grammar.specs.Rows.{State, start, state_number, states, Lead, a_symbol, a_keyword, a_name, Action, go, call, return, Transition, on, transitions}
 use Rattle.grammar.specs.Machine.{WordLeft, no_word, in_name, spelt, Config, dead, live, back, perform_found, find}
-use Rattle.grammar.specs.Legal.{text_bytes}
-use Rattle.recognizer.specs.declared.Illegal.{Illegal}
-use Rattle.recognizer.specs.declared.Illegal.TheVariants.{Offset, Nowhere}
 
 -- the answer of the code
-abbrev pub illegal : Illegal → Option ℕ
-illegal (Offset i) = some i
-illegal Nowhere = none
+abbrev pub illegal : Found ℕ → Option ℕ
+illegal (Some i) = some i
+illegal None = none
 
 abbrev pub state_of : ℕ → State
 state_of n = get_or states n start
@@ -23,6 +21,22 @@ state_of n = get_or states n start
 abbrev pub stack_of : ℕ → List ℕ → List State
 stack_of zero s = []
 stack_of (suc n) s = state_of (get_or s n 0) ∷ stack_of n s
+
+-- what a stack in a table keeps: it has room for its depth, and what waits are states
+pub record Waiting (depth : ℕ) (stack : List ℕ) : Type 0 where
+  pub fits : depth ≤ text_table
+  pub long : length stack ≡ text_table
+  pub waiting : (k : ℕ) → k < depth → get_or stack k 0 < 47
+
+-- the state on top of the states that wait, by its number, if one waits
+abbrev pub Topped : List State → Found ℕ → Type 0
+Topped K None = K ≡ []
+Topped K (Some s) = (rest : List State) × (K ≡ state_of s ∷ rest) × (s < 47)
+
+-- and what waits without it
+abbrev pub Popped : List State → Found ℕ → List State → Type 0
+Popped K None rest = (K ≡ []) × (rest ≡ [])
+Popped K (Some s) rest = (K ≡ state_of s ∷ rest) × (s < 47)
 
 -- the letters of the keywords after their first, each keyword's end a 0
 abbrev pub keyword_letters : List ℕ
@@ -162,43 +176,24 @@ abbrev pub followed : ℕ → State → List State → ℕ → Config
 followed c q K w =
     cond (eqb c 19) (live q K no_word) (cond (eqb w 0) (after_byte_class c q K) (cond (leb 10 c) (lettered c q K w) (after_byte_class c q K)))
 
-abbrev pub config_of : (ok : Bool) (state word depth : ℕ) → List ℕ → Config
-config_of true s w d K = live (state_of s) (stack_of d K) (word_of w)
-config_of false s w d K = dead
+-- where the machine stands in a text: its state, the states that wait, the last first, and what is left of the word that is being read
+pub record Standing : Type 0 where
+  pub state : State
+  pub waiting : List State
+  pub word : WordLeft
 
--- what a step asks of the machine's numbers
-pub record Stepping (state word depth : ℕ) (stack : List ℕ) : Type 0 where
-  pub few_states : state < 47
-  pub few_words : word < 60
-  pub room : depth < text_table
-  pub long : length stack ≡ text_table
-  pub waiting : (k : ℕ) → k < depth → get_or stack k 0 < 47
+abbrev pub standing : State → List State → WordLeft → Standing
+standing q K w = record { state = q; waiting = K; word = w }
 
--- what it gives: the configuration c, from a stack of that depth
-pub record Stepped (c : Config) (depth : ℕ) (ok : Bool) (state word depth' : ℕ) (stack : List ℕ) : Type 0 where
-  pub stepped : c ≡ config_of ok state word depth' stack
-  pub few_states : state < 47
-  pub few_words : word < 60
-  pub higher : depth' ≤ depth + 1
-  pub long : length stack ≡ text_table
-  pub waiting : (k : ℕ) → k < depth' → get_or stack k 0 < 47
+abbrev pub live_at : Standing → Config
+live_at p = live p.state p.waiting p.word
 
--- a letter inside a word changes the word alone
-pub record Worded (c : State → List State → Config) (state depth : ℕ) (ok : Bool) (state' word depth' : ℕ) : Type 0 where
-  pub same : (q : State) (K : List State) → c q K ≡ cond ok (live q K (word_of word)) dead
-  pub same_state : state' ≡ state
-  pub same_depth : depth' ≡ depth
-  pub few_words : word < 60
+-- a step from where the machine stood gives c: it is refused, or the machine stands where c says
+pub record Stepped (c : Config) (old : Standing) (ok : Bool) (new : Standing) : Type 0 where
+  pub stepped : c ≡ cond ok (live_at new) dead
+  pub higher : length new.waiting ≤ length old.waiting + 1
 
-abbrev pub spelled_out : (b letter word : ℕ) → State → List State → Config
-spelled_out b letter word q K = cond (eqb b letter) (live q K (word_of (word + 1))) dead
-
--- the end of a text of so many bytes, read up to the limit
-abbrev pub conclusion : (all state letter : ℕ) → Option ℕ
-conclusion all state letter =
-    cond (ltb text_bytes all) (some text_bytes) (cond (cond (eqb letter 0) (eqb state 16) false) none (some all))
-
--- the tables that the code is lent
+-- the tables of the code
 pub record Tables (nexts waits words : List (List ℕ)) : Type 0 where
   pub nexts_right : nexts ≡ next_table
   pub waits_right : waits ≡ waits_table

@@ -1,64 +1,140 @@
 // The classes of bytes.
-ghost use Rattle.std.specs.Prelude.{◌≡◌, ◌+◌};
+ghost use Rattle.std.specs.Prelude.{◌≡◌, ◌+◌, ◌≤◌, ◌<◌, ◌↔◌, IsTrue};
 ghost use Rattle.grammar.specs.Tokens.{unlettered};
 ghost use Rattle.recognizer.specs.Coded.{capitals, position, class_number, class_of};
+ghost use Rattle.recognizer.specs.Classes.{class_index};
 
-use crate::numbers::{
-    BLANK, CAPITAL_D, CAPITAL_E, CAPITAL_I, CAPITAL_L, CAPITAL_M, CAPITAL_R, CAPITAL_T, OTHER_BYTE,
-    OTHER_CAPITAL, SMALL_LETTER, SYMBOL_BAR, SYMBOL_CLOSES, SYMBOL_COMMA, SYMBOL_EQUALS,
-    SYMBOL_INDEX_CLOSES, SYMBOL_INDEX_OPENS, SYMBOL_ONE, SYMBOL_OPENS, SYMBOL_QUERY, SYMBOL_TWO,
-};
+use crate::numbers::LEAD_CLASSES;
 
-// The class of a capital: those that a keyword begins with have one each.
-fn capital_class(b: u8) -> u8
-    ensures { result ≡ 11 + position b capitals }
-{
-    match b {
-        b'T' => CAPITAL_T,
-        b'I' => CAPITAL_I,
-        b'L' => CAPITAL_L,
-        b'R' => CAPITAL_R,
-        b'M' => CAPITAL_M,
-        b'E' => CAPITAL_E,
-        b'D' => CAPITAL_D,
-        _ => OTHER_CAPITAL,
-    }
+// What a byte is to the machine. The classes that a token can begin with come first, in the order of
+// the columns of the machine's tables.
+#[derive(Clone, Copy, Debug, PartialEq, Eq)]
+pub enum Class {
+    // Of the symbols:
+    SymbolOpens,
+    SymbolCloses,
+    SymbolComma,
+    SymbolEquals,
+    SymbolBar,
+    SymbolQuery,
+    SymbolIndexOpens,
+    SymbolIndexCloses,
+    SymbolOne,
+    SymbolTwo,
+    SmallLetter,
+    // The capitals that a keyword begins with, and the others.
+    CapitalT,
+    CapitalI,
+    CapitalL,
+    CapitalR,
+    CapitalM,
+    CapitalE,
+    CapitalD,
+    OtherCapital,
+    Blank,
+    OtherByte,
 }
 
-// The class of a byte that is no letter: each symbol has one.
-fn unlettered_class(b: u8) -> u8
-    ensures { result ≡ class_number (unlettered b) b }
-{
-    match b {
-        b' ' => BLANK,
-        b'\n' => BLANK,
-        b'(' => SYMBOL_OPENS,
-        b')' => SYMBOL_CLOSES,
-        b',' => SYMBOL_COMMA,
-        b'=' => SYMBOL_EQUALS,
-        b'|' => SYMBOL_BAR,
-        b'?' => SYMBOL_QUERY,
-        b'[' => SYMBOL_INDEX_OPENS,
-        b']' => SYMBOL_INDEX_CLOSES,
-        b'1' => SYMBOL_ONE,
-        b'2' => SYMBOL_TWO,
-        _ => OTHER_BYTE,
+impl Class {
+    // The class of a byte.
+    pub fn of(b: u8) -> Class
+        ensures { class_index result ≡ class_of b }
+    {
+        if b.is_ascii_lowercase() {
+            return Class::SmallLetter;
+        }
+        if b.is_ascii_uppercase() {
+            return Class::of_capital(b);
+        }
+        Class::of_unlettered(b)
     }
-}
 
-// The class of a byte.
-pub fn class_of(b: u8) -> u8
-    ensures { result ≡ class_of b }
-{
-    if b'a' <= b {
-        if b <= b'z' {
-            return SMALL_LETTER;
+    // The class of a capital: those that a keyword begins with have one each.
+    fn of_capital(b: u8) -> Class
+        ensures { class_index result ≡ 11 + position b capitals }
+    {
+        match b {
+            b'T' => Class::CapitalT,
+            b'I' => Class::CapitalI,
+            b'L' => Class::CapitalL,
+            b'R' => Class::CapitalR,
+            b'M' => Class::CapitalM,
+            b'E' => Class::CapitalE,
+            b'D' => Class::CapitalD,
+            _ => Class::OtherCapital,
         }
     }
-    if b'A' <= b {
-        if b <= b'Z' {
-            return capital_class(b);
+
+    // The class of a byte that is no letter: each symbol has one.
+    fn of_unlettered(b: u8) -> Class
+        ensures { class_index result ≡ class_number (unlettered b) b }
+    {
+        match b {
+            b' ' | b'\n' => Class::Blank,
+            b'(' => Class::SymbolOpens,
+            b')' => Class::SymbolCloses,
+            b',' => Class::SymbolComma,
+            b'=' => Class::SymbolEquals,
+            b'|' => Class::SymbolBar,
+            b'?' => Class::SymbolQuery,
+            b'[' => Class::SymbolIndexOpens,
+            b']' => Class::SymbolIndexCloses,
+            b'1' => Class::SymbolOne,
+            b'2' => Class::SymbolTwo,
+            _ => Class::OtherByte,
         }
     }
-    unlettered_class(b)
+
+    // Its number among the classes, which is the column of one that a token can begin with.
+    pub fn index(self) -> usize
+        ensures { result ≡ class_index self }
+    {
+        self as usize
+    }
+
+    // Whether a token can begin with such a byte.
+    pub fn is_lead(self) -> bool
+        ensures { IsTrue result ↔ (class_index self < 18) }
+    {
+        self.index() < LEAD_CLASSES
+    }
+
+    // Whether it is the class of a symbol.
+    pub fn is_symbol(self) -> bool
+        ensures { IsTrue result ↔ (class_index self < 10) }
+    {
+        self.index() < Class::SmallLetter.index()
+    }
+
+    // Whether it is a class of letters.
+    pub fn is_letter(self) -> bool
+        ensures { IsTrue result ↔ ((10 ≤ class_index self) × (class_index self ≤ 18)) }
+    {
+        matches!(
+            self,
+            Class::SmallLetter
+                | Class::CapitalT
+                | Class::CapitalI
+                | Class::CapitalL
+                | Class::CapitalR
+                | Class::CapitalM
+                | Class::CapitalE
+                | Class::CapitalD
+                | Class::OtherCapital
+        )
+    }
+
+    // Whether it is the class of small letters.
+    pub fn is_small_letter(self) -> bool
+        ensures { IsTrue result ↔ (class_index self ≡ 10) }
+    {
+        matches!(self, Class::SmallLetter)
+    }
+
+    // Whether it is the class of blanks.
+    pub fn is_blank(self) -> bool
+        ensures { IsTrue result ↔ (class_index self ≡ 19) }
+    {
+        matches!(self, Class::Blank)
+    }
 }

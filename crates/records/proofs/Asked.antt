@@ -61,6 +61,26 @@ pub meets_at : {s : List ℕ} → Written s → (r k : ℕ) → r < count s → 
 unfolding well_said
 meets_at {s} w r k h low high = any-of-five (meets_word_at s r) (w.said r h) k low high
 
+-- a record whose words are all as asked says nothing wrong, and one with another word does
+pub all-meet : (s : List ℕ) (r : ℕ) → ((k : ℕ) → 0 < k → k < 6 → meets_word_at s r k ≡ true) → well_said s r ≡ true
+unfolding well_said
+all-meet s r m =
+    rw (
+      m 1 (omega arith) (omega arith),
+      m 2 (omega arith) (omega arith),
+      m 3 (omega arith) (omega arith),
+      m 4 (omega arith) (omega arith),
+      m 5 (omega arith) (omega arith),
+    )
+
+pub one-fails : (s : List ℕ) (r k : ℕ) → 0 < k → k < 6 → meets_word_at s r k ≡ false → well_said s r ≡ false
+unfolding well_said
+one-fails s r k low high e = go (well_said s r) refl
+  where
+    go : (b : Bool) → well_said s r ≡ b → well_said s r ≡ false
+    go false t = t
+    go true t = absurd (never_both (meets_word_at s r k) (any-of-five (meets_word_at s r) t k low high) e)
+
 -- what it is to be as asked, in words
 abbrev pub AskMeans : List ℕ → ℕ → Ask → ℕ → Type 0
 AskMeans s r zeroed w = w ≡ 0

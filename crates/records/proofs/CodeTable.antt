@@ -1,37 +1,29 @@
--- What the code's table says is what the definition's rows say: the asks of each kind, row by row, and its sort, by one test that
--- antt computes for the numbers below 65. From 65 on a kind is unknown. Assumes nothing.
+-- What kind a number is, by the definition's rows: a number of none of them is of an unknown kind, as all are from 65 on, and a
+-- test of kinds passes at one number, computed at the numbers below 65. Assumes nothing.
 use mathlib.Core.Path.{◌≡◌, refl, sym, subst}
-use mathlib.Core.Bool.{Bool, true, false, cond, ◌&&◌, beq}
+use mathlib.Core.Bool.{Bool, true, false, ◌&&◌, beq}
 use mathlib.Core.List.{List, [], ◌∷◌}
 use Prim.Native.Nat.{ℕ, zero, suc, ◌≤◌, ◌<◌}
 use native.Mathlib.Nat.{not-suc-le-zero}
 use native.Mathlib.Omega.{arith}
 use native.Mathlib.Decide.{dec_lt}
-use borrow.Author.Tests.{ne_eqb, le-ltb}
-use lib.Dec.{T, eqb, ltb, eqb→eq, ltb→lt}
-use lib.ListN.{get_or}
+use borrow.Author.Tests.{ne_eqb}
+use lib.Dec.{T, eqb, ltb, ltb→lt}
 use Rattle.records.specs.Kinds.{
   Kind,
   unknown,
   sort_of,
   sort_number,
-  is_flat,
   is_pair,
-  is_header,
-  is_delay,
-  zeroed,
   never,
   Row,
   row,
   kind_rows,
   number_in,
-  asks_in,
   row_in,
   row_of,
   kind_of,
-  ask_of,
 }
-use Rattle.records.specs.AskNumbers.{ask_number, ask_numbers}
 
 both_left : (a b : Bool) → T (a && b) → T a
 both_left true b t = tt
@@ -76,20 +68,6 @@ pub sort-above : (kind : ℕ) → 65 ≤ kind → sort_number (sort_of (kind_of 
 unfolding kind_of
 sort-above kind h = rw (unknown-above kind h)
 
--- what a row asks of its words, in numbers
-ask-entry : (x : Row) (k : ℕ) → get_or (ask_numbers x) k 0 ≡ ask_number (get_or (asks_in x) k zeroed)
-ask-entry (row number kind next a b c d) zero = refl
-ask-entry (row number kind next a b c d) (suc zero) = refl
-ask-entry (row number kind next a b c d) (suc (suc zero)) = refl
-ask-entry (row number kind next a b c d) (suc (suc (suc zero))) = refl
-ask-entry (row number kind next a b c d) (suc (suc (suc (suc zero)))) = refl
-ask-entry (row number kind next a b c d) (suc (suc (suc (suc (suc zero))))) = refl
-ask-entry (row number kind next a b c d) (suc (suc (suc (suc (suc (suc k)))))) = refl
-
-pub ask-at : (kind k : ℕ) → get_or (ask_numbers (row_of kind)) k 0 ≡ ask_number (ask_of kind k)
-unfolding ask_of
-ask-at kind k = ask-entry (row_of kind) k
-
 -- A test of kinds that passes at one number alone: computed at the numbers below 65.
 abbrev pub all_below : (ℕ → Bool) → ℕ → Bool
 all_below f zero = true
@@ -109,35 +87,6 @@ beq→eq true false t = absurd t
 beq→eq false true t = absurd t
 beq→eq false false t = refl
 
--- the sort of a kind by the ranges of the numbers
-abbrev pub sort_by_range : ℕ → ℕ
-sort_by_range k =
-    cond (eqb k 1) 1
-    (cond (eqb k 64) 5
-    (cond (ltb k 16) 0 (cond (ltb k 18) 2 (cond (ltb k 32) 0 (cond (ltb k 41) 3 (cond (ltb k 48) 0 (cond (ltb k 51) 4 0)))))))
-
-sort-test : ℕ → Bool
-sort-test k = eqb (sort_by_range k) (sort_number (sort_of (kind_of k)))
-
-pub sort-by-range : (k : ℕ) → sort_by_range k ≡ sort_number (sort_of (kind_of k))
-unfolding kind_of sort-test
-sort-by-range k = go (dec_lt k 65)
-  where
-    go : Dec (k < 65) → sort_by_range k ≡ sort_number (sort_of (kind_of k))
-    go (yes h) = eqb→eq (sort_by_range k) (sort_number (sort_of (kind_of k))) (below_at sort-test 65 tt k h)
-    go (no h) =
-        rw (
-          sort-above k (omega arith),
-          ne_eqb k 1 (omega arith),
-          ne_eqb k 64 (omega arith),
-          le-ltb k 16 (omega arith),
-          le-ltb k 18 (omega arith),
-          le-ltb k 32 (omega arith),
-          le-ltb k 41 (omega arith),
-          le-ltb k 48 (omega arith),
-          le-ltb k 51 (omega arith),
-        )
-
 module _ (f : Kind → Bool) (m : ℕ) (none : f unknown ≡ false) (small : m < 65) where
   abbrev kind-test : ℕ → Bool
   kind-test k = beq (f (kind_of k)) (eqb k m)
@@ -150,18 +99,6 @@ module _ (f : Kind → Bool) (m : ℕ) (none : f unknown ≡ false) (small : m <
       go (yes h) = beq→eq _ _ (below_at kind-test 65 t k h)
       go (no h) = rw (unknown-above k (omega arith), ne_eqb k m (omega arith)) none
 
-pub flat-number : (k : ℕ) → is_flat (kind_of k) ≡ eqb k 16
-unfolding kind_of
-flat-number = only-kind is_flat 16 refl (omega arith) tt
-
 pub pair-number : (k : ℕ) → is_pair (kind_of k) ≡ eqb k 17
 unfolding kind_of
 pair-number = only-kind is_pair 17 refl (omega arith) tt
-
-pub header-number : (k : ℕ) → is_header (kind_of k) ≡ eqb k 1
-unfolding kind_of
-header-number = only-kind is_header 1 refl (omega arith) tt
-
-pub delay-number : (k : ℕ) → is_delay (kind_of k) ≡ eqb k 40
-unfolding kind_of
-delay-number = only-kind is_delay 40 refl (omega arith) tt

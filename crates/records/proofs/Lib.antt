@@ -1,10 +1,10 @@
 -- Laws that belong to no one function.
-pub mod AskNumbers
 pub mod Asked
 pub mod CodeTable
 pub mod Decoding
 pub mod Distinct
 pub mod Grown
+pub mod Kinded
 pub mod Leaves
 pub mod Namings
 pub mod Pairs

@@ -58,11 +58,10 @@ use Rattle.records.specs.Kinds.{
   total,
   never,
 }
-use Rattle.records.specs.AskNumbers.{ask_number}
 use Rattle.records.specs.Says.{kind_at, sort_at, ask_at, Naming, names, names_at, if_named, namings_in, namings_below, namings, by_word_d, well_named}
 use Rattle.records.specs.Written.{Written, WellNamed}
 use Rattle.records.proofs.Tests.{never_both, both_left, both_right}
-use Rattle.records.proofs.Table.{ask_of_kind, ask-by-kind}
+use Rattle.records.proofs.Table.{ask_of_kind, ask-by-kind, ask_number}
 use Rattle.records.proofs.Asked.{AskMeans, as-asked, part-of-kind}
 
 -- a word that names is in the list

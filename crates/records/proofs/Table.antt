@@ -2,7 +2,7 @@
 -- number. Sorts that are compared equal are equal, and a sort says which kinds a record may have. By the cases of the table,
 -- the kinds and the sorts.
 -- Assumes nothing.
-use Prim.Native.Nat.{ℕ, zero, suc}
+use Prim.Native.Nat.{ℕ, zero, suc, ◌+◌}
 use mathlib.Core.Bool.{Bool, true, false, cond, ◌||◌, or-true, false≢true}
 use mathlib.Core.List.{List, [], ◌∷◌}
 use mathlib.Core.Path.{◌≡◌, refl, sym, ap, ◌∙◌}
@@ -51,9 +51,17 @@ use Rattle.records.specs.Kinds.{
   is_delay,
   Ask,
   zeroed,
-  never,
-  constructor_of,
+  next_of,
+  part,
+  any_type,
+  lower_type,
   lower_flat,
+  constructor_of,
+  counted,
+  byte,
+  free,
+  total,
+  never,
   Row,
   row,
   kind_rows,
@@ -65,7 +73,6 @@ use Rattle.records.specs.Kinds.{
   kind_of,
   ask_of,
 }
-use Rattle.records.specs.AskNumbers.{ask_number}
 use Rattle.records.specs.Says.{kind_at, ask_at}
 
 -- a kind's number in the table; 0 is no kind's
@@ -131,6 +138,21 @@ some_at : (p : Ask → Bool) (asks : List Ask) (j : ℕ) → p zeroed ≡ false 
 some_at p [] j z e = sym z ∙ e
 some_at p (a ∷ rest) zero z e = rw e
 some_at p (a ∷ rest) (suc j) z e = rw (some_at p rest j z e) (or-true (p a))
+
+-- a number for each ask, by which two are told apart
+abbrev pub ask_number : Ask → ℕ
+ask_number zeroed = 0
+ask_number any_type = 1
+ask_number lower_type = 2
+ask_number lower_flat = 3
+ask_number constructor_of = 4
+ask_number counted = 5
+ask_number byte = 6
+ask_number free = 7
+ask_number total = 8
+ask_number never = 9
+ask_number (next_of σ) = 16 + sort_number σ
+ask_number (part σ) = 32 + sort_number σ
 
 asks_constructor : Ask → Bool
 asks_constructor a = eqb (ask_number a) (ask_number constructor_of)

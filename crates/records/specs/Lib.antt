@@ -13,6 +13,6 @@ pub mod DecodingRows
 -- What functions ask and give, and their proofs need:
 pub mod Limits
 pub mod Sized
-pub mod AskNumbers
+pub mod Kinded
 pub mod Written
 pub mod Rewritten

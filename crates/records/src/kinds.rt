@@ -1,100 +1,213 @@
-// The table of kinds: the sort of each kind, and what its words ask.
-ghost use Rattle.std.specs.Prelude.{◌≡◌, ◌<◌};
-ghost use Rattle.records.specs.Kinds.{sort_number, sort_of, row_of, kind_of, ask_of};
-ghost use Rattle.records.specs.AskNumbers.{ask_number, ask_numbers};
+// The table of kinds: each kind's number, its sort, and what its words ask.
+ghost use Rattle.std.specs.Prelude.{◌≡◌, map};
+ghost use Rattle.records.specs.Kinds.{kind_of, sort_of};
+ghost use Rattle.records.specs.Says.{names};
+ghost use Rattle.records.specs.Kinded.{kind_meant, kind_number, sort_meant, ask_meant, asks_of};
 
-use crate::{
-    KIND_CONSTANT, KIND_CONSTRUCTOR_PATTERN, KIND_DELAY, KIND_FEEDBACK, KIND_FIRST, KIND_FLAT_TYPE,
-    KIND_HEADER, KIND_IF, KIND_LEAF, KIND_LET, KIND_NAME, KIND_PAIR, KIND_PAIR_PATTERN,
-    KIND_PAIR_TYPE, KIND_SECOND, KIND_WHOLE_PATTERN, SORT_EXPRESSION, SORT_HEADER, SORT_LEAF,
-    SORT_NONE, SORT_PATTERN, SORT_TYPE, WORDS,
-};
+use crate::WORDS;
 
-// The number of what a word asks. From NEXT on it asks for a record that it names, or zero, and from PART on for one that it
-// names; the sort of that record is what is left of the number.
-pub const ZERO: usize = 0;
+// What a record is, by its number; a number that stands for no kind is unknown.
+#[derive(Clone, Copy, Debug, PartialEq, Eq)]
+pub enum Kind {
+    Unknown = 0,
+    Header = 1,
+    FlatType = 16,
+    PairType = 17,
+    Constant = 32,
+    Name = 33,
+    Pair = 34,
+    First = 35,
+    Second = 36,
+    Let = 37,
+    Feedback = 38,
+    If = 39,
+    Delay = 40,
+    WholePattern = 48,
+    ConstructorPattern = 49,
+    PairPattern = 50,
+    Leaf = 64,
+}
 
-pub const ANY_TYPE: usize = 1;
+// The sorts of records.
+#[derive(Clone, Copy, Debug, PartialEq, Eq)]
+pub enum Sort {
+    None,
+    Headers,
+    Types,
+    Expressions,
+    Patterns,
+    Leaves,
+}
 
-pub const LOWER_TYPE: usize = 2;
+// What a word asks of the number in it.
+#[derive(Clone, Copy, Debug, PartialEq, Eq)]
+pub enum Ask {
+    Zeroed,
+    // Zero, or a higher record of this sort, which the word names.
+    NextOf(Sort),
+    // A higher record of this sort, which the word names.
+    Part(Sort),
+    AnyType,
+    LowerType,
+    LowerFlat,
+    // A constructor of the flat type in word a.
+    ConstructorOf,
+    // From 1 to 255.
+    Counted,
+    Byte,
+    Free,
+    // The number of records.
+    Total,
+    Never,
+}
 
-pub const LOWER_FLAT: usize = 3;
+impl From<usize> for Kind {
+    ghost from_gives = { λ number kind. kind_meant kind ≡ kind_of number };
 
-pub const CONSTRUCTOR: usize = 4;
-
-pub const COUNT: usize = 5;
-
-pub const BYTE: usize = 6;
-
-pub const FREE: usize = 7;
-
-pub const TOTAL: usize = 8;
-
-const NEVER: usize = 9;
-
-pub const NAMES: usize = NEXT;
-
-pub const NEXT: usize = 16;
-
-pub const PART: usize = 32;
-
-const NEXT_TYPE: usize = NEXT + SORT_TYPE;
-
-const NEXT_PATTERN: usize = NEXT + SORT_PATTERN;
-
-const NEXT_LEAF: usize = NEXT + SORT_LEAF;
-
-const TYPE: usize = PART + SORT_TYPE;
-
-const EXPRESSION: usize = PART + SORT_EXPRESSION;
-
-const PATTERN: usize = PART + SORT_PATTERN;
-
-const LEAF: usize = PART + SORT_LEAF;
-
-// What the words kind, next, a, b, c and d of a kind ask.
-pub fn asks(kind: usize) -> [usize; WORDS]
-    ensures { result ≡ ask_numbers (row_of kind) }
-{
-    match kind {
-        KIND_HEADER => [FREE, TYPE, ANY_TYPE, EXPRESSION, TOTAL, ZERO],
-        KIND_FLAT_TYPE => [FREE, NEXT_TYPE, COUNT, ZERO, ZERO, ZERO],
-        KIND_PAIR_TYPE => [FREE, NEXT_TYPE, LOWER_TYPE, LOWER_TYPE, ZERO, ZERO],
-        KIND_CONSTANT => [FREE, ZERO, LOWER_TYPE, LEAF, ZERO, ZERO],
-        KIND_NAME => [FREE, ZERO, FREE, ZERO, ZERO, ZERO],
-        KIND_PAIR => [FREE, ZERO, EXPRESSION, EXPRESSION, ZERO, ZERO],
-        KIND_FIRST => [FREE, ZERO, EXPRESSION, ZERO, ZERO, ZERO],
-        KIND_SECOND => [FREE, ZERO, EXPRESSION, ZERO, ZERO, ZERO],
-        KIND_LET => [FREE, ZERO, EXPRESSION, EXPRESSION, ZERO, ZERO],
-        KIND_FEEDBACK => [FREE, ZERO, LOWER_TYPE, EXPRESSION, EXPRESSION, ZERO],
-        KIND_IF => [FREE, ZERO, EXPRESSION, EXPRESSION, EXPRESSION, PATTERN],
-        KIND_DELAY => [FREE, ZERO, LOWER_TYPE, LEAF, EXPRESSION, FREE],
-        KIND_WHOLE_PATTERN => [FREE, NEXT_PATTERN, LOWER_TYPE, ZERO, ZERO, ZERO],
-        KIND_CONSTRUCTOR_PATTERN => [FREE, NEXT_PATTERN, LOWER_FLAT, CONSTRUCTOR, ZERO, ZERO],
-        KIND_PAIR_PATTERN => [FREE, NEXT_PATTERN, PATTERN, PATTERN, ZERO, ZERO],
-        KIND_LEAF => [FREE, NEXT_LEAF, BYTE, ZERO, ZERO, ZERO],
-        _ => [FREE, NEVER, NEVER, NEVER, NEVER, NEVER],
+    #[inline(always)]
+    fn from(number: usize) -> Kind {
+        match number {
+            1 => Kind::Header,
+            16 => Kind::FlatType,
+            17 => Kind::PairType,
+            32 => Kind::Constant,
+            33 => Kind::Name,
+            34 => Kind::Pair,
+            35 => Kind::First,
+            36 => Kind::Second,
+            37 => Kind::Let,
+            38 => Kind::Feedback,
+            39 => Kind::If,
+            40 => Kind::Delay,
+            48 => Kind::WholePattern,
+            49 => Kind::ConstructorPattern,
+            50 => Kind::PairPattern,
+            64 => Kind::Leaf,
+            _ => Kind::Unknown,
+        }
     }
 }
 
-// The number of the sort of a kind.
-pub fn sort_number(kind: usize) -> usize
-    ensures { result ≡ sort_number (sort_of (kind_of kind)) }
-{
-    match kind {
-        KIND_HEADER => SORT_HEADER,
-        KIND_FLAT_TYPE | KIND_PAIR_TYPE => SORT_TYPE,
-        KIND_CONSTANT..=KIND_DELAY => SORT_EXPRESSION,
-        KIND_WHOLE_PATTERN..=KIND_PAIR_PATTERN => SORT_PATTERN,
-        KIND_LEAF => SORT_LEAF,
-        _ => SORT_NONE,
+impl Kind {
+    pub fn number(self) -> u16
+        ensures { result ≡ kind_number self }
+    {
+        self as u16
+    }
+
+    pub fn sort(self) -> Sort
+        ensures { sort_meant result ≡ sort_of (kind_meant self) }
+    {
+        match self {
+            Kind::Unknown => Sort::None,
+            Kind::Header => Sort::Headers,
+            Kind::FlatType | Kind::PairType => Sort::Types,
+            Kind::Constant
+            | Kind::Name
+            | Kind::Pair
+            | Kind::First
+            | Kind::Second
+            | Kind::Let
+            | Kind::Feedback
+            | Kind::If
+            | Kind::Delay => Sort::Expressions,
+            Kind::WholePattern | Kind::ConstructorPattern | Kind::PairPattern => Sort::Patterns,
+            Kind::Leaf => Sort::Leaves,
+        }
+    }
+
+    // What the words kind, next, a, b, c and d of a record of this kind ask.
+    pub fn asks(self) -> [Ask; WORDS]
+        ensures { map ask_meant result ≡ asks_of self }
+    {
+        use Ask::{AnyType, Byte, ConstructorOf, Counted, Free, LowerFlat, LowerType};
+        use Ask::{Never, NextOf, Part, Total, Zeroed};
+        use Sort::{Expressions, Leaves, Patterns, Types};
+
+        match self {
+            Kind::Header => [Free, Part(Types), AnyType, Part(Expressions), Total, Zeroed],
+            Kind::FlatType => [Free, NextOf(Types), Counted, Zeroed, Zeroed, Zeroed],
+            Kind::PairType => [Free, NextOf(Types), LowerType, LowerType, Zeroed, Zeroed],
+            Kind::Constant => [Free, Zeroed, LowerType, Part(Leaves), Zeroed, Zeroed],
+            Kind::Name => [Free, Zeroed, Free, Zeroed, Zeroed, Zeroed],
+            Kind::Pair => [
+                Free,
+                Zeroed,
+                Part(Expressions),
+                Part(Expressions),
+                Zeroed,
+                Zeroed,
+            ],
+            Kind::First => [Free, Zeroed, Part(Expressions), Zeroed, Zeroed, Zeroed],
+            Kind::Second => [Free, Zeroed, Part(Expressions), Zeroed, Zeroed, Zeroed],
+            Kind::Let => [
+                Free,
+                Zeroed,
+                Part(Expressions),
+                Part(Expressions),
+                Zeroed,
+                Zeroed,
+            ],
+            Kind::Feedback => {
+                [
+                    Free,
+                    Zeroed,
+                    LowerType,
+                    Part(Expressions),
+                    Part(Expressions),
+                    Zeroed,
+                ]
+            }
+            Kind::If => {
+                [
+                    Free,
+                    Zeroed,
+                    Part(Expressions),
+                    Part(Expressions),
+                    Part(Expressions),
+                    Part(Patterns),
+                ]
+            }
+            Kind::Delay => [
+                Free,
+                Zeroed,
+                LowerType,
+                Part(Leaves),
+                Part(Expressions),
+                Free,
+            ],
+            Kind::WholePattern => [Free, NextOf(Patterns), LowerType, Zeroed, Zeroed, Zeroed],
+            Kind::ConstructorPattern => {
+                [
+                    Free,
+                    NextOf(Patterns),
+                    LowerFlat,
+                    ConstructorOf,
+                    Zeroed,
+                    Zeroed,
+                ]
+            }
+            Kind::PairPattern => {
+                [
+                    Free,
+                    NextOf(Patterns),
+                    Part(Patterns),
+                    Part(Patterns),
+                    Zeroed,
+                    Zeroed,
+                ]
+            }
+            Kind::Leaf => [Free, NextOf(Leaves), Byte, Zeroed, Zeroed, Zeroed],
+            Kind::Unknown => [Free, Never, Never, Never, Never, Never],
+        }
     }
 }
 
-// The number of what word k asks of a kind.
-pub fn ask_number(kind: usize, k: usize) -> usize
-    requires { (0 < k) × (k < 6) }
-    ensures { result ≡ ask_number (ask_of kind k) }
-{
-    asks(kind)[k]
+impl Ask {
+    // Whether a word that asks this names the record in it.
+    pub fn names(self) -> bool
+        ensures { result ≡ names (ask_meant self) }
+    {
+        matches!(self, Ask::NextOf(_) | Ask::Part(_))
+    }
 }

@@ -1,4 +1,5 @@
-// Reading a sheet: words, kinds, sorts, and whether a word is what the table asks. The numbers of the format have their names here.
+// Reading a sheet: words, kinds, sorts, and whether a word is what the table asks. The numbers of
+// the format have their names here and in `kinds`.
 #![tactic(auto)]
 
 ghost use Rattle.std.specs.Prelude.{◌≡◌, length};
@@ -6,11 +7,12 @@ ghost use Rattle.records.specs.Limits.{most_records};
 
 mod kinds;
 mod says;
+mod sheet;
 mod words;
 
-pub use kinds::{NAMES, ask_number, asks, sort_number};
-pub use says::well_said;
-pub use words::{offset, records_in, word};
+pub use kinds::{Ask, Kind, Sort};
+pub use sheet::Sheet;
+pub use words::{offset, records_in};
 
 // The sheet: records of 12 bytes, each six words.
 pub const RECORD_BYTES: usize = 12;
@@ -33,52 +35,6 @@ pub const WORD_D: usize = 5;
 
 pub const WORDS: usize = 6;
 
-// The kinds.
-pub const KIND_HEADER: usize = 1;
-
-pub const KIND_FLAT_TYPE: usize = 16;
-
-pub const KIND_PAIR_TYPE: usize = 17;
-
-pub const KIND_CONSTANT: usize = 32;
-
-pub const KIND_NAME: usize = 33;
-
-pub const KIND_PAIR: usize = 34;
-
-pub const KIND_FIRST: usize = 35;
-
-pub const KIND_SECOND: usize = 36;
-
-pub const KIND_LET: usize = 37;
-
-pub const KIND_FEEDBACK: usize = 38;
-
-pub const KIND_IF: usize = 39;
-
-pub const KIND_DELAY: usize = 40;
-
-pub const KIND_WHOLE_PATTERN: usize = 48;
-
-pub const KIND_CONSTRUCTOR_PATTERN: usize = 49;
-
-pub const KIND_PAIR_PATTERN: usize = 50;
-
-pub const KIND_LEAF: usize = 64;
-
-// The sorts of records.
-pub const SORT_NONE: usize = 0;
-
-pub const SORT_HEADER: usize = 1;
-
-pub const SORT_TYPE: usize = 2;
-
-pub const SORT_EXPRESSION: usize = 3;
-
-pub const SORT_PATTERN: usize = 4;
-
-pub const SORT_LEAF: usize = 5;
-
 // Limits.
 pub const MOST_CONSTRUCTORS: usize = 255;
 
@@ -96,17 +52,8 @@ pub const MOST_DEPTH: u8 = 64;
 
 pub const MOST_NESTING: u8 = 3;
 
-// The entry of a table of namers at a record that more than one word names.
-pub const NAMED_SEVERAL: u16 = 65535;
-
-// Tables with an entry for each record, and the types of the names in scope, the innermost last.
+// The width of each record's type.
 pub type WidthTable = [u8; RECORDS];
-
-pub type Depths = [u8; RECORDS];
-
-pub type Namers = [u16; RECORDS];
-
-pub type ScopeTable = [u16; MOST_NAMES];
 
 // Room for a table of widths.
 pub fn no_widths() -> WidthTable

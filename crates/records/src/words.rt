@@ -1,16 +1,9 @@
-// The words of a record.
+// Where the words of a record stand.
 ghost use Rattle.std.specs.Prelude.{◌≡◌, ◌/◌, ◌<◌};
-ghost use Rattle.records.specs.Words.{offset, word};
-ghost use Rattle.records.specs.Sized.{Sized};
-ghost use Rattle.records.specs.Limits.{most_records, word_bound};
+ghost use Rattle.records.specs.Words.{offset};
+ghost use Rattle.records.specs.Limits.{most_records};
 
 use crate::RECORD_BYTES;
-
-fn widened(x: u8) -> usize
-    ensures { (result ≡ x) × (result < 256) }
-{
-    x as usize
-}
 
 // The number of whole records in so many bytes: the one place that divides by a record's length.
 pub fn records_in(length: usize) -> usize
@@ -25,13 +18,4 @@ pub fn offset(rec: usize, k: usize) -> usize
     ensures { result ≡ offset rec k }
 {
     RECORD_BYTES * rec + 2 * k
-}
-
-// Word k of a record: 0 is the kind, 1 next, 2 to 5 the words a, b, c, d.
-pub fn word(sheet: &[u8], n: usize, rec: usize, k: usize) -> usize
-    requires { Sized sheet.now n × (rec < n) × (k < 6) }
-    ensures { (result ≡ word sheet.now rec k) × (result < word_bound) }
-{
-    let at = offset(rec, k);
-    widened(sheet[at]) + 256 * widened(sheet[at + 1])
 }

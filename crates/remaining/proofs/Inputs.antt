@@ -4,16 +4,14 @@ use Prim.Native.Nat.{ℕ, ◌+◌, ◌-◌, ◌*◌, ◌≤◌, ◌<◌}
 use mathlib.Core.List.{List, [], ◌∷◌, ◌++◌, map}
 use mathlib.Core.Path.{◌≡◌, refl, sym, ap, ap₂, ◌∙◌}
 use native.Mathlib.Omega.{arith}
-use lib.Count.{ones}
 use lib.ListN.{length, get_or, take, drop, replicate, length-map}
-use Rattle.picoella.specs.Language.{bounds, leaves, OfType}
-use Rattle.records.specs.Words.{word, word_a, word_b, count}
-use Rattle.records.specs.Trees.{type_at, TypeRecord, tree_at, circuit}
+use Rattle.picoella.specs.Language.{bounds, leaves}
+use Rattle.records.specs.Words.{word, word_a, word_b}
+use Rattle.records.specs.Trees.{type_at, TypeRecord, circuit}
 use Rattle.records.specs.Written.{Written}
 use Rattle.records.proofs.Types.{few-leaves}
-use Rattle.verdict.specs.Scopes.{Scope, root, inputs}
-use Rattle.verdict.specs.Verdict.{verdict, output_type}
-use Rattle.answers.specs.declared.Verdict.TheVariants.{Accepted}
+use Rattle.verdict.specs.Scopes.{root, inputs}
+use Rattle.verdict.specs.Verdict.{output_type}
 use Rattle.accepted.specs.Accepting.{Accepting}
 use Rattle.accepted.proofs.Laws.{written, types-fit, accepted-by-types, input-context}
 use Rattle.accepted.proofs.Calls.{accepted-output}
@@ -23,14 +21,13 @@ use Rattle.meaning.proofs.Order.{value-length, bounds-length}
 use Rattle.behaviour.specs.Terms.{circuit_term}
 use Rattle.values.specs.Slots.{slot, entered, frames}
 use Rattle.evaluator.proofs.Frames.{back-part, back_long, lent-long, zeros-long, entered-slot, entered-long}
-use Rattle.possibilities.specs.Sets.{ConstructorSet, members, sets_of, set_word, set_words}
-use Rattle.possibilities.specs.SetEvaluation.{eval_sets}
+use Rattle.possibilities.specs.Sets.{ConstructorSet, members, set_word, set_words}
 use Rattle.possibilities.proofs.SetWords.{word-members}
 use Rattle.possible.specs.Possible.{possible_sets, possible_counts}
 use Rattle.possible.proofs.FilledTerms.{positive-bounds}
 use Rattle.possible.proofs.WithoutFeedback.{flat-few}
 use Rattle.sets.specs.Words.{ones_of}
-use Rattle.estimator.specs.Estimating.{SetsFilling, leaf_words, EstimatingIn, EstimatedIn, Estimated, sets_at, no_lengths, more_lengths}
+use Rattle.estimator.specs.Estimating.{SetsFilling, leaf_words, EstimatingIn, Estimated, sets_at, no_lengths, more_lengths}
 use Rattle.estimator.proofs.SetHeld.{bounds-few, held-leaf-small}
 use Rattle.estimator.proofs.SetLeaves.{words-of-leaves}
 use Rattle.estimator.proofs.SetsAt.{of-type-length}

@@ -1,39 +1,56 @@
--- The records that 22 is about, by their kinds' numbers; and the counts of sets, one after the other.
+-- The records that 22 is about, by their kinds; and the counts of sets, one after the other.
 -- Assumes nothing.
 use Prim.Native.Nat.{ℕ, zero, suc, ◌+◌, ◌≤◌, ◌<◌}
 use mathlib.Core.Bool.{Bool, true, false, ◌&&◌, ◌||◌}
-use mathlib.Core.List.{List, [], ◌∷◌, map}
-use mathlib.Core.Path.{◌≡◌, refl, sym, ap, ap₂, ◌∙◌}
+use mathlib.Core.List.{List, [], ◌∷◌}
+use mathlib.Core.Path.{◌≡◌, refl, sym, ◌∙◌}
 use native.Mathlib.Omega.{arith}
 use native.Mathlib.Numerals.{add-one}
-use lib.Dec.{eqb, ltb}
+use lib.Dec.{ltb}
 use lib.Count.{ones}
 use lib.ListN.{length, get_or, set, take, length-set, length-map}
 use lib.Seq.{take-length, take-suc, take-suc-set}
-use borrow.Author.Tests.{eq-eqb, ne_eqb}
 use Rattle.records.specs.Words.{word, word_a}
-use Rattle.records.specs.Kinds.{kind_of, is_flat}
-use Rattle.records.proofs.CodeTable.{flat-number}
-use Rattle.accepted.proofs.Laws.{feedback-number}
+use Rattle.records.specs.declared.kinds.Kind.{Kind}
+use Rattle.records.specs.declared.kinds.Kind.TheVariants as Coded
+use Rattle.records.specs.Kinds.{expression, feedback, type_of, flat, is_flat}
+use Rattle.records.specs.Kinded.{kind_meant}
+use Rattle.records.specs.Says.{kind_at}
+use Rattle.structure.specs.Rules.{is_feedback}
 use Rattle.possible.specs.Possible.{past_sets}
 use Rattle.sets.specs.Words.{ones_of}
 
-module _ (s : List ℕ) (r k : ℕ) (ek : k ≡ word s r 0) where
-  by-numbers : past_sets s r ≡ (eqb k 38 || (eqb k 16 && ltb 64 (word_a s r)))
+neither : (k : Kind) → (k ≡ Coded.Feedback → ⊥) → (k ≡ Coded.FlatType → ⊥) → (b : Bool) → (is_feedback (kind_meant k) || (is_flat (kind_meant k) && b)) ≡ false
+neither Coded.Feedback f g b = absurd (f refl)
+neither Coded.FlatType f g b = absurd (g refl)
+neither Coded.Unknown f g b = refl
+neither Coded.Header f g b = refl
+neither Coded.PairType f g b = refl
+neither Coded.Constant f g b = refl
+neither Coded.Name f g b = refl
+neither Coded.Pair f g b = refl
+neither Coded.First f g b = refl
+neither Coded.Second f g b = refl
+neither Coded.Let f g b = refl
+neither Coded.If f g b = refl
+neither Coded.Delay f g b = refl
+neither Coded.WholePattern f g b = refl
+neither Coded.ConstructorPattern f g b = refl
+neither Coded.PairPattern f g b = refl
+neither Coded.Leaf f g b = refl
+
+module _ (s : List ℕ) (r : ℕ) where
+  pub past-feedback : kind_at s r ≡ expression feedback → true ≡ past_sets s r
   unfolding past_sets
-  by-numbers =
-      rw ek
-      (ap₂ (λ x y. x || (y && ltb 64 (word_a s r))) (feedback-number (word s r 0)) (flat-number (word s r 0)))
+  past-feedback e = rw e refl
 
-  pub past-feedback : k ≡ 38 → true ≡ past_sets s r
-  past-feedback e = sym (by-numbers ∙ ap (λ x. x || (eqb k 16 && ltb 64 (word_a s r))) (eq-eqb k 38 e))
+  pub past-flat : {a : ℕ} → kind_at s r ≡ type_of flat → a ≡ word s r 2 → ltb 64 a ≡ past_sets s r
+  unfolding past_sets
+  past-flat {a} e ea = rw (e, ea) refl
 
-  pub past-flat : {a : ℕ} → (k ≡ 38 → ⊥) → k ≡ 16 → a ≡ word s r 2 → ltb 64 a ≡ past_sets s r
-  past-flat {a} f e ea =
-      sym (by-numbers ∙ ap₂ (λ x y. x || (y && ltb 64 (word_a s r))) (ne_eqb k 38 f) (eq-eqb k 16 e) ∙ rw ea refl)
-
-  pub past-neither : (k ≡ 38 → ⊥) → (k ≡ 16 → ⊥) → false ≡ past_sets s r
-  past-neither f g = sym (by-numbers ∙ ap₂ (λ x y. x || (y && ltb 64 (word_a s r))) (ne_eqb k 38 f) (ne_eqb k 16 g))
+  pub past-neither : (k : Kind) → kind_meant k ≡ kind_at s r → (k ≡ Coded.Feedback → ⊥) → (k ≡ Coded.FlatType → ⊥) → false ≡ past_sets s r
+  unfolding past_sets
+  past-neither k e f g = sym (rw (← e) (neither k f g (ltb 64 (word_a s r))))
 
 -- the counts before i are made
 pub record CountedTo (words : List ℕ) (i : ℕ) (out : List ℕ) : Type 0 where

@@ -1,11 +1,11 @@
 -- The promises of what can still happen: what every call promises, and of calls that return 0 what
 -- the theorems on sheets and sets say of their bytes.
 -- Assumes nothing.
-use Prim.Native.Nat.{ℕ, zero, suc, ◌≤◌, ◌<◌, ◌^◌, zero-le}
+use Prim.Native.Nat.{ℕ, zero, suc, ◌≤◌}
 use mathlib.Core.Bool.{true, not}
-use mathlib.Core.List.{List, [], ◌∷◌, ◌++◌, map}
+use mathlib.Core.List.{List, [], ◌∷◌, map}
 use mathlib.Core.Logic.{◌⊎◌, inl, inr, ◌≢◌}
-use mathlib.Core.Path.{◌≡◌, refl, sym, ap, ap₂, ◌∙◌}
+use mathlib.Core.Path.{◌≡◌, refl, ap, ap₂, ◌∙◌}
 use native.Mathlib.Omega.{arith}
 use lib.Dec.{eqb}
 use lib.ListN.{length, get_or, replicate}
@@ -13,14 +13,14 @@ use borrow.Author.Tests.{eq-eqb}
 use Rattle.picoella.specs.Language.{bounds, OfType}
 use Rattle.records.specs.Words.{count}
 use Rattle.records.specs.Trees.{type_at}
-use Rattle.answers.specs.Answers.{lowest, Check, check, when, NoneApplies}
+use Rattle.answers.specs.Answers.{Check, check, when, NoneApplies}
 use Rattle.answers.specs.GivenSlices.{SmallPlaces, no_slice, one_slice}
-use Rattle.answers.specs.declared.Answer.TheVariants.{Done}
+use Rattle.answers.specs.Answers.{Done}
 use Rattle.answers.proofs.First.{when-none, when-some, none-split, same-length-by}
 use Rattle.answers.proofs.Lowest.{lowest-some-passes}
 use Rattle.answers.proofs.StandardLaws.{zero-done}
 use Rattle.verdict.specs.Verdict.{sheet_checks, verdict, output_type}
-use Rattle.answers.specs.declared.Verdict.TheVariants.{Accepted}
+use Rattle.answers.specs.Answers.{Accepted}
 use Rattle.accepted.proofs.Calls.{none-of-call, call-laws, accepted-output}
 use Rattle.accepted.proofs.Laws.{first-accepted}
 use Rattle.accepted.proofs.Small.{accepted-few, accepted-sized}
@@ -45,7 +45,7 @@ use Rattle.possibilities.proofs.Kept.{members-some, members-inside}
 use Rattle.possible.specs.Possible.{possible_sets, possible_counts, past_sets, own_set_checks, possible_checks, possible_answer, final_counts, PossibleGiven}
 use Rattle.possible.specs.Fillings.{CallFilled}
 use Rattle.possible.proofs.Kept.{outputs-lie-in, sets-shrink-filled, defined-alone, outputs-full}
-use Rattle.remaining.specs.Promises.{FormedPossible, PossibleLaws, LeavesFilled, CountsLeft, CountsOfSets, FilledShown, ShownAlone, FilledLess, AllOnes, ByRule, UnderBothRules}
+use Rattle.remaining.specs.Promises.{FormedPossible, PossibleLaws, CountsOfSets, FilledShown, ShownAlone, FilledLess, AllOnes, ByRule, UnderBothRules}
 
 -- what every call promises
 module _ (s stim out : List ℕ) where

@@ -16,7 +16,7 @@ use Rattle.structure.specs.Rules.{ancestry_within, ancestry, depth, nesting, wro
 use Rattle.answers.specs.Answers.{lowest}
 use Rattle.verdict.specs.Verdict.{by_types, by_records, verdict}
 use Rattle.verdict.specs.Scopes.{Scope, inputs, if_tested, if_then, let_defining, tuple_first, tuple_second}
-use Rattle.answers.specs.declared.Verdict.TheVariants.{Accepted}
+use Rattle.answers.specs.Answers.{Accepted}
 use Rattle.accepted.specs.Accepting.{Accepting}
 use Rattle.accepted.proofs.Small.{accepted-passes, accepted-records}
 use Rattle.accepted.proofs.Requirements as Requirements

@@ -7,9 +7,9 @@ use Rattle.records.specs.Words.{count}
 use Rattle.records.specs.Trees.{type_at}
 use Rattle.answers.specs.Answers.{lowest}
 use Rattle.answers.specs.StandardLaws.{lent_slice, StandardLaws}
-use Rattle.answers.specs.declared.Answer.TheVariants.{Done, Refused}
+use Rattle.answers.specs.Answers.{Done, Refused}
 use Rattle.verdict.specs.Verdict.{verdict, output_type}
-use Rattle.answers.specs.declared.Verdict.TheVariants.{Accepted}
+use Rattle.answers.specs.Answers.{Accepted}
 use Rattle.stimulus.specs.Stimulus.{input_type, wrong_byte}
 use Rattle.stimulus.specs.OneCycle.{not_one_cycle}
 use Rattle.meaning.specs.Values.{Both}

@@ -9,27 +9,32 @@ use native.Mathlib.Omega.{arith}
 use lib.ListN.{length, get_or}
 use lib.Dec.{eqb}
 use Rattle.records.specs.Words.{word}
-use Rattle.answers.specs.Answers.{code, place, in_one, packed, Check, check, first_applying, NoneApplies, or_refused, SaysOf, verdict_answer, when, when_done, lowest}
-use Rattle.answers.specs.declared.Answer.{Answer}
-use Rattle.answers.specs.declared.Answer.TheVariants.{Done, Refused}
+use Rattle.answers.specs.Answers.{place, packed, Check, check, first_applying, NoneApplies, or_refused, SaysOf, when, when_done, lowest}
+use Rattle.answers.specs.Answers.{Answer}
+use Rattle.answers.specs.Answers.{Done, Refused}
 use Rattle.answers.specs.GivenSlices.{no_slice, one_slice}
 use Rattle.answers.proofs.First.{first_says, none-split, when-none, same-length-by}
 use Rattle.answers.proofs.StandardLaws.{standard-laws}
 use Rattle.verdict.specs.Verdict.{sheet_checks, output_type, verdict}
-use Rattle.answers.specs.declared.Verdict.{Verdict}
-use Rattle.answers.specs.declared.Verdict.TheVariants.{Accepted}
-use Rattle.answers.specs.declared.Verdict.TheVariants as Verdicts
+use Rattle.std.specs.Prelude.{Result, Ok, Err, IsErrAnd}
+use Rattle.answers.specs.Results.{code_number, refusal_of, answer_of, verdict_of}
+use Rattle.answers.specs.declared.Code.TheVariants.{WrongRecordedLength, WrongNextLength}
+use Rattle.answers.specs.declared.Refusal.{Refusal}
+use Rattle.answers.specs.declared.Fault.{Fault}
+use Rattle.replay.specs.declared.Difference.{Difference}
+use Rattle.replay.specs.Findings.{found_of, answer_replayed, finding_told, ReplayAnswered}
+use Rattle.accepted.proofs.Calls.{sheet-fault}
+use Rattle.answers.specs.Answers.{Accepted}
 use Rattle.accepted.specs.Accepting.{Accepting}
-use Rattle.accepted.proofs.Laws.{Refusing, refusing-answer, first-accepted}
+use Rattle.accepted.proofs.Laws.{first-accepted}
 use Rattle.meaning.specs.Undecided.{undecided_rule}
 use Rattle.stimulus.specs.Stimulus.{cycle_count, cycles, wrong_stimulus, wrong_byte, stimulus_checks}
 use Rattle.stimulus.specs.Holding.{Held}
 use Rattle.behaviour.specs.Run.{output_needed, call_checks, sheet_after, answer}
 use Rattle.behaviour.specs.Afterwards.{WellFormed}
 use Rattle.behaviour.proofs.Afterwards.{answer-done}
-use Rattle.behaviour.proofs.Answers.{answer-first, answer-by-lengths, run_laws, refused-by-verdict, stimulus-refused, output-refused, next-refused}
+use Rattle.behaviour.proofs.Answers.{answer-first, answer-by-lengths, run_laws, stimulus-refused, output-refused, next-refused}
 use Rattle.stepper.proofs.CallCycles as Cycles
-use Rattle.replay.specs.declared.Finding.{Finding}
 use Rattle.replay.specs.Replay.{
   finding,
   record_checks,
@@ -41,6 +46,7 @@ use Rattle.replay.specs.Replay.{
   when_agreed,
   final_replay,
   ReplayGiven,
+  Finding,
 }
 use Rattle.replay.specs.Replaying.{ReplayingInto, ReplayedInto}
 use Rattle.replay.specs.Promises.{
@@ -82,19 +88,35 @@ pub replay-as-run : ReplayAsRun
 replay-as-run s stim recorded out next e = answer-as-run s stim recorded next ∙ ap as_replay (answer-by-lengths s stim recorded out next next (sym e) refl)
 
 -- a refusal and what is given with it
-module _ (s stim recorded next : List ℕ) {result differs cycle leaf : ℕ} where
-  refusal-gives : (c p : ℕ) → answer s stim recorded next ≡ Refused c p → result ≡ in_one (code_for10 (eqb c 10) c) p
-      → (differs ≡ 0) × (cycle ≡ 0) × (leaf ≡ 0) → ReplayGiven s stim recorded next result differs cycle leaf next
+module _ (s stim recorded next : List ℕ) where
+  refusal-gives : (e : Refusal) → as_replay (answer s stim recorded next) ≡ Refused (code_number e.code) e.place → ReplayAnswered s stim recorded next (Err e) next
   unfolding final_replay
-  refusal-gives c p e q z =
-      let a : replay_answer s stim recorded next ≡ Refused (code_for10 (eqb c 10) c) p = answer-as-run s stim recorded next ∙ ap as_replay e in
-      record {
-        result_is = rw (q, a) refl;
-        differs_is = rw a z.0;
-        cycle_is = rw a z.1;
-        leaf_is = rw a z.2;
-        next_is = rw a refl;
-      }
+  refusal-gives e q =
+      let a : replay_answer s stim recorded next ≡ Refused (code_number e.code) e.place = answer-as-run s stim recorded next ∙ q in
+      record { answer_is = sym a; finding_is = tt; next_is = rw a refl }
+
+-- the numbers of a call from its answer
+pub replay-numbers : (s stim recorded next : List ℕ) (r : Result (Result ℕ Difference) Refusal) (next' : List ℕ) → ReplayAnswered s stim recorded next r next'
+    → {result differs cycle leaf : ℕ} → (f : Finding) → finding_told r f → result ≡ packed (answer_replayed r) → differs ≡ differs_given (answer_replayed r) f
+    → cycle ≡ cycle_given (answer_replayed r) f → leaf ≡ leaf_given (answer_replayed r) f
+    → ReplayGiven s stim recorded next result differs cycle leaf next'
+replay-numbers s stim recorded next (Ok told) next' a f h q x y z =
+    let same : f ≡ finding s stim recorded = sym h ∙ a.finding_is in
+    record {
+      result_is = q ∙ ap packed a.answer_is;
+      differs_is = x ∙ ap (differs_given (Done 0)) same ∙ ap (λ (b : Answer). differs_given b (finding s stim recorded)) a.answer_is;
+      cycle_is = y ∙ ap (cycle_given (Done 0)) same ∙ ap (λ (b : Answer). cycle_given b (finding s stim recorded)) a.answer_is;
+      leaf_is = z ∙ ap (leaf_given (Done 0)) same ∙ ap (λ (b : Answer). leaf_given b (finding s stim recorded)) a.answer_is;
+      next_is = a.next_is;
+    }
+replay-numbers s stim recorded next (Err e) next' a f h q x y z =
+    record {
+      result_is = q ∙ ap packed a.answer_is;
+      differs_is = rw (← a.answer_is) x;
+      cycle_is = rw (← a.answer_is) y;
+      leaf_is = rw (← a.answer_is) z;
+      next_is = a.next_is;
+    }
 
 -- the stimulus is refused by 8 or 9
 stimulus-code : (s stim : List ℕ) (c p : ℕ) → first_applying (stimulus_checks s stim) (Done (cycle_count s stim)) ≡ Refused c p
@@ -107,39 +129,24 @@ stimulus-code s stim c p = go (when (wrong_stimulus s stim) 0) (lowest (wrong_by
     go none none e = let z : ◌≡◌ {A = ℕ} 0 1 = cc in absurd (omega arith)
 
 -- 1 to 7
-not-ten : (w : Verdict) → code_for10 (eqb (code (verdict_answer w)) 10) (code (verdict_answer w)) ≡ code (verdict_answer w)
-not-ten (Accepted t) = refl
-not-ten Verdicts.WrongLength = refl
-not-ten Verdicts.WrongHeader = refl
-not-ten (Verdicts.WrongRecord r) = refl
-not-ten (Verdicts.WrongNaming r) = refl
-not-ten (Verdicts.WrongType r) = refl
-not-ten (Verdicts.TooDeep r) = refl
-not-ten (Verdicts.IllTyped r) = refl
-
-pub replay-refused-sheet : (s stim recorded next : List ℕ) (w : Verdict) → w ≡ verdict s → Refusing w → {packed-result result differs cycle leaf : ℕ}
-    → packed-result ≡ packed (verdict_answer w) → (result ≡ packed-result) × (differs ≡ 0) × (cycle ≡ 0) × (leaf ≡ 0)
-    → ReplayGiven s stim recorded next result differs cycle leaf next
-replay-refused-sheet s stim recorded next w e o q z =
-    let r = refusing-answer w o in
-    let f : verdict_answer (verdict s) ≡ Refused r.0 r.1 = ap verdict_answer (sym e) ∙ r.2 in
-    let n : code_for10 (eqb r.0 10) r.0 ≡ r.0 = rw r.2 at (not-ten w) in
-    refusal-gives s stim recorded next r.0 r.1 (refused-by-verdict s stim recorded next r.0 r.1 f)
-    (z.0 ∙ q ∙ rw (r.2, n) refl)
-    (z.1, z.2, z.3)
+pub replay-refused-sheet : (s stim recorded next : List ℕ) (r : Result (Result ℕ Difference) Refusal) (f : Fault) → IsErrAnd r (λ e. e ≡ refusal_of f)
+    → verdict_of (Err f) ≡ verdict s → ReplayAnswered s stim recorded next r next
+unfolding replay_answer final_replay
+replay-refused-sheet s stim recorded next (Ok x) f p q = absurd p
+replay-refused-sheet s stim recorded next (Err x) f p q =
+    let a : Refused (code_number x.code) x.place ≡ replay_answer s stim recorded next = sheet-fault s (record_checks s stim recorded next) (Done 0) (Err x) f p q in
+    record { answer_is = a; finding_is = tt; next_is = rw (← a) refl }
 
 module _ {s : List ℕ} {n : ℕ} {W : List ℕ} {t : ℕ} (g : Accepting s n W) (v : verdict s ≡ Accepted t) (stim recorded next : List ℕ) {a : Answer}
     (h : Held s stim a)
   where
     -- 8 and 9
-    pub replay-refused-stimulus : (c p : ℕ) → a ≡ Refused c p → {packed-result result differs cycle leaf : ℕ} → packed-result ≡ packed a
-        → (result ≡ packed-result) × (differs ≡ 0) × (cycle ≡ 0) × (leaf ≡ 0)
-        → ReplayGiven s stim recorded next result differs cycle leaf next
-    replay-refused-stimulus c p e q z =
-        let f = sym h.answered ∙ e in
-        refusal-gives s stim recorded next c p (stimulus-refused s stim recorded next v f)
-        (z.0 ∙ q ∙ rw (e, stimulus-code s stim c p f) refl)
-        (z.1, z.2, z.3)
+    pub replay-refused-stimulus : (r : Result (Result ℕ Difference) Refusal) (e : Refusal) → IsErrAnd r (λ x. x ≡ e) → a ≡ answer_of (Err e)
+        → ReplayAnswered s stim recorded next r next
+    replay-refused-stimulus (Ok x) e p q = absurd p
+    replay-refused-stimulus (Err x) e p q =
+        let f = sym h.answered ∙ q in
+        rw p (refusal-gives s stim recorded next e (rw (stimulus-refused s stim recorded next v f) (rw (stimulus-code s stim _ _ f) refl)))
 
     module _ {count : ℕ} (e : a ≡ Done count) where
       needs : count * get_or W t 0 ≡ output_needed s t stim
@@ -149,23 +156,17 @@ module _ {s : List ℕ} {n : ℕ} {W : List ℕ} {t : ℕ} (g : Accepting s n W)
       done = Cycles.stimulus-done g v h e
 
       -- 17 and 11
-      pub replay-refused-record : (length recorded ≡ count * get_or W t 0 → ⊥) → {packed-result result differs cycle leaf : ℕ}
-          → packed-result ≡ in_one 17 (count * get_or W t 0) → (result ≡ packed-result) × (differs ≡ 0) × (cycle ≡ 0) × (leaf ≡ 0)
-          → ReplayGiven s stim recorded next result differs cycle leaf next
-      replay-refused-record d q z =
-          refusal-gives s stim recorded next 10 (output_needed s t stim)
-          (output-refused s stim recorded next v done (λ y. d (y ∙ sym needs)))
-          (z.0 ∙ q ∙ rw needs refl)
-          (z.1, z.2, z.3)
+      pub replay-refused-record : (length recorded ≡ count * get_or W t 0 → ⊥)
+          → ReplayAnswered s stim recorded next (Err (record { code = WrongRecordedLength; place = count * get_or W t 0 })) next
+      replay-refused-record d =
+          refusal-gives s stim recorded next _
+          (rw (output-refused s stim recorded next v done (λ y. d (y ∙ sym needs))) (ap (Refused 17) (sym needs)))
 
       module _ (y : length recorded ≡ count * get_or W t 0) where
-        pub replay-refused-next : (length next ≡ length s → ⊥) → {packed-result result differs cycle leaf : ℕ}
-            → packed-result ≡ in_one 11 (length s) → (result ≡ packed-result) × (differs ≡ 0) × (cycle ≡ 0) × (leaf ≡ 0)
-            → ReplayGiven s stim recorded next result differs cycle leaf next
-        replay-refused-next d q z =
-            refusal-gives s stim recorded next 11 (length s) (next-refused s stim recorded next v done (y ∙ needs) d)
-            (z.0 ∙ q)
-            (z.1, z.2, z.3)
+        pub replay-refused-next : (length next ≡ length s → ⊥)
+            → ReplayAnswered s stim recorded next (Err (record { code = WrongNextLength; place = length s })) next
+        replay-refused-next d =
+            refusal-gives s stim recorded next _ (rw (next-refused s stim recorded next v done (y ∙ needs) d) refl)
 
         module _ (x : length next ≡ length s) where
           pub replaying-into : {b : ℕ} → b ≡ word s 0 2 → ReplayingInto s n W stim recorded (get_or W b 0) (get_or W t 0) count next
@@ -184,18 +185,10 @@ module _ {s : List ℕ} {n : ℕ} {W : List ℕ} {t : ℕ} (g : Accepting s n W)
                 long = x;
               }))
 
-          pub replay-found : {next' : List ℕ} {told : Finding} → ReplayedInto s stim recorded next next' told → {result differs cycle leaf : ℕ}
-              → (result ≡ 0) × (differs ≡ differs_given (Done 0) told) × (cycle ≡ cycle_given (Done 0) told) × (leaf ≡ leaf_given (Done 0) told)
-              → ReplayGiven s stim recorded next result differs cycle leaf next'
+          pub replay-found : {next' : List ℕ} (told : Result ℕ Difference) → ReplayedInto s stim recorded next next' (found_of told)
+              → ReplayAnswered s stim recorded next (Ok told) next'
           unfolding final_replay
-          replay-found r z =
-              record {
-                result_is = z.0 ∙ rw answered refl;
-                differs_is = z.1 ∙ rw (answered, r.compared) refl;
-                cycle_is = z.2 ∙ rw (answered, r.compared) refl;
-                leaf_is = z.3 ∙ rw (answered, r.compared) refl;
-                next_is = r.next_is ∙ rw answered refl;
-              }
+          replay-found told r = record { answer_is = sym answered; finding_is = r.compared; next_is = r.next_is ∙ rw answered refl }
 
 -- where no check applies the call is formed
 formed_where : (s stim recorded next : List ℕ) → NoneApplies (replay_checks s stim recorded next) → FormedReplay s stim recorded next

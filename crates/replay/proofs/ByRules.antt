@@ -7,7 +7,7 @@ use native.Mathlib.Omega.{arith}
 use lib.ListN.{length}
 use Rattle.picoella.specs.Language.{leaves}
 use Rattle.answers.specs.Answers.{packed}
-use Rattle.answers.specs.declared.Answer.TheVariants.{Done}
+use Rattle.answers.specs.Answers.{Done}
 use Rattle.verdict.specs.Verdict.{output_type}
 use Rattle.meaning.specs.Constants.{flatten}
 use Rattle.meaning.specs.Undecided.{undecided_rule}
@@ -15,8 +15,8 @@ use Rattle.stimulus.specs.Stimulus.{input_type, cycle_count, pieces, end_to_end,
 use Rattle.behaviour.specs.Run.{outputs_by, answer, RunGiven, RunsByRules}
 use Rattle.behaviour.proofs.Reduces.{run_reduces}
 use Rattle.behaviour.proofs.ByRules.{pieces-back, call_by_rules}
-use Rattle.replay.specs.declared.Finding.{Finding}
-use Rattle.replay.specs.declared.Finding.TheVariants.{Agrees, Differs}
+use Rattle.replay.specs.Replay.{Finding}
+use Rattle.replay.specs.Replay.{Agrees, Differs}
 use Rattle.replay.specs.Replay.{finding, differs_given, final_replay}
 use Rattle.replay.specs.Promises.{FormedReplay, AgreesByRules}
 use Rattle.replay.proofs.Answered.{formed-run, formed-answer, replay_laws, replay-done}

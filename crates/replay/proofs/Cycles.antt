@@ -2,22 +2,21 @@
 -- what it is compared by is its own outputs and its own part of the record.
 -- Assumes nothing.
 use Prim.Native.Nat.{ℕ, suc, ◌+◌, ◌-◌, ◌*◌, ◌≤◌, ◌<◌}
-use mathlib.Core.List.{List}
+use mathlib.Core.List.{List, ◌++◌}
 use mathlib.Core.Path.{◌≡◌, refl, sym, ap, ◌∙◌}
 use native.Mathlib.Omega.{arith}
 use native.Mathlib.Numerals.{add-one}
 use native.Mathlib.Nat.{zero-mul, mul-le-mul_left, mul-le-mul_right}
 use lib.ListN.{length, take, drop, replicate, length-replicate}
-use lib.Seq.{length-take-le}
+use lib.Seq.{length-take-le, take_at}
 use Rattle.picoella.specs.Language.{leaves}
 use Rattle.records.specs.Trees.{type_at}
 use Rattle.answers.specs.Answers.{lowest}
 use Rattle.answers.specs.Searches.{found}
-use Rattle.answers.specs.declared.Found.{Found}
-use Rattle.answers.specs.declared.Found.TheVariants.{At, Nothing}
+use Rattle.std.specs.Prelude as Std
 use Rattle.accepted.proofs.Calls.{accepted-output}
 use Rattle.stimulus.specs.Stimulus.{cycle_count}
-use Rattle.behaviour.specs.Cycle.{output}
+use Rattle.behaviour.specs.Cycle.{output, sheet_after_cycle}
 use Rattle.behaviour.specs.Run.{output_leaves}
 use Rattle.stepper.specs.Cycling.{Cycling, Cycled}
 use Rattle.stepper.specs.CycleByCycle.{WholeCycles}
@@ -35,18 +34,55 @@ use Rattle.stepper.proofs.BeforeCycle.{
   sheet_long,
   last-sheet,
 }
-use Rattle.replay.specs.declared.Finding.TheVariants.{Agrees, Differs}
+use Rattle.replay.specs.Replay.{Agrees, Differs}
 use Rattle.replay.specs.Replay.{leaf_differs, lowest_differing, found_in, finding}
-use Rattle.replay.specs.Replaying.{ReplayingCycle, ReplayedCycle, ReplayingCycles, ReplayedCycles}
+use Rattle.replay.specs.Replaying.{ReplayingCycles, ReplayedCycles}
 use Rattle.replay.proofs.Comparing.{InCycle, cycle-agrees, cycle-differs, found-stays}
+
+-- one cycle is lent its parts of the stimulus, from `from`, and of the record, from `at`
+pub record ReplayingCycle
+    (s : List ℕ)
+    (n : ℕ)
+    (widths env held stim : List ℕ)
+    (from wi : ℕ)
+    (recorded : List ℕ)
+    (at wo : ℕ)
+    (current out : List ℕ)
+    : Type 0
+  where
+    pub inside : from + wi ≤ length stim
+    pub few : length stim ≤ 65535
+    pub there : at + wo ≤ length recorded
+    pub small : length recorded ≤ 4194240
+    pub room : length out ≡ wo
+    pub cycling : Cycling s n widths env held (take wi (drop from stim)) current out
+
+pub record ReplayedCycle
+    (stim : List ℕ)
+    (from wi : ℕ)
+    (recorded : List ℕ)
+    (at wo : ℕ)
+    (current env' held' current' out' : List ℕ)
+    (told : Std.Option ℕ)
+    : Type 0
+  where
+    pub compared : found told ≡ lowest_differing wo (output current (take wi (drop from stim))) (take wo (drop at recorded))
+    pub next : current' ≡ sheet_after_cycle current (take wi (drop from stim))
+    pub wide : length env' ≡ 4096
+    pub long : length held' ≡ 4096
+    pub same : length out' ≡ wo
 
 -- room for a value has the outputs of a cycle in front
 module _ {s : List ℕ} {n : ℕ} {W stim : List ℕ} {wi wo count : ℕ} (r : WholeCycles s n W stim wi wo count) {A : List ℕ} (e : A ≡ replicate 64 0) where
   pub outputs-fit : wo ≤ length A
   outputs-fit = let l : length A ≡ 64 = rw e (length-replicate {A = ℕ} 64 0) in let w = output-small r in omega arith
 
-  pub outputs-part : length (take (wo - 0) A) ≡ wo
-  outputs-part = let f = outputs-fit in length-take-le (wo - 0) A (omega arith) ∙ omega arith
+  pub outputs-part : length (take wo A) ≡ wo
+  outputs-part = length-take-le wo A outputs-fit
+
+-- what is written there is what stands there
+pub outputs-written : (wo : ℕ) (A o : List ℕ) → length o ≡ length (take wo A) → length (take wo A) ≡ wo → take wo (o ++ drop wo A) ≡ o
+outputs-written wo A o l w = take_at o (drop wo A) wo (l ∙ w)
 
 module _ {s : List ℕ} {n : ℕ} {W env held stim : List ℕ} {from wi : ℕ} {recorded : List ℕ} {at wo : ℕ} {current out : List ℕ}
     (r : ReplayingCycle s n W env held stim from wi recorded at wo current out)
@@ -55,7 +91,7 @@ module _ {s : List ℕ} {n : ℕ} {W env held stim : List ℕ} {from wi : ℕ} {
     replay-cycling = rw (from-there from wi) r.cycling
 
     pub replay-compared : {env' held' current' out' : List ℕ} → Cycled (take (from + wi - from) (drop from stim)) current env' held' current' out'
-        → length out' ≡ length out → {told : Found}
+        → length out' ≡ length out → {told : Std.Option ℕ}
         → found told ≡ lowest (leaf_differs out' (take (at + wo - at) (drop at recorded))) (length out')
         → ReplayedCycle stim from wi recorded at wo current env' held' current' out' told
     replay-compared {out' = out'} c l {told} f =
@@ -122,7 +158,7 @@ module _ {s : List ℕ} {n : ℕ} {W stim recorded : List ℕ} {wi wo count : �
               cycling = cycle-ready r.over b.cycle h b.same;
             }
 
-        module _ {env' held' current' out' : List ℕ} {told : Found}
+        module _ {env' held' current' out' : List ℕ} {told : Std.Option ℕ}
             (q : ReplayedCycle stim from wi recorded at wo current env' held' current' out' told)
           where
             ran : Cycled (take wi (drop from stim)) current env' held' current' (output current (take wi (drop from stim)))
@@ -132,7 +168,7 @@ module _ {s : List ℕ} {n : ℕ} {W stim recorded : List ℕ} {wi wo count : �
             in-cycle =
                 sym (q.compared ∙ rw (cycle-output r.over b.cycle h ran, b.compared-to, leaves_are) refl)
 
-            pub differs-here : (l : ℕ) → told ≡ At l → ReplayedCycles s stim recorded current' (Differs k l)
+            pub differs-here : (l : ℕ) → told ≡ Std.Some l → ReplayedCycles s stim recorded current' (Differs k l)
             unfolding finding
             differs-here l e =
                 let f = cycle-differs s stim recorded k l b.agreed (in-cycle ∙ ap found e) in
@@ -143,7 +179,7 @@ module _ {s : List ℕ} {n : ℕ} {W stim recorded : List ℕ} {wi wo count : �
                   next = λ m z. let y : ◌≡◌ {A = ℕ} 0 1 = cc in absurd (omega arith);
                 }
 
-            pub agrees-here : {from' at' : ℕ} → told ≡ Nothing → from' ≡ from + wi → at' ≡ at + wo
+            pub agrees-here : {from' at' : ℕ} → told ≡ Std.None → from' ≡ from + wi → at' ≡ at + wo
                 → BeforeReplay s stim recorded wi wo count (k + 1) from' at' env' held' current' out'
             agrees-here e ef ea =
                 record {

@@ -2,7 +2,7 @@
 -- at the leaf found and at none lower; and nothing else does. Parts that agree are the outputs' own
 -- bytes, and all parts together the record.
 -- Assumes nothing.
-use Prim.Native.Nat.{ℕ, zero, suc, ◌-◌, ◌*◌, ◌≤◌, ◌<◌}
+use Prim.Native.Nat.{ℕ, zero, suc, ◌*◌, ◌≤◌, ◌<◌}
 use mathlib.Core.Bool.{false}
 use mathlib.Core.List.{List, []}
 use mathlib.Core.Option.{Option, none, some}
@@ -22,8 +22,8 @@ use Rattle.stimulus.proofs.Stimulus.{cycles-typed, cycles-counted}
 use Rattle.stimulus.proofs.Pieces.{pieces-length, piece-at, pieces-joined, Wide, wide_at, joined_at, typed-wide}
 use Rattle.behaviour.specs.Run.{outputs_by, output_leaves}
 use Rattle.behaviour.proofs.Run.{outputs-counted, outputs_typed}
-use Rattle.replay.specs.declared.Finding.{Finding}
-use Rattle.replay.specs.declared.Finding.TheVariants.{Agrees, Differs}
+use Rattle.replay.specs.Replay.{Finding}
+use Rattle.replay.specs.Replay.{Agrees, Differs}
 use Rattle.replay.specs.Replay.{output_of, recorded_of, leaf_differs, or_cycle, found_in, finding}
 use Rattle.replay.specs.Promises.{FormedReplay, AgreesExactly, OneRecordAgrees, FirstDifference, DiffersExactly}
 use Rattle.replay.proofs.Comparing.{leaf-differing, leaf-agrees, InCycle}

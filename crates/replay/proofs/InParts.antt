@@ -19,10 +19,10 @@ use Rattle.records.specs.Rewritten.{Rewritten}
 use Rattle.records.proofs.Rewritten.{same-type}
 use Rattle.records.proofs.Types.{some-leaves}
 use Rattle.answers.specs.Answers.{lowest}
-use Rattle.answers.specs.declared.Answer.TheVariants.{Done}
+use Rattle.answers.specs.Answers.{Done}
 use Rattle.answers.proofs.Lowest.{lowest_none, lowest-none-fails}
 use Rattle.verdict.specs.Verdict.{output_type, verdict}
-use Rattle.answers.specs.declared.Verdict.TheVariants.{Accepted}
+use Rattle.answers.specs.Answers.{Accepted}
 use Rattle.accepted.proofs.Calls.{accepted-output}
 use Rattle.meaning.specs.Values.{AllOf}
 use Rattle.meaning.specs.Undecided.{undecided_rule}
@@ -36,8 +36,8 @@ use Rattle.behaviour.specs.Run.{outputs_by, sheet_after, output_leaves}
 use Rattle.behaviour.proofs.Run.{outputs-counted}
 use Rattle.behaviour.proofs.AfterRun.{run-only-delays, run-accepted}
 use Rattle.behaviour.proofs.Sheets.{only-leaves, header-same, accepted-written}
-use Rattle.replay.specs.declared.Finding.{Finding}
-use Rattle.replay.specs.declared.Finding.TheVariants.{Agrees, Differs}
+use Rattle.replay.specs.Replay.{Finding}
+use Rattle.replay.specs.Replay.{Agrees, Differs}
 use Rattle.replay.specs.Replay.{output_of, recorded_of, finding, replay_answer, when_agreed, final_replay}
 use Rattle.replay.specs.Promises.{FormedReplay, FrontAgrees, ReplayInParts}
 use Rattle.replay.proofs.Comparing.{InCycle}

@@ -6,8 +6,8 @@ use mathlib.Core.List.{List, ◌++◌}
 use mathlib.Core.Path.{◌≡◌, refl, sym, ◌∙◌}
 use lib.ListN.{length, drop}
 use Rattle.evaluator.proofs.Frames.{put_whole}
-use Rattle.replay.specs.declared.Finding.{Finding}
-use Rattle.replay.specs.declared.Finding.TheVariants.{Agrees, Differs}
+use Rattle.replay.specs.Replay.{Finding}
+use Rattle.replay.specs.Replay.{Agrees, Differs}
 use Rattle.replay.specs.Replaying.{ReplayingCycles, ReplayedCycles, ReplayingInto, ReplayedInto}
 
 module _ {s : List ℕ} {n : ℕ} {W stim recorded : List ℕ} {wi wo count : ℕ} {next : List ℕ}

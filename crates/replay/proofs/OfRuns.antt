@@ -2,7 +2,7 @@
 -- that byte's cycle and leaf.
 -- Assumes nothing.
 use Prim.Native.Nat.{ℕ, suc, ◌+◌, ◌-◌, ◌*◌, ◌/◌, ◌%◌, ◌≤◌, ◌<◌}
-use mathlib.Core.List.{List, []}
+use mathlib.Core.List.{List}
 use mathlib.Core.Path.{◌≡◌, refl, sym, ap, ◌∙◌}
 use mathlib.Core.Logic.{◌≢◌}
 use native.Mathlib.Omega.{arith}
@@ -11,7 +11,7 @@ use lib.ListN.{length, get_or, set, take, drop, length-set}
 use lib.Seq.{get_or-take, get_or-drop, get_or-set_same, get_or-set_other, drop-set-add, take-set-le}
 use Rattle.records.specs.Trees.{type_at}
 use Rattle.records.proofs.Types.{some-leaves}
-use Rattle.answers.specs.declared.Answer.TheVariants.{Done}
+use Rattle.answers.specs.Answers.{Done}
 use Rattle.verdict.specs.Verdict.{output_type}
 use Rattle.accepted.proofs.Calls.{accepted-output}
 use Rattle.meaning.specs.Undecided.{undecided_rule}
@@ -21,7 +21,7 @@ use Rattle.behaviour.specs.Run.{outputs_by, sheet_after, output_leaves, output_n
 use Rattle.behaviour.specs.Afterwards.{WellFormed}
 use Rattle.behaviour.proofs.Answers.{run_laws}
 use Rattle.behaviour.proofs.Afterwards as After
-use Rattle.replay.specs.declared.Finding.TheVariants.{Agrees, Differs}
+use Rattle.replay.specs.Replay.{Agrees, Differs}
 use Rattle.replay.specs.Replay.{output_of, recorded_of, finding, replay_answer, final_replay, ReplayGiven}
 use Rattle.replay.specs.Promises.{FormedReplay, FirstDifference, OwnOutputsAgree, ChangedByteFound, NextAsRun}
 use Rattle.replay.proofs.Found.{outs-wide, outs-counted, says-agrees, agrees-says, says-differs}

@@ -13,9 +13,9 @@ use Rattle.records.specs.Says.{well_said, namings}
 use Rattle.records.specs.Trees.{type_within, type_at, pair_of, chain_within, chain, alternatives_within, alternatives, tree_within, tree_at, circuit}
 use Rattle.structure.specs.Rules.{ancestry_within, ancestry, depth, nesting, wrong_length, wrong_header, wrong_record, wrong_naming, wrong_type, too_deep}
 use Rattle.structure.specs.Rules.{Passes}
-use Rattle.answers.specs.declared.Answer.TheVariants.{Done}
+use Rattle.answers.specs.Answers.{Done}
 use Rattle.verdict.specs.Verdict.{output_type, verdict}
-use Rattle.answers.specs.declared.Verdict.TheVariants.{Accepted}
+use Rattle.answers.specs.Answers.{Accepted}
 use Rattle.accepted.specs.Accepting.{Accepting}
 use Rattle.accepted.proofs.Small.{accepted-passes, accepted-records}
 use Rattle.accepted.proofs.Requirements as Requirements
@@ -30,10 +30,10 @@ use Rattle.behaviour.specs.Bench.{toggle}
 use Rattle.evaluator.proofs.Frames.{zeros-long}
 use Rattle.stepper.specs.CycleByCycle.{WholeCycles}
 use Rattle.replay.specs.Replay.{finding, replay_answer}
-use Rattle.replay.specs.Replaying.{ReplayingCycle, ReplayingCycles, ReplayingInto}
+use Rattle.replay.specs.Replaying.{ReplayingCycles, ReplayingInto}
 use Rattle.replay.specs.Promises.{FormedReplay, ReplayToggle}
 use Rattle.replay.proofs.Answered.{replay_laws}
-use Rattle.replay.proofs.Cycles.{before-replay, replaying}
+use Rattle.replay.proofs.Cycles.{ReplayingCycle, before-replay, replaying}
 
 pub replayed-toggle : ReplayToggle
 unfolding replay_answer finding cycles wrong_length wrong_header wrong_record wrong_naming wrong_type too_deep depth nesting ancestry ancestry_within circuit tree_at tree_within alternatives alternatives_within chain chain_within pair_of type_at type_within namings well_said ask_of kind_of row_of word count wrong_stimulus wrong_byte eval next undecided_rule circuit_term write output_by after_by

@@ -4,3 +4,4 @@ pub mod Replay
 pub mod Promises
 -- What functions ask and give, and their proofs need:
 pub mod Replaying
+pub mod Findings

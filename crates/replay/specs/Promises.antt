@@ -4,15 +4,15 @@ use Rattle.std.specs.Prelude.{ℕ, ◌+◌, ◌/◌, ◌%◌, ◌<◌, ◌≡◌
 use Rattle.std.proofs.Math.Option.{none}
 use Rattle.answers.specs.Answers.{lowest}
 use Rattle.answers.specs.StandardLaws.{lent_slice, StandardLaws}
-use Rattle.answers.specs.declared.Answer.{Answer}
-use Rattle.answers.specs.declared.Answer.TheVariants.{Done, Refused}
+use Rattle.answers.specs.Answers.{Answer}
+use Rattle.answers.specs.Answers.{Done, Refused}
 use Rattle.verdict.specs.Verdict.{output_type, verdict}
-use Rattle.answers.specs.declared.Verdict.TheVariants.{Accepted}
+use Rattle.answers.specs.Answers.{Accepted}
 use Rattle.meaning.specs.Undecided.{undecided_rule}
 use Rattle.stimulus.specs.Stimulus.{cycle_count, end_to_end, cycles, wrong_stimulus, wrong_byte}
 use Rattle.behaviour.specs.Run.{outputs_by, output_leaves, output_needed, answer, final_out, final_next, RunGiven, RunsByRules}
 use Rattle.behaviour.specs.Bench.{toggle}
-use Rattle.replay.specs.declared.Finding.TheVariants.{Agrees, Differs}
+use Rattle.replay.specs.Replay.{Agrees, Differs}
 use Rattle.replay.specs.Replay.{output_of, recorded_of, finding, replay_checks, replay_answer, final_replay, ReplayGiven}
 
 -- a call to which no check applies

@@ -6,15 +6,19 @@
 use Rattle.std.specs.Prelude.{ℕ, zero, suc, ◌≡◌, Bool, not, List, [], ◌∷◌, ◌++◌, length, get_or, eqb}
 use Rattle.std.proofs.Math.Option.{Option, none, some}
 use Rattle.answers.specs.Answers.{packed, when_done, lowest, Check, check, when, first_applying}
-use Rattle.answers.specs.declared.Answer.{Answer}
-use Rattle.answers.specs.declared.Answer.TheVariants.{Done, Refused}
+use Rattle.answers.specs.Answers.{Answer}
+use Rattle.answers.specs.Answers.{Done, Refused}
 use Rattle.verdict.specs.Verdict.{sheet_checks, output_type}
 use Rattle.meaning.specs.Undecided.{undecided_rule}
 use Rattle.stimulus.specs.Stimulus.{cycle_count, cycles, stimulus_checks}
 use Rattle.behaviour.specs.Run.{outputs_by, sheet_after, output_leaves, output_needed}
 use Rattle.behaviour.specs.Afterwards.{output_in}
-use Rattle.replay.specs.declared.Finding.{Finding}
-use Rattle.replay.specs.declared.Finding.TheVariants.{Agrees, Differs}
+
+-- what is found of a record: its outputs are those of the run, in so many cycles, or the first cycle whose outputs differ, and its
+-- lowest differing leaf
+pub data Finding : Type 0 where
+  Agrees : (cycles : ℕ) → Finding
+  Differs : (cycle leaf : ℕ) → Finding
 
 -- the outputs of cycle k of the run, and the part of the record that is cycle k's
 abbrev pub output_of : (sheet stimulus : List ℕ) → ℕ → List ℕ

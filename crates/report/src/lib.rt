@@ -1,39 +1,36 @@
 // What sheetreport prints of a sheet and a stimulus, from their run.
 #![tactic(auto)]
 
-ghost use Rattle.std.specs.Prelude.{◌≤◌, length};
-ghost use Rattle.listing.specs.Wrote.{TextPut};
+ghost use Rattle.std.specs.Prelude.{◌≡◌, ◌≤◌, length};
 ghost use Rattle.rooms.specs.Rooms.{most_output};
-ghost use Rattle.changes.specs.Counting.{Reporting};
-ghost use Rattle.report.specs.Reported.{report_text, report_bytes, ReportTold};
+ghost use Rattle.report.specs.Reported.{report_bytes, reported};
 
 use changes::put_report;
-use listing::put_refused;
+use listing::{Outputs, Text};
 use run_listing::tell;
 
-// The report of outputs of w leaves each, or where the code is not 0 the line of a refusal.
-fn put_told(buffer: &mut [u8], code: u64, place: u64, w: usize, outputs: &[u8]) -> usize
-    requires { Reporting buffer.old w }
-    ensures { TextPut buffer.old 0 (report_text code place w outputs.now) buffer.new result }
-{
-    if code != 0 {
-        return put_refused(buffer, 0, code, place);
-    }
-    put_report(buffer, w, outputs)
-}
-
-// Runs a sheet on a stimulus, in room for the longest outputs and for the sheet after it, and writes what is to be printed.
-pub fn tell_report(
+// Runs a sheet on a stimulus, in room for the longest outputs and for the sheet after it, and gives
+// what is to be printed, in a buffer.
+pub fn tell_report<'b>(
     sheet: &[u8],
     stim: &[u8],
     out: &mut [u8],
     next: &mut [u8],
-    buffer: &mut [u8],
-) -> usize
+    buffer: &'b mut [u8],
+) -> &'b [u8]
     requires { (most_output ≤ length out.old) × (length sheet.now ≤ length next.old) × (report_bytes ≤ length buffer.old) }
-    ensures { ReportTold sheet.now stim.now buffer.new result }
+    ensures { result.now ≡ reported sheet.now stim.now }
 {
-    let told = tell(sheet, stim, out, next);
-    let many = told.many;
-    put_told(buffer, told.code, told.place, told.w, &out[0..many])
+    let mut text = Text::new(buffer);
+    match tell(sheet, stim, out, next) {
+        Ok(listed) => {
+            let outputs = Outputs {
+                leaves: &out[..listed.length],
+                width: listed.width,
+            };
+            put_report(&mut text, outputs);
+        }
+        Err(refusal) => text.put_refused(refusal.code.number(), u64::from(refusal.place)),
+    }
+    text.into_bytes()
 }

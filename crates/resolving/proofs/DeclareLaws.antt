@@ -1,17 +1,17 @@
 -- A token declares names after those that are declared: these keep their entries and their numbers.
 -- Assumes nothing.
-use Prim.Native.Nat.{ℕ, zero, suc, ◌≤◌, ◌<◌}
+use Prim.Native.Nat.{ℕ, zero, suc, ◌≤◌}
 use native.Mathlib.Omega.{arith}
 use native.Mathlib.Decide.{ℕ_discrete}
 use mathlib.Core.Path.{◌≡◌, refl, sym, ap, subst, ◌∙◌}
 use mathlib.Core.List.{List, [], ◌∷◌}
-use lib.ListN.{length, get_or}
-use Rattle.name_rules.specs.Declared.{DeclaredName, declared_as}
-use Rattle.name_rules.specs.TokenWalk.{NameScope, scope, declared_in, met_in, left_by, ended_by}
+use lib.ListN.{length}
+use Rattle.name_rules.specs.Declared.{DeclaredName}
+use Rattle.name_rules.specs.TokenWalk.{scope, declared_in, met_in, left_by, ended_by}
 use Rattle.name_rules.specs.TokenWalk.{ScopeEffect, keeps_scope, pends, declares_first, declares_next, binds, binds_pending, declares_pending, unbinds}
 use Rattle.symbols.specs.Names.{declared_names}
 use Rattle.instructions.specs.TokenOrder.{types_among, constructors_among}
-use Rattle.resolving.specs.Said.{NamesDeclared, Numbered, types_below, ranks_below}
+use Rattle.resolving.specs.Said.{NamesDeclared, Numbered}
 use Rattle.resolving.proofs.NameEntries.{type-names-counted, ranks-counted}
 
 -- some names before others

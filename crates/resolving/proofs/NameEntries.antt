@@ -2,21 +2,18 @@
 -- Assumes nothing.
 use Prim.Native.Nat.{ℕ, zero, suc, ◌+◌, ◌-◌, ◌≤◌, ◌<◌}
 use native.Mathlib.Omega.{arith}
-use native.Mathlib.Numerals.{add-one}
-use native.Mathlib.Decide.{ℕ_discrete}
 use mathlib.Core.Path.{◌≡◌, refl, sym, ap, ap₂, subst, ◌∙◌}
 use mathlib.Core.Bool.{Bool, true, false, cond}
 use mathlib.Core.List.{List, [], ◌∷◌}
-use lib.ListN.{length, get_or, set, length-set}
-use lib.Seq.{get_or-set_same, get_or-set_other}
+use lib.ListN.{get_or}
 use lib.Dec.{eqb}
 use borrow.Author.Tests.{ne_eqb}
-use Rattle.name_rules.specs.Declared.{Role, a_type, a_constructor, the_input, DeclaredName, declared_as, same_name, is_among, is_declared, type_role, constructor_role, input, at_first}
+use Rattle.name_rules.specs.Declared.{Role, the_input, DeclaredName, declared_as, same_name, is_among, is_declared, type_role, constructor_role, input, at_first}
 use Rattle.symbols.specs.Names.{letters_at, nearest, role_named, declared_names, bound_names, Roles}
 use Rattle.symbols.proofs.Search.{nearest-below}
 use Rattle.symbols.proofs.Roles.{found-low}
 use Rattle.layout.specs.Resolved.{distance}
-use Rattle.instructions.specs.Instruction.{Instruction, instruction_of, use_name, use_constant}
+use Rattle.instructions.specs.Instruction.{instruction_of, use_name}
 use Rattle.instructions.specs.TokenOrder.{named_from, types_among, constructors_among, declared_op, declared_said, value_said}
 use Rattle.resolving.specs.Said.{Numbered, types_below, ranks_below, entry_in, role_at, named_said}
 
@@ -187,8 +184,8 @@ module _ (text spans : List ℕ) {roles types ranks : List ℕ} {base : ℕ} (r 
       pub input-said : false ≡ role_at 1 roles k → value_said w B D ≡ use_name (n - base)
       input-said e = unbound ∙ ap (λ x. cond x (declared_said 6 w D) (use_name (n - base))) (sym e)
 
--- one more declared name with its numbers
-types_few : (roles : List ℕ) (k : ℕ) → types_below roles k ≤ k
+-- there are no more types or constructors than names
+pub types_few : (roles : List ℕ) (k : ℕ) → types_below roles k ≤ k
 types_few roles zero = omega arith
 types_few roles (suc k) = go (eqb (get_or roles k 0) 0) (types_few roles k)
   where
@@ -196,49 +193,10 @@ types_few roles (suc k) = go (eqb (get_or roles k 0) 0) (types_few roles k)
     go true h = omega arith
     go false h = omega arith
 
-ranks-few : (roles : List ℕ) (k : ℕ) → ranks_below roles k ≤ k
+pub ranks-few : (roles : List ℕ) (k : ℕ) → ranks_below roles k ≤ k
 ranks-few roles zero = omega arith
 ranks-few roles (suc k) = go (eqb (get_or roles k 0) 0) (ranks-few roles k)
   where
     go : (x : Bool) → ranks_below roles k ≤ k → cond x 0 (suc (ranks_below roles k)) ≤ suc k
     go true h = omega arith
     go false h = omega arith
-
-module _ {roles types ranks : List ℕ} {k : ℕ} (s : Numbered roles types ranks k) where
-  pub types-before : entry_in types k ≡ types_below roles k
-  types-before = go k s.types_right
-    where
-      go : (j : ℕ) → ((i : ℕ) → i < j → get_or types i 0 ≡ types_below roles (suc i)) → entry_in types j ≡ types_below roles j
-      go zero f = refl
-      go (suc j) f = f j (omega arith)
-
-  pub ranks-before : entry_in ranks k ≡ ranks_below roles k
-  ranks-before = go k s.ranks_right
-    where
-      go : (j : ℕ) → ((i : ℕ) → i < j → get_or ranks i 0 ≡ ranks_below roles (suc i)) → entry_in ranks j ≡ ranks_below roles j
-      go zero f = refl
-      go (suc j) f = f j (omega arith)
-
-  pub few_types : k < 65535 → entry_in types k < 65535
-  few_types h = omega (arith, types-before, types_few roles k)
-
-  pub few-ranks : k < 65535 → entry_in ranks k < 65535
-  few-ranks h = omega (arith, ranks-before, ranks-few roles k)
-
-  pub number-next : (t r kind before rank : ℕ) → k < 65535 → kind ≡ get_or roles k 0 → before ≡ entry_in types k → rank ≡ entry_in ranks k
-      → t ≡ cond (eqb kind 0) (suc before) before → r ≡ cond (eqb kind 0) 0 (suc rank)
-      → Numbered roles (set types k t) (set ranks k r) (k + 1)
-  number-next t r kind before rank h e f g x y = record {
-    types_long = length-set types k t ∙ s.types_long;
-    ranks_long = length-set ranks k r ∙ s.ranks_long;
-    types_right = λ j l. at types s.types_long t (types_below roles) s.types_right
-        (x ∙ ap₂ (λ a b. cond (eqb a 0) (suc b) b) e (f ∙ types-before)) j l (ℕ_discrete j k);
-    ranks_right = λ j l. at ranks s.ranks_long r (ranks_below roles) s.ranks_right
-        (y ∙ ap₂ (λ a b. cond (eqb a 0) 0 (suc b)) e (g ∙ ranks-before)) j l (ℕ_discrete j k);
-  }
-    where
-      at : (numbers : List ℕ) → length numbers ≡ 65536 → (v : ℕ) (count : ℕ → ℕ) → ((j : ℕ) → j < k → get_or numbers j 0 ≡ count (suc j)) → v ≡ count (suc k)
-          → (j : ℕ) → j < k + 1 → Dec (j ≡ k) → get_or (set numbers k v) j 0 ≡ count (suc j)
-      at numbers long v count old new j l (yes z) =
-          ap (λ i. get_or (set numbers k v) i 0) z ∙ get_or-set_same numbers k v 0 (omega arith) ∙ new ∙ ap (λ i. count (suc i)) (sym z)
-      at numbers long v count old new j l (no z) = get_or-set_other numbers k j v 0 z ∙ old j (omega (arith, z))

@@ -1,28 +1,31 @@
 -- A token is a name where its first byte is a small letter; what it does to the names in scope is what the rows of the states say.
 -- Assumes nothing.
-use Prim.Native.Nat.{ℕ, zero, suc, ◌+◌, ◌-◌, ◌*◌, ◌/◌, ◌%◌, ◌≤◌, ◌<◌, min}
+use Prim.Native.Nat.{ℕ, zero, suc, ◌+◌, ◌-◌, ◌*◌, ◌≤◌, ◌<◌}
 use native.Mathlib.Omega.{arith}
-use native.Mathlib.Decide.{dec_lt}
 use mathlib.Core.Path.{◌≡◌, refl, sym, ap, ap₂, subst, ◌∙◌}
 use mathlib.Core.Bool.{Bool, true, false, cond}
-use mathlib.Core.List.{List, [], ◌∷◌}
+use mathlib.Core.List.{List}
 use lib.ListN.{length, take, drop, get_or, length-take, length-drop}
-use borrow.Author.Tests.{le-leb, lt-leb}
+use borrow.Author.Tests.{le-leb}
 use Rattle.grammar.specs.Tokens.{Keyword, TYPE, IN, INPUT, LET, INIT, REC, IF, MATCHES, THEN, ELSE, DELAY, spelling}
 use Rattle.grammar.specs.Tokens.{Symbol, opens, closes, comma, equals, bar, query, index_opens, index_closes, one, two}
 use Rattle.grammar.specs.Tokens.{Token, keyword, symbol, name_token}
-use Rattle.grammar.specs.Rows.{State, a_name}
-use Rattle.grammar.specs.Machine.{lead_byte, lead_of, symbol_byte, first_letter}
+use Rattle.grammar.specs.Rows.{State}
+use Rattle.grammar.specs.Machine.{lead_of, symbol_byte, first_letter}
 use Rattle.recognizer.specs.Coded.{lead_bytes}
-use Rattle.name_rules.specs.TokenWalk.{NameScope, scope, ScopeEffect, may_take, holds_in, met_in, left_by, ended_by, effect_on}
+use Rattle.name_rules.specs.TokenWalk.{NameScope, scope, may_take, holds_in, met_in, left_by, ended_by, effect_on, bound_in, declared_in}
 use Rattle.lexer.specs.Scanned.{FirstToken, NamedBy}
-use Rattle.symbols.specs.Names.{letters_at, letters_from, place_of, count_of, Inside}
-use Rattle.scoping.specs.Scoped.{held_scope, NameNoted, Rescoped, effect_of}
+use Rattle.symbols.specs.Names.{place_of, count_of, letters_at, letters_from}
+use Rattle.symbols.specs.RoleNumbers.{role_codes}
+use Rattle.scoping.specs.Scoped.{held_scope, pending_names, NameNoted, Rescoped, effect_of}
+use Rattle.scoping.specs.Held.{held, ScopeAfter, Noted}
+use Rattle.scoping.specs.declared.scopes.Scope.{Scope}
 use Rattle.name_rules.specs.Declared.{DeclaredName}
 use Rattle.instructions.specs.TokenOrder.{op_by, in_constant, name_said, other_said, pair_before, instructions_on}
 use Rattle.resolving.specs.Said.{span_between, class_said}
-use Rattle.resolving.specs.Walked.{TokenNoted, FoundWith}
-use Rattle.resolving.proofs.SayingLaws.{class-name, class-other, pair-before}
+use Rattle.resolving.specs.Walked.{TokenNoted, FoundWith, ScopeNoted}
+use Rattle.resolving.proofs.DeclareLaws.{name-declares, other-declares}
+use Rattle.resolving.proofs.SayingLaws.{class-name, class-other}
 
 symbol-lead : (s : Symbol) → symbol_byte s ≡ 97 → ⊥
 symbol-lead opens e = omega arith
@@ -90,21 +93,6 @@ short-span text start end h =
     let g : end - start ≡ count_of (span_between start end) = omega (arith, e) in
     ap₂ (letters_from text) f g
 
-pub span-inside : (text : List ℕ) (start end span : ℕ) → start < end → end ≤ length text → span ≡ span_between start end → Inside text span
-span-inside text start end span l k e = go (dec_lt 16 (end - start))
-  where
-    go : Dec (16 < end - start) → Inside text span
-    go (yes h) =
-        let f : span_between start end ≡ start * 32 = ap (λ x. cond x (start * 32 + (end - start)) (start * 32)) (lt-leb (end - start) 16 h) in
-        let g : span ≡ start * 32 = e ∙ f in
-        omega arith
-    go (no h) =
-        let f : span_between start end ≡ start * 32 + (end - start)
-        = ap (λ x. cond x (start * 32 + (end - start)) (start * 32)) (le-leb (end - start) 16 (omega (arith, h))) in
-        let g : span ≡ start * 32 + (end - start) = e ∙ f in
-        let o : end - start ≤ 16 = omega (arith, h) in
-        omega arith
-
 pub span-spelled : {text : List ℕ} {start end class : ℕ} {others : List Token} (t : Token) (span : ℕ) → span ≡ span_between start end
     → FirstToken text start end class t others → NamedBy t (letters_at text span)
 span-spelled (keyword k p) span e f = tt
@@ -158,6 +146,36 @@ class-instructions {text} {start} {class} {span} {q} P B D K op delayed (symbol 
     ∙ ap₂ other_said (e ∙ ap (op_by q) f.found.leads) (sym f.found.placed)
 class-instructions {text} {start} {class} {span} {q} P B D K op delayed (name_token w p) f e g =
     class-name op delayed (letters_at text span) B D class start q (a-name w p f.found)
-    ∙ sym (pair-before q (name_said op delayed (letters_at text span) B D))
     ∙ ap₂ (λ x y. pair_before q (name_said x y (letters_at text span) B D)) (e ∙ ap (op_by q) f.found.leads) g
     ∙ ap (λ x. pair_before q (name_said (op_by q 97) (in_constant K) x B D)) (sym f.spelled.0)
+
+-- of a scope
+pub scope-name-noted : {class span effect : ℕ} {q : State} {old new : Scope} {ok : Bool} → class ≡ 10 → Noted q (effect_of effect) span old ok new
+    → ScopeNoted class span effect q old ok new
+scope-name-noted {span} {effect} {q} {old} {new} {ok} c r = record {
+  same_text = r.same_text;
+  few = λ o. (r.noted.rescoped o).scoping.few;
+  declared = λ o.
+      name-declares (effect_of effect) (letters_at old.names.text.now span) (pending_names old.names.text.now old.pendings old.waiting)
+      (bound_in (held old)) (ap declared_in (r.noted.rescoped o).same_scope);
+  noted = λ a b t others f.
+      subst
+      (λ x. TokenNoted q t (held old) ok
+      (held_scope x new.base new.names.count new.waiting new.names.spans (role_codes new.roles) new.pendings)) (sym r.same_text)
+      (name-noted f c r.noted);
+}
+
+pub scope-other-noted : {class span effect : ℕ} {q : State} {old new : Scope} → (class ≡ 10 → ⊥)
+    → ScopeAfter (ended_by (effect_of effect) (held old)) (old.names.count + old.waiting + 1) old new → ScopeNoted class span effect q old true new
+scope-other-noted {effect} {q} {old} {new} c r = record {
+  same_text = r.same_text;
+  few = λ o. r.rescoped.scoping.few;
+  declared = λ o.
+      other-declares (effect_of effect) (pending_names old.names.text.now old.pendings old.waiting) (bound_in (held old))
+      (ap declared_in r.rescoped.same_scope);
+  noted = λ a b t others f.
+      subst
+      (λ x. TokenNoted q t (held old) true
+      (held_scope x new.base new.names.count new.waiting new.names.spans (role_codes new.roles) new.pendings)) (sym r.same_text)
+      (other-noted f c r.rescoped);
+}

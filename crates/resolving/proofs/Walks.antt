@@ -12,18 +12,18 @@ use Rattle.grammar.specs.Tokens.{Token, Tokens, no_token, a_blank}
 use Rattle.grammar.specs.Source.{Text}
 use Rattle.grammar.specs.Legal.{Reading}
 use Rattle.grammar.specs.Rows.{State, start, Action, on, transitions}
-use Rattle.grammar.specs.Machine.{live, begins, no_word, perform, perform_found, find, lead_byte, lead_of, lead_word, after_tokens, ends}
+use Rattle.grammar.specs.Machine.{dead, live, begins, no_word, perform, perform_found, find, lead_byte, lead_of, lead_word, after_tokens, ends}
 use Rattle.grammar.proofs.Derived.{derived}
 use Rattle.grammar.proofs.RowFound.{Performed, performed, by_token, takes-token}
-use Rattle.recognizer.specs.Coded.{state_of, stack_of, config_of, after_lead, Stepped}
-use Rattle.name_rules.specs.Checks.{PlacedCheck, check_at, first_bad_place, AllPass, no_check_left, one_holds}
+use Rattle.recognizer.specs.Coded.{after_lead, Standing, live_at, Stepped}
+use Rattle.name_rules.specs.Checks.{first_bad_place}
 use Rattle.name_rules.specs.Names.{name_checks}
 use Rattle.name_rules.specs.TokenWalk.{NameScope, checks_on, scope_after, walk_checks}
 use Rattle.name_rules.proofs.ByTokens.{first_scope, by-tokens}
 use Rattle.lexer.specs.Scanned.{blank_class, blanks_in, FirstToken, FoundFrom}
 use Rattle.lexer.proofs.Found.{none_from}
 use Rattle.resolving.specs.Walked.{Walks, WalksHeld, SoundText}
-use Rattle.resolving.proofs.SayingLaws.{held-length}
+use Rattle.std.proofs.lemmas.List.{length-reverse}
 use Rattle.instructions.specs.Instruction.{Instruction}
 use Rattle.instructions.specs.TextOrder.{text_instructions}
 use Rattle.instructions.specs.TokenOrder.{walk_instructions, instructions_on}
@@ -42,10 +42,10 @@ walks-first {ts} r = record {
 }
 
 -- where no token is left all have been checked, and have said what the text says
-pub walks-done : {text : List ℕ} {ts : List Token} {t : Text} {i : ℕ} {q : State} {K : List State} {S : NameScope} {ops firsts seconds : List ℕ} {count : ℕ} (first : ℕ)
+pub walks-done : {text : List ℕ} {ts : List Token} {t : Text} {i : ℕ} {q : State} {K : List State} {S : NameScope} {C : List Instruction} (first : ℕ)
     → first ≡ i + blanks_in (drop i text) → length text ≤ first → length text ≤ 65535 → Reading text ts t
-    → WalksHeld text ts t i q K S ops firsts seconds count → SoundText text t count ops firsts seconds
-walks-done {text} {ts} {t} {i} {q} {K} {S} {ops} {firsts} {seconds} {count} first e h short r w =
+    → WalksHeld text ts t i q K S C → SoundText text t C
+walks-done {text} {ts} {t} {i} {q} {K} {S} {C} first e h short r w =
     let none_left = none_from text i first e h w.walks.lexed in
     let good = w.walks.same_place ∙ ap (λ l. first_bad_place (walk_checks (live q K no_word) S l)) none_left in
     let all : w.said ≡ text_instructions t
@@ -56,7 +56,7 @@ walks-done {text} {ts} {t} {i} {q} {K} {S} {ops} {firsts} {seconds} {count} firs
     let few = few_instructions r.parsed in
     let fewer = tokens-few r.lexed in
     let held = w.held (omega arith) in
-    let long = held-length ops firsts seconds 0 count in
+    let long = length-reverse C in
     let same = ap length held in
     record { good_names = good; instructions = held ∙ all; few = omega arith }
   where
@@ -115,17 +115,17 @@ module _ {text : List ℕ} {ts : List Token} {t : Text} {first end class : ℕ} 
     lead-step =
         ap (λ b. perform_found (find b (transitions q)) K) m.found.leads ∙ ap (λ r. perform_found r K) m.row
 
-    pub stepped-on : {depth : ℕ} {ok : Bool} {state word depth' : ℕ} {stack : List ℕ} → Stepped (after_lead class q K) depth ok state word depth' stack
-        → (ok ≡ true) × (perform m.action K no_word ≡ live (state_of state) (stack_of depth' stack) no_word)
-    stepped-on {ok} {state} {word} {depth'} {stack} s = go ok (sym (p.reaches (lead_word (lead_of m.token))) ∙ sym lead-step ∙ s.stepped)
+    pub stepped-on : {old new : Standing} {ok : Bool} → Stepped (after_lead class q K) old ok new
+        → (ok ≡ true) × (perform m.action K no_word ≡ live new.state new.waiting no_word)
+    stepped-on {new} {ok} s = go ok (sym (p.reaches (lead_word (lead_of m.token))) ∙ sym lead-step ∙ s.stepped)
       where
         p : Performed m.action K
         p = performed m.action K
 
-        go : (x : Bool) → live p.state p.stack (lead_word (lead_of m.token)) ≡ config_of x state word depth' stack
-            → (x ≡ true) × (perform m.action K no_word ≡ live (state_of state) (stack_of depth' stack) no_word)
+        go : (x : Bool) → live p.state p.stack (lead_word (lead_of m.token)) ≡ cond x (live_at new) dead
+            → (x ≡ true) × (perform m.action K no_word ≡ live new.state new.waiting no_word)
         go true e =
-            let f : p.state ≡ state_of state = cc in
-            let g : p.stack ≡ stack_of depth' stack = cc in
-            (refl, p.reaches no_word ∙ ap (λ x. live x p.stack no_word) f ∙ ap (λ k. live (state_of state) k no_word) g)
+            let f : p.state ≡ new.state = cc in
+            let g : p.stack ≡ new.waiting = cc in
+            (refl, p.reaches no_word ∙ ap (λ x. live x p.stack no_word) f ∙ ap (λ k. live new.state k no_word) g)
         go false e = absurd (let z : ◌≡◌ {A = ℕ} 0 1 = cc in omega arith)

@@ -1,32 +1,30 @@
--- The instructions of a text in three tables, and the numbers of its declared names in two.
-use Rattle.std.specs.Prelude.{ℕ, zero, suc, ◌+◌, ◌-◌, ◌*◌, ◌≤◌, ◌<◌, ◌≡◌, Bool, true, false, cond, List, [], ◌∷◌, ◌++◌, map, length, get_or, eqb, leb}
-use Rattle.grammar.specs.Legal.{text_bytes}
+-- The instructions of a text, and the numbers of its declared names in two tables.
+use Rattle.std.specs.Prelude.{ℕ, zero, suc, ◌+◌, ◌-◌, ◌*◌, ◌≤◌, ◌<◌, ◌≡◌, Bool, false, cond, List, ◌++◌, map, length, get_or, eqb, leb, reverse, Option, Some, None}
 use Rattle.grammar.specs.Sizes.{text_table}
 use Rattle.grammar.specs.Rows.{State, states}
 use Rattle.name_rules.specs.Declared.{DeclaredName, is_declared, type_role}
 use Rattle.recognizer.specs.Coded.{lead_bytes}
-use Rattle.symbols.specs.Names.{declared_names, Hashed, Roles, BoundRoles}
-use Rattle.instructions.specs.Instruction.{Instruction, held_from}
-use Rattle.instructions.specs.TokenOrder.{op_by, declared_said, declared_op, name_said, other_said, pair_before}
+use Rattle.symbols.specs.Names.{declared_names}
+use Rattle.instructions.specs.Instruction.{Instruction}
+use Rattle.instructions.specs.Said.{number_of}
+use Rattle.instructions.specs.declared.Op.{Op}
+use Rattle.instructions.specs.TokenOrder.{silent, op_by, declared_said, declared_op, name_said, other_said, pair_before}
 
 unfoldable pub saying_table : List (List ℕ)
 saying_table = map (λ q. map (λ b. op_by q b) lead_bytes) states
 
--- the tables of the instructions, of which there are so many
-pub record CodeSized (ops firsts seconds : List ℕ) (count : ℕ) : Type 0 where
-  pub ops_long : length ops ≡ text_table
-  pub firsts_long : length firsts ≡ text_table
-  pub seconds_long : length seconds ≡ text_table
-  pub few : count ≤ text_table
+-- the number of an instruction that is said, if one is
+abbrev pub op_said : Option Op → ℕ
+op_said None = silent
+op_said (Some op) = number_of op
 
--- instructions for which there is room are held
-abbrev pub CodeHeld : (ops firsts seconds : List ℕ) (count : ℕ) → List Instruction → Type 0
-CodeHeld ops firsts seconds count code = length code ≤ text_table → held_from ops firsts seconds 0 count ≡ code
+-- instructions for which there is room are held, the last on top
+abbrev pub CodeHeld : (C : List Instruction) → List Instruction → Type 0
+CodeHeld C code = length code ≤ text_table → reverse C ≡ code
 
 -- what saying some instructions gives
-pub record CodeSaid (ops firsts seconds : List ℕ) (count : ℕ) (more : List Instruction) (ops' firsts' seconds' : List ℕ) (count' : ℕ) : Type 0 where
-  pub sized : CodeSized ops' firsts' seconds' count'
-  pub held : (code : List Instruction) → CodeHeld ops firsts seconds count code → CodeHeld ops' firsts' seconds' count' (code ++ more)
+pub record CodeSaid (C more D : List Instruction) : Type 0 where
+  pub held : (code : List Instruction) → CodeHeld C code → CodeHeld D (code ++ more)
 
 -- the types among the first so many declared names, and the constructors since the last type
 abbrev pub types_below : (roles : List ℕ) → ℕ → ℕ
@@ -62,16 +60,6 @@ span_between start end = cond (leb (end - start) 16) (start * 32 + (end - start)
 pub record NamesDeclared (text spans roles : List ℕ) (base : ℕ) (spans' roles' : List ℕ) (base' : ℕ) : Type 0 where
   pub higher : base ≤ base'
   pub same : (k : ℕ) → k ≤ base → declared_names text spans' roles' k ≡ declared_names text spans roles k
-
--- what is asked of the tables where a token speaks
-pub record Saying (text : List ℕ) (base n : ℕ) (spans links heads roles types ranks : List ℕ) (count : ℕ) (ops firsts seconds : List ℕ) : Type 0 where
-  pub hashed : Hashed text n spans links heads
-  pub named : Roles roles base
-  pub bound_roles : BoundRoles text spans roles base n
-  pub above : base ≤ n
-  pub narrow : n ≤ text_bytes
-  pub numbered : Numbered roles types ranks base
-  pub sized : CodeSized ops firsts seconds count
 
 abbrev pub named_said : (op : ℕ) (delayed : Bool) → List ℕ → List DeclaredName → Instruction
 named_said op delayed w D = declared_said (declared_op op delayed (is_declared type_role w D)) w D

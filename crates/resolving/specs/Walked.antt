@@ -1,25 +1,27 @@
 -- How far a walk over a text's tokens has come: what is left of the text is checked in the state and the scope that are reached.
-use Rattle.std.specs.Prelude.{ℕ, ◌+◌, ◌≤◌, ◌<◌, ◌≡◌, Bool, true, false, List, [], ◌++◌, length, drop}
+use Rattle.std.specs.Prelude.{ℕ, ◌+◌, ◌≤◌, ◌<◌, ◌≡◌, Bool, true, List, [], ◌++◌, length, drop, reverse, Result, Ok, Err}
 use Rattle.std.proofs.Math.Option.{none, some}
 use Rattle.grammar.specs.Tokens.{Token, keyword, symbol, name_token, Tokens}
 use Rattle.grammar.specs.Source.{Text}
-use Rattle.grammar.specs.Legal.{Reading, text_bytes}
+use Rattle.grammar.specs.Legal.{text_bytes}
 use Rattle.grammar.specs.Rows.{State}
 use Rattle.grammar.specs.Machine.{live, no_word, begins, lead_of, after_tokens, ends}
-use Rattle.recognizer.specs.Coded.{Stepping, state_of, stack_of}
 use Rattle.name_rules.specs.Checks.{first_bad_place}
 use Rattle.name_rules.specs.Names.{name_checks}
 use Rattle.name_rules.specs.TokenWalk.{NameScope, scope, walk_checks, name_holds, scope_after, effect_on}
 use Rattle.lexer.specs.Scanned.{FirstToken, NamedBy, blanks_in}
-use Rattle.scoping.specs.Scoped.{held_scope, Scoping, effect_of}
+use Rattle.scoping.specs.Scoped.{effect_of}
+use Rattle.scoping.specs.Held.{held}
+use Rattle.scoping.specs.declared.scopes.Scope.{Scope}
 use Rattle.name_rules.specs.Declared.{at_first}
 use Rattle.symbols.specs.Names.{letters_at}
-use Rattle.instructions.specs.Instruction.{Instruction, held_from}
+use Rattle.symbols.specs.RoleNumbers.{role_codes}
+use Rattle.instructions.specs.Instruction.{Instruction}
 use Rattle.instructions.specs.TextOrder.{text_instructions}
 use Rattle.instructions.specs.TokenOrder.{walk_instructions}
-use Rattle.resolving.specs.Said.{Numbered, CodeSized, CodeHeld}
-use Rattle.resolving.specs.declared.Resolved.{Resolved}
-use Rattle.resolving.specs.declared.Resolved.TheVariants.{BadName, Instructions}
+use Rattle.resolving.specs.Said.{Numbered, NamesDeclared, CodeHeld}
+use Rattle.resolving.specs.declared.BadName.{BadName}
+use Rattle.resolving.specs.declared.walk.Walk.{Walk}
 
 -- the reading ts of a text t is left at a place; the tokens before it said some instructions
 pub record Walks (text : List ℕ) (ts : List Token) (t : Text) (i : ℕ) (q : State) (K : List State) (S : NameScope) (said : List Instruction) : Type 0 where
@@ -29,11 +31,11 @@ pub record Walks (text : List ℕ) (ts : List Token) (t : Text) (i : ℕ) (q : S
   pub same_place : first_bad_place (name_checks t) ≡ first_bad_place (walk_checks (live q K no_word) S left)
   pub same_code : walk_instructions begins (scope [] [] at_first) ts ≡ said ++ walk_instructions (live q K no_word) S left
 
--- and the tables hold these instructions
-pub record WalksHeld (text : List ℕ) (ts : List Token) (t : Text) (i : ℕ) (q : State) (K : List State) (S : NameScope) (ops firsts seconds : List ℕ) (count : ℕ) : Type 0 where
+-- and the code holds these instructions
+pub record WalksHeld (text : List ℕ) (ts : List Token) (t : Text) (i : ℕ) (q : State) (K : List State) (S : NameScope) (C : List Instruction) : Type 0 where
   pub said : List Instruction
   pub walks : Walks text ts t i q K S said
-  pub held : CodeHeld ops firsts seconds count said
+  pub held : CodeHeld C said
 
 -- the check on a token
 abbrev pub token_holds : State → Token → NameScope → Bool
@@ -52,36 +54,55 @@ pub record FoundWith (text : List ℕ) (start end class span effect : ℕ) (q : 
   pub spelled : NamedBy t (letters_at text span)
   pub same_effect : effect_of effect ≡ effect_on q (lead_of t)
 
--- what the walk asks of the tables at a place, and keeps
-pub record TakingToken (text : List ℕ) (i state depth base n m count : ℕ) (stack spans links heads roles pendings types ranks ops firsts seconds : List ℕ) : Type 0
-  where
-    pub short : length text ≤ text_bytes
-    pub scoping : Scoping text i base n m spans links heads roles pendings
-    pub ready : Stepping state 0 depth stack
-    pub shallow : depth ≤ i
-    pub numbered : Numbered roles types ranks base
-    pub sized : CodeSized ops firsts seconds count
+-- what a token gives that a scope notes
+pub record ScopeNoted (class span effect : ℕ) (q : State) (old : Scope) (ok : Bool) (new : Scope) : Type 0 where
+  pub same_text : new.names.text.now ≡ old.names.text.now
+  pub few : ok ≡ true → new.names.count + new.waiting ≤ old.names.count + old.waiting + 1
+  pub declared : ok ≡ true
+      → NamesDeclared old.names.text.now old.names.spans (role_codes old.roles) old.base new.names.spans (role_codes new.roles) new.base
+  pub noted : (start end : ℕ) (t : Token) (others : List Token) → FoundWith old.names.text.now start end class span effect q t others
+      → TokenNoted q t (held old) ok (held new)
+
+-- what is asked of a walk where a token speaks
+pub record Saying (w : Walk) : Type 0 where
+  pub narrow : w.scope.names.count ≤ text_bytes
+  pub numbered : Numbered (role_codes w.scope.roles) w.numbers.types w.numbers.ranks w.scope.base
+
+-- what is asked of a walk at a place, and kept
+pub record TakingToken (w : Walk) (i : ℕ) : Type 0 where
+  pub short : length w.scope.names.text.now ≤ text_bytes
+  pub few : w.scope.names.count + w.scope.waiting ≤ i
+  pub shallow : length w.machine.waiting ≤ i
+  pub numbered : Numbered (role_codes w.scope.roles) w.numbers.types w.numbers.ranks w.scope.base
+
+-- a walk has come to a place, and the code holds what the tokens before it said
+abbrev pub WalkHeld : List ℕ → List Token → Text → (i : ℕ) → Walk → List Instruction → Type 0
+WalkHeld text ts t i w C = WalksHeld text ts t i w.machine.state w.machine.waiting (held w.scope) C
 
 -- what a token gives: the walk goes on after it, or it is the first bad name
-abbrev pub WalkedOn : List ℕ → List Token → Text → (ok : Bool) (start end : ℕ) → State → List State → NameScope → (ops firsts seconds : List ℕ) (count : ℕ) → Type 0
-WalkedOn text ts t true start end q K S ops firsts seconds count = WalksHeld text ts t end q K S ops firsts seconds count
-WalkedOn text ts t false start end q K S ops firsts seconds count = first_bad_place (name_checks t) ≡ some start
+pub record TokenGood (start : ℕ) (old : Walk) (C : List Instruction) (end : ℕ) (new : Walk) (D : List Instruction) : Type 0 where
+  pub same_text : new.scope.names.text.now ≡ old.scope.names.text.now
+  pub walking : TakingToken new end
+  pub further : start < end
+  pub inside : end ≤ length old.scope.names.text.now
+  pub walked : (ts : List Token) (t : Text) (i : ℕ) → i ≤ length old.scope.names.text.now → start ≡ i + blanks_in (drop i old.scope.names.text.now)
+      → WalkHeld old.scope.names.text.now ts t i old C → WalkHeld old.scope.names.text.now ts t end new D
 
-pub record TokenTaken (text : List ℕ) (start : ℕ) (q : State) (K : List State) (S : NameScope) (ops firsts seconds : List ℕ) (count : ℕ)
-    (ok : Bool) (end state depth base n m count' : ℕ) (stack spans links heads roles pendings types ranks ops' firsts' seconds' : List ℕ) : Type 0
-  where
-    pub sized : CodeSized ops' firsts' seconds' 0
-    pub walking : ok ≡ true → TakingToken text end state depth base n m count' stack spans links heads roles pendings types ranks ops' firsts' seconds'
-    pub further : ok ≡ true → (start < end) × (end ≤ length text)
-    pub walked : (ts : List Token) (t : Text) (i : ℕ) → i ≤ length text → start ≡ i + blanks_in (drop i text) → WalksHeld text ts t i q K S ops firsts seconds count
-        → WalkedOn text ts t ok start end (state_of state) (stack_of depth stack) (held_scope text base n m spans roles pendings) ops' firsts' seconds' count'
+abbrev pub TokenBad : (start : ℕ) → Walk → List Instruction → Type 0
+TokenBad start old C = (ts : List Token) (t : Text) (i : ℕ) → i ≤ length old.scope.names.text.now
+    → start ≡ i + blanks_in (drop i old.scope.names.text.now) → WalkHeld old.scope.names.text.now ts t i old C
+    → first_bad_place (name_checks t) ≡ some start
+
+abbrev pub TokenTaken : (start : ℕ) (old : Walk) (C : List Instruction) → Result ℕ BadName → (new : Walk) (D : List Instruction) → Type 0
+TokenTaken start old C (Ok end) new D = TokenGood start old C end new D
+TokenTaken start old C (Err bad) new D = (bad.place ≡ start) × TokenBad start old C
 
 -- what a call tells of a text: its first bad name, or its instructions
-pub record SoundText (text : List ℕ) (t : Text) (n : ℕ) (ops firsts seconds : List ℕ) : Type 0 where
+pub record SoundText (text : List ℕ) (t : Text) (C : List Instruction) : Type 0 where
   pub good_names : first_bad_place (name_checks t) ≡ none
-  pub instructions : held_from ops firsts seconds 0 n ≡ text_instructions t
-  pub few : n ≤ length text
+  pub instructions : reverse C ≡ text_instructions t
+  pub few : length C ≤ length text
 
-abbrev pub TextResolved : List ℕ → Text → (ops firsts seconds : List ℕ) → Resolved → Type 0
-TextResolved text t ops firsts seconds (BadName p) = first_bad_place (name_checks t) ≡ some p
-TextResolved text t ops firsts seconds (Instructions n) = SoundText text t n ops firsts seconds
+abbrev pub TextResolved : List ℕ → Text → (C : List Instruction) → Result Unit BadName → Type 0
+TextResolved text t C (Ok u) = SoundText text t C
+TextResolved text t C (Err bad) = first_bad_place (name_checks t) ≡ some bad.place

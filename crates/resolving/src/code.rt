@@ -1,28 +1,17 @@
-// Instructions in three tables: their numbers, and two operands each.
-ghost use Rattle.std.specs.Prelude.{◌≡◌, [], ◌∷◌, length};
+// Instructions that are said, one after the other.
+ghost use Rattle.std.specs.Prelude.{[], ◌∷◌};
 ghost use Rattle.instructions.specs.Instruction.{instruction_of};
-ghost use Rattle.resolving.specs.Said.{CodeSized, CodeSaid};
+ghost use Rattle.instructions.specs.Said.{number_of};
+ghost use Rattle.resolving.specs.Said.{CodeSaid};
 
-use instructions::{INSTRUCTIONS, Operands, Ops};
+use instructions::code::Code;
+use instructions::{INSTRUCTIONS, Instruction, Op};
 
-// One instruction more; none where the tables are full, which no text fills.
-pub fn say(
-    op: u8,
-    first: u16,
-    second: u16,
-    count: usize,
-    ops: &mut Ops,
-    firsts: &mut Operands,
-    seconds: &mut Operands,
-) -> usize
-    requires { CodeSized ops.old firsts.old seconds.old count }
-    ensures { CodeSaid ops.old firsts.old seconds.old count (instruction_of op first second ∷ []) ops.new firsts.new seconds.new result }
+// One instruction more; none where the code is full, which no text fills.
+pub fn say(code: &mut Code, op: Op, first: u16, second: u16)
+    ensures { CodeSaid code.old (instruction_of (number_of op) first second ∷ []) code.new }
 {
-    if count == INSTRUCTIONS {
-        return count;
+    if code.len() < INSTRUCTIONS {
+        code.push(Instruction { op, first, second });
     }
-    ops[count] = op;
-    firsts[count] = first;
-    seconds[count] = second;
-    count + 1
 }

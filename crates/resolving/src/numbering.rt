@@ -1,77 +1,100 @@
 // The numbers of the declared names: of each the types up to it, and the constructors up to it since the last type.
-ghost use Rattle.std.specs.Prelude.{◌≡◌, cond, suc, ◌≤◌, ◌<◌, length, eqb};
+ghost use Rattle.std.specs.Prelude.{◌≡◌, ℕ, cond, suc, ◌≤◌, ◌<◌, List, eqb};
+ghost use Rattle.symbols.specs.Names.{entry_number};
+ghost use Rattle.symbols.specs.RoleNumbers.{role_code, role_codes};
 ghost use Rattle.resolving.specs.Said.{Numbered, entry_in, role_at};
 ghost use Rattle.grammar.specs.Legal.{text_bytes};
 ghost use Rattle.grammar.specs.Sizes.{text_table};
 
-use instructions::Operands;
-use symbols::{NameRoles, ROLE_TYPE};
+use scoping::scopes::Scope;
+use symbols::tables::NameRoles;
+use symbols::{Role, SYMBOLS};
 
-// What no entry has.
-const NO_NUMBER: u16 = 0;
+// A number for each name.
+pub type Numbers = [u16; SYMBOLS];
 
-// What a table has at an entry, counted from 1; 0 for none.
-pub fn entry(k: usize, numbers: &Operands) -> u16
-    requires { (length numbers.now ≡ text_table) × (k ≤ text_table) }
-    ensures { result ≡ entry_in numbers.now k }
+// The numbers of the declared names, in the order in which they are declared.
+#[derive(Drop)]
+pub struct NameNumbers {
+    pub types: Numbers,
+    pub ranks: Numbers,
+}
+
+// The entry before one, if there is one.
+fn before(k: usize) -> Option<usize>
+    ensures { entry_number result ≡ k }
 {
-    if k == 0 {
-        return NO_NUMBER;
+    if k == 0 { None } else { Some(k - 1) }
+}
+
+// What a table has at an entry; 0 for none.
+pub fn entry(k: Option<usize>, numbers: &Numbers) -> u16
+    requires { entry_number k ≤ text_table }
+    ensures { result ≡ entry_in numbers.now (entry_number k) }
+{
+    match k {
+        Some(k) => numbers[k],
+        None => 0,
     }
-    numbers[k - 1]
 }
 
 // Whether an entry is of a role, a type's or a constructor's.
-pub fn has_role(k: usize, kind: u8, roles: &NameRoles) -> bool
-    requires { (length roles.now ≡ text_table) × (k ≤ text_table) }
-    ensures { result ≡ role_at kind roles.now k }
+pub fn has_role(k: Option<usize>, kind: Role, roles: &NameRoles) -> bool
+    requires { entry_number k ≤ text_table }
+    ensures { result ≡ role_at (role_code kind) (role_codes roles.now) (entry_number k) }
 {
-    if k == 0 {
-        return false;
+    match k {
+        Some(k) => roles[k] == kind,
+        None => false,
     }
-    roles[k - 1] == kind
 }
 
 // The number of types after a name of a role.
-fn types_after(kind: u8, before: u16) -> u16
+fn types_after(kind: Role, before: u16) -> u16
     requires { before < text_bytes }
-    ensures { result ≡ cond (eqb kind 0) (suc before) before }
+    ensures { result ≡ cond (eqb (role_code kind) 0) (suc before) before }
 {
-    if kind == ROLE_TYPE {
-        return before + 1;
+    match kind {
+        Role::TypeName => before + 1,
+        _ => before,
     }
-    before
 }
 
 // The number of constructors since the last type.
-fn ranks_after(kind: u8, before: u16) -> u16
+fn ranks_after(kind: Role, before: u16) -> u16
     requires { before < text_bytes }
-    ensures { result ≡ cond (eqb kind 0) 0 (suc before) }
+    ensures { result ≡ cond (eqb (role_code kind) 0) 0 (suc before) }
 {
-    if kind == ROLE_TYPE {
-        return 0;
+    match kind {
+        Role::TypeName => 0,
+        _ => before + 1,
     }
-    before + 1
 }
 
-// The names from one number to another get their numbers.
-pub fn number_names(
-    from: usize,
-    to: usize,
-    roles: &NameRoles,
-    types: &mut Operands,
-    ranks: &mut Operands,
-)
-    requires { Numbered roles.now types.old ranks.old from × (from ≤ to) × (to ≤ text_bytes) × (length roles.now ≡ text_table) }
-    ensures { Numbered roles.now types.new ranks.new to }
-{
-    let mut k = from;
-    while k < to {
-        let kind = roles[k];
-        let type_number = types_after(kind, entry(k, types));
-        let rank = ranks_after(kind, entry(k, ranks));
-        types[k] = type_number;
-        ranks[k] = rank;
-        k += 1;
+impl NameNumbers {
+    // No name is declared yet.
+    pub fn new() -> Self
+        ensures { (roles : List ℕ) → Numbered roles result.types result.ranks 0 }
+    {
+        NameNumbers {
+            types: [0; SYMBOLS],
+            ranks: [0; SYMBOLS],
+        }
+    }
+
+    // The declared names from one number on get their numbers.
+    pub fn number_from(&mut self, from: usize, scope: &Scope)
+        requires { Numbered (role_codes scope.now.roles) self.old.types self.old.ranks from × (from ≤ scope.now.base) × (scope.now.base ≤ text_bytes) }
+        ensures { Numbered (role_codes scope.now.roles) self.new.types self.new.ranks scope.now.base }
+    {
+        let last = before(from);
+        let mut types = entry(last, &self.types);
+        let mut rank = entry(last, &self.ranks);
+        for k in from..scope.base {
+            types = types_after(scope.roles[k], types);
+            rank = ranks_after(scope.roles[k], rank);
+            self.types[k] = types;
+            self.ranks[k] = rank;
+        }
     }
 }

@@ -22,6 +22,9 @@ const OUTPUT_ROOM: usize = STIMULUS_BYTES * VALUE_BYTES;
 // The longest record and a byte more.
 const RECORD_ROOM: usize = OUTPUT_ROOM + 1;
 
+// The five differ in a constant. They stay, since each promises its length by the name that clauses
+// give it, and `long_sheet_cut` is refused by that.
+
 // A longer file is refused for its length and not cut.
 pub fn sheet_room() -> [u8; SHEET_ROOM]
     ensures { sheet_room ≡ length result }

@@ -9,8 +9,8 @@ use lib.ListN.{length, replicate, length-replicate}
 use Rattle.picoella.specs.Language.{leaves}
 use Rattle.records.specs.Trees.{type_at}
 use Rattle.answers.specs.Answers.{code}
-use Rattle.answers.specs.declared.Answer.TheVariants.{Done}
-use Rattle.answers.specs.declared.Verdict.TheVariants.{Accepted}
+use Rattle.answers.specs.Answers.{Done}
+use Rattle.answers.specs.Answers.{Accepted}
 use Rattle.verdict.specs.Verdict.{verdict}
 use Rattle.stimulus.specs.Stimulus.{input_leaves}
 use Rattle.behaviour.specs.Run.{answer, final_out, final_next, output_needed}

@@ -7,7 +7,6 @@ use lib.Dec.{lit≤}
 use lib.ListN.{length, replicate, length-replicate}
 use Rattle.behaviour.specs.Bench.{toggle}
 use Rattle.rooms.specs.Rooms.{most_output}
-use Rattle.simulator.specs.Running.{RunningAccepted}
 
 outputs-length : 1 ≤ 64
 outputs-length = lit≤ tt
@@ -21,9 +20,3 @@ outputs = replicate most_output 0
 tell : (most_output ≤ length outputs) × (length toggle ≤ length toggle)
 unfolding outputs
 tell = (long most_output, omega arith)
-
--- what is asked of the table of widths has its instance in `simulator`
-tell-accepted : (n t : ℕ) (widths : List ℕ) → RunningAccepted toggle n widths t
-    → RunningAccepted toggle n widths t × (most_output ≤ length outputs) × (length toggle ≤ length toggle)
-unfolding outputs
-tell-accepted n t widths g = (g, long most_output, omega arith)

@@ -4,3 +4,4 @@ pub mod Printout
 pub mod Promises
 -- What functions ask and give, and their proofs need:
 pub mod Lengths
+pub mod Telling

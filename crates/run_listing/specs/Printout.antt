@@ -4,7 +4,7 @@ use Rattle.std.specs.Prelude.{ℕ, ◌≤◌, ◌<◌, ◌≡◌, List, length, 
 use Rattle.picoella.specs.Language.{leaves}
 use Rattle.records.specs.Trees.{type_at}
 use Rattle.answers.specs.Answers.{code, place, verdict_answer}
-use Rattle.answers.specs.declared.Answer.{Answer}
+use Rattle.answers.specs.Answers.{Answer}
 use Rattle.verdict.specs.Verdict.{verdict}
 use Rattle.meaning.specs.Undecided.{undecided_rule}
 use Rattle.stimulus.specs.Stimulus.{end_to_end, cycles}

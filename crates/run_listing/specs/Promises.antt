@@ -1,7 +1,7 @@
 -- What is promised of what the program prints; one term of each stands in `proofs/Kept.antt`.
 use Rattle.std.specs.Prelude.{ℕ, ◌≡◌, List, [], ◌∷◌, ◌++◌, length, take}
-use Rattle.answers.specs.declared.Answer.TheVariants.{Done}
-use Rattle.answers.specs.declared.Verdict.TheVariants.{Accepted}
+use Rattle.answers.specs.Answers.{Done}
+use Rattle.answers.specs.Answers.{Accepted}
 use Rattle.verdict.specs.Verdict.{verdict}
 use Rattle.behaviour.specs.Bench.{toggle}
 use Rattle.listing.specs.Lines.{ascii, type_line}

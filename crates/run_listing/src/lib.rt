@@ -1,44 +1,26 @@
 // What sheetrun prints of a sheet and a stimulus, from their run.
 #![tactic(auto)]
 
-ghost use Rattle.std.specs.Prelude.{◌≡◌, ◌≤◌, ◌<◌, length};
+ghost use Rattle.std.specs.Prelude.{◌≤◌, length};
 ghost use Rattle.run_listing.specs.Printout.{RunTold};
+ghost use Rattle.run_listing.specs.Telling.{told_code, told_place, told_type, told_width, told_length};
 ghost use Rattle.run_listing.specs.Lengths.{OutputsMeasured};
 ghost use Rattle.rooms.specs.Rooms.{most_output};
-ghost use Rattle.simulator.specs.Running.{RunningAccepted};
 ghost use Rattle.records.specs.Limits.{most_leaves};
 
-use answers::{Verdict, code_of, packed_verdict, place_of};
-use records::{MOST_LEAVES, WidthTable, no_widths, records_in};
+use answers::Refusal;
 use simulator::{leaves_of, run_accepted};
 use stimulus::STIMULUS_BYTES;
-use verdict::check_into;
+use verdict::{Checked, check};
 
-// The most leaves of a line.
-const MOST_WIDTH: usize = MOST_LEAVES as usize;
-
-// What is to be printed: a code and its place, or where the code is 0 the listing of so many bytes of outputs, of w leaves each, whose
-// type is at record t.
+// What is to be listed of a run that is not refused: its cycles, the record of the output type, the
+// leaves of a line, and the length of the outputs.
 #[derive(Clone, Copy)]
-pub struct ToPrint {
-    pub code: u64,
-    pub place: u64,
-    pub t: u64,
-    pub w: usize,
-    pub many: usize,
-}
-
-// A number of leaves from 1 to 64: of an accepted sheet there are as many, and the tests change nothing.
-fn width(leaves: usize) -> usize
-    ensures { (0 < result) × (result ≤ most_leaves) × (0 < leaves → leaves ≤ most_leaves → result ≡ leaves) }
-{
-    if leaves == 0 {
-        return 1;
-    }
-    if MOST_WIDTH < leaves {
-        return MOST_WIDTH;
-    }
-    leaves
+pub struct Listed {
+    pub cycles: u32,
+    pub output_type: u64,
+    pub width: usize,
+    pub length: usize,
 }
 
 // The length of the outputs for a stimulus of so many bytes; of one that is refused, none.
@@ -46,73 +28,40 @@ fn outputs_length(input: usize, output: usize, all: usize) -> usize
     requires { output ≤ most_leaves }
     ensures { OutputsMeasured input output all result }
 {
-    if input == 0 {
-        return 0;
-    }
-    if STIMULUS_BYTES < all {
+    if input == 0 || STIMULUS_BYTES < all {
         return 0;
     }
     all / input * output
 }
 
-// The same as `tell`, of a sheet that is accepted with output type t.
+// The same as `tell`, of a checked sheet.
 fn tell_accepted(
-    sheet: &[u8],
-    n: usize,
-    widths: &WidthTable,
-    t: usize,
+    checked: &Checked,
     stim: &[u8],
     out: &mut [u8],
     next: &mut [u8],
-) -> ToPrint
-    requires { RunningAccepted sheet.now n widths.now t × (most_output ≤ length out.old) × (length sheet.now ≤ length next.old) }
-    ensures { RunTold sheet.now stim.now result.code result.place result.t result.w result.many out.new next.new }
+) -> Result<Listed, Refusal>
+    requires { (most_output ≤ length out.old) × (length checked.now.sheet ≤ length next.old) }
+    ensures { RunTold checked.now.sheet stim.now (told_code result) (told_place result) (told_type result) (told_width result) (told_length result) out.new next.new }
 {
-    let leaves = leaves_of(sheet, n, widths, t);
-    let many = outputs_length(leaves.input, leaves.output, stim.len());
-    let long = sheet.len();
-    let result = run_accepted(
-        sheet,
-        n,
-        widths,
-        t,
-        stim,
-        &mut out[0..many],
-        &mut next[0..long],
-    );
-    let w = width(leaves.output);
-    let code = code_of(result);
-    let place = place_of(result);
-    let record = leaves.output_type as u64;
-    ToPrint {
-        code,
-        place,
-        t: record,
-        w,
-        many,
-    }
+    let leaves = leaves_of(checked);
+    let length = outputs_length(leaves.input, leaves.output, stim.len());
+    let long = checked.sheet.bytes().len();
+    let cycles = run_accepted(checked, stim, &mut out[..length], &mut next[..long])?;
+    Ok(Listed {
+        cycles,
+        output_type: leaves.output_type as u64,
+        width: leaves.output,
+        length,
+    })
 }
 
 // Runs a sheet on a stimulus, in room for the longest outputs and for the sheet after it, and tells
-// what is to be printed. The sheet is checked once.
-pub fn tell(sheet: &[u8], stim: &[u8], out: &mut [u8], next: &mut [u8]) -> ToPrint
+// what is to be listed. The sheet is checked once.
+pub fn tell(sheet: &[u8], stim: &[u8], out: &mut [u8], next: &mut [u8]) -> Result<Listed, Refusal>
     requires { (most_output ≤ length out.old) × (length sheet.now ≤ length next.old) }
-    ensures { RunTold sheet.now stim.now result.code result.place result.t result.w result.many out.new next.new }
+    ensures { RunTold sheet.now stim.now (told_code result) (told_place result) (told_type result) (told_width result) (told_length result) out.new next.new }
 {
-    let n = records_in(sheet.len());
-    let mut widths = no_widths();
-    let verdict = check_into(sheet, n, &mut widths);
-    let Verdict::Accepted(t) = verdict else {
-        let refusal = packed_verdict(verdict);
-        let why = code_of(refusal);
-        let at = place_of(refusal);
-        return ToPrint {
-            code: why,
-            place: at,
-            t: 0,
-            w: 1,
-            many: 0,
-        };
-    };
-    tell_accepted(sheet, n, &widths, t, stim, out, next)
+    let checked = check(sheet)?;
+    tell_accepted(&checked, stim, out, next)
 }

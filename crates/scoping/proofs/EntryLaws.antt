@@ -11,6 +11,11 @@ use lib.Seq.{get_or-set_same, get_or-set_other}
 use Rattle.name_rules.specs.Declared.{declared_as}
 use Rattle.name_rules.specs.TokenWalk.{role_in}
 use Rattle.symbols.specs.Names.{letters_at, declared_names, bound_names, role_named, Hashed, Roles, declared_role, BoundRoles}
+use Rattle.std.proofs.lemmas.List.{map-set}
+use Rattle.symbols.specs.RoleNumbers.{role_code, role_codes}
+use Rattle.symbols.specs.declared.tables.NameTable.{NameTable}
+use Rattle.symbols.specs.declared.meanings.Role.{Role}
+use Rattle.scoping.specs.declared.scopes.Scope.{Scope}
 use Rattle.scoping.specs.Scoped.{NameBound}
 
 module _ (text spans : List ℕ) (n v : ℕ) where
@@ -94,3 +99,15 @@ name-bound {text} {spans} {roles} {spans'} {span} {base} {n} {role} t e long roo
         get_or-set_other roles n k role 0 f
         ∙ b k h (omega (arith, f))
         ∙ as_before k (get_or spans k 0) (ap (λ s. get_or s k 0) e ∙ get_or-set_other spans n k span 0 f)
+
+-- of a scope
+pub scope-bound : (s : Scope) (t : NameTable) (span : ℕ) (role : Role)
+    → (t.text.now ≡ s.names.text.now) × (t.count ≡ s.names.count + 1) × (t.spans ≡ set s.names.spans s.names.count span) → s.names.count < 65536
+    → role_code role ≡ declared_role s.names.text.now s.names.spans (role_codes s.roles) s.base span
+    → NameBound s.names.text.now span s.base s.names.count s.names.spans (role_codes s.roles) t.spans t.links t.heads
+    (role_codes (set s.roles s.names.count role))
+scope-bound s t span role p room e =
+    subst (λ l. NameBound s.names.text.now span s.base s.names.count s.names.spans (role_codes s.roles) t.spans t.links t.heads l)
+    (sym (map-set role_code s.roles s.names.count role))
+    (name-bound (subst (λ n. Hashed s.names.text.now n t.spans t.links t.heads) p.1 (subst (λ x. Hashed x t.count t.spans t.links t.heads) p.0 t.hashed))
+    p.2 s.names.hashed.spans_long room s.above s.named s.bound_roles e)

@@ -2,4 +2,3 @@
 pub mod TableLaws
 pub mod EntryLaws
 pub mod ScopeLaws
-pub mod EffectLaws

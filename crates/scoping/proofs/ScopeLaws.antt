@@ -3,71 +3,24 @@
 use Prim.Native.Nat.{ℕ, zero, suc, ◌+◌, ◌-◌, ◌≤◌, ◌<◌}
 use native.Mathlib.Omega.{arith}
 use native.Mathlib.Numerals.{add-one}
-use native.Mathlib.Decide.{ℕ_discrete}
 use mathlib.Core.Path.{◌≡◌, refl, sym, ap, ap₂, subst, ◌∙◌}
 use mathlib.Core.Bool.{Bool, true, false, cond}
-use mathlib.Core.Logic.{◌⊎◌, inl, inr}
 use mathlib.Core.List.{List, [], ◌∷◌}
-use lib.ListN.{get_or, set, length-set}
+use lib.ListN.{get_or, set}
 use lib.Seq.{get_or-set_same, get_or-set_other}
-use Rattle.name_rules.specs.Declared.{declared_as, a_type, a_constructor}
+use Rattle.name_rules.specs.Declared.{declared_as, a_type}
 use Rattle.grammar.specs.Rows.{State}
-use Rattle.name_rules.specs.TokenWalk.{NameScope, scope, declare_pending, ScopeEffect, may_take, holds_in, met_in, left_by, none_bound}
-use Rattle.name_rules.specs.TokenWalk.{declares_next, pends, binds, bind_pending, unbind, ended_by}
-use Rattle.symbols.specs.Names.{letters_at, Inside, declared_names, bound_names, Hashed, Roles}
-use Rattle.scoping.specs.Scoped.{pending_names, held_scope, Scoping, Rescoped, NameBound, NameNoted, effect_of}
-
--- the name that waits on top
-pub pending-top : (text pendings : List ℕ) (m : ℕ) → (m ≡ 0 → ⊥)
-    → pending_names text pendings m ≡ letters_at text (get_or pendings (m - 1) 0) ∷ pending_names text pendings (m - 1)
-pending-top text pendings m h = let e : m ≡ suc (m - 1) = omega (arith, h) in ap (pending_names text pendings) e
-
-no_bound : (text spans : List ℕ) (base : ℕ) → bound_names text spans base (base - base) ≡ []
-no_bound text spans base = let e : base - base ≡ 0 = omega arith in ap (bound_names text spans base) e
-
-module _ {text : List ℕ} {base m : ℕ} {spans links heads roles pendings : List ℕ} (s : Scoping text 65535 base base m spans links heads roles pendings) where
-  pub none-pending : m ≡ 0
-      → Rescoped (declare_pending (held_scope text base base m spans roles pendings)) text (base + m) base base m spans links heads roles pendings
-  none-pending z = record {
-    scoping = record {
-      hashed = s.hashed;
-      named = s.named;
-      bound_roles = s.bound_roles;
-      above = s.above;
-      pendings_long = s.pendings_long;
-      pendings_inside = s.pendings_inside;
-      few = omega arith;
-      roomy = omega (arith, s.few);
-    };
-    same_scope =
-        ap (λ k. scope (pending_names text pendings k) (bound_names text spans base (base - base)) (declared_names text spans roles base)) z
-        ∙ sym (ap (λ k. declare_pending (scope (pending_names text pendings k) (bound_names text spans base (base - base)) (declared_names text spans roles base))) z);
-  }
-
-  pub one-pending : {spans' links' heads' roles' : List ℕ} → (m ≡ 0 → ⊥) → Hashed text (base + 1) spans' links' heads' → Roles roles' (base + 1)
-      → declared_names text spans' roles' (base + 1) ≡ declared_as (letters_at text (get_or pendings (m - 1) 0)) a_type ∷ declared_names text spans roles base
-      → Rescoped (declare_pending (held_scope text base base m spans roles pendings)) text (base + m) (base + 1) (base + 1) (m - 1) spans' links' heads' roles' pendings
-  one-pending {spans'} {roles'} nz t r e = record {
-    scoping = record {
-      hashed = t;
-      named = r;
-      bound_roles = λ k h l. absurd (omega arith);
-      above = omega arith;
-      pendings_long = s.pendings_long;
-      pendings_inside = λ k h. s.pendings_inside k (omega arith);
-      few = omega (arith, nz);
-      roomy = omega (arith, s.few);
-    };
-    same_scope =
-        ap₂ (λ B D. scope (pending_names text pendings (m - 1)) B D) (no_bound text spans' (base + 1) ∙ sym (no_bound text spans base)) e
-        ∙ sym
-        (ap (λ P. declare_pending (scope P (bound_names text spans base (base - base)) (declared_names text spans roles base))) (pending-top text pendings m nz));
-  }
-
--- names that are declared where something is bound
-bound_some : (text spans : List ℕ) (base n : ℕ) → base < n
-    → bound_names text spans base (n - base) ≡ letters_at text (get_or spans (base + (n - base - 1)) 0) ∷ bound_names text spans base (n - base - 1)
-bound_some text spans base n h = let e : n - base ≡ suc (n - base - 1) = omega arith in ap (bound_names text spans base) e
+use Rattle.name_rules.specs.TokenWalk.{NameScope, scope, declare_pending, ScopeEffect, may_take, holds_in, met_in, left_by}
+use Rattle.name_rules.specs.TokenWalk.{pends, binds, bind_pending, unbind}
+use Rattle.symbols.specs.Names.{letters_at, declared_names, bound_names, role_named}
+use Rattle.symbols.specs.RoleNumbers.{role_codes}
+use Rattle.symbols.specs.declared.tables.NameTable.{NameTable}
+use Rattle.symbols.proofs.Search.{entry-read}
+use Rattle.scoping.specs.declared.scopes.Scope.{Scope}
+use Rattle.scoping.specs.Scoped.{pending_names, held_scope, Scoping, effect_of}
+use Rattle.scoping.specs.Held.{held, Declared, Bound, ScopeAfter, Noted}
+use Rattle.scoping.specs.TableNumbers.{effect_code}
+use Rattle.scoping.specs.declared.tables.Effect.{Effect}
 
 -- nothing changes but the room
 pub roomier : {text : List ℕ} {room base n m : ℕ} {spans links heads roles pendings : List ℕ} (more : ℕ) → room ≤ more → more ≤ 65536
@@ -83,187 +36,151 @@ roomier more h l s = record {
   roomy = l;
 }
 
--- what a refused name gives
-pub refused-name : {q : State} {e : ScopeEffect} {w : List ℕ} {S : NameScope} {text : List ℕ} {room base n m : ℕ} {spans links heads roles pendings : List ℕ}
-    → false ≡ cond (may_take e S) (holds_in q w (met_in e S)) false → NameNoted q e w S text room false base n m spans links heads roles pendings
-refused-name f = record { told = f; rescoped = λ z. absurd (let o : ◌≡◌ {A = ℕ} 0 1 = cc in omega arith) }
+-- the facts of a scope, with so much room
+pub scoping-of : (s : Scope) (room : ℕ) → s.names.count + s.waiting ≤ room → room ≤ 65536
+    → Scoping s.names.text.now room s.base s.names.count s.waiting s.names.spans s.names.links s.names.heads (role_codes s.roles) s.pendings
+scoping-of s room f r = record {
+  hashed = s.names.hashed;
+  named = s.named;
+  bound_roles = s.bound_roles;
+  above = s.above;
+  pendings_long = s.pendings_long;
+  pendings_inside = s.pendings_inside;
+  few = f;
+  roomy = r;
+}
 
--- and a good one
-pub noted-name : {q : State} {e : ScopeEffect} {w : List ℕ} {S : NameScope} {text : List ℕ} {room base n m : ℕ} {spans links heads roles pendings : List ℕ}
-    → true ≡ cond (may_take e S) (holds_in q w (met_in e S)) false → Rescoped (left_by e w (met_in e S)) text room base n m spans links heads roles pendings
-    → NameNoted q e w S text room true base n m spans links heads roles pendings
-noted-name t r = record { told = t; rescoped = λ z. r }
-
-module _ (text spans roles pendings : List ℕ) (base n m : ℕ) where
-  pub some-bound : (base ≡ n → ⊥) → base ≤ n → (x : Bool) → false ≡ cond (none_bound (held_scope text base n m spans roles pendings)) x false
-  some-bound d h x =
-      sym
-      (ap (λ B. cond (none_bound (scope (pending_names text pendings m) B (declared_names text spans roles base))) x false)
-      (bound_some text spans base n (omega (arith, d))))
-
-  pub none-bound : base ≡ n → (x : Bool) → x ≡ cond (none_bound (held_scope text base n m spans roles pendings)) x false
-  none-bound e x =
-      let z : n - base ≡ 0 = omega arith in
-      sym (ap (λ k. cond (none_bound (scope (pending_names text pendings m) (bound_names text spans base k) (declared_names text spans roles base))) x false) z)
-
-  pub same_base : base ≡ n → held_scope text base base m spans roles pendings ≡ held_scope text base n m spans roles pendings
-  same_base e = ap (λ k. held_scope text base k m spans roles pendings) e
-
--- the scope after a token, from tables that hold the scope before it
-module _ {text : List ℕ} {base n m : ℕ} {spans links heads roles pendings : List ℕ} (s : Scoping text 65534 base n m spans links heads roles pendings) where
-  abbrev before : NameScope
-  before = held_scope text base n m spans roles pendings
-
-  pub kept-after : Rescoped before text (n + m + 1) base n m spans links heads roles pendings
-  kept-after = record {
-    scoping = record {
-      hashed = s.hashed;
-      named = s.named;
-      bound_roles = s.bound_roles;
-      above = s.above;
-      pendings_long = s.pendings_long;
-      pendings_inside = s.pendings_inside;
-      few = omega arith;
-      roomy = omega (arith, s.few);
-    };
-    same_scope = refl;
-  }
-
-  pub constructor-after : {spans' links' heads' roles' w : List ℕ} → base ≡ n → Hashed text (base + 1) spans' links' heads' → Roles roles' (base + 1)
-      → declared_names text spans' roles' (base + 1) ≡ declared_as w a_constructor ∷ declared_names text spans roles base
-      → Rescoped (left_by declares_next w before) text (n + m + 1) (base + 1) (base + 1) m spans' links' heads' roles' pendings
-  constructor-after {spans'} {w} e t r d = record {
-    scoping = record {
-      hashed = t;
-      named = r;
-      bound_roles = λ k h l. absurd (omega arith);
-      above = omega arith;
-      pendings_long = s.pendings_long;
-      pendings_inside = s.pendings_inside;
-      few = omega arith;
-      roomy = omega (arith, s.few);
-    };
+pub after : {S : NameScope} {room : ℕ} (old new : Scope) → new.names.text.now ≡ old.names.text.now → new.names.count + new.waiting ≤ room → room ≤ 65536
+    → held new ≡ S → ScopeAfter S room old new
+after {room} old new e f r h = record {
+  same_text = e;
+  rescoped = record {
+    scoping =
+        subst
+        (λ t. Scoping t room new.base new.names.count new.waiting new.names.spans new.names.links new.names.heads (role_codes new.roles) new.pendings) e
+        (scoping-of new room f r);
     same_scope =
-        ap₂ (λ B D. scope (pending_names text pendings m) B D)
-        (no_bound text spans' (base + 1) ∙ sym (no_bound text spans base) ∙ ap (λ k. bound_names text spans base (k - base)) e) d;
-  }
+        ap (λ t. held_scope t new.base new.names.count new.waiting new.names.spans (role_codes new.roles) new.pendings) (sym e) ∙ h;
+  };
+}
 
-  inside-set : (span : ℕ) → Inside text span → (k : ℕ) → k < m + 1 → Inside text (get_or (set pendings m span) k 0)
-  inside-set span h k l = go (ℕ_discrete k m)
-    where
-      go : Dec (k ≡ m) → Inside text (get_or (set pendings m span) k 0)
-      go (yes e) =
-          subst (Inside text)
-          (sym (ap (λ j. get_or (set pendings m span) j 0) e ∙ get_or-set_same pendings m span 0 (omega (arith, s.pendings_long, s.few)))) h
-      go (no e) = subst (Inside text) (sym (get_or-set_other pendings m k span 0 e)) (s.pendings_inside k (omega (arith, e)))
+pub after-held : {S : NameScope} {room : ℕ} {old new : Scope} → ScopeAfter S room old new → held new ≡ S
+after-held {new} a =
+    ap (λ t. held_scope t new.base new.names.count new.waiting new.names.spans (role_codes new.roles) new.pendings) a.same_text ∙ a.rescoped.same_scope
 
-  pending-kept : (v k : ℕ) → k ≤ m → pending_names text (set pendings m v) k ≡ pending_names text pendings k
-  pending-kept v zero h = refl
-  pending-kept v (suc k) h =
-      ap₂ (λ x P. letters_at text x ∷ P) (get_or-set_other pendings m k v 0 (λ e. omega arith)) (pending-kept v k (omega arith))
+-- the name that waits on top
+pending-top : (text pendings : List ℕ) (m : ℕ) → (m ≡ 0 → ⊥)
+    → pending_names text pendings m ≡ letters_at text (get_or pendings (m - 1) 0) ∷ pending_names text pendings (m - 1)
+pending-top text pendings m h = let e : m ≡ suc (m - 1) = omega (arith, h) in ap (pending_names text pendings) e
 
-  pub pend-after : (span : ℕ) → Inside text span
-      → Rescoped (left_by pends (letters_at text span) before) text (n + m + 1) base n (m + 1) spans links heads roles (set pendings m span)
-  pend-after span h = record {
-    scoping = record {
-      hashed = s.hashed;
-      named = s.named;
-      bound_roles = s.bound_roles;
-      above = s.above;
-      pendings_long = length-set pendings m span ∙ s.pendings_long;
-      pendings_inside = inside-set span h;
-      few = omega arith;
-      roomy = omega (arith, s.few);
-    };
-    same_scope =
-        ap (λ P. scope P (bound_names text spans base (n - base)) (declared_names text spans roles base))
-        (ap (pending_names text (set pendings m span)) (add-one m)
-        ∙ ap₂ (λ x P. letters_at text x ∷ P) (get_or-set_same pendings m span 0 (omega (arith, s.pendings_long, s.few))) (pending-kept span m (omega arith)));
-  }
+no_bound : (text spans : List ℕ) (base : ℕ) → bound_names text spans base (base - base) ≡ []
+no_bound text spans base = let e : base - base ≡ 0 = omega arith in ap (bound_names text spans base) e
 
-  pub bind-after : {span : ℕ} {spans' links' heads' roles' : List ℕ} → NameBound text span base n spans roles spans' links' heads' roles'
-      → Rescoped (left_by binds (letters_at text span) before) text (n + m + 1) base (n + 1) m spans' links' heads' roles' pendings
-  bind-after b = record {
-    scoping = record {
-      hashed = b.hashed;
-      named = b.named;
-      bound_roles = b.bound_roles;
-      above = omega (arith, s.above);
-      pendings_long = s.pendings_long;
-      pendings_inside = s.pendings_inside;
-      few = omega arith;
-      roomy = omega (arith, s.few);
-    };
-    same_scope = ap₂ (λ B D. scope (pending_names text pendings m) B D) b.one_more b.same_declared;
-  }
+module _ (s : Scope) where
+  abbrev text : List ℕ
+  text = s.names.text.now
 
-  pub bind-pending-after : {spans' links' heads' roles' : List ℕ} → (m ≡ 0 → ⊥)
-      → NameBound text (get_or pendings (m - 1) 0) base n spans roles spans' links' heads' roles'
-      → Rescoped (bind_pending before) text (n + m + 1) base (n + 1) (m - 1) spans' links' heads' roles' pendings
-  bind-pending-after nz b = record {
-    scoping = record {
-      hashed = b.hashed;
-      named = b.named;
-      bound_roles = b.bound_roles;
-      above = omega (arith, s.above);
-      pendings_long = s.pendings_long;
-      pendings_inside = λ k h. s.pendings_inside k (omega arith);
-      few = omega (arith, nz);
-      roomy = omega (arith, s.few);
-    };
-    same_scope =
-        ap₂ (λ B D. scope (pending_names text pendings (m - 1)) B D) b.one_more b.same_declared
-        ∙ sym
-        (ap (λ P. bind_pending (scope P (bound_names text spans base (n - base)) (declared_names text spans roles base))) (pending-top text pendings m nz));
-  }
+  abbrev waits : List (List ℕ)
+  waits = pending_names text s.pendings s.waiting
 
-  pub unbind-after : {heads' : List ℕ} → base < n → Hashed text (n - 1) spans links heads'
-      → Rescoped (unbind before) text (n + m + 1) base (n - 1) m spans links heads' roles pendings
-  unbind-after h t = record {
-    scoping = record {
-      hashed = t;
-      named = s.named;
-      bound_roles = λ k j l. s.bound_roles k j (omega arith);
-      above = omega arith;
-      pendings_long = s.pendings_long;
-      pendings_inside = s.pendings_inside;
-      few = omega arith;
-      roomy = omega (arith, s.few);
-    };
-    same_scope =
-        let e : n - 1 - base ≡ n - base - 1 = omega arith in
-        ap (λ k. scope (pending_names text pendings m) (bound_names text spans base k) (declared_names text spans roles base)) e
-        ∙ sym (ap (λ B. unbind (scope (pending_names text pendings m) B (declared_names text spans roles base))) (bound_some text spans base n h));
-  }
+  abbrev bounds : List (List ℕ)
+  bounds = bound_names text s.names.spans s.base (s.names.count - s.base)
 
-  pub none-unbound : n ≤ base → Rescoped (unbind before) text (n + m + 1) base n m spans links heads roles pendings
-  none-unbound h =
-      let z : n - base ≡ 0 = omega arith in
-      record {
-        scoping = kept-after.scoping;
-        same_scope =
-            ap (λ k. scope (pending_names text pendings m) (bound_names text spans base k) (declared_names text spans roles base)) z
-            ∙ sym (ap (λ k. unbind (scope (pending_names text pendings m) (bound_names text spans base k) (declared_names text spans roles base))) z);
-      }
+  -- where nothing is bound
+  held-bare : s.base ≡ s.names.count → held s ≡ scope waits [] (declared_names text s.names.spans (role_codes s.roles) s.base)
+  held-bare e =
+      ap (λ k. scope waits (bound_names text s.names.spans s.base (k - s.base)) (declared_names text s.names.spans (role_codes s.roles) s.base)) (sym e)
+      ∙ ap (λ B. scope waits B (declared_names text s.names.spans (role_codes s.roles) s.base)) (no_bound text s.names.spans s.base)
 
-  none-waits : m ≡ 0 → before ≡ bind_pending before
-  none-waits z =
-      ap (λ k. scope (pending_names text pendings k) (bound_names text spans base (n - base)) (declared_names text spans roles base)) z
-      ∙ sym (ap (λ k. bind_pending (scope (pending_names text pendings k) (bound_names text spans base (n - base)) (declared_names text spans roles base))) z)
+  bound_some : s.base < s.names.count
+      → bounds ≡ letters_at text (get_or s.names.spans (s.base + (s.names.count - s.base - 1)) 0)
+      ∷ bound_names text s.names.spans s.base (s.names.count - s.base - 1)
+  bound_some h = let e : s.names.count - s.base ≡ suc (s.names.count - s.base - 1) = omega arith in ap (bound_names text s.names.spans s.base) e
 
-  -- a token without an effect
-  no-effect : (effect : ℕ) → (effect ≡ 7 → ⊥) → ((effect ≡ 5) × (m ≡ 0)) ⊎ (effect ≡ 5 → ⊥) → before ≡ ended_by (effect_of effect) before
-  no-effect zero h k = refl
-  no-effect (suc zero) h k = refl
-  no-effect (suc (suc zero)) h k = refl
-  no-effect (suc (suc (suc zero))) h k = refl
-  no-effect (suc (suc (suc (suc zero)))) h k = refl
-  no-effect (suc (suc (suc (suc (suc zero))))) h (inl k) = none-waits k.1
-  no-effect (suc (suc (suc (suc (suc zero))))) h (inr k) = absurd (k refl)
-  no-effect (suc (suc (suc (suc (suc (suc zero)))))) h k = refl
-  no-effect (suc (suc (suc (suc (suc (suc (suc zero))))))) h k = absurd (h refl)
-  no-effect (suc (suc (suc (suc (suc (suc (suc (suc e)))))))) h k = refl
+  -- the nearest bound name goes
+  pub unbound-held : (t : NameTable) → s.base < s.names.count → t.text.now ≡ text → t.count ≡ s.names.count - 1 → t.spans ≡ s.names.spans
+      → held_scope t.text.now s.base t.count s.waiting t.spans (role_codes s.roles) s.pendings ≡ unbind (held s)
+  unbound-held t h e f g =
+      let o : t.count - s.base ≡ s.names.count - s.base - 1 = omega arith in
+      ap₂ (λ x l. held_scope x s.base t.count s.waiting l (role_codes s.roles) s.pendings) e g
+      ∙ ap (λ k. scope waits (bound_names text s.names.spans s.base k) (declared_names text s.names.spans (role_codes s.roles) s.base)) o
+      ∙ sym (ap (λ B. unbind (scope waits B (declared_names text s.names.spans (role_codes s.roles) s.base))) (bound_some h))
 
-  pub other-kept : (effect : ℕ) → (effect ≡ 7 → ⊥) → ((effect ≡ 5) × (m ≡ 0)) ⊎ (effect ≡ 5 → ⊥)
-      → Rescoped (ended_by (effect_of effect) before) text (n + m + 1) base n m spans links heads roles pendings
-  other-kept effect h k = record { scoping = kept-after.scoping; same_scope = no-effect effect h k }
+-- after one declared name more
+module _ {span kind : ℕ} {old new : Scope} (d : Declared span kind old new) (bare : old.base ≡ old.names.count) where
+  declared-held : (m : ℕ)
+      → held_scope new.names.text.now new.base new.names.count m new.names.spans (role_codes new.roles) new.pendings
+      ≡ scope (pending_names (text old) old.pendings m) []
+      (declared_as (letters_at (text old) span) (role_named kind) ∷ declared_names (text old) old.names.spans (role_codes old.roles) old.base)
+  declared-held m =
+      ap₂ (λ t p. held_scope t new.base new.names.count m new.names.spans (role_codes new.roles) p) d.same_text d.same_pendings
+      ∙ ap₂ (λ b n. held_scope (text old) b n m new.names.spans (role_codes new.roles) old.pendings) d.more_declared (d.more_names ∙ ap (λ n. n + 1) (sym bare))
+      ∙ ap₂ (λ B D. scope (pending_names (text old) old.pendings m) B D) (no_bound (text old) new.names.spans (old.base + 1)) d.declared
+
+pub type-held : (x : ℕ) {old new : Scope} → (old.waiting ≡ 0 → ⊥) → old.base ≡ old.names.count → Declared (get_or old.pendings (old.waiting - 1) x) 0 old new
+    → held_scope new.names.text.now new.base new.names.count (old.waiting - 1) new.names.spans (role_codes new.roles) new.pendings ≡ declare_pending (held old)
+type-held x {old} z bare d =
+    declared-held d bare (old.waiting - 1)
+    ∙ ap
+    (λ v. scope (pending_names (text old) old.pendings (old.waiting - 1)) []
+    (declared_as v a_type ∷ declared_names (text old) old.names.spans (role_codes old.roles) old.base))
+    (entry-read (text old) old.pendings (old.waiting - 1) x (let h = old.few_waiting in let l = old.pendings_long in omega (arith, z)))
+    ∙ sym
+    (ap declare_pending
+    (held-bare old bare
+    ∙ ap (λ P. scope P [] (declared_names (text old) old.names.spans (role_codes old.roles) old.base)) (pending-top (text old) old.pendings old.waiting z)))
+
+-- after one bound name more
+module _ {span : ℕ} {old new : Scope} (b : Bound span old new) where
+  bound-held : (m : ℕ)
+      → held_scope new.names.text.now new.base new.names.count m new.names.spans (role_codes new.roles) new.pendings
+      ≡ scope (pending_names (text old) old.pendings m) (letters_at (text old) span ∷ bounds old)
+      (declared_names (text old) old.names.spans (role_codes old.roles) old.base)
+  bound-held m =
+      ap₂ (λ t p. held_scope t new.base new.names.count m new.names.spans (role_codes new.roles) p) b.same_text b.same_pendings
+      ∙ ap₂ (λ c n. held_scope (text old) c n m new.names.spans (role_codes new.roles) old.pendings) b.same_base b.more_names
+      ∙ ap₂ (λ B D. scope (pending_names (text old) old.pendings m) B D) b.bound.one_more b.bound.same_declared
+
+  pub name-bound-held : held new ≡ left_by binds (letters_at (text old) span) (held old)
+  name-bound-held =
+      ap (λ m. held_scope new.names.text.now new.base new.names.count m new.names.spans (role_codes new.roles) new.pendings) b.same_waiting
+      ∙ bound-held old.waiting
+
+pub pending-bound-held : (x : ℕ) {old new : Scope} → (old.waiting ≡ 0 → ⊥) → Bound (get_or old.pendings (old.waiting - 1) x) old new
+    → held_scope new.names.text.now new.base new.names.count (old.waiting - 1) new.names.spans (role_codes new.roles) new.pendings ≡ bind_pending (held old)
+pending-bound-held x {old} z b =
+    bound-held b (old.waiting - 1)
+    ∙ ap
+    (λ v. scope (pending_names (text old) old.pendings (old.waiting - 1)) (v ∷ bounds old)
+    (declared_names (text old) old.names.spans (role_codes old.roles) old.base))
+    (entry-read (text old) old.pendings (old.waiting - 1) x (let h = old.few_waiting in let l = old.pendings_long in omega (arith, z)))
+    ∙ sym
+    (ap (λ P. bind_pending (scope P (bounds old) (declared_names (text old) old.names.spans (role_codes old.roles) old.base)))
+    (pending-top (text old) old.pendings old.waiting z))
+
+-- after one more that waits
+pending-kept : (text pendings : List ℕ) (m v k : ℕ) → k ≤ m → pending_names text (set pendings m v) k ≡ pending_names text pendings k
+pending-kept text pendings m v zero h = refl
+pending-kept text pendings m v (suc k) h =
+    ap₂ (λ x P. letters_at text x ∷ P) (get_or-set_other pendings m k v 0 (λ e. omega arith)) (pending-kept text pendings m v k (omega arith))
+
+pub pended-held : (s : Scope) (span : ℕ) → s.waiting < 65536
+    → held_scope (text s) s.base s.names.count (s.waiting + 1) s.names.spans (role_codes s.roles) (set s.pendings s.waiting span)
+    ≡ left_by pends (letters_at (text s) span) (held s)
+pended-held s span l =
+    ap (λ P. scope P (bounds s) (declared_names (text s) s.names.spans (role_codes s.roles) s.base))
+    (ap (pending_names (text s) (set s.pendings s.waiting span)) (add-one s.waiting)
+    ∙ ap₂ (λ x P. letters_at (text s) x ∷ P)
+    (get_or-set_same s.pendings s.waiting span 0 (let h = s.pendings_long in omega arith))
+    (pending-kept (text s) s.pendings s.waiting span s.waiting (omega arith)))
+
+-- a good name
+module _ {q : State} {e : ScopeEffect} {span : ℕ} (old new : Scope) where
+  pub noted-name : true ≡ cond (may_take e (held old)) (holds_in q (letters_at (text old) span) (met_in e (held old))) false
+      → ScopeAfter (left_by e (letters_at (text old) span) (met_in e (held old))) (old.names.count + old.waiting + 1) old new → Noted q e span old true new
+  noted-name t a = record { same_text = a.same_text; noted = record { told = t; rescoped = λ z. a.rescoped } }
+
+-- an effect of the code's
+pub by-effect : {q : State} {span : ℕ} {ok : Bool} (old new : Scope) (effect e : Effect) → effect ≡ e
+    → Noted q (effect_of (effect_code e)) span old ok new → Noted q (effect_of (effect_code effect)) span old ok new
+by-effect {q} {span} {ok} old new effect e f n = subst (λ x. Noted q (effect_of (effect_code x)) span old ok new) (sym f) n

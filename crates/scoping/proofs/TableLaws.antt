@@ -1,17 +1,19 @@
 -- What the tables say of the states' rules.
 -- Assumes nothing.
-use Prim.Native.Nat.{ℕ, zero, suc, ◌+◌, ◌-◌, ◌≤◌, ◌<◌}
+use Prim.Native.Nat.{ℕ, zero, suc, ◌<◌}
 use native.Mathlib.Omega.{arith}
 use mathlib.Core.Path.{◌≡◌, refl, sym, ap, ap₂, ◌∙◌}
-use mathlib.Core.Bool.{Bool, true, false, cond}
 use mathlib.Core.List.{List, [], ◌∷◌, map}
 use lib.ListN.{length, get_or}
-use lib.Dec.{eqb}
-use Rattle.grammar.specs.Rows.{State, states, start}
+use Rattle.grammar.specs.Rows.{states, start}
 use Rattle.recognizer.specs.Coded.{state_of, lead_bytes}
-use Rattle.name_rules.specs.TokenWalk.{NameRule, new_name, type_use, pattern_use, constant_use, value_use, ruleless, admits, rule_in, role_in, searched_among, holds_in, NameScope, scope, bound_in}
-use Rattle.symbols.specs.Names.{letters_at, declared_names, bound_names, role_among, declared_role}
-use Rattle.scoping.specs.Scoped.{bit_of, searches_bound, admission_row, admission_table, effect_table, effect_number, effect_by, pending_names, held_scope}
+use Rattle.name_rules.specs.TokenWalk.{ScopeEffect, keeps_scope, pends, declares_first, declares_next, binds, binds_pending, declares_pending, unbinds, rule_in}
+use Rattle.scoping.specs.Scoped.{admission_row, admission_table, effect_table, effect_number, effect_of, effect_by}
+use Rattle.scoping.specs.TableNumbers.{rule_of, effect_code}
+use Rattle.scoping.specs.declared.tables.TheConstants.{RULES, EFFECTS}
+use Rattle.scoping.specs.declared.tables.NameRule.TheVariants.{NewName}
+use Rattle.scoping.specs.declared.tables.Effect.TheVariants.{KeepsScope}
+use Rattle.std.proofs.Math.ListN.{get_or-map}
 
 pub mapped_at : {A B : Type 0} (f : A → B) (l : List A) (c : ℕ) (d : A) (e : B) → c < length l → get_or (map f l) c e ≡ f (get_or l c d)
 mapped_at f [] c d e h = absurd (omega arith)
@@ -27,67 +29,39 @@ effect-read table state class s c t h l e f =
     ∙ ap (λ k. get_or k class 0) (mapped_at (λ q. map (λ b. effect_number (effect_by q b)) lead_bytes) states state start [] h)
     ∙ mapped_at (λ b. effect_number (effect_by (state_of state) b)) lead_bytes class 0 0 l
 
-admission-read : (table : List (List ℕ)) (state s c : ℕ) → table ≡ admission_table → state < 47 → s ≡ state
-    → get_or (get_or table s []) c 0 ≡ get_or (admission_row (rule_in (state_of state))) c 0
+effect-again : (e : ScopeEffect) → effect_of (effect_number e) ≡ e
+effect-again keeps_scope = refl
+effect-again pends = refl
+effect-again declares_first = refl
+effect-again declares_next = refl
+effect-again binds = refl
+effect-again binds_pending = refl
+effect-again declares_pending = refl
+effect-again unbinds = refl
+
+-- the code's tables are computed from the rules of the states
+pub effects-right : map (λ r. map effect_code r) EFFECTS ≡ effect_table
+unfolding effect_table
+effects-right = refl
+
+rules-right : map rule_of RULES ≡ map rule_in states
+rules-right = refl
+
+pub admissions-right : map (λ r. admission_row (rule_of r)) RULES ≡ admission_table
 unfolding admission_table
-admission-read table state s c t h e =
-    ap₂ (λ x y. get_or (get_or x y []) c 0) t e ∙ ap (λ k. get_or k c 0) (mapped_at (λ q. admission_row (rule_in q)) states state start [] h)
+admissions-right = refl
 
-bit-one : (x : Bool) → eqb (bit_of x) 1 ≡ x
-bit-one true = refl
-bit-one false = refl
+pub effect-at : (state class s c : ℕ) → state < 47 → class < 18 → s ≡ state → c ≡ class
+    → effect_of (effect_code (get_or (get_or EFFECTS s []) c KeepsScope)) ≡ effect_by (state_of state) (get_or lead_bytes class 0)
+effect-at state class s c h l e f =
+    ap effect_of
+    (sym (get_or-map effect_code (get_or EFFECTS s []) c KeepsScope)
+    ∙ ap (λ r. get_or r c 0) (sym (get_or-map (λ r. map effect_code r) EFFECTS s []))
+    ∙ effect-read (map (λ r. map effect_code r) EFFECTS) state class s c effects-right h l e f)
+    ∙ effect-again (effect_by (state_of state) (get_or lead_bytes class 0))
 
-by-column : (r : NameRule) (c : ℕ) → c < 5 → eqb (get_or (admission_row r) c 0) 1 ≡ admits r c
-by-column r zero h = bit-one (admits r 0)
-by-column r (suc zero) h = bit-one (admits r 1)
-by-column r (suc (suc zero)) h = bit-one (admits r 2)
-by-column r (suc (suc (suc zero))) h = bit-one (admits r 3)
-by-column r (suc (suc (suc (suc zero)))) h = bit-one (admits r 4)
-by-column r (suc (suc (suc (suc (suc c))))) h = absurd (omega arith)
-
-bound-searched : (r : NameRule) (S : NameScope) → searches_bound r ≡ 1 → searched_among r S ≡ bound_in S
-bound-searched new_name S h = absurd (omega arith)
-bound-searched type_use S h = absurd (omega arith)
-bound-searched pattern_use S h = absurd (omega arith)
-bound-searched constant_use S h = absurd (omega arith)
-bound-searched value_use S h = refl
-bound-searched ruleless S h = absurd (omega arith)
-
-none-searched : (r : NameRule) (S : NameScope) → (searches_bound r ≡ 1 → ⊥) → searched_among r S ≡ []
-none-searched new_name S h = refl
-none-searched type_use S h = refl
-none-searched pattern_use S h = refl
-none-searched constant_use S h = refl
-none-searched value_use S h = absurd (h refl)
-none-searched ruleless S h = refl
-
--- a name's admission, by its number and the column that tells where it is looked for
-module _ {table : List (List ℕ)} {state s : ℕ} (t : table ≡ admission_table) (h : state < 47) (e : s ≡ state)
-    (text spans roles : List ℕ) (base n span : ℕ)
-  where
-    abbrev q : State
-    q = state_of state
-
-    admitted : (c k : ℕ) (x : List (List ℕ)) (m : ℕ) (pendings : List ℕ) → c ≡ k
-        → k ≡ role_in (letters_at text span) x (declared_names text spans roles base) → k < 5
-        → searched_among (rule_in q) (held_scope text base n m spans roles pendings) ≡ x
-        → eqb (get_or (get_or table s []) c 0) 1 ≡ holds_in q (letters_at text span) (held_scope text base n m spans roles pendings)
-    admitted c k x m pendings d f l g =
-        ap (λ y. eqb y 1) (admission-read table state s c t h e)
-        ∙ ap (λ y. eqb (get_or (admission_row (rule_in q)) y 0) 1) d
-        ∙ by-column (rule_in q) k l
-        ∙ ap (admits (rule_in q)) (f ∙ ap (λ y. role_in (letters_at text span) y (declared_names text spans roles base)) (sym g))
-
-    pub nearest-admitted : (c k : ℕ) → get_or (get_or table s []) 5 0 ≡ 1 → c ≡ k → k ≡ role_among text spans roles base (n - base) span → k < 5
-        → (m : ℕ) (pendings : List ℕ)
-        → eqb (get_or (get_or table s []) c 0) 1 ≡ holds_in q (letters_at text span) (held_scope text base n m spans roles pendings)
-    nearest-admitted c k b d f l m pendings =
-        admitted c k (bound_names text spans base (n - base)) m pendings d f l
-        (bound-searched (rule_in q) (held_scope text base n m spans roles pendings) (sym (admission-read table state s 5 t h e) ∙ b))
-
-    pub declared-admitted : (c k : ℕ) → (get_or (get_or table s []) 5 0 ≡ 1 → ⊥) → c ≡ k → k ≡ declared_role text spans roles base span → k < 5
-        → (m : ℕ) (pendings : List ℕ)
-        → eqb (get_or (get_or table s []) c 0) 1 ≡ holds_in q (letters_at text span) (held_scope text base n m spans roles pendings)
-    declared-admitted c k b d f l m pendings =
-        admitted c k [] m pendings d f l
-        (none-searched (rule_in q) (held_scope text base n m spans roles pendings) (λ o. b (admission-read table state s 5 t h e ∙ o)))
+pub rule-at : (state s : ℕ) → state < 47 → s ≡ state → rule_of (get_or RULES s NewName) ≡ rule_in (state_of state)
+rule-at state s h e =
+    sym (get_or-map rule_of RULES s NewName)
+    ∙ ap₂ (λ l k. get_or l k (rule_of NewName)) rules-right e
+    ∙ mapped_at rule_in states state start (rule_of NewName) h

@@ -3,7 +3,7 @@ use Rattle.std.specs.Prelude.{ℕ, zero, suc, ◌+◌, ◌-◌, ◌≤◌, ◌<�
 use Rattle.grammar.specs.Sizes.{text_table}
 use Rattle.grammar.specs.Rows.{State, state_number, states}
 use Rattle.grammar.specs.Machine.{lead_byte}
-use Rattle.recognizer.specs.Coded.{lead_bytes, state_of}
+use Rattle.recognizer.specs.Coded.{lead_bytes}
 use Rattle.name_rules.specs.TokenWalk.{NameRule, new_name, type_use, pattern_use, constant_use, value_use, ruleless, admits, rule_in, state_rules, lead_from, effect_from}
 use Rattle.name_rules.specs.TokenWalk.{ScopeEffect, keeps_scope, pends, declares_first, declares_next, binds, binds_pending, declares_pending, unbinds}
 use Rattle.name_rules.specs.TokenWalk.{NameScope, scope, may_take, holds_in, met_in, left_by}

@@ -1,182 +1,128 @@
-// The names in scope after a token: those that are declared, those that LETs bind, and those that wait for their IN or for the rest of
-// their type.
-ghost use Rattle.std.specs.Prelude.{◌≡◌, true, List, ℕ, ◌+◌, ◌<◌, ◌-◌};
-ghost use Rattle.name_rules.specs.TokenWalk.{declares_pending, ended_by};
+// The names in scope after a token: whether a name keeps to its rule, and what the token does to the names in scope.
+ghost use Rattle.std.specs.Prelude.{◌≡◌, ℕ, ◌+◌, ◌<◌};
+ghost use Rattle.name_rules.specs.TokenWalk.{declares_pending, declares_first, declares_next, bind_pending, unbind, ended_by};
 ghost use Rattle.recognizer.specs.Coded.{state_of};
-ghost use Rattle.symbols.specs.Names.{letters_at, Inside};
-ghost use Rattle.scoping.specs.Scoped.{admission_table, held_scope, Scoping, Rescoped, NameNoted, effect_of};
+ghost use Rattle.symbols.specs.Names.{Inside};
+ghost use Rattle.scoping.specs.Scoped.{effect_of};
+ghost use Rattle.scoping.specs.TableNumbers.{effect_code};
+ghost use Rattle.scoping.specs.Held.{held, ScopeAfter, Noted};
 ghost use Rattle.grammar.specs.Legal.{text_bytes};
 ghost use Rattle.grammar.specs.Sizes.{state_count};
 
-use crate::scopes::{ScopeCounts, bind_name, declare_pending, name_holds, note_first, note_next};
-use crate::tables::Admissions;
-use symbols::{Heads, Links, NameRoles, Spans, pop_name};
+use crate::scopes::Scope;
+use crate::tables::Effect;
+use symbols::{Role, Span};
 
-const PENDS: u8 = 1;
-
-const DECLARES_FIRST: u8 = 2;
-
-const DECLARES_NEXT: u8 = 3;
-
-const BINDS: u8 = 4;
-
-const BINDS_PENDING: u8 = 5;
-
-const DECLARES_PENDING: u8 = 6;
-
-const UNBINDS: u8 = 7;
-
-// The second type of a pair type, which is declared after it.
-fn note_pair_type(
-    text: &[u8],
-    span: u32,
-    state: u8,
-    base: usize,
-    n: usize,
-    m: usize,
-    spans: &mut Spans,
-    links: &mut Links,
-    heads: &mut Heads,
-    roles: &mut NameRoles,
-    pendings: &Spans,
-    admissions: &Admissions,
-) -> ScopeCounts
-    requires { Scoping text.now (text_bytes - 1) base n m spans.old links.old heads.old roles.old pendings.now × Inside text.now span × (state < state_count) × (admissions.now ≡ admission_table) }
-    ensures { NameNoted (state_of state) declares_pending (letters_at text.now span) (held_scope text.now base n m spans.old roles.old pendings.now) text.now (n + m + 1) result.ok result.base result.all result.waiting spans.new links.new heads.new roles.new pendings.now }
-{
-    if base != n {
-        return ScopeCounts {
-            ok: false,
-            base,
-            all: n,
-            waiting: m,
-        };
-    }
-    if !name_holds(
-        text, span, state, base, base, spans, links, heads, roles, admissions,
-    ) {
-        return ScopeCounts {
-            ok: false,
-            base,
-            all: n,
-            waiting: m,
-        };
-    }
-    declare_pending(text, base, m, spans, links, heads, roles, pendings)
-}
-
-// A name: whether it keeps to its rule, and what it does to the names in scope.
-pub fn note_name(
-    text: &[u8],
-    span: u32,
-    state: u8,
-    effect: u8,
-    base: usize,
-    n: usize,
-    m: usize,
-    spans: &mut Spans,
-    links: &mut Links,
-    heads: &mut Heads,
-    roles: &mut NameRoles,
-    pendings: &mut Spans,
-    admissions: &Admissions,
-) -> ScopeCounts
-    requires { Scoping text.now (text_bytes - 1) base n m spans.old links.old heads.old roles.old pendings.old × Inside text.now span × (state < state_count) × (admissions.now ≡ admission_table) }
-    ensures { NameNoted (state_of state) (effect_of effect) (letters_at text.now span) (held_scope text.now base n m spans.old roles.old pendings.old) text.now (n + m + 1) result.ok result.base result.all result.waiting spans.new links.new heads.new roles.new pendings.new }
-{
-    if effect == DECLARES_FIRST {
-        return note_first(
-            text, span, state, base, n, m, spans, links, heads, roles, pendings, admissions,
-        );
-    }
-    if effect == DECLARES_NEXT {
-        return note_next(
-            text, span, state, base, n, m, spans, links, heads, roles, pendings, admissions,
-        );
-    }
-    if effect == DECLARES_PENDING {
-        return note_pair_type(
-            text, span, state, base, n, m, spans, links, heads, roles, pendings, admissions,
-        );
-    }
-    if !name_holds(
-        text, span, state, base, n, spans, links, heads, roles, admissions,
-    ) {
-        return ScopeCounts {
-            ok: false,
-            base,
-            all: n,
-            waiting: m,
-        };
-    }
-    if effect == PENDS {
-        pendings[m] = span;
-        return ScopeCounts {
-            ok: true,
-            base,
-            all: n,
-            waiting: m + 1,
-        };
-    }
-    if effect == BINDS {
-        bind_name(text, span, base, n, spans, links, heads, roles);
-        return ScopeCounts {
-            ok: true,
-            base,
-            all: n + 1,
-            waiting: m,
-        };
-    }
-    ScopeCounts {
-        ok: true,
-        base,
-        all: n,
-        waiting: m,
-    }
-}
-
-// A token that is no name: the name that waits is bound, or the nearest bound one goes.
-pub fn note_other(
-    text: &[u8],
-    effect: u8,
-    base: usize,
-    n: usize,
-    m: usize,
-    spans: &mut Spans,
-    links: &mut Links,
-    heads: &mut Heads,
-    roles: &mut NameRoles,
-    pendings: &Spans,
-) -> ScopeCounts
-    requires { Scoping text.now (text_bytes - 1) base n m spans.old links.old heads.old roles.old pendings.now }
-    ensures { Rescoped (ended_by (effect_of effect) (held_scope text.now base n m spans.old roles.old pendings.now)) text.now (n + m + 1) result.base result.all result.waiting spans.new links.new heads.new roles.new pendings.now }
-{
-    if effect == BINDS_PENDING {
-        if m != 0 {
-            bind_name(text, pendings[m - 1], base, n, spans, links, heads, roles);
-            return ScopeCounts {
-                ok: true,
-                base,
-                all: n + 1,
-                waiting: m - 1,
-            };
+impl<'a> Scope<'a> {
+    // The name that waits is bound.
+    fn bind_pending(&mut self)
+        requires { self.old.names.count + self.old.waiting < text_bytes }
+        ensures { ScopeAfter (bind_pending (held self.old)) (self.old.names.count + self.old.waiting + 1) self.old self.new × (self.new.pendings ≡ self.old.pendings) }
+    {
+        if self.waiting != 0 {
+            let last = self.waiting - 1;
+            let pendings = &self.pendings;
+            let span = pendings[last];
+            self.bind(span);
+            self.waiting = last;
         }
     }
-    if effect == UNBINDS {
-        if base < n {
-            pop_name(text, n, spans, links, heads);
-            return ScopeCounts {
-                ok: true,
-                base,
-                all: n - 1,
-                waiting: m,
-            };
+
+    // The nearest bound name goes.
+    fn unbind(&mut self)
+        requires { self.old.names.count + self.old.waiting < text_bytes }
+        ensures { ScopeAfter (unbind (held self.old)) (self.old.names.count + self.old.waiting + 1) self.old self.new × (self.new.pendings ≡ self.old.pendings) }
+    {
+        if self.base < self.names.count {
+            self.names.pop();
         }
     }
-    ScopeCounts {
-        ok: true,
-        base,
-        all: n,
-        waiting: m,
+
+    // The second type of a pair type, which is declared after it.
+    fn note_pair_type(&mut self, span: Span, state: u8) -> bool
+        requires { Inside self.old.names.text.now span × (self.old.names.count + self.old.waiting < text_bytes) × (state < state_count) }
+        ensures { Noted (state_of state) declares_pending span self.old result self.new × (self.new.pendings ≡ self.old.pendings) }
+    {
+        if self.base != self.names.count {
+            return false;
+        }
+        if !self.admits(span, state) {
+            return false;
+        }
+        self.declare_pending();
+        true
+    }
+
+    // The first constructor of a type, after the type's own name.
+    pub fn note_first(&mut self, span: Span, state: u8) -> bool
+        requires { Inside self.old.names.text.now span × (self.old.names.count + self.old.waiting < text_bytes) × (state < state_count) }
+        ensures { Noted (state_of state) declares_first span self.old result self.new × (self.new.pendings ≡ self.old.pendings) }
+    {
+        if self.base != self.names.count {
+            return false;
+        }
+        self.declare_pending();
+        if !self.admits(span, state) {
+            return false;
+        }
+        self.declare(span, Role::Constructor);
+        true
+    }
+
+    // Another constructor.
+    pub fn note_next(&mut self, span: Span, state: u8) -> bool
+        requires { Inside self.old.names.text.now span × (self.old.names.count + self.old.waiting < text_bytes) × (state < state_count) }
+        ensures { Noted (state_of state) declares_next span self.old result self.new × (self.new.pendings ≡ self.old.pendings) }
+    {
+        if self.base != self.names.count {
+            return false;
+        }
+        if !self.admits(span, state) {
+            return false;
+        }
+        self.declare(span, Role::Constructor);
+        true
+    }
+
+    // A name: whether it keeps to its rule, and what it does to the names in scope.
+    pub fn note_name(&mut self, span: Span, state: u8, effect: Effect) -> bool
+        requires { Inside self.old.names.text.now span × (self.old.names.count + self.old.waiting < text_bytes) × (state < state_count) }
+        ensures { Noted (state_of state) (effect_of (effect_code effect)) span self.old result self.new }
+    {
+        match effect {
+            Effect::DeclaresFirst => self.note_first(span, state),
+            Effect::DeclaresNext => self.note_next(span, state),
+            Effect::DeclaresPending => self.note_pair_type(span, state),
+            _ => {
+                if !self.admits(span, state) {
+                    return false;
+                }
+                match effect {
+                    Effect::Pends => {
+                        let pendings = &mut self.pendings;
+                        pendings[self.waiting] = span;
+                        self.waiting += 1;
+                        true
+                    }
+                    Effect::Binds => {
+                        self.bind(span);
+                        true
+                    }
+                    _ => true,
+                }
+            }
+        }
+    }
+
+    // A token that is no name: the name that waits is bound, or the nearest bound one goes.
+    pub fn note_other(&mut self, effect: Effect)
+        requires { self.old.names.count + self.old.waiting < text_bytes }
+        ensures { ScopeAfter (ended_by (effect_of (effect_code effect)) (held self.old)) (self.old.names.count + self.old.waiting + 1) self.old self.new × (self.new.pendings ≡ self.old.pendings) }
+    {
+        match effect {
+            Effect::BindsPending => self.bind_pending(),
+            Effect::Unbinds => self.unbind(),
+            _ => {}
+        }
     }
 }

@@ -1,122 +1,176 @@
 // What the states of the grammar's machine say of names: a line a state.
-ghost use Rattle.std.specs.Prelude.{◌≡◌};
-ghost use Rattle.scoping.specs.Scoped.{admission_table, effect_table};
+ghost use Rattle.std.specs.Prelude.{◌≡◌, ◌<◌, get_or};
+ghost use Rattle.grammar.specs.Sizes.{state_count};
+ghost use Rattle.name_rules.specs.TokenWalk.{rule_in, admits};
+ghost use Rattle.recognizer.specs.Coded.{state_of, lead_bytes};
+ghost use Rattle.symbols.specs.RoleNumbers.{role_code};
+ghost use Rattle.scoping.specs.Scoped.{effect_of, effect_by};
+ghost use Rattle.scoping.specs.TableNumbers.{rule_of, effect_code};
 
-use recognizer::numbers::{STATES, StateTable};
+use recognizer::numbers::{LEAD_CLASSES, STATES};
+use symbols::Role;
 
-// What a row says of a name.
-const ADMISSION_ENTRIES: usize = 6;
-
-pub type Admissions = [[u8; ADMISSION_ENTRIES]; STATES];
-
-pub type Effects = StateTable;
-
-// Whether a name may stand for a type, a constructor, `input`, a bound name, nothing; and whether it is looked for among the bound names.
-pub fn admission_table() -> Admissions
-    ensures { result ≡ admission_table }
-{
-    [
-        [1, 1, 1, 1, 1, 0], // start
-        [1, 1, 1, 1, 1, 0], // declared
-        [0, 0, 0, 0, 1, 0], // typeName
-        [1, 1, 1, 1, 1, 0], // typeEquals
-        [0, 0, 0, 0, 1, 0], // typeBody
-        [1, 1, 1, 1, 1, 0], // constructorEnd
-        [0, 0, 0, 0, 1, 0], // constructorNext
-        [1, 0, 0, 0, 0, 0], // pairFirstType
-        [1, 1, 1, 1, 1, 0], // pairComma
-        [1, 0, 0, 0, 0, 0], // pairSecondType
-        [1, 1, 1, 1, 1, 0], // pairClose
-        [1, 1, 1, 1, 1, 0], // pairIn
-        [1, 0, 0, 0, 0, 0], // inputType
-        [0, 1, 1, 1, 0, 1], // expression
-        [1, 0, 0, 0, 0, 0], // undefinedType
-        [0, 1, 1, 1, 0, 1], // bracket
-        [1, 1, 1, 1, 1, 0], // done
-        [1, 1, 1, 1, 1, 0], // inPairFirst
-        [1, 1, 1, 1, 1, 0], // inPairSecond
-        [0, 0, 0, 0, 1, 0], // letName
-        [1, 1, 1, 1, 1, 0], // letEquals
-        [1, 1, 1, 1, 1, 0], // inLetBound
-        [1, 1, 1, 1, 1, 0], // inLetBody
-        [1, 1, 1, 1, 1, 0], // initQuery
-        [1, 0, 0, 0, 0, 0], // initType
-        [1, 1, 1, 1, 1, 0], // recWord
-        [0, 0, 0, 0, 1, 0], // recName
-        [1, 1, 1, 1, 1, 0], // recEquals
-        [1, 1, 1, 1, 1, 0], // inRecBound
-        [1, 1, 1, 1, 1, 0], // inRecBody
-        [1, 1, 1, 1, 1, 0], // inTested
-        [1, 1, 0, 0, 0, 0], // pattern
-        [1, 1, 1, 1, 1, 0], // inMatched
-        [1, 1, 1, 1, 1, 0], // inPatternFirst
-        [1, 1, 1, 1, 1, 0], // inPatternSecond
-        [1, 1, 1, 1, 1, 0], // inThen
-        [1, 1, 1, 1, 1, 0], // inElse
-        [1, 1, 1, 1, 1, 0], // delayBracket
-        [0, 1, 0, 0, 0, 0], // constant
-        [1, 1, 1, 1, 1, 0], // inDelayConstant
-        [1, 1, 1, 1, 1, 0], // inConstantFirst
-        [1, 1, 1, 1, 1, 0], // inConstantSecond
-        [1, 1, 1, 1, 1, 0], // inDelayed
-        [1, 1, 1, 1, 1, 0], // delayClose
-        [1, 1, 1, 1, 1, 0], // index
-        [1, 1, 1, 1, 1, 0], // indexOne
-        [1, 1, 1, 1, 1, 0], // indexTwo
-    ]
+// What a name has to be: new, a type, a type or a constructor, a constructor, a value, or anything.
+#[derive(Clone, Copy, PartialEq, Eq, Debug)]
+pub enum NameRule {
+    NewName,
+    TypeUse,
+    PatternUse,
+    ConstantUse,
+    ValueUse,
+    Ruleless,
 }
 
-// By the class of a token's first byte what the token does to the names in scope.
-pub fn effect_table() -> Effects
-    ensures { result ≡ effect_table }
-{
-    [
-        [0, 0, 0, 0, 0, 0, 0, 0, 0, 0, 0, 0, 0, 0, 0, 0, 0, 0], // start
-        [0, 0, 0, 0, 0, 0, 0, 0, 0, 0, 0, 0, 0, 0, 0, 0, 0, 0], // declared
-        [0, 0, 0, 0, 0, 0, 0, 0, 0, 0, 1, 0, 0, 0, 0, 0, 0, 0], // typeName
-        [0, 0, 0, 0, 0, 0, 0, 0, 0, 0, 0, 0, 0, 0, 0, 0, 0, 0], // typeEquals
-        [0, 0, 0, 0, 0, 0, 0, 0, 0, 0, 2, 0, 0, 0, 0, 0, 0, 0], // typeBody
-        [0, 0, 0, 0, 0, 0, 0, 0, 0, 0, 0, 0, 0, 0, 0, 0, 0, 0], // constructorEnd
-        [0, 0, 0, 0, 0, 0, 0, 0, 0, 0, 3, 0, 0, 0, 0, 0, 0, 0], // constructorNext
-        [0, 0, 0, 0, 0, 0, 0, 0, 0, 0, 0, 0, 0, 0, 0, 0, 0, 0], // pairFirstType
-        [0, 0, 0, 0, 0, 0, 0, 0, 0, 0, 0, 0, 0, 0, 0, 0, 0, 0], // pairComma
-        [0, 0, 0, 0, 0, 0, 0, 0, 0, 0, 6, 0, 0, 0, 0, 0, 0, 0], // pairSecondType
-        [0, 0, 0, 0, 0, 0, 0, 0, 0, 0, 0, 0, 0, 0, 0, 0, 0, 0], // pairClose
-        [0, 0, 0, 0, 0, 0, 0, 0, 0, 0, 0, 0, 0, 0, 0, 0, 0, 0], // pairIn
-        [0, 0, 0, 0, 0, 0, 0, 0, 0, 0, 0, 0, 0, 0, 0, 0, 0, 0], // inputType
-        [0, 0, 0, 0, 0, 0, 0, 0, 0, 0, 0, 0, 0, 0, 0, 0, 0, 0], // expression
-        [0, 0, 0, 0, 0, 0, 0, 0, 0, 0, 0, 0, 0, 0, 0, 0, 0, 0], // undefinedType
-        [0, 0, 0, 0, 0, 0, 0, 0, 0, 0, 0, 0, 0, 0, 0, 0, 0, 0], // bracket
-        [0, 0, 0, 0, 0, 0, 0, 0, 0, 0, 0, 0, 0, 0, 0, 0, 0, 0], // done
-        [0, 0, 0, 0, 0, 0, 0, 0, 0, 0, 0, 0, 0, 0, 0, 0, 0, 0], // inPairFirst
-        [0, 0, 0, 0, 0, 0, 0, 0, 0, 0, 0, 0, 0, 0, 0, 0, 0, 0], // inPairSecond
-        [0, 0, 0, 0, 0, 0, 0, 0, 0, 0, 1, 0, 0, 0, 0, 0, 0, 0], // letName
-        [0, 0, 0, 0, 0, 0, 0, 0, 0, 0, 0, 0, 0, 0, 0, 0, 0, 0], // letEquals
-        [0, 0, 0, 0, 0, 0, 0, 0, 0, 0, 0, 0, 5, 0, 0, 0, 0, 0], // inLetBound
-        [0, 7, 0, 0, 0, 0, 0, 0, 0, 0, 0, 0, 0, 0, 0, 0, 0, 0], // inLetBody
-        [0, 0, 0, 0, 0, 0, 0, 0, 0, 0, 0, 0, 0, 0, 0, 0, 0, 0], // initQuery
-        [0, 0, 0, 0, 0, 0, 0, 0, 0, 0, 0, 0, 0, 0, 0, 0, 0, 0], // initType
-        [0, 0, 0, 0, 0, 0, 0, 0, 0, 0, 0, 0, 0, 0, 0, 0, 0, 0], // recWord
-        [0, 0, 0, 0, 0, 0, 0, 0, 0, 0, 4, 0, 0, 0, 0, 0, 0, 0], // recName
-        [0, 0, 0, 0, 0, 0, 0, 0, 0, 0, 0, 0, 0, 0, 0, 0, 0, 0], // recEquals
-        [0, 0, 0, 0, 0, 0, 0, 0, 0, 0, 0, 0, 0, 0, 0, 0, 0, 0], // inRecBound
-        [0, 7, 0, 0, 0, 0, 0, 0, 0, 0, 0, 0, 0, 0, 0, 0, 0, 0], // inRecBody
-        [0, 0, 0, 0, 0, 0, 0, 0, 0, 0, 0, 0, 0, 0, 0, 0, 0, 0], // inTested
-        [0, 0, 0, 0, 0, 0, 0, 0, 0, 0, 0, 0, 0, 0, 0, 0, 0, 0], // pattern
-        [0, 0, 0, 0, 0, 0, 0, 0, 0, 0, 0, 0, 0, 0, 0, 0, 0, 0], // inMatched
-        [0, 0, 0, 0, 0, 0, 0, 0, 0, 0, 0, 0, 0, 0, 0, 0, 0, 0], // inPatternFirst
-        [0, 0, 0, 0, 0, 0, 0, 0, 0, 0, 0, 0, 0, 0, 0, 0, 0, 0], // inPatternSecond
-        [0, 0, 0, 0, 0, 0, 0, 0, 0, 0, 0, 0, 0, 0, 0, 0, 0, 0], // inThen
-        [0, 0, 0, 0, 0, 0, 0, 0, 0, 0, 0, 0, 0, 0, 0, 0, 0, 0], // inElse
-        [0, 0, 0, 0, 0, 0, 0, 0, 0, 0, 0, 0, 0, 0, 0, 0, 0, 0], // delayBracket
-        [0, 0, 0, 0, 0, 0, 0, 0, 0, 0, 0, 0, 0, 0, 0, 0, 0, 0], // constant
-        [0, 0, 0, 0, 0, 0, 0, 0, 0, 0, 0, 0, 0, 0, 0, 0, 0, 0], // inDelayConstant
-        [0, 0, 0, 0, 0, 0, 0, 0, 0, 0, 0, 0, 0, 0, 0, 0, 0, 0], // inConstantFirst
-        [0, 0, 0, 0, 0, 0, 0, 0, 0, 0, 0, 0, 0, 0, 0, 0, 0, 0], // inConstantSecond
-        [0, 0, 0, 0, 0, 0, 0, 0, 0, 0, 0, 0, 0, 0, 0, 0, 0, 0], // inDelayed
-        [0, 0, 0, 0, 0, 0, 0, 0, 0, 0, 0, 0, 0, 0, 0, 0, 0, 0], // delayClose
-        [0, 0, 0, 0, 0, 0, 0, 0, 0, 0, 0, 0, 0, 0, 0, 0, 0, 0], // index
-        [0, 0, 0, 0, 0, 0, 0, 0, 0, 0, 0, 0, 0, 0, 0, 0, 0, 0], // indexOne
-        [0, 0, 0, 0, 0, 0, 0, 0, 0, 0, 0, 0, 0, 0, 0, 0, 0, 0], // indexTwo
-    ]
+// What a token does to the names in scope: nothing; a name is kept for later; a constructor is declared, after its type or not; a name is
+// bound; the name kept is bound, or declared as a type; the nearest bound name goes.
+#[derive(Clone, Copy, PartialEq, Eq, Debug)]
+pub enum Effect {
+    KeepsScope,
+    Pends,
+    DeclaresFirst,
+    DeclaresNext,
+    Binds,
+    BindsPending,
+    DeclaresPending,
+    Unbinds,
+}
+
+use Effect::{
+    Binds as B, BindsPending as W, DeclaresFirst as F, DeclaresNext as N, DeclaresPending as T,
+    KeepsScope as K, Pends as P, Unbinds as U,
+};
+
+static RULES: [NameRule; STATES] = [
+    NameRule::Ruleless, // start
+    NameRule::Ruleless, // declared
+    NameRule::NewName, // typeName
+    NameRule::Ruleless, // typeEquals
+    NameRule::NewName, // typeBody
+    NameRule::Ruleless, // constructorEnd
+    NameRule::NewName, // constructorNext
+    NameRule::TypeUse, // pairFirstType
+    NameRule::Ruleless, // pairComma
+    NameRule::TypeUse, // pairSecondType
+    NameRule::Ruleless, // pairClose
+    NameRule::Ruleless, // pairIn
+    NameRule::TypeUse, // inputType
+    NameRule::ValueUse, // expression
+    NameRule::TypeUse, // undefinedType
+    NameRule::ValueUse, // bracket
+    NameRule::Ruleless, // done
+    NameRule::Ruleless, // inPairFirst
+    NameRule::Ruleless, // inPairSecond
+    NameRule::NewName, // letName
+    NameRule::Ruleless, // letEquals
+    NameRule::Ruleless, // inLetBound
+    NameRule::Ruleless, // inLetBody
+    NameRule::Ruleless, // initQuery
+    NameRule::TypeUse, // initType
+    NameRule::Ruleless, // recWord
+    NameRule::NewName, // recName
+    NameRule::Ruleless, // recEquals
+    NameRule::Ruleless, // inRecBound
+    NameRule::Ruleless, // inRecBody
+    NameRule::Ruleless, // inTested
+    NameRule::PatternUse, // pattern
+    NameRule::Ruleless, // inMatched
+    NameRule::Ruleless, // inPatternFirst
+    NameRule::Ruleless, // inPatternSecond
+    NameRule::Ruleless, // inThen
+    NameRule::Ruleless, // inElse
+    NameRule::Ruleless, // delayBracket
+    NameRule::ConstantUse, // constant
+    NameRule::Ruleless, // inDelayConstant
+    NameRule::Ruleless, // inConstantFirst
+    NameRule::Ruleless, // inConstantSecond
+    NameRule::Ruleless, // inDelayed
+    NameRule::Ruleless, // delayClose
+    NameRule::Ruleless, // index
+    NameRule::Ruleless, // indexOne
+    NameRule::Ruleless, // indexTwo
+];
+
+// By the class of a token's first byte, under a letter of the effect's name.
+static EFFECTS: [[Effect; LEAD_CLASSES]; STATES] = [
+    [K, K, K, K, K, K, K, K, K, K, K, K, K, K, K, K, K, K], // start
+    [K, K, K, K, K, K, K, K, K, K, K, K, K, K, K, K, K, K], // declared
+    [K, K, K, K, K, K, K, K, K, K, P, K, K, K, K, K, K, K], // typeName
+    [K, K, K, K, K, K, K, K, K, K, K, K, K, K, K, K, K, K], // typeEquals
+    [K, K, K, K, K, K, K, K, K, K, F, K, K, K, K, K, K, K], // typeBody
+    [K, K, K, K, K, K, K, K, K, K, K, K, K, K, K, K, K, K], // constructorEnd
+    [K, K, K, K, K, K, K, K, K, K, N, K, K, K, K, K, K, K], // constructorNext
+    [K, K, K, K, K, K, K, K, K, K, K, K, K, K, K, K, K, K], // pairFirstType
+    [K, K, K, K, K, K, K, K, K, K, K, K, K, K, K, K, K, K], // pairComma
+    [K, K, K, K, K, K, K, K, K, K, T, K, K, K, K, K, K, K], // pairSecondType
+    [K, K, K, K, K, K, K, K, K, K, K, K, K, K, K, K, K, K], // pairClose
+    [K, K, K, K, K, K, K, K, K, K, K, K, K, K, K, K, K, K], // pairIn
+    [K, K, K, K, K, K, K, K, K, K, K, K, K, K, K, K, K, K], // inputType
+    [K, K, K, K, K, K, K, K, K, K, K, K, K, K, K, K, K, K], // expression
+    [K, K, K, K, K, K, K, K, K, K, K, K, K, K, K, K, K, K], // undefinedType
+    [K, K, K, K, K, K, K, K, K, K, K, K, K, K, K, K, K, K], // bracket
+    [K, K, K, K, K, K, K, K, K, K, K, K, K, K, K, K, K, K], // done
+    [K, K, K, K, K, K, K, K, K, K, K, K, K, K, K, K, K, K], // inPairFirst
+    [K, K, K, K, K, K, K, K, K, K, K, K, K, K, K, K, K, K], // inPairSecond
+    [K, K, K, K, K, K, K, K, K, K, P, K, K, K, K, K, K, K], // letName
+    [K, K, K, K, K, K, K, K, K, K, K, K, K, K, K, K, K, K], // letEquals
+    [K, K, K, K, K, K, K, K, K, K, K, K, W, K, K, K, K, K], // inLetBound
+    [K, U, K, K, K, K, K, K, K, K, K, K, K, K, K, K, K, K], // inLetBody
+    [K, K, K, K, K, K, K, K, K, K, K, K, K, K, K, K, K, K], // initQuery
+    [K, K, K, K, K, K, K, K, K, K, K, K, K, K, K, K, K, K], // initType
+    [K, K, K, K, K, K, K, K, K, K, K, K, K, K, K, K, K, K], // recWord
+    [K, K, K, K, K, K, K, K, K, K, B, K, K, K, K, K, K, K], // recName
+    [K, K, K, K, K, K, K, K, K, K, K, K, K, K, K, K, K, K], // recEquals
+    [K, K, K, K, K, K, K, K, K, K, K, K, K, K, K, K, K, K], // inRecBound
+    [K, U, K, K, K, K, K, K, K, K, K, K, K, K, K, K, K, K], // inRecBody
+    [K, K, K, K, K, K, K, K, K, K, K, K, K, K, K, K, K, K], // inTested
+    [K, K, K, K, K, K, K, K, K, K, K, K, K, K, K, K, K, K], // pattern
+    [K, K, K, K, K, K, K, K, K, K, K, K, K, K, K, K, K, K], // inMatched
+    [K, K, K, K, K, K, K, K, K, K, K, K, K, K, K, K, K, K], // inPatternFirst
+    [K, K, K, K, K, K, K, K, K, K, K, K, K, K, K, K, K, K], // inPatternSecond
+    [K, K, K, K, K, K, K, K, K, K, K, K, K, K, K, K, K, K], // inThen
+    [K, K, K, K, K, K, K, K, K, K, K, K, K, K, K, K, K, K], // inElse
+    [K, K, K, K, K, K, K, K, K, K, K, K, K, K, K, K, K, K], // delayBracket
+    [K, K, K, K, K, K, K, K, K, K, K, K, K, K, K, K, K, K], // constant
+    [K, K, K, K, K, K, K, K, K, K, K, K, K, K, K, K, K, K], // inDelayConstant
+    [K, K, K, K, K, K, K, K, K, K, K, K, K, K, K, K, K, K], // inConstantFirst
+    [K, K, K, K, K, K, K, K, K, K, K, K, K, K, K, K, K, K], // inConstantSecond
+    [K, K, K, K, K, K, K, K, K, K, K, K, K, K, K, K, K, K], // inDelayed
+    [K, K, K, K, K, K, K, K, K, K, K, K, K, K, K, K, K, K], // delayClose
+    [K, K, K, K, K, K, K, K, K, K, K, K, K, K, K, K, K, K], // index
+    [K, K, K, K, K, K, K, K, K, K, K, K, K, K, K, K, K, K], // indexOne
+    [K, K, K, K, K, K, K, K, K, K, K, K, K, K, K, K, K, K], // indexTwo
+];
+
+impl NameRule {
+    // The rule for a name in a state.
+    pub fn at(state: u8) -> Self
+        requires { state < state_count }
+        ensures { rule_of result ≡ rule_in (state_of state) }
+    {
+        RULES[usize::from(state)]
+    }
+
+    // Whether a name keeps to it that stands for so much.
+    pub fn admits(self, role: Role) -> bool
+        ensures { result ≡ admits (rule_of self) (role_code role) }
+    {
+        match self {
+            NameRule::NewName => role == Role::Unknown,
+            NameRule::TypeUse => role == Role::TypeName,
+            NameRule::PatternUse => role.is_declared(),
+            NameRule::ConstantUse => role == Role::Constructor,
+            NameRule::ValueUse => matches!(role, Role::Constructor | Role::Input | Role::Bound),
+            NameRule::Ruleless => true,
+        }
+    }
+}
+
+impl Effect {
+    // The effect of a token in a state, by the class of its first byte.
+    pub fn at(state: u8, class: u8) -> Self
+        requires { (state < state_count) × (class < 18) }
+        ensures { effect_of (effect_code result) ≡ effect_by (state_of state) (get_or lead_bytes class 0) }
+    {
+        EFFECTS[usize::from(state)][usize::from(class)]
+    }
 }

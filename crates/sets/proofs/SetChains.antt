@@ -1,8 +1,7 @@
 -- Matching sets, alternative by alternative and part by part, is the match of the definition on the pattern that the records say.
 -- Assumes nothing.
 use Prim.Native.Nat.{ℕ, zero, suc, ◌+◌, ◌-◌, ◌≤◌, ◌<◌}
-use mathlib.Core.Bool.{Bool, true, ◌&&◌}
-use mathlib.Core.List.{List, [], ◌∷◌, map}
+use mathlib.Core.List.{List, [], ◌∷◌}
 use mathlib.Core.Path.{◌≡◌, refl, sym, ap, ap₂, subst, ◌∙◌}
 use native.Mathlib.Decide.{ℕ_discrete}
 use native.Mathlib.Omega.{arith}
@@ -14,6 +13,10 @@ use Rattle.picoella.specs.Language.{Ty, Flat, TyTuple, leaves, Pattern, Whole, P
 use Rattle.records.specs.Words.{word, count, word_a, word_b, next_word}
 use Rattle.records.specs.Kinds.{PatternKind, patterns, TypeKind, type_of, flat, pair, types, pattern, whole, constructor, parts}
 use Rattle.records.specs.Says.{kind_at}
+use Rattle.records.specs.declared.kinds.Kind.{Kind}
+use Rattle.records.specs.declared.kinds.Kind.TheVariants as Coded
+use Rattle.records.specs.Kinded.{kind_meant}
+use Rattle.values.proofs.LastKinds.{last-pattern}
 use Rattle.records.specs.Trees.{type_at, Alternatives, end, no_pattern, whole_type, one_constructor, pair_of_patterns, alternatives, follow}
 use Rattle.records.specs.Decoding.{or_else, pattern_of}
 use Rattle.records.specs.Written.{Written}
@@ -24,14 +27,14 @@ use Rattle.typing.specs.Judgements.{pattern_fits}
 use Rattle.records.proofs.Types.{flat-type, pair-type}
 use Rattle.records.proofs.Trees.{alternatives-of}
 use Rattle.records.proofs.Grown.{GrownPattern, grown-pattern}
-use Rattle.accepted.proofs.Laws.{written, in-sheet, fits-typed, pattern-kind, no-pattern}
+use Rattle.accepted.proofs.Laws.{written, in-sheet, fits-typed}
 use Rattle.meaning.specs.Decisions.{Decision, No, pair_decision, chain_decision}
 use Rattle.values.specs.Matchings.{Matching, with_rest}
 use Rattle.values.proofs.ChainLaws.{one-with-rest, chain-with-rest, rest-of-grown}
-use Rattle.values.specs.MatchAnswers.{decision_of, Own, told}
+use Rattle.values.specs.MatchAnswers.{decision_of, Own}
 use Rattle.values.specs.declared.Match.{Match}
 use Rattle.values.specs.declared.Match.TheVariants as Matched'
-use Rattle.values.proofs.Matches.{past, next-matched, cut, cut_inside, first-lent, second-lent}
+use Rattle.values.proofs.Matches.{past, next-matched, cut, cut_inside}
 use Rattle.possibilities.specs.Sets.{ConstructorSet, set_word, set_words}
 use Rattle.possibilities.specs.SetMatching.{named_set, set_matches, pattern_type}
 use Rattle.possibilities.proofs.SetMatches.{type-of-pattern}
@@ -189,41 +192,31 @@ module _ {s : List ℕ} {n : ℕ} {widths : List ℕ} {p : ℕ} {value : List �
               ∙ one-with-rest (λ x. set_matches T x Ss) (λ a b. refl) s q after
               ∙ ap (λ d. with_rest (λ x. set_matches T x Ss) d s after) (e Ss ev))
 
-    module _ {k : ℕ} (ek : k ≡ word s p 0) where
-      pub whole-sets : k ≡ 48 → SetsMatchedOne s p value (Matched'.Yes p)
+    module _ where
+      pub whole-sets : kind_at s p ≡ pattern whole → SetsMatchedOne s p value (Matched'.Yes p)
       whole-sets e =
           one-alternative (Whole (type_at s (word_a s p)))
-          (ap (pattern_of s) (alternatives-of w p there (pattern whole) (pattern-kind s p k ek whole e)))
+          (ap (pattern_of s) (alternatives-of w p there (pattern whole) e))
           (Matched'.Yes p) (λ Ss ev. refl)
 
-      module _ (no_whole : k ≡ 48 → ⊥) where
-        pub no-constructor : k ≡ 49 → ⊥
-        no-constructor e =
-            let c = pattern-kind s p k ek constructor e in
-            let h = rw (alternatives-of w p there (pattern constructor) c) at m.fits in
-            let is : word_a s p ≡ t = eqb-true (word_a s p) t (both_left (eqb (word_a s p) t) (pattern_fits s after t) h) in
-            let f : (word_a s p < p) × (kind_at s (word_a s p) ≡ type_of flat) = unfold ask_of_kind in as-kind-asks w p _ there c 2 refl in
-            let g : kind_at s t ≡ type_of flat = ap (kind_at s) (sym is) ∙ f.1 in
-            let l : leaves (type_at s t) ≡ 1 = ap leaves (flat-type s t g) in
-            let v = m.long in
-            omega arith
+      no-constructor : kind_at s p ≡ pattern constructor → ⊥
+      no-constructor c =
+          let h = rw (alternatives-of w p there (pattern constructor) c) at m.fits in
+          let is : word_a s p ≡ t = eqb-true (word_a s p) t (both_left (eqb (word_a s p) t) (pattern_fits s after t) h) in
+          let f : (word_a s p < p) × (kind_at s (word_a s p) ≡ type_of flat) = unfold ask_of_kind in as-kind-asks w p _ there c 2 refl in
+          let g : kind_at s t ≡ type_of flat = ap (kind_at s) (sym is) ∙ f.1 in
+          let l : leaves (type_at s t) ≡ 1 = ap leaves (flat-type s t g) in
+          let v = m.long in
+          omega arith
 
-        parts-kind : kind_at s p ≡ pattern parts
-        parts-kind = go (ℕ_discrete k 50)
-          where
-            go : Dec (k ≡ 50) → kind_at s p ≡ pattern parts
-            go (yes e) = pattern-kind s p k ek parts e
-            go (no f) = absurd (no-pattern s p k ek no_whole no-constructor f m.against.sort)
+      -- what is no whole pattern has parts
+      pub parts-kind : (k : Kind) → kind_meant k ≡ kind_at s p → (k ≡ Coded.WholePattern → ⊥) → kind_at s p ≡ pattern parts
+      parts-kind k e f = last-pattern k (kind_at s p) e m.against.sort f (λ z. no-constructor (sym e ∙ ap kind_meant z))
 
+      module _ (is_parts : kind_at s p ≡ pattern parts) where
         module _ {x : ℕ} (ex : x ≡ word s p 2) {c : ℕ} (ec : c ≡ get_or widths x 0) {y : ℕ} (ey : y ≡ word s p 3) where
-          first_part : (p < x) × Matching s n widths x (take (c - 0) value)
-          first_part = first-lent m ek no_whole no-constructor ex ec
-
-          second-part : (p < y) × Matching s n widths y (take (length value - c) (drop c value))
-          second-part = second-lent m ek no_whole no-constructor ex ec ey
-
           width_is : c ≡ leaves (type_at s (word_a s t))
-          width_is = cut m ek no_whole no-constructor ex ec
+          width_is = cut m is_parts ex ec
 
           abbrev P : Pattern
           P = pattern_from s (word_a s p)
@@ -232,7 +225,7 @@ module _ {s : List ℕ} {n : ℕ} {widths : List ℕ} {p : ℕ} {value : List �
           Q = pattern_from s (word_b s p)
 
           parts_is : pattern_from s p ≡ or_else (Parts P Q) after (pattern_of s after)
-          parts_is = ap (pattern_of s) (alternatives-of w p there (pattern parts) parts-kind)
+          parts_is = ap (pattern_of s) (alternatives-of w p there (pattern parts) is_parts)
 
           types_are : TyTuple (pattern_type P) (pattern_type Q) ≡ T
           types_are = sym (type-of-first (Parts P Q) after (pattern_of s after)) ∙ ap pattern_type (sym parts_is) ∙ type-here
@@ -243,24 +236,21 @@ module _ {s : List ℕ} {n : ℕ} {widths : List ℕ} {p : ℕ} {value : List �
           second_type : pattern_type Q ≡ type_at s (word_b s t)
           second_type = let e = types_are in cc
 
-          from_front : c - 0 ≡ c
-          from_front = omega arith
-
           subset : c ≤ length value
-          subset = cut_inside m ek no_whole no-constructor ex ec
+          subset = cut_inside m is_parts ex ec
 
           whole-rest : take (length value - c) (drop c value) ≡ drop c value
           whole-rest = let l = length-drop c value in take_all (length value - c) (drop c value) (omega arith)
 
-          pub pair-sets : (a b r : Match) → SetsMatched s x (take (c - 0) value) a → SetsMatched s y (take (length value - c) (drop c value)) b
+          pub pair-sets : (a b r : Match) → SetsMatched s x (take c value) a → SetsMatched s y (take (length value - c) (drop c value)) b
               → Own p r (pair_decision (decision_of a) (decision_of b)) → SetsMatchedOne s p value r
           pair-sets a b r ea eb o = one-alternative (Parts P Q) parts_is r go
             where
               go : (Ss : List ConstructorSet) → value ≡ set_words Ss → set_matches T (Parts P Q) Ss ≡ decision_of r
               go Ss ev =
                   let L = leaves (type_at s (word_a s t)) in
-                  let wa : take (c - 0) value ≡ set_words (take L Ss) =
-                  ap (λ (k : ℕ). take k value) (from_front ∙ width_is) ∙ ap (take L) ev ∙ words_take L Ss in
+                  let wa : take c value ≡ set_words (take L Ss) =
+                  ap (λ (k : ℕ). take k value) width_is ∙ ap (take L) ev ∙ words_take L Ss in
                   let wb : take (length value - c) (drop c value) ≡ set_words (drop L Ss) =
                   whole-rest ∙ ap (λ (k : ℕ). drop k value) width_is ∙ ap (drop L) ev ∙ words-drop L Ss in
                   let fa : decision_of a ≡ set_matches (type_at s (word_a s t)) P (take (leaves (type_at s (word_a s t))) Ss) =

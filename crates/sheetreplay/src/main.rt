@@ -26,8 +26,8 @@ fn replay_files(out: &impl Print, sheet: &[u8], stim: &[u8], recorded: &[u8])
 {
     let mut next = sheet_room();
     let mut line = [0u8; LINE_BYTES];
-    let end = tell_replay(sheet, stim, recorded, &mut next, &mut line);
-    print_line(out, sheet, stim, recorded, &line[0..end]);
+    let text = tell_replay(sheet, stim, recorded, &mut next, &mut line);
+    print_line(out, sheet, stim, recorded, text);
 }
 
 // The third file, after the other two.
@@ -35,23 +35,18 @@ fn read_record(rt: &(impl Files<File = File> + Print), sheet: &[u8], stim: &[u8]
     requires { length sheet.now ≤ sheet_room }
 {
     let mut recorded = record_room();
-    let got = read_named(rt, b"record.bin", &mut recorded);
-    if !got.ok {
+    let Some(n) = read_named(rt, b"record.bin", &mut recorded) else {
         refuse_file(rt, unopened_file(true, true));
         return;
-    }
-    let n = got.n;
+    };
     replay_files(rt, sheet, stim, &recorded[..n]);
 }
 
 fn main(rt: HostRuntime) {
     let mut sheet = sheet_room();
     let mut stim = stimulus_room();
-    let got = read_inputs(&rt, &mut sheet, &mut stim);
-    if !got.ok {
+    let Some(got) = read_inputs(&rt, &mut sheet, &mut stim) else {
         return;
-    }
-    let n = got.sheet;
-    let m = got.stim;
-    read_record(&rt, &sheet[..n], &stim[..m]);
+    };
+    read_record(&rt, &sheet[..got.sheet], &stim[..got.stim]);
 }

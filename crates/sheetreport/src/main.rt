@@ -23,18 +23,15 @@ fn report_files(out: &impl Print, sheet: &[u8], stim: &[u8])
     let mut output = output_room();
     let mut next = sheet_room();
     let mut buffer = text_room();
-    let end = tell_report(sheet, stim, &mut output, &mut next, &mut buffer);
-    print_report(out, sheet, stim, &buffer[0..end]);
+    let text = tell_report(sheet, stim, &mut output, &mut next, &mut buffer);
+    print_report(out, sheet, stim, text);
 }
 
 fn main(rt: HostRuntime) {
     let mut sheet = sheet_room();
     let mut stim = stimulus_room();
-    let got = read_inputs(&rt, &mut sheet, &mut stim);
-    if !got.ok {
+    let Some(got) = read_inputs(&rt, &mut sheet, &mut stim) else {
         return;
-    }
-    let n = got.sheet;
-    let m = got.stim;
-    report_files(&rt, &sheet[..n], &stim[..m]);
+    };
+    report_files(&rt, &sheet[..got.sheet], &stim[..got.stim]);
 }

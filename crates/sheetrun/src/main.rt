@@ -2,13 +2,17 @@
 // (docs/SHEETS.md, "Listing").
 #![tactic(auto)]
 
-ghost use Rattle.std.specs.Prelude.{◌≤◌, ◌<◌, ◌≡◌, ◌++◌, length, take};
-ghost use Rattle.records.specs.Limits.{most_leaves};
-ghost use Rattle.printing.specs.Pieces.{told_text, text_from, text_left};
+ghost use Rattle.std.specs.Prelude.{◌≤◌, ◌≡◌, ◌++◌, length, take};
+ghost use Rattle.listing.specs.Lines.{listing, refused_line};
+ghost use Rattle.answers.specs.Results.{code_number};
+ghost use Rattle.printing.specs.Pieces.{text_from};
+ghost use Rattle.printing.specs.PutLines.{text_after};
 ghost use Rattle.run_listing.specs.Printout.{printed, run_sheet};
 ghost use Rattle.rooms.specs.Rooms.{sheet_room};
 
-use printing::{first_piece, next_piece};
+use answers::Refusal;
+use listing::Outputs;
+use printing::{Piece, first_piece, next_piece, put_refusal};
 use program_io::{read_inputs, replace};
 use rooms::{output_room, sheet_room, stimulus_room, text_room};
 use run_listing::tell;
@@ -27,71 +31,52 @@ fn write_next(files: &impl Files<File = File>, sheet: &[u8], stim: &[u8], next: 
 fn keep_next(files: &impl Files<File = File>, sheet: &[u8], stim: &[u8], room: &[u8])
     requires { (length sheet.now ≤ length room.now) × (take (length sheet.now) room.now ≡ run_sheet sheet.now stim.now) }
 {
-    let long = sheet.len();
-    write_next(files, sheet, stim, &room[0..long]);
+    write_next(files, sheet, stim, &room[..sheet.len()]);
 }
 
-// Writes the first piece of what is printed of a sheet and a stimulus. Unless it is the last, what
-// is left begins at cycle k.
-fn write_first(
-    out: &impl Print,
-    sheet: &[u8],
-    stim: &[u8],
-    w: usize,
-    outputs: &[u8],
-    text: &[u8],
-    k: usize,
-    last: bool,
-)
-    requires { printed sheet.now stim.now ≡ text.now ++ text_left last w k outputs.now }
+// Writes the first piece of what is printed of a sheet and a stimulus.
+fn write_first(out: &impl Print, sheet: &[u8], stim: &[u8], outputs: Outputs<'_>, piece: Piece<'_>)
+    requires { printed sheet.now stim.now ≡ piece.text.now ++ text_after outputs.width outputs.leaves.now piece.next }
 {
-    let _ = out.write_all(text);
+    let _ = out.write_all(piece.text);
 }
 
-// Writes a piece more, of what is left from a cycle on. Unless it is the last, what is left then
-// begins at cycle k.
-fn write_more(
-    out: &impl Print,
-    w: usize,
-    outputs: &[u8],
-    from: usize,
-    text: &[u8],
-    k: usize,
-    last: bool,
-)
-    requires { text_from w from outputs.now ≡ text.now ++ text_left last w k outputs.now }
+// Writes a piece more, of what is left from cycle k on.
+fn write_more(out: &impl Print, outputs: Outputs<'_>, k: usize, piece: Piece<'_>)
+    requires { text_from outputs.width k outputs.leaves.now ≡ piece.text.now ++ text_after outputs.width outputs.leaves.now piece.next }
 {
-    let _ = out.write_all(text);
+    let _ = out.write_all(piece.text);
 }
 
-// Prints what was told of a sheet and a stimulus, piece by piece.
-fn print(
-    out: &impl Print,
-    sheet: &[u8],
-    stim: &[u8],
-    code: u64,
-    place: u64,
-    t: u64,
-    w: usize,
-    outputs: &[u8],
-)
-    requires { (0 < w) × (w ≤ most_leaves) × (told_text code place t w outputs.now ≡ printed sheet.now stim.now) }
+// Prints the listing of a sheet and a stimulus, piece by piece, of outputs whose type is at record t.
+fn print_listing(out: &impl Print, sheet: &[u8], stim: &[u8], t: u64, outputs: Outputs<'_>)
+    requires { listing t outputs.width outputs.leaves.now ≡ printed sheet.now stim.now }
 {
     let mut buffer = text_room();
-    let begun = first_piece(&mut buffer, code, place, t, w, outputs);
-    let mut k = begun.k;
-    let mut first = begun.first;
-    let mut last = begun.last;
-    let end = begun.end;
-    write_first(out, sheet, stim, w, outputs, &buffer[0..end], k, last);
-    while !last {
-        let piece = next_piece(&mut buffer, w, outputs, k, first);
-        let until = piece.end;
-        write_more(out, w, outputs, k, &buffer[0..until], piece.k, piece.last);
-        k = piece.k;
-        first = piece.first;
-        last = piece.last;
+    let begun = first_piece(&mut buffer, t, outputs);
+    let mut next = begun.next;
+    write_first(out, sheet, stim, outputs, begun);
+    while let Some(k) = next {
+        let piece = next_piece(&mut buffer, outputs, k);
+        next = piece.next;
+        write_more(out, outputs, k, piece);
     }
+}
+
+// Writes all that is printed of a sheet and a stimulus.
+fn write_line(out: &impl Print, sheet: &[u8], stim: &[u8], line: &[u8])
+    requires { line.now ≡ printed sheet.now stim.now }
+{
+    let _ = out.write_all(line);
+}
+
+// Prints the line of a refused run.
+fn print_refusal(out: &impl Print, sheet: &[u8], stim: &[u8], refusal: Refusal)
+    requires { refused_line (code_number refusal.code) refusal.place ≡ printed sheet.now stim.now }
+{
+    let mut buffer = text_room();
+    let line = put_refusal(&mut buffer, refusal.code.number(), u64::from(refusal.place));
+    write_line(out, sheet, stim, line);
 }
 
 // next.bin is written first, so that it is there also where nobody reads what is printed.
@@ -100,31 +85,24 @@ fn run_files(rt: &(impl Files<File = File> + Print), sheet: &[u8], stim: &[u8])
 {
     let mut out = output_room();
     let mut next = sheet_room();
-    let run = tell(sheet, stim, &mut out, &mut next);
-    if run.code == 0 {
-        keep_next(rt, sheet, stim, &next);
+    match tell(sheet, stim, &mut out, &mut next) {
+        Ok(listed) => {
+            keep_next(rt, sheet, stim, &next);
+            let outputs = Outputs {
+                leaves: &out[..listed.length],
+                width: listed.width,
+            };
+            print_listing(rt, sheet, stim, listed.output_type, outputs);
+        }
+        Err(refusal) => print_refusal(rt, sheet, stim, refusal),
     }
-    let n = run.many;
-    print(
-        rt,
-        sheet,
-        stim,
-        run.code,
-        run.place,
-        run.t,
-        run.w,
-        &out[0..n],
-    );
 }
 
 fn main(rt: HostRuntime) {
     let mut sheet = sheet_room();
     let mut stim = stimulus_room();
-    let got = read_inputs(&rt, &mut sheet, &mut stim);
-    if !got.ok {
+    let Some(got) = read_inputs(&rt, &mut sheet, &mut stim) else {
         return;
-    }
-    let n = got.sheet;
-    let m = got.stim;
-    run_files(&rt, &sheet[..n], &stim[..m]);
+    };
+    run_files(&rt, &sheet[..got.sheet], &stim[..got.stim]);
 }

@@ -10,7 +10,7 @@ use native.Mathlib.Nat.{zero-mul, mul-le-mul_left, mul-le-mul_right}
 use lib.ListN.{length, get_or, take, drop, length-append, length-drop}
 use lib.Seq.{take_all, take-length, take-suc, take_at, length-take-le, drop-drop}
 use Rattle.meaning.specs.Undecided.{undecided_rule}
-use Rattle.behaviour.specs.Cycle.{output}
+use Rattle.behaviour.specs.Cycle.{output, sheet_after_cycle}
 use Rattle.stimulus.specs.Stimulus.{end_to_end, cycles}
 use Rattle.behaviour.specs.Run.{outputs_by}
 use Rattle.stimulus.proofs.Stimulus.{cycles-counted}
@@ -32,7 +32,30 @@ use Rattle.stepper.proofs.BeforeCycle.{
   sheet_long,
   last-sheet,
 }
-use Rattle.simulator.specs.Running.{Lending, Lent, RunningCycles, RanCycles}
+use Rattle.simulator.specs.Running.{RunningCycles, RanCycles}
+
+-- one cycle is lent its parts of the stimulus, from `from`, and of the output, from `at`
+pub record Lending
+    (s : List ℕ)
+    (n : ℕ)
+    (widths env held stim : List ℕ)
+    (from wi : ℕ)
+    (current out : List ℕ)
+    (at wo : ℕ)
+    : Type 0
+  where
+    pub inside : from + wi ≤ length stim
+    pub few : length stim ≤ 65535
+    pub room : at + wo ≤ length out
+    pub small : length out ≤ 4194240
+    pub cycling : Cycling s n widths env held (take wi (drop from stim)) current (take wo (drop at out))
+
+-- and fills only that
+pub record Lent (stim : List ℕ) (from wi : ℕ) (current out : List ℕ) (at wo : ℕ) (env' held' current' out' : List ℕ) : Type 0 where
+  pub filled : out' ≡ take at out ++ (output current (take wi (drop from stim)) ++ drop (at + wo) out)
+  pub next : current' ≡ sheet_after_cycle current (take wi (drop from stim))
+  pub wide : length env' ≡ 4096
+  pub long : length held' ≡ 4096
 
 module _ {s : List ℕ} {n : ℕ} {W env held stim : List ℕ} {from wi : ℕ} {current out : List ℕ} {at wo : ℕ}
     (l : Lending s n W env held stim from wi current out at wo)

@@ -35,6 +35,7 @@ use Rattle.accepted.proofs.Laws.{written}
 use Rattle.typing.specs.Judgements.{pattern_fits}
 use Rattle.verdict.specs.Scopes.{inputs}
 use Rattle.verdict.specs.Scopes.{Scope, tuple_first, tuple_second, let_defining, if_tested, of-delay}
+use Rattle.accepted.specs.Accepting.{Accepting}
 use Rattle.accepted.proofs.Requirements.{widths}
 use Rattle.accepted.proofs.Requirements as Requirements
 use Rattle.accepted.proofs.PairWitness as PairWitness
@@ -42,7 +43,7 @@ use Rattle.stimulus.specs.Stimulus.{input_leaves, cycle_count, wrong_stimulus, w
 use Rattle.behaviour.specs.Afterwards.{WellFormed}
 use Rattle.behaviour.specs.Bench.{toggle}
 use Rattle.stimulus.proofs.Stimulus.{stimulus-whole}
-use Rattle.behaviour.proofs.Witness.{ones, room_of_t, lent, toggle-formed}
+use Rattle.behaviour.proofs.Witness.{ones, room_of_t, toggle-formed}
 use Rattle.values.specs.Chained.{Chained}
 use Rattle.values.specs.Matchings.{Matching}
 use Rattle.values.specs.Slots.{entered}
@@ -52,8 +53,8 @@ use Rattle.evaluator.proofs.Parts.{room-ready}
 use Rattle.evaluator.proofs.Feedbacks.{feedback-settling}
 use Rattle.stepper.specs.Cycling.{Copying, Cycling}
 use Rattle.stepper.proofs.Cycling.{root-evaluating, copying}
-use Rattle.simulator.specs.Running.{Lending, RunningCycles, RunningAccepted}
-use Rattle.simulator.proofs.Running.{before-all, lending}
+use Rattle.simulator.specs.Running.{RunningCycles}
+use Rattle.simulator.proofs.Running.{Lending, before-all, lending}
 use Rattle.accepted.proofs.Small.{accepted-passes, accepted-records}
 
 abbrev names : List ℕ
@@ -88,9 +89,9 @@ module _ {s stim out next : List ℕ} {t : ℕ} (h : WellFormed s stim out next 
         start = refl;
       }
 
-  running-accepted : RunningAccepted s (count s) table t
-  running-accepted =
-      record { sized = Requirements.sized passes full; accepted = h.accepted; table = (widths passes full).1 }
+  accepting : Accepting s (count s) table
+  accepting =
+      record { sized = Requirements.sized passes full; type = t; accepted = h.accepted; table = (widths passes full).1 }
 
   -- there is a first cycle
   some-cycle : 0 < cycle_count s stim
@@ -153,8 +154,8 @@ toggle-running
     (cycle_count toggle ones) toggle room_of_t
 toggle-running = running toggle-formed some-input
 
-toggle-running-accepted : RunningAccepted toggle (count toggle) (table toggle-formed some-input) 1
-toggle-running-accepted = running-accepted toggle-formed some-input
+toggle-accepting : Accepting toggle (count toggle) (table toggle-formed some-input)
+toggle-accepting = accepting toggle-formed some-input
 
 toggle-lending
     : Lending toggle (count toggle) (table toggle-formed some-input) names names ones 0 (input_leaves toggle) toggle room_of_t 0

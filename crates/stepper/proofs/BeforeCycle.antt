@@ -16,7 +16,7 @@ use Rattle.records.proofs.Rewritten.{same-type}
 use Rattle.records.proofs.Types.{few-leaves, some-leaves}
 use Rattle.accepted.proofs.Laws.{types-fit, exact}
 use Rattle.verdict.specs.Verdict.{verdict}
-use Rattle.answers.specs.declared.Verdict.TheVariants.{Accepted}
+use Rattle.answers.specs.Answers.{Accepted}
 use Rattle.meaning.specs.Values.{AllOf}
 use Rattle.meaning.specs.Undecided.{undecided_rule}
 use Rattle.meaning.proofs.UndecidedRule.{rule-lawful}

@@ -1,39 +1,15 @@
 -- A table copied along a chain leaf by leaf, and along the chains of the delays record by record.
 -- Assumes nothing.
-use Prim.Native.Nat.{ℕ, zero, suc, ◌+◌, ◌-◌, ◌*◌, ◌≤◌, ◌<◌}
+use Prim.Native.Nat.{ℕ, zero, suc, ◌+◌, ◌*◌, ◌≤◌, ◌<◌}
 use mathlib.Core.List.{List, [], ◌∷◌, ◌++◌}
 use mathlib.Core.Path.{◌≡◌, refl, sym, ap, ◌∙◌}
-use mathlib.Core.Bool.{Bool, true, false}
 use native.Mathlib.Omega.{arith}
 use native.Mathlib.Numerals.{add-one}
-use lib.Dec.{eqb}
-use borrow.Author.Tests.{eqb-true}
-use lib.Seq.{lt-length-set}
 use lib.ListN.{length, get_or, set, length-set}
 use Rattle.records.specs.Words.{count, next_word, word, word_b}
-use Rattle.records.specs.Kinds.{
-  Kind,
-  header,
-  type_of,
-  expression,
-  pattern,
-  leaf,
-  unknown,
-  constant,
-  name,
-  tuple,
-  first,
-  second,
-  let_in,
-  feedback,
-  if_matches,
-  delay,
-  leafs,
-  kind_of,
-}
+use Rattle.records.specs.Kinds.{expression, delay, leafs}
 use Rattle.records.specs.Says.{kind_at, sort_at}
 use Rattle.records.specs.Trees.{chain, follow}
-use Rattle.records.proofs.CodeTable.{delay-number}
 use Rattle.records.proofs.Trees.{chain-of, next-leaf}
 use Rattle.records.proofs.Table.{ask_of_kind}
 use Rattle.records.proofs.Asked.{past-header, part-of-kind}
@@ -41,9 +17,6 @@ use Rattle.values.proofs.Gathering.{left, left-falls}
 use Rattle.behaviour.specs.Entries.{put_word}
 use Rattle.behaviour.specs.Copies.{copied, leaves_by_kind, delay_chains}
 use Rattle.stepper.specs.Cycling.{Copying}
-
-numbered-delay : (k : ℕ) → kind_of k ≡ expression delay → k ≡ 40
-numbered-delay k e = eqb-true k 40 (sym (delay-number k) ∙ rw e refl)
 
 -- the leaves from l are still to be copied to
 pub record Left (first : List ℕ) (h : List ℕ) (all : List ℕ) (before : List ℕ) (l : ℕ) (now : List ℕ) : Type 0 where
@@ -57,31 +30,13 @@ module _ {s : List ℕ} {n : ℕ} {before : List ℕ} (h : List ℕ) (g : Copyin
   follows zero f = absurd (f refl)
   follows (suc x) f = refl
 
-  pub copied-in-count : {x : ℕ} → x < n → x < count s
-  copied-in-count k = let c = g.sized.counted in omega arith
-
   -- no leaf is the header
   not-header : (x : ℕ) → sort_at s x ≡ leafs → x ≡ 0 → ⊥
   not-header x e z = let h = past-header g.written x (rw e) in omega arith
 
-  pub all_left : {x : ℕ} → x < n → sort_at s x ≡ leafs → Left s h (chain s x) before x before
-  all_left {x} k e =
-      record { long = refl; there = copied-in-count k; sort = λ _. e; rest = ap (λ ls. copied h ls before) (follows x (not-header x e)) }
-
   module _ {all : List ℕ} {l : ℕ} {now : List ℕ} (r : Left s h all before l now) (f : l ≡ 0 → ⊥) where
     pub copied-leaf-there : l < n
     copied-leaf-there = let t = r.there in let c = g.sized.counted in omega arith
-
-    pub leaf-bytes : 12 * l + 4 + 1 < length now
-    leaf-bytes =
-        let t = copied-leaf-there in
-        let w = g.sized.whole in
-        let a = r.long in
-        let b = g.long in
-        omega arith
-
-    pub leaf-high-byte : 12 * l + 4 + 1 < length (set now (12 * l + 4) (get_or h l 0))
-    leaf-high-byte = lt-length-set now (12 * l + 4) (get_or h l 0) leaf-bytes
 
     pub next-left : {x : ℕ} → x ≡ next_word s l
         → Left s h all before x (set (set now (12 * l + 4) (get_or h l 0)) (12 * l + 4 + 1) 0)
@@ -114,34 +69,6 @@ module _ {s : List ℕ} {n : ℕ} {before : List ℕ} (h : List ℕ) (g : Copyin
             positive : (y : ℕ) → (y ≡ 0 → ⊥) → 0 < y
             positive y k = omega arith
 
-  pub none_left : {all now : List ℕ} {l : ℕ} → Left s h all before l now → l ≡ 0 → now ≡ copied h all before
-  none_left r e = rw e at r.rest
-
-  -- a record that is no delay has no leaves to copy to
-  pub no-delay : (r : ℕ) {k : ℕ} → k ≡ word s r 0 → (k ≡ 40 → ⊥) → before ≡ copied h (leaves_by_kind (kind_at s r) (chain s (word_b s r))) before
-  no-delay r ek f = ap (λ ls. copied h ls before) (sym (none (kind_at s r) refl))
-    where
-      none : (q : Kind) → kind_at s r ≡ q → leaves_by_kind q (chain s (word_b s r)) ≡ []
-      none header e = refl
-      none (type_of q) e = refl
-      none (expression constant) e = refl
-      none (expression name) e = refl
-      none (expression tuple) e = refl
-      none (expression first) e = refl
-      none (expression second) e = refl
-      none (expression let_in) e = refl
-      none (expression feedback) e = refl
-      none (expression if_matches) e = refl
-      none (expression delay) e = absurd (f (ek ∙ numbered-delay (word s r 0) e))
-      none (pattern q) e = refl
-      none leaf e = refl
-      none unknown e = refl
-
-  -- and a delay's are those of its chain
-  pub delay-copied : (r : ℕ) → kind_at s r ≡ expression delay → {x : ℕ} → x ≡ word s r 3 → {now : List ℕ} → now ≡ copied h (chain s x) before
-      → now ≡ copied h (leaves_by_kind (kind_at s r) (chain s (word_b s r))) before
-  delay-copied r e ex c = c ∙ rw (e, ex) refl
-
 module _ {s : List ℕ} {n : ℕ} {before : List ℕ} (g : Copying s n before) where
   pub delay-first-leaf : (r : ℕ) → r < n → kind_at s r ≡ expression delay → {x : ℕ} → x ≡ word s r 3 → (x < n) × (sort_at s x ≡ leafs)
   delay-first-leaf r k e ex =
@@ -164,15 +91,9 @@ pub record Below (first h before : List ℕ) (n r : ℕ) (now : List ℕ) : Type
   pub so_far : now ≡ copied h (delay_chains first r) before
 
 module _ {s h before : List ℕ} {n : ℕ} where
-  pub none_below : Below s h before n 0 before
-  none_below = record { few = omega arith; so_far = refl }
-
   module _ {r : ℕ} {now : List ℕ} (b : Below s h before n r now) where
     pub below-long : length now ≡ length before
     below-long = rw b.so_far (copied-long h (delay_chains s r) before)
-
-    pub below-copying : Copying s n before → Copying s n now
-    below-copying g = record { sized = g.sized; written = g.written; long = below-long ∙ g.long }
 
     pub below_next : r < n → {now' : List ℕ} → now' ≡ copied h (leaves_by_kind (kind_at s r) (chain s (word_b s r))) now
         → Below s h before n (r + 1) now'
@@ -184,6 +105,3 @@ module _ {s h before : List ℕ} {n : ℕ} where
               ∙ rw (b.so_far, add-one r)
               (sym (copied-both h (delay_chains s r) (leaves_by_kind (kind_at s r) (chain s (word_b s r))) before));
         }
-
-    pub all-below : n ≤ r → now ≡ copied h (delay_chains s n) before
-    all-below k = let f = b.few in let e : r ≡ n = omega arith in rw e at b.so_far

@@ -4,12 +4,12 @@
 use Prim.Native.Nat.{ℕ, zero, suc, ◌+◌, ◌*◌, ◌≤◌, ◌<◌}
 use mathlib.Core.Bool.{Bool, true}
 use mathlib.Core.List.{List, [], ◌∷◌, ◌++◌, Memᴰ}
-use mathlib.Core.Path.{◌≡◌, refl, sym, ap, ap₂, ◌∙◌}
+use mathlib.Core.Path.{◌≡◌, refl, sym, ap, ap₂, subst, ◌∙◌}
 use native.Mathlib.Omega.{arith}
 use lib.ListN.{length, get_or}
 use Rattle.picoella.specs.Language.{leaves, OfType}
 use Rattle.records.specs.Words.{word, word_a, word_b, count}
-use Rattle.records.specs.Kinds.{Kind, header, leaf}
+use Rattle.records.specs.Kinds.{Kind}
 use Rattle.records.specs.Says.{kind_at}
 use Rattle.records.specs.Sized.{Sized}
 use Rattle.records.specs.Trees.{type_at, chain, circuit, delay_leaves}
@@ -31,7 +31,7 @@ use Rattle.meaning.proofs.UndecidedRule.{rule-lawful}
 use Rattle.behaviour.specs.Terms.{circuit_term}
 use Rattle.behaviour.specs.Delays.{store}
 use Rattle.behaviour.specs.Copies.{copied, leaves_by_kind, delay_chains}
-use Rattle.behaviour.specs.Cycle.{output, sheet_after_cycle, after_by}
+use Rattle.behaviour.specs.Cycle.{sheet_after_cycle, after_by}
 use Rattle.behaviour.specs.Evaluated.{value_at}
 use Rattle.behaviour.specs.Midway.{stored_at, fired_at}
 use Rattle.behaviour.proofs.Firings.{fired-long}
@@ -57,8 +57,11 @@ module _ {s : List ℕ} {n : ℕ} {W env held input current out : List ℕ} (g :
   header-word : (k : ℕ) → k < 5 → word current 0 k ≡ word s 0 k
   header-word = o.others 0 (λ e. let h = first-written.headed in let z : ◌≡◌ {A = ℕ} 0 1 = cc in omega arith)
 
-  pub first-sized : Sized s n × (0 < n) × (3 < 6)
-  first-sized = (g.sized, g.sized.some, omega arith)
+  pub current-sized : Sized current n
+  current-sized = sized-again o g.sized
+
+  counted-again : n ≡ count current
+  counted-again = current-sized.counted
 
   pub copying : Copying s n current
   copying = record { sized = g.sized; written = first-written; long = o.length }
@@ -97,11 +100,11 @@ module _ {s : List ℕ} {n : ℕ} {W env held input current out : List ℕ} (g :
         let j = accepted-judged g.type ((exact current g.type).0 g.again).0 g.again in
         g.room ∙ sym (table.expressions root ∙ rw (j.1, same-type o g.type) refl)
 
-    pub root-evaluating : EvaluatingIn current n W env₁ 1 x out (inputs current)
+    pub root-evaluating : EvaluatingIn current (count current) W env₁ 1 x out (inputs current)
     root-evaluating =
         record {
           at_hand = record {
-            sized = sized-again o g.sized;
+            sized = subst (λ m. Sized current m) counted-again current-sized;
             type = g.type;
             accepted = g.again;
             table = table;
@@ -114,7 +117,7 @@ module _ {s : List ℕ} {n : ℕ} {W env held input current out : List ℕ} (g :
         }
 
     pub look-done : {whole : Bool} {fired env₂ held₁ fired₁ o₁ : List ℕ}
-        → Evaluated whole current n W env₁ 1 x held fired out env₂ held₁ fired₁ o₁
+        → Evaluated whole current (count current) W env₁ 1 x held fired out env₂ held₁ fired₁ o₁
         → Looked whole input current held fired env₂ held₁ fired₁ o₁
     look-done {whole} {fired} {held₁ = held₁} {fired₁} {o₁} p =
         let d = p.done (inputs current) root-evaluating in
@@ -157,10 +160,9 @@ module _ {s : List ℕ} {n : ℕ} {W env held input current out : List ℕ} (g :
   pub cycle-done : {fired env₂ held₁ fired₁ o₁ : List ℕ} → Looked true input current held fired env₂ held₁ fired₁ o₁
       → {current' : List ℕ} → current' ≡ copied held₁ (delay_chains s n) current → Cycled input current env₂ held₁ current' o₁
   cycle-done l c =
-      let counted : n ≡ count current = (sized-again o g.sized).counted in
       record {
         wide = l.wide;
         long = l.long;
         value = l.value;
-        next = c ∙ rw (l.stored.if_whole refl, same-chains n, counted) (sym written_after);
+        next = c ∙ rw (l.stored.if_whole refl, same-chains n, counted-again) (sym written_after);
       }

@@ -5,9 +5,8 @@ use Prim.Native.Nat.{ℕ}
 use mathlib.Core.List.{List}
 use mathlib.Core.Path.{◌≡◌, refl, sym, ap, ◌∙◌}
 use native.Mathlib.Omega.{arith}
-use lib.ListN.{length}
 use Rattle.picoella.specs.Language.{leaves}
-use Rattle.records.specs.Kinds.{patterns, sort_of}
+use Rattle.records.specs.Kinds.{sort_of}
 use Rattle.records.specs.Says.{sort_at}
 use Rattle.records.specs.Sized.{Sized}
 use Rattle.records.specs.Trees.{
@@ -30,7 +29,7 @@ use Rattle.typing.specs.ExpressionWidth.{width}
 use Rattle.verdict.specs.Verdict.{verdict}
 use Rattle.verdict.specs.Scopes.{Scope}
 use Rattle.verdict.specs.Widths.{pattern_leaves, pattern_entry, Widths}
-use Rattle.answers.specs.declared.Verdict.TheVariants.{Accepted}
+use Rattle.answers.specs.Answers.{Accepted}
 use Rattle.accepted.proofs.Scopes.{scope-checked}
 use Rattle.behaviour.proofs.TermsAgain.{type-of-same}
 use Rattle.behaviour.proofs.ScopesAgain.{scope-again}

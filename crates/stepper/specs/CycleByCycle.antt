@@ -8,7 +8,7 @@ use Rattle.records.specs.Trees.{type_at}
 use Rattle.answers.specs.Answers.{lowest}
 use Rattle.verdict.specs.Verdict.{verdict}
 use Rattle.verdict.specs.Widths.{Widths}
-use Rattle.answers.specs.declared.Verdict.TheVariants.{Accepted}
+use Rattle.answers.specs.Answers.{Accepted}
 use Rattle.stimulus.specs.Stimulus.{input_leaves, cycle_count, wrong_stimulus, wrong_byte}
 
 pub record WholeCycles (s : List ℕ) (n : ℕ) (widths stim : List ℕ) (wi wo count : ℕ) : Type 0 where

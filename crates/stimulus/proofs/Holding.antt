@@ -1,31 +1,29 @@
 -- The checks of a stimulus: the counts of the input's leaves stand in front of some room, what is found among the bytes by them is
 -- what code 9 asks for, and each way out is the answer of the two checks.
 -- Assumes nothing.
-use Prim.Native.Nat.{ℕ, ◌+◌, ◌-◌, ◌*◌, ◌/◌, ◌%◌, ◌≤◌, ◌<◌}
+use Prim.Native.Nat.{ℕ, ◌*◌, ◌/◌, ◌%◌, ◌≤◌, ◌<◌}
 use mathlib.Core.Bool.{Bool, true, false}
-use mathlib.Core.List.{List, [], ◌∷◌, ◌++◌}
+use mathlib.Core.List.{List, ◌++◌}
 use mathlib.Core.Option.{none, some}
 use mathlib.Core.Path.{◌≡◌, refl, sym, ap, ◌∙◌}
 use native.Mathlib.Omega.{arith}
 use native.Mathlib.Nat.{mul-le-mul_left}
 use lib.Dec.{ltb}
-use lib.ListN.{length, get_or, take, drop, replicate, length-append, length-drop}
+use lib.ListN.{length, get_or, take, drop, replicate, length-append}
 use lib.Seq.{take_at, length-take-le}
 use Rattle.picoella.specs.Language.{bounds, leaves}
 use Rattle.records.specs.Words.{word, word_a}
 use Rattle.records.specs.Trees.{type_at, TypeRecord}
 use Rattle.records.proofs.Types.{few-leaves, some-leaves, leaves-of-bounds}
 use Rattle.records.proofs.TypeRecords.{input-type}
-use Rattle.answers.specs.Answers.{first_applying, lowest}
+use Rattle.answers.specs.Answers.{lowest}
 use Rattle.answers.specs.Searches.{found}
-use Rattle.answers.specs.declared.Found.{Found}
-use Rattle.answers.specs.declared.Found.TheVariants.{At, Nothing}
-use Rattle.answers.specs.declared.Answer.{Answer}
-use Rattle.answers.specs.declared.Answer.TheVariants.{Done, Refused}
+use Rattle.std.specs.Prelude.{Option, Some, None}
+use Rattle.answers.specs.Answers.{Done, Refused}
 use Rattle.answers.proofs.Lowest.{lowest-some-passes}
 use Rattle.accepted.specs.Accepting.{Accepting}
 use Rattle.accepted.proofs.Laws.{written, types-fit, exact}
-use Rattle.stimulus.specs.Stimulus.{input_leaves, cycle_count, wrong_stimulus, wrong_byte, stimulus_checks}
+use Rattle.stimulus.specs.Stimulus.{input_leaves, cycle_count, wrong_stimulus, wrong_byte}
 use Rattle.stimulus.specs.Tests.{not_whole, above}
 use Rattle.stimulus.specs.Holding.{Held}
 use Rattle.stimulus.proofs.Stimulus.{stimulus-whole}
@@ -43,28 +41,34 @@ module _ {s : List ℕ} {n : ℕ} {W : List ℕ} (g : Accepting s n W) {t w : �
         let f = few-leaves (types-fit ((exact s g.type).0 g.accepted).0) t u.there u.sort in
         omega arith
 
-    pub counts-long : length (take (w - 0) R) ≡ leaves (type_at s t)
-    counts-long = let h = counts-fit in length-take-le (w - 0) R (omega arith) ∙ omega arith
+    pub counts-taken : w ≡ length (take w R)
+    counts-taken = sym (length-take-le w R counts-fit)
+
+    pub counts-long : length (take w R) ≡ leaves (type_at s t)
+    counts-long = let h = counts-fit in length-take-le w R (omega arith) ∙ omega arith
 
     module _ {o : List ℕ} (eo : o ≡ bounds (type_at s t)) where
       wide : length o ≡ w
       wide = rw eo (sym (leaves-of-bounds (type_at s t)) ∙ sym e)
 
-      pub counts-inside : w ≤ length (o ++ drop (w - 0) R)
-      counts-inside = let l = length-append o (drop (w - 0) R) in let k = wide in omega arith
+      pub counts-inside : w ≤ length (o ++ drop w R)
+      counts-inside = let l = length-append o (drop w R) in let k = wide in omega arith
 
-      front : take (w - 0) (o ++ drop (w - 0) R) ≡ bounds (type_at s t)
-      front = take_at o (drop (w - 0) R) (w - 0) (let k = wide in omega arith) ∙ eo
+      pub counts-ready : w ≡ length (take w (o ++ drop w R))
+      counts-ready = sym (length-take-le w (o ++ drop w R) counts-inside)
 
-      pub some-counts : 0 < length (take (w - 0) (o ++ drop (w - 0) R))
+      front : take w (o ++ drop w R) ≡ bounds (type_at s t)
+      front = take_at o (drop w R) w (let k = wide in omega arith) ∙ eo
+
+      pub some-counts : 0 < length (take w (o ++ drop w R))
       some-counts =
           let l = ap length front in
           let m = leaves-of-bounds (type_at s t) in
           let k = some-leaves (type_at s t) in
           omega arith
 
-      pub counts-searched : (stim : List ℕ) (r : Found)
-          → found r ≡ lowest (above (take (w - 0) (o ++ drop (w - 0) R)) stim) (length stim)
+      pub counts-searched : (stim : List ℕ) (r : Option ℕ)
+          → found r ≡ lowest (above (take w (o ++ drop w R)) stim) (length stim)
           → found r ≡ lowest (above (bounds (type_at s t)) stim) (length stim)
       counts-searched stim r f = rw front at f
 
@@ -108,7 +112,7 @@ module _ {s : List ℕ} {n : ℕ} {W : List ℕ} (g : Accepting s n W) {a : ℕ}
       few_bytes : length stim ≤ 65535
       few_bytes = (stimulus-whole s stim whole).0
 
-      module _ (r : Found) (f : found r ≡ lowest (above (bounds (type_at s a)) stim) (length stim)) where
+      module _ (r : Option ℕ) (f : found r ≡ lowest (above (bounds (type_at s a)) stim) (length stim)) where
         byte-test : found r ≡ lowest (wrong_byte s stim) (length stim)
         unfolding wrong_byte
         byte-test =
@@ -117,18 +121,18 @@ module _ {s : List ℕ} {n : ℕ} {W : List ℕ} (g : Accepting s n W) {a : ℕ}
             h
             ∙ ap (λ (w : ℕ). lowest (λ i. ltb (get_or (bounds τ) (i % w) 0) (get_or stim i 0)) (length stim)) (sym (leaves-of-bounds τ))
 
-        pub byte_small : (i : ℕ) → r ≡ At i → i ≤ 65535
+        pub byte_small : (i : ℕ) → r ≡ Some i → i ≤ 65535
         byte_small i z =
             let l = lowest-some-passes (wrong_byte s stim) (length stim) i (sym byte-test ∙ ap found z) in
             let m = few_bytes in
             omega (arith, l.0)
 
-        pub held-by-byte : (i : ℕ) → r ≡ At i → Held s stim (Refused 9 i)
+        pub held-by-byte : (i : ℕ) → r ≡ Some i → Held s stim (Refused 9 i)
         held-by-byte i z =
             let l : lowest (wrong_byte s stim) (length stim) ≡ some i = sym byte-test ∙ ap found z in
             record { answered = rw (whole, l) refl; numbered = omega arith; small = byte_small i z }
 
-        pub held_whole : r ≡ Nothing → Held s stim (Done (length stim / get_or W a 0))
+        pub held_whole : r ≡ None → Held s stim (Done (length stim / get_or W a 0))
         held_whole z =
             let l : lowest (wrong_byte s stim) (length stim) ≡ none = sym byte-test ∙ ap found z in
             let c : length stim / get_or W a 0 ≡ cycle_count s stim = rw takes refl in

@@ -1,7 +1,7 @@
 -- One cycle of input: where its length is that of the input's leaves its two checks are those of a run, which is then of one cycle;
 -- and what neither of them refuses is one value of the input type.
 -- Assumes nothing.
-use Prim.Native.Nat.{ℕ, ◌+◌, ◌*◌, ◌/◌, ◌≤◌, ◌<◌}
+use Prim.Native.Nat.{ℕ, ◌/◌}
 use mathlib.Core.Bool.{Bool, true, false, not, ◌||◌}
 use mathlib.Core.List.{List, [], ◌∷◌}
 use mathlib.Core.Option.{none}
@@ -9,16 +9,16 @@ use mathlib.Core.Path.{◌≡◌, refl, sym, ap, subst, ◌∙◌}
 use native.Mathlib.Omega.{arith}
 use native.Mathlib.Nat.{one-mul, mul-div_cancel}
 use lib.Dec.{eqb}
-use lib.ListN.{length, get_or, take}
+use lib.ListN.{length, get_or}
 use lib.Seq.{take_all}
 use borrow.Author.Tests.{eqb-true, not-false, eq-eqb, ne_eqb}
 use Rattle.picoella.specs.Language.{Ty, OfType}
 use Rattle.records.specs.Words.{word}
 use Rattle.records.proofs.Tests.{neither_left, neither_right}
 use Rattle.records.proofs.Types.{some-leaves}
-use Rattle.answers.specs.Answers.{first_applying, NoneApplies, SaysOf, lowest}
-use Rattle.answers.specs.declared.Answer.{Answer}
-use Rattle.answers.specs.declared.Answer.TheVariants.{Done, Refused}
+use Rattle.answers.specs.Answers.{NoneApplies, SaysOf, lowest}
+use Rattle.answers.specs.Answers.{Answer}
+use Rattle.answers.specs.Answers.{Done, Refused}
 use Rattle.answers.proofs.First.{when-none, first_says}
 use Rattle.accepted.specs.Accepting.{Accepting}
 use Rattle.meaning.specs.Values.{AllOf, all_more}

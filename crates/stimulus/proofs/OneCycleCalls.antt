@@ -14,8 +14,8 @@ use borrow.Author.Tests.{eq-eqb, ne_eqb, lt-ltb}
 use Rattle.answers.specs.Answers.{on_done, lowest, Check, check, when, first_applying, NoneApplies, verdict_answer}
 use Rattle.answers.specs.StandardLaws.{LentSlice, StandardLaws}
 use Rattle.answers.specs.GivenSlices.{SmallPlaces, GivenSlices}
-use Rattle.answers.specs.declared.Answer.{Answer}
-use Rattle.answers.specs.declared.Answer.TheVariants.{Done, Refused}
+use Rattle.answers.specs.Answers.{Answer}
+use Rattle.answers.specs.Answers.{Done, Refused}
 use Rattle.answers.proofs.Lowest.{lowest-some-passes}
 use Rattle.answers.proofs.First.{
   when-none,
@@ -27,8 +27,8 @@ use Rattle.answers.proofs.First.{
   none_done,
 }
 use Rattle.verdict.specs.Verdict.{sheet_checks, output_type, verdict}
-use Rattle.answers.specs.declared.Verdict.{Verdict}
-use Rattle.answers.specs.declared.Verdict.TheVariants.{Accepted}
+use Rattle.answers.specs.Answers.{Verdict}
+use Rattle.answers.specs.Answers.{Accepted}
 use Rattle.accepted.proofs.Calls.{accepted-output, sheet-accepted, refused-by-sheet, none-of-call, call-laws}
 use Rattle.accepted.proofs.Laws.{first-accepted, Refusing}
 use Rattle.stimulus.specs.Stimulus.{wrong_byte}

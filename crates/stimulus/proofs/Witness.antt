@@ -38,10 +38,10 @@ use Rattle.structure.specs.Rules.{
   Passes,
 }
 use Rattle.verdict.specs.Verdict.{by_types, by_records, verdict}
-use Rattle.answers.specs.declared.Verdict.TheVariants.{Accepted}
+use Rattle.answers.specs.Answers.{Accepted}
 use Rattle.answers.specs.Answers.{first_applying}
-use Rattle.answers.specs.declared.Answer.{Answer}
-use Rattle.answers.specs.declared.Answer.TheVariants.{Done, Refused}
+use Rattle.answers.specs.Answers.{Answer}
+use Rattle.answers.specs.Answers.{Done, Refused}
 use Rattle.accepted.specs.Accepting.{Accepting}
 use Rattle.accepted.proofs.Small.{accepted-passes}
 use Rattle.accepted.proofs.Requirements as Requirements

@@ -2,8 +2,8 @@
 use Rattle.std.specs.Prelude.{ℕ, ◌≤◌, ◌<◌, ◌≡◌, List}
 use Rattle.stimulus.specs.Tests.{stimulus_bytes}
 use Rattle.answers.specs.Answers.{code, place, first_applying}
-use Rattle.answers.specs.declared.Answer.{Answer}
-use Rattle.answers.specs.declared.Answer.TheVariants.{Done}
+use Rattle.answers.specs.Answers.{Answer}
+use Rattle.answers.specs.Answers.{Done}
 use Rattle.stimulus.specs.Stimulus.{cycle_count, stimulus_checks}
 use Rattle.stimulus.specs.OneCycle.{one_cycle_checks}
 

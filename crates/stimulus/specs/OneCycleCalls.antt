@@ -4,7 +4,7 @@ use Rattle.std.specs.Prelude.{ℕ, ◌≡◌, false, List, length}
 use Rattle.std.proofs.Math.Option.{none}
 use Rattle.answers.specs.Answers.{lowest}
 use Rattle.verdict.specs.Verdict.{output_type, verdict}
-use Rattle.answers.specs.declared.Verdict.TheVariants.{Accepted}
+use Rattle.answers.specs.Answers.{Accepted}
 use Rattle.stimulus.specs.Stimulus.{wrong_byte}
 use Rattle.stimulus.specs.OneCycle.{not_one_cycle}
 

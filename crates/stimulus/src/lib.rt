@@ -1,103 +1,87 @@
 // The stimulus: whether it has whole cycles (code 8), and leaves within their counts (code 9).
 #![tactic(auto)]
 
-ghost use Rattle.std.specs.Prelude.{◌≡◌, ◌<◌, length, replicate};
+ghost use Rattle.std.specs.Prelude.{◌≡◌, ◌<◌, length};
 ghost use Rattle.picoella.specs.Language.{bounds, leaves};
 ghost use Rattle.records.specs.Trees.{type_at, TypeRecord};
 ghost use Rattle.answers.specs.Answers.{lowest};
 ghost use Rattle.answers.specs.Searches.{found};
-ghost use Rattle.accepted.specs.Accepting.{Accepting};
 ghost use Rattle.stimulus.specs.Tests.{not_whole, above};
 ghost use Rattle.stimulus.specs.Holding.{Held};
 ghost use Rattle.stimulus.specs.Holding.{HeldToOne};
-ghost use Rattle.records.specs.Limits.{most_leaves};
+ghost use Rattle.answers.specs.Results.{answer_of};
 
 use accepted::fill_bounds;
-use answers::{Answer, Found, WRONG_INPUT, WRONG_STIMULUS};
-use records::{VALUE_BYTES, WORD_A, WidthTable, word};
+use answers::{Answer, Code, Refusal};
+use records::{VALUE_BYTES, WORD_A};
+use verdict::Checked;
 
 // The most bytes of a stimulus.
 pub const STIMULUS_BYTES: usize = 65535;
-
-// Room for the counts of a type's leaves, a byte each.
-fn no_counts() -> [u8; VALUE_BYTES]
-    ensures { result ≡ replicate most_leaves 0 }
-{
-    [0; VALUE_BYTES]
-}
 
 // Whether a stimulus of so many bytes is too long or not whole cycles of w bytes.
 fn not_whole(all: usize, w: usize) -> bool
     requires { 0 < w }
     ensures { result ≡ not_whole all w }
 {
-    if STIMULUS_BYTES < all {
-        return true;
-    }
-    all % w != 0
+    STIMULUS_BYTES < all || all % w != 0
 }
 
 // The first byte above its leaf's count.
-fn find_above(bounds: &[u8], stim: &[u8]) -> Found
+fn find_above(bounds: &[u8], stim: &[u8]) -> Option<usize>
     requires { 0 < length bounds.now }
     ensures { found result ≡ lowest (above bounds.now stim.now) (length stim.now) }
 {
     let w = bounds.len();
-    let all = stim.len();
-    let mut i = 0;
-    while i < all {
-        if bounds[i % w] < stim[i] {
-            return Found::At(i);
+    for (i, &byte) in stim.iter().enumerate() {
+        if bounds[i % w] < byte {
+            return Some(i);
         }
-        i += 1;
     }
-    Found::Nothing
+    None
 }
 
 // The first byte of a stimulus above its leaf's count, where a cycle takes w bytes of type t.
-fn first_above(
-    sheet: &[u8],
-    n: usize,
-    widths: &WidthTable,
-    t: usize,
-    w: usize,
-    stim: &[u8],
-) -> Found
-    requires { Accepting sheet.now n widths.now × TypeRecord sheet.now t × (w ≡ leaves (type_at sheet.now t)) }
-    ensures { found result ≡ lowest (above (bounds (type_at sheet.now t)) stim.now) (length stim.now) }
+fn first_above(checked: &Checked, t: usize, w: usize, stim: &[u8]) -> Option<usize>
+    requires { TypeRecord checked.now.sheet t × (w ≡ leaves (type_at checked.now.sheet t)) }
+    ensures { found result ≡ lowest (above (bounds (type_at checked.now.sheet t)) stim.now) (length stim.now) }
 {
-    let mut counts = no_counts();
-    fill_bounds(sheet, n, widths, t, &mut counts[0..w]);
-    find_above(&counts[0..w], stim)
+    let mut counts = [0; VALUE_BYTES];
+    fill_bounds(checked, t, &mut counts[..w]);
+    find_above(&counts[..w], stim)
 }
 
-// Codes 8 and 9 for an accepted sheet, and else the number of cycles.
-pub fn check_stimulus(sheet: &[u8], n: usize, widths: &WidthTable, stim: &[u8]) -> Answer
-    requires { Accepting sheet.now n widths.now }
-    ensures { Held sheet.now stim.now result }
+// Codes 8 and 9 for a checked sheet, and else the number of cycles.
+pub fn check_stimulus(checked: &Checked, stim: &[u8]) -> Answer
+    ensures { Held checked.now.sheet stim.now (answer_of result) }
 {
-    let t = word(sheet, n, 0, WORD_A);
-    let w = widths[t] as usize;
-    let all = stim.len();
-    if not_whole(all, w) {
-        return Answer::Refused(WRONG_STIMULUS, 0);
+    let t = checked.sheet.word(0, WORD_A);
+    let w = checked.widths[t] as usize;
+    if not_whole(stim.len(), w) {
+        return Err(Refusal {
+            code: Code::WrongStimulus,
+            place: 0,
+        });
     }
-    let wrong = first_above(sheet, n, widths, t, w, stim);
-    if let Found::At(i) = wrong {
-        return Answer::Refused(WRONG_INPUT, i as u64);
+    if let Some(i) = first_above(checked, t, w, stim) {
+        return Err(Refusal {
+            code: Code::WrongInput,
+            place: i as u32,
+        });
     }
-    Answer::Done((all / w) as u64)
+    Ok((stim.len() / w) as u32)
 }
 
-// Codes 8 and 9 for one cycle of an accepted sheet's input, and else that one cycle.
-pub fn check_one_cycle(sheet: &[u8], n: usize, widths: &WidthTable, stim: &[u8]) -> Answer
-    requires { Accepting sheet.now n widths.now }
-    ensures { HeldToOne sheet.now stim.now result }
+// Codes 8 and 9 for one cycle of a checked sheet's input, and else that one cycle.
+pub fn check_one_cycle(checked: &Checked, stim: &[u8]) -> Answer
+    ensures { HeldToOne checked.now.sheet stim.now (answer_of result) }
 {
-    let t = word(sheet, n, 0, WORD_A);
-    let w = widths[t] as usize;
-    if stim.len() != w {
-        return Answer::Refused(WRONG_STIMULUS, 0);
+    let t = checked.sheet.word(0, WORD_A);
+    if stim.len() != checked.widths[t] as usize {
+        return Err(Refusal {
+            code: Code::WrongStimulus,
+            place: 0,
+        });
     }
-    check_stimulus(sheet, n, widths, stim)
+    check_stimulus(checked, stim)
 }

@@ -1,21 +1,22 @@
 -- The tables of depths and nestings as records are added to them: a record lies one deeper than the first record that names it, which
 -- is lower and so in the tables, and in one more defining part just where it is one. Assumes nothing.
 use mathlib.Core.Path.{◌≡◌, refl, sym, ◌∙◌, ap}
-use mathlib.Core.Bool.{Bool, true, false, cond, and-false, false≢true}
+use mathlib.Core.Bool.{Bool, true, false, cond, false≢true}
+use mathlib.Core.Logic.{◌⊎◌, inl, inr}
 use mathlib.Core.List.Memᴰ
 use mathlib.Core.List.{List, [], ◌∷◌}
-use Prim.Native.Nat.{ℕ, zero, suc, min, ◌+◌, ◌*◌, ◌-◌, ◌/◌, ◌%◌, ◌≤◌, ◌<◌}
+use Prim.Native.Nat.{ℕ, zero, suc, min, ◌+◌, ◌*◌, ◌≤◌, ◌<◌}
 use native.Mathlib.Omega.{arith}
 use native.Mathlib.Decide.{ℕ_discrete, dec_le}
-use borrow.Author.Tests.{ne_eqb, lt-ltb, le-ltb}
+use borrow.Author.Tests.{lt-ltb, le-ltb}
 use lib.Dec.{eqb, ltb}
 use lib.ListN.{get_or, set, replicate, length-set, length-replicate}
 use lib.Seq.{get_or-set_same, get_or-set_other}
-use Rattle.records.specs.Words.{count, word}
-use Rattle.records.specs.Kinds.{kind_of, sort_number}
+use Rattle.records.specs.Words.{count}
+use Rattle.records.specs.Kinds.{same_sort, expressions, kind_of}
+use Rattle.records.proofs.CodeTable.{only-kind}
 use Rattle.records.specs.Says.{sort_at, Naming, namings, well_named}
 use Rattle.records.specs.Trees.{follow}
-use Rattle.records.proofs.CodeTable.{only-kind}
 use Rattle.records.proofs.Namings.{Names, in-namings-names, namer-lower}
 use Rattle.structure.specs.Rules.{ancestry, ancestry_within, depth, nesting, is_feedback, of_defining_part, too_deep}
 use Rattle.structure.specs.NamerTable.{summary}
@@ -29,15 +30,6 @@ feedback-number = only-kind is_feedback 38 refl (omega arith) tt
 module _ (s : List ℕ) (q at x : ℕ) where
   abbrev nested-in : ℕ
   nested-in = cond (of_defining_part s (record { by = q; at = at })) (min 4 (x + 1)) x
-
-  pub not-word-b : (at ≡ 3 → ⊥) → x ≡ nested-in
-  not-word-b f = rw (ne_eqb at 3 f, and-false)
-
-  pub no-feedback : (k : ℕ) → k ≡ word s q 0 → (k ≡ 38 → ⊥) → x ≡ nested-in
-  no-feedback k ek f = rw (feedback-number, ← ek, ne_eqb k 38 f)
-
-  pub defining-part : (k v : ℕ) → k ≡ word s q 0 → k ≡ 38 → at ≡ 3 → v ≡ min 4 (x + 1) → v ≡ nested-in
-  defining-part k v ek e f ev = rw (feedback-number, ← ek, e, f) ev
 
 pub capped-none : (cap : ℕ) (f : ℕ → ℕ) → f 0 ≡ 0 → Capped cap f 1 (replicate 4096 0)
 capped-none cap f e = record {
@@ -115,78 +107,73 @@ module _ {s : List ℕ} {n rec : ℕ} {namers depths nestings : List ℕ} (p : P
                 ∙ ap (λ (m : ℕ). cond (of_defining_part s x) (suc m) m) (followed (nesting s) x.by (nesting-of-header s));
           }
 
-  -- what the reads and writes of the tables ask
-  pub in-range :
-      (1 ≤ get_or namers rec 0)
-      × (get_or namers rec 0 < 65536)
-      × ((get_or namers rec 0 - 1) / 8 < rec)
-      × (rec < 4096)
-      × (get_or depths ((get_or namers rec 0 - 1) / 8) 0 ≤ 65)
-      × (get_or nestings ((get_or namers rec 0 - 1) / 8) 0 ≤ 4)
-  in-range =
-      let b = named-by in
-      let few = p.sized.few in
-      let e : (get_or namers rec 0 - 1) / 8 ≡ b.by = omega (arith, b.value, b.small) in
-      let d = p.placed.deep.below b.by b.lower in
-      let m = p.placed.nested.below b.by b.lower in (
-        omega (arith, b.value),
-        omega (arith, b.value, b.small, b.lower),
-        omega (arith, e, b.lower),
-        omega arith,
-        rw e (omega arith),
-        rw e (omega arith),
-      )
+  -- a word with this entry is the one that names rec
+  module _ (q at : ℕ) (e : get_or namers rec 0 ≡ 8 * q + at + 1) (l : at < 8) where
+    by-is : q ≡ named-by.by
+    by-is = let b = named-by in omega (arith, b.value, b.small, e, l)
 
-  pub place-more : (v q d w : ℕ) → v ≡ get_or namers rec 0 - 1 → q ≡ v / 8 → d ≡ min 65 (get_or depths q 0 + 1)
-      → w ≡ nested-in s q (v % 8) (get_or nestings q 0) → Placed s (rec + 1) (set depths rec d) (set nestings rec w)
-  place-more v q d w ev eq ed ew = record {
-    deep = capped-set 65 (depth s) rec depths d p.placed.deep small (ed ∙ deeper);
-    nested = capped-set 4 (nesting s) rec nestings w p.placed.nested small (ew ∙ nested);
-  }
-    where
-      b : ItsNaming s rec (get_or namers rec 0)
-      b = named-by
+    at-is : at ≡ named-by.at
+    at-is = let b = named-by in omega (arith, b.value, b.small, e, l)
 
-      small : rec < 4096
-      small = let sized = p.sized in omega (arith, p.sized.few)
+    -- what the reads and writes of the tables ask
+    pub in-range : (q < rec) × (rec < 4096) × (get_or depths q 0 ≤ 65) × (get_or nestings q 0 ≤ 4)
+    in-range =
+        let b = named-by in
+        let few = p.sized.few in
+        let same = by-is in
+        let d = p.placed.deep.below b.by b.lower in
+        let m = p.placed.nested.below b.by b.lower in
+        (rw same b.lower, omega arith, rw same (omega arith), rw same (omega arith))
 
-      by-is : q ≡ b.by
-      by-is = omega (arith, b.value, b.small, ev, eq)
+    pub place-more : (d w : ℕ) → d ≡ min (get_or depths q 0 + 1) 65 → w ≡ nested-in s q at (get_or nestings q 0)
+        → Placed s (rec + 1) (set depths rec d) (set nestings rec w)
+    place-more d w ed ew = record {
+      deep = capped-set 65 (depth s) rec depths d p.placed.deep small (ed ∙ deeper);
+      nested = capped-set 4 (nesting s) rec nestings w p.placed.nested small (ew ∙ nested);
+    }
+      where
+        b : ItsNaming s rec (get_or namers rec 0)
+        b = named-by
 
-      at-is : v % 8 ≡ b.at
-      at-is = omega (arith, b.value, b.small, ev)
+        small : rec < 4096
+        small = let sized = p.sized in omega (arith, p.sized.few)
 
-      deeper : min 65 (get_or depths q 0 + 1) ≡ min 65 (depth s rec)
-      deeper =
-          rw (by-is, p.placed.deep.below b.by b.lower, b.deeper) (more (depth s b.by))
-        where
-          more : (x : ℕ) → min 65 (min 65 x + 1) ≡ min 65 (suc x)
-          more x = omega arith
+        deeper : min (get_or depths q 0 + 1) 65 ≡ min 65 (depth s rec)
+        deeper =
+            rw (by-is, p.placed.deep.below b.by b.lower, b.deeper) (more (depth s b.by))
+          where
+            more : (x : ℕ) → min (min 65 x + 1) 65 ≡ min 65 (suc x)
+            more x = omega arith
 
-      nested : nested-in s q (v % 8) (get_or nestings q 0) ≡ min 4 (nesting s rec)
-      nested =
-          rw (by-is, at-is, p.placed.nested.below b.by b.lower, b.nested)
-          (more (nesting s b.by) (of_defining_part s (record { by = b.by; at = b.at })))
-        where
-          more : (x : ℕ) (t : Bool) → cond t (min 4 (min 4 x + 1)) (min 4 x) ≡ min 4 (cond t (suc x) x)
-          more x true = omega arith
-          more x false = refl
+        nested : nested-in s q at (get_or nestings q 0) ≡ min 4 (nesting s rec)
+        nested =
+            rw (by-is, at-is, p.placed.nested.below b.by b.lower, b.nested)
+            (more (nesting s b.by) (of_defining_part s (record { by = b.by; at = b.at })))
+          where
+            more : (x : ℕ) (t : Bool) → cond t (min 4 (min 4 x + 1)) (min 4 x) ≡ min 4 (cond t (suc x) x)
+            more x true = omega arith
+            more x false = refl
 
-module _ {s : List ℕ} {n : ℕ} {depths nestings : List ℕ} (p : Placed s n depths nestings) (r : ℕ) {sort : ℕ} (h : r < n)
-    (es : sort ≡ sort_number (sort_at s r)) where
-  pub no-expression : (sort ≡ 3 → ⊥) → false ≡ too_deep s r
+  -- each record has its naming
+  pub some-naming : (get_or namers rec 0 ≡ 0) ⊎ (get_or namers rec 0 ≡ 65535) → ⊥
+  some-naming (inl e) = let b = named-by in omega (arith, b.value, e)
+  some-naming (inr e) = let b = named-by in let few = p.sized.few in omega (arith, b.value, b.small, b.lower, few, e, h)
+
+pub no-expression : (s : List ℕ) (r : ℕ) → same_sort (sort_at s r) expressions ≡ false → false ≡ too_deep s r
+unfolding too_deep
+no-expression s r f = rw f
+
+module _ {s : List ℕ} {n : ℕ} {depths nestings : List ℕ} (p : Placed s n depths nestings) (r : ℕ) (h : r < n)
+    (e : same_sort (sort_at s r) expressions ≡ true) where
+  pub deep : 64 < get_or depths r 0 → true ≡ too_deep s r
   unfolding too_deep
-  no-expression f = rw (← es, ne_eqb sort 3 f)
+  deep l = let d = p.deep.below r h in rw (e, lt-ltb 64 (depth s r) (omega arith))
 
-  pub deep : sort ≡ 3 → 64 < get_or depths r 0 → true ≡ too_deep s r
+  pub by-nesting : get_or depths r 0 ≤ 64 → ltb 3 (get_or nestings r 0) ≡ too_deep s r
   unfolding too_deep
-  deep e l = let d = p.deep.below r h in rw (← es, e, lt-ltb 64 (depth s r) (omega arith))
-
-  pub by-nesting : sort ≡ 3 → get_or depths r 0 ≤ 64 → ltb 3 (get_or nestings r 0) ≡ too_deep s r
-  unfolding too_deep
-  by-nesting e l =
+  by-nesting l =
       let d = p.deep.below r h in
-      rw (← es, e, le-ltb 64 (depth s r) (omega arith), p.nested.below r h) (capped (nesting s r))
+      rw (e, le-ltb 64 (depth s r) (omega arith), p.nested.below r h) (capped (nesting s r))
     where
       capped : (x : ℕ) → ltb 3 (min 4 x) ≡ ltb 3 x
       capped x = go (dec_le 4 x)

@@ -1,15 +1,16 @@
 -- The table of leaf counts as records are added to it: a flat type has one leaf, a pair type the leaves of its parts, which stand
 -- lower and are in the table, and any other record has none. Assumes nothing.
 use mathlib.Core.Path.{◌≡◌, refl, sym, ◌∙◌}
-use mathlib.Core.Bool.{true, false, not, ◌||◌, or-true, or-false}
+use mathlib.Core.Bool.{true, false, ◌||◌, or-true}
 use mathlib.Core.List.{List}
-use Prim.Native.Nat.{ℕ, min, ◌+◌, ◌≤◌, ◌<◌}
+use Prim.Native.Nat.{ℕ, zero, suc, min, ◌+◌, ◌≤◌, ◌<◌}
 use native.Mathlib.Omega.{arith}
 use native.Mathlib.Decide.{ℕ_discrete}
-use borrow.Author.Tests.{eq-eqb, ne_eqb, lt-ltb, le-ltb}
-use lib.Dec.{eqb, ltb}
+use borrow.Author.Tests.{eq-eqb, lt-ltb, le-ltb}
+use lib.Dec.{ltb}
 use lib.ListN.{get_or, set, replicate, length-set, length-replicate, get_or-replicate}
 use lib.Seq.{get_or-set_same, get_or-set_other}
+use Rattle.std.specs.Prelude.{Option, is_some}
 use Rattle.picoella.specs.Language.{leaves}
 use Rattle.records.specs.Words.{count, word, word_a, word_b}
 use Rattle.records.specs.Kinds.{
@@ -31,13 +32,12 @@ use Rattle.records.specs.Kinds.{
 use Rattle.records.specs.Says.{kind_at, sort_at}
 use Rattle.records.specs.Trees.{type_at, pair_below}
 use Rattle.records.specs.Written.{Written}
-use Rattle.records.proofs.Table.{is-flat, is-pair}
-use Rattle.records.proofs.CodeTable.{flat-number, pair-number}
+use Rattle.records.proofs.CodeTable.{pair-number}
+use Rattle.records.proofs.Table.{is-pair}
 use Rattle.records.proofs.Types.{flat-type, pair-type, pair_parts}
 use Rattle.structure.specs.Rules.{wrong_type}
-use Rattle.structure.proofs.PairRecords.{above_zero}
 use Rattle.structure.specs.LeafTable.{type_leaves, LeavesCounted}
-use Rattle.structure.specs.PairIndex.{lower_pair}
+use Rattle.structure.specs.PairIndex.{lower_pair, some_record}
 
 -- a type is flat or a pair
 flat-or-pair : (k : Kind) → same_sort (sort_of k) types ≡ (is_flat k || is_pair k)
@@ -51,9 +51,6 @@ flat-or-pair unknown = refl
 
 pub pair-kind : (s : List ℕ) (r k : ℕ) → k ≡ word s r 0 → k ≡ 17 → kind_at s r ≡ type_of pair
 pair-kind s r k ek e = is-pair (kind_at s r) (pair-number _ ∙ eq-eqb _ 17 (sym ek ∙ e))
-
-flat_kind : (s : List ℕ) (r k : ℕ) → k ≡ word s r 0 → k ≡ 16 → kind_at s r ≡ type_of flat
-flat_kind s r k ek e = is-flat (kind_at s r) (flat-number _ ∙ eq-eqb _ 16 (sym ek ∙ e))
 
 pub counts-none : (s : List ℕ) → LeavesCounted s 0 (replicate 4096 0)
 counts-none s = record {
@@ -76,26 +73,24 @@ module _ {s : List ℕ} {rec : ℕ} {table : List ℕ} (counts : LeavesCounted s
           rw q (get_or-set_same table rec v 0 (omega arith) ∙ e)
       go r h (no q) = get_or-set_other table rec r v 0 q ∙ counts.below r (omega arith)
 
-  pub counts-other : {k : ℕ} → k ≡ word s rec 0 → (k ≡ 16 → ⊥) → (k ≡ 17 → ⊥) → LeavesCounted s (rec + 1) table
-  counts-other {k} ek f g = record {
+  pub counts-other : is_flat (kind_at s rec) ≡ false → is_pair (kind_at s rec) ≡ false → LeavesCounted s (rec + 1) table
+  counts-other f g = record {
     long = counts.long;
     below = λ r h. go r h (ℕ_discrete r rec);
     rest = λ r h l. counts.rest r (omega arith) l;
   }
     where
       none : type_leaves s rec ≡ 0
-      none = rw (flat-or-pair, flat-number, pair-number, ← ek, ne_eqb k 16 f, ne_eqb k 17 g)
+      none = rw (flat-or-pair, f, g)
 
       go : (r : ℕ) → r < rec + 1 → Dec (r ≡ rec) → get_or table r 0 ≡ type_leaves s r
       go r h (yes q) = rw q (counts.rest rec (omega arith) few ∙ sym none)
       go r h (no q) = counts.below r (omega arith)
 
-  pub counts-flat : {k : ℕ} → k ≡ word s rec 0 → k ≡ 16 → LeavesCounted s (rec + 1) (set table rec 1)
-  counts-flat {k} ek e =
-      let f = flat_kind s rec k ek e in
-      counts-set 1 (rw (f, flat-type s rec f))
+  pub counts-flat : kind_at s rec ≡ type_of flat → LeavesCounted s (rec + 1) (set table rec 1)
+  counts-flat f = counts-set 1 (rw (f, flat-type s rec f))
 
-  module _ (w : Written s) (h : rec < count s) {k : ℕ} (ek : k ≡ word s rec 0) (e : k ≡ 17) where
+  module _ (w : Written s) (h : rec < count s) (f : kind_at s rec ≡ type_of pair) where
     -- a part of a pair type is a lower type, with its leaves in the table
     abbrev Part : ℕ → Type 0
     Part x = (x < rec) × (get_or table x 0 ≡ min 65 (leaves (type_at s x)))
@@ -104,18 +99,15 @@ module _ {s : List ℕ} {rec : ℕ} {table : List ℕ} (counts : LeavesCounted s
     part_of x l q = (l, counts.below x l ∙ rw q)
 
     pub first_counted : {x : ℕ} → x ≡ word s rec 2 → Part x
-    first_counted ex = let p = pair_parts w rec h (pair-kind s rec k ek e) in rw ex (part_of (word_a s rec) p.0 p.1)
+    first_counted ex = let p = pair_parts w rec h f in rw ex (part_of (word_a s rec) p.0 p.1)
 
     pub second-counted : {x : ℕ} → x ≡ word s rec 3 → Part x
-    second-counted ex = let p = pair_parts w rec h (pair-kind s rec k ek e) in rw ex (part_of (word_b s rec) p.2 p.3)
+    second-counted ex = let p = pair_parts w rec h f in rw ex (part_of (word_b s rec) p.2 p.3)
 
     pub counts-pair : {x y v : ℕ} → x ≡ word s rec 2 → y ≡ word s rec 3 → v ≡ min 65 (get_or table x 0 + get_or table y 0)
         → LeavesCounted s (rec + 1) (set table rec v)
     counts-pair {x} {y} {v} ex ey ev = counts-set v (ev ∙ sum)
       where
-        f : kind_at s rec ≡ type_of pair
-        f = pair-kind s rec k ek e
-
         sum : min 65 (get_or table x 0 + get_or table y 0) ≡ type_leaves s rec
         sum =
             rw (f, pair-type w rec h f, ← ex, ← ey, (first_counted ex).1, (second-counted ey).1)
@@ -124,23 +116,26 @@ module _ {s : List ℕ} {rec : ℕ} {table : List ℕ} (counts : LeavesCounted s
             capped : (a b : ℕ) → min 65 (min 65 a + min 65 b) ≡ min 65 (a + b)
             capped a b = omega arith
 
-module _ {s : List ℕ} {n : ℕ} {table : List ℕ} (counts : LeavesCounted s n table) (r : ℕ) {k : ℕ} (h : r < n) (ek : k ≡ word s r 0) where
-  pub no-pair-fits : (k ≡ 17 → ⊥) → false ≡ wrong_type s r
-  unfolding wrong_type
-  no-pair-fits f = rw (pair-number, ← ek, ne_eqb k 17 f)
+pub no-pair-fits : (s : List ℕ) (r : ℕ) → is_pair (kind_at s r) ≡ false → false ≡ wrong_type s r
+unfolding wrong_type
+no-pair-fits s r f = rw f
 
-  counted : k ≡ 17 → get_or table r 0 ≡ min 65 (leaves (type_at s r))
-  counted e = counts.below r h ∙ rw (pair-kind s r k ek e)
+module _ {s : List ℕ} {n : ℕ} {table : List ℕ} (counts : LeavesCounted s n table) (r : ℕ) (h : r < n) (p : is_pair (kind_at s r) ≡ true) where
+  counted : get_or table r 0 ≡ min 65 (leaves (type_at s r))
+  counted = counts.below r h ∙ rw (is-pair (kind_at s r) p)
 
-  pub many-leaves : k ≡ 17 → 64 < get_or table r 0 → true ≡ wrong_type s r
+  pub many-leaves : 64 < get_or table r 0 → true ≡ wrong_type s r
   unfolding wrong_type
-  many-leaves e l =
-      let m = counted e in
-      rw (pair-number, ← ek, e, lt-ltb 64 (leaves (type_at s r)) (omega arith)) (sym (or-true (ltb 0 (pair_below s (word_a s r) (word_b s r) r))))
+  many-leaves l =
+      let m = counted in
+      rw (p, lt-ltb 64 (leaves (type_at s r)) (omega arith)) (sym (or-true (ltb 0 (pair_below s (word_a s r) (word_b s r) r))))
 
-  pub few-leaves-fit : {v : ℕ} → k ≡ 17 → get_or table r 0 ≤ 64 → v ≡ lower_pair s r → not (eqb v 0) ≡ wrong_type s r
+  pub few-leaves-fit : {o : Option ℕ} → get_or table r 0 ≤ 64 → o ≡ some_record (lower_pair s r) → is_some o ≡ wrong_type s r
   unfolding wrong_type
-  few-leaves-fit {v} e l ev =
-      let m = counted e in
-      let lower : v ≡ pair_below s (word_a s r) (word_b s r) r = ev ∙ rw (pair-number, ← ek, e) in
-      rw (above_zero v, pair-number, ← ek, e, le-ltb 64 (leaves (type_at s r)) (omega arith), ← lower) (sym (or-false (ltb 0 v)))
+  few-leaves-fit {o} l e =
+      let m = counted in
+      rw (e, p, le-ltb 64 (leaves (type_at s r)) (omega arith)) (some (pair_below s (word_a s r) (word_b s r) r))
+    where
+      some : (v : ℕ) → is_some (some_record v) ≡ (ltb 0 v || false)
+      some zero = refl
+      some (suc v) = rw (lt-ltb 0 (suc v) (omega arith))

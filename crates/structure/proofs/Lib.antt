@@ -3,7 +3,6 @@ pub mod DepthCounts
 pub mod Depths
 pub mod LeafCounts
 pub mod Namers
-pub mod PairRecords
 pub mod PairSearch
 pub mod Passes
 pub mod WrongRecords

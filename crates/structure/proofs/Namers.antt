@@ -1,37 +1,24 @@
 -- The table of namings as words are added to it: a word that names record w turns w's entry into its own naming where there was
 -- none; leaves it where the word and all before it are words d; and turns it into 65,535 in all other cases. Assumes nothing.
-use mathlib.Core.Path.{◌≡◌, refl, sym, ◌∙◌, ap}
-use mathlib.Core.Bool.{Bool, true, false, cond, ◌&&◌, and-false, false≢true}
+use mathlib.Core.Path.{◌≡◌, refl, sym, ◌∙◌, ap, subst}
+use mathlib.Core.Bool.{Bool, true, false, not, cond, ◌&&◌, and-false, false≢true}
+use mathlib.Core.Logic.{◌⊎◌, inl, inr}
+use Rattle.std.specs.Prelude.{Option, Some, None, MatchOption, is_some}
 use mathlib.Core.List.{List, [], ◌∷◌, ◌++◌, append-nil, append_assoc}
-use Prim.Native.Nat.{ℕ, zero, suc, ◌+◌, ◌*◌, ◌%◌, ◌≤◌, ◌<◌}
+use Prim.Native.Nat.{ℕ, zero, suc, ◌+◌, ◌-◌, ◌*◌, ◌%◌, ◌≤◌, ◌<◌}
 use native.Mathlib.Omega.{arith}
-use native.Mathlib.Numerals.{add-one}
+use native.Mathlib.Numerals.{add-one, sub-one}
 use native.Mathlib.Decide.{ℕ_discrete}
-use borrow.Author.Tests.{eq-eqb, ne_eqb, le-leb, lt-leb, lt-ltb}
-use lib.Dec.{eqb, leb}
-use lib.ListN.{length, get_or, set, length-set}
-use lib.Seq.{get_or-set_same, get_or-set_other}
+use borrow.Author.Tests.{eq-eqb, ne_eqb, lt-ltb}
+use lib.Dec.{eqb}
+use lib.ListN.{get_or}
 use Rattle.records.specs.Words.{word, count}
-use Rattle.records.specs.Kinds.{
-  Ask,
-  zeroed,
-  next_of,
-  part,
-  any_type,
-  lower_type,
-  lower_flat,
-  constructor_of,
-  counted,
-  byte,
-  free,
-  total,
-  never,
-  sort_number,
-}
-use Rattle.records.specs.AskNumbers.{ask_number}
+use Rattle.records.specs.Kinds.{Ask}
 use Rattle.records.specs.Says.{ask_at, Naming, names, names_at, if_named, namings, namings_in, namings_below, by_word_d, well_named}
 use Rattle.records.proofs.Tests.{both_left, both_right}
 use Rattle.structure.specs.Rules.{wrong_naming}
+use Rattle.structure.specs.declared.naming.Naming as Coded
+use Rattle.structure.specs.NamerEntries.{NamingNoted}
 use Rattle.structure.specs.NamerTable.{summary, ByWords, NamingsAdded, NamingsHeld}
 
 -- one naming more
@@ -112,59 +99,41 @@ module _ {entry : ℕ} (m : Naming) (ns : List Naming) (words : ByWords ns) (e :
               let a : n.at ≡ 5 = omega (arith, v, same, d, words.0) in
               rw (well-by-d n ns m, d-after (n ∷ ns) m (all-by-d n ns w a) d) v
 
-names-number : (x : Ask) → names x ≡ leb 16 (ask_number x)
-names-number zeroed = refl
-names-number (next_of σ) = sym (le-leb 16 (16 + sort_number σ) (omega arith))
-names-number (part σ) = sym (le-leb 16 (32 + sort_number σ) (omega arith))
-names-number any_type = refl
-names-number lower_type = refl
-names-number lower_flat = refl
-names-number constructor_of = refl
-names-number counted = refl
-names-number byte = refl
-names-number free = refl
-names-number total = refl
-names-number never = refl
+-- an entry of 65,535 stays
+pub entry-badly : (m : Naming) (ns : List Naming) → ByWords ns → m.at < 6 → 65535 ≡ summary ns → 65535 ≡ summary (ns ++ m ∷ [])
+entry-badly m ns words l e = go (ℕ_discrete m.at 5)
+  where
+    go : Dec (m.at ≡ 5) → 65535 ≡ summary (ns ++ m ∷ [])
+    go (yes d) = entry-mixed m ns words e (λ z. omega arith) d (λ z. omega (arith, z, d))
+    go (no f) = entry-several m ns words e (λ z. omega arith) (omega (arith, l, f))
 
 module _ (s : List ℕ) (q k : ℕ) where
   abbrev added : ℕ → List Naming
   added r = if_named (names_at s r q k) q k
 
-  -- where nothing is named, or nothing in the table
-  unchanged : (before : List ℕ) → ((r : ℕ) → r < 4096 → names_at s r q k ≡ false) → NamingsAdded added before before
-  unchanged before none =
-      record { long = λ e. e; entries = λ r ns h words e. rw (none r h, append-nil) e }
+  -- a word that is noted adds what it names
+  pub adds-noted : (x : Ask) (w : ℕ) (before after : List ℕ) → x ≡ ask_at s q k → w ≡ word s q k
+      → NamingNoted (names x) w q k before after → NamingsAdded added before after
+  adds-noted x w before after ex ew noted = record {
+    long = λ e. noted.long ∙ e;
+    entries = λ r ns h words e. go r ns h words e (names x) refl (ℕ_discrete w r);
+  }
+    where
+      other : (r : ℕ) → names_at s r q k ≡ false → (names x ≡ true → r ≡ w → ⊥) → r < 4096 → (ns : List Naming)
+          → get_or before r 0 ≡ summary ns → get_or after r 0 ≡ summary (ns ++ added r)
+      other r f d h ns e = rw (f, append-nil) (noted.others r h d ∙ e)
 
-  pub adds-no-name : (a : ℕ) (before : List ℕ) → a ≡ ask_number (ask_at s q k) → a < 16 → NamingsAdded added before before
-  adds-no-name a before ea l =
-      unchanged before (λ r h. rw (names-number (ask_at s q k), ← ea, lt-leb 16 a l))
+      go : (r : ℕ) (ns : List Naming) → r < 4096 → ByWords ns → get_or before r 0 ≡ summary ns → (b : Bool) → names x ≡ b
+          → Dec (w ≡ r) → get_or after r 0 ≡ summary (ns ++ added r)
+      go r ns h words e false t d =
+          other r (rw (← ex, t)) (λ u p. false≢true (sym t ∙ u)) h ns e
+      go r ns h words e true t (no f) =
+          other r (rw (← ew, ne_eqb w r f, and-false)) (λ u p. f (sym p)) h ns e
+      go r ns h words e true t (yes p) =
+          rw (← ex, t, ← ew, eq-eqb w r p, ← p) (noted.here t (rw p h) ns words (rw p e))
 
-  pub adds-past : (w : ℕ) (before : List ℕ) → w ≡ word s q k → 4096 ≤ w → NamingsAdded added before before
-  adds-past w before ew l =
-      unchanged before (λ r h. rw (← ew, ne_eqb w r (omega arith), and-false))
-
-  module _ (a w : ℕ) (ea : a ≡ ask_number (ask_at s q k)) (l : 16 ≤ a) (ew : w ≡ word s q k) (before : List ℕ)
-      (long : w < length before) where
-    named : (r : ℕ) → w ≡ r → names_at s r q k ≡ true
-    named r e = rw (names-number (ask_at s q k), ← ea, le-leb 16 a l, ← ew, eq-eqb w r e)
-
-    other : (r : ℕ) → (w ≡ r → ⊥) → names_at s r q k ≡ false
-    other r f = rw (← ew, ne_eqb w r f, and-false)
-
-    -- the entry at w has what one naming more makes of it, and every other is as it was
-    pub adds-naming : (v : ℕ)
-        → ((ns : List Naming) → ByWords ns → get_or before w 0 ≡ summary ns → v ≡ summary (ns ++ (record { by = q; at = k } ∷ [])))
-        → NamingsAdded added before (set before w v)
-    adds-naming v at-w = record {
-      long = λ e. length-set before w v ∙ e;
-      entries = λ r ns h words e. go r ns words e (ℕ_discrete w r);
-    }
-      where
-        go : (r : ℕ) (ns : List Naming) → ByWords ns → get_or before r 0 ≡ summary ns → Dec (w ≡ r)
-            → get_or (set before w v) r 0 ≡ summary (ns ++ added r)
-        go r ns words e (yes p) =
-            rw (named r p, ← p, get_or-set_same before w v 0 long) (at-w ns words (ap (λ (x : ℕ). get_or before x 0) p ∙ e))
-        go r ns words e (no f) = rw (other r f, append-nil, get_or-set_other before w r v 0 (λ p. f (sym p))) e
+pub adds-nothing : (before : List ℕ) → NamingsAdded (λ _. []) before before
+adds-nothing before = record { long = λ e. e; entries = λ r ns h words e. rw append-nil e }
 
 -- namings are by words
 words_append : (xs ys : List Naming) → ByWords xs → ByWords ys → ByWords (xs ++ ys)
@@ -204,14 +173,18 @@ pub adds-to : (f g h : ℕ → List Naming) (before after : List ℕ) → ((r : 
 adds-to f g h before after e words p q =
     record { long = q.long p.long; entries = λ r l. rw (e r) (q.entries r (f r) l (words r) (p.entries r l)) }
 
--- the five words of a record, one after the other
-pub adds-words : (s : List ℕ) (q : ℕ) (t u v w x y : List ℕ) → NamingsAdded (added s q 1) t u → NamingsAdded (added s q 2) u v
-    → NamingsAdded (added s q 3) v w → NamingsAdded (added s q 4) w x → NamingsAdded (added s q 5) x y → NamingsAdded (λ r. namings_in s r q 5) t y
-adds-words s q t u v w x y a b c d e =
-    adds-both (λ r. namings_in s r q 4) (added s q 5) _ t x y (λ r. refl) (λ r. words-in s r q 4 (omega arith))
-    (adds-both (λ r. namings_in s r q 3) (added s q 4) _ t w x (λ r. refl) (λ r. words-in s r q 3 (omega arith))
-    (adds-both (λ r. namings_in s r q 2) (added s q 3) _ t v w (λ r. refl) (λ r. words-in s r q 2 (omega arith))
-    (adds-both (added s q 1) (added s q 2) _ t u v (λ r. refl) (λ r. words-in s r q 1 (omega arith)) a b) c) d) e
+-- one word more of a record
+pub adds-word : (s : List ℕ) (q k : ℕ) (before between after : List ℕ) → 1 ≤ k → k < 6
+    → NamingsAdded (λ r. namings_in s r q (k - 1)) before between → NamingsAdded (added s q k) between after
+    → NamingsAdded (λ r. namings_in s r q (k + 1 - 1)) before after
+adds-word s q zero before between after h l a b = absurd (omega arith)
+adds-word s q (suc k) before between after h l a b =
+    rw (add-one, sub-one)
+    (adds-both (λ r. namings_in s r q k) (added s q (suc k)) _ before between after (λ r. refl) (λ r. words-in s r q k (omega arith)) (rw sub-one at a) b)
+
+pub all-words : (s : List ℕ) (q k : ℕ) (before after : List ℕ) → k ≡ 6 → NamingsAdded (λ r. namings_in s r q (k - 1)) before after
+    → NamingsAdded (λ r. namings_in s r q 5) before after
+all-words s q k before after e a = subst (λ (m : ℕ). NamingsAdded (λ r. namings_in s r q (m - 1)) before after) e a
 
 -- a record is well named where its entry is neither 0 nor 65,535
 well : (ns : List Naming) → (summary ns ≡ 0 → ⊥) → (summary ns ≡ 65535 → ⊥) → well_named ns ≡ true
@@ -250,6 +223,21 @@ module _ (s table : List ℕ) (all : NamingsHeld (namings s) table) (r : ℕ) (h
         lt-ltb 0 r h,
         well (namings s r) (λ e. f (all.entries r l ∙ e)) (λ e. g (all.entries r l ∙ e)),
       )
+
+-- a record is wrongly named exactly where no word is given
+pub misnamed : (s table : List ℕ) (r : ℕ) → 0 < r → r < 4096 → NamingsHeld (namings s) table → (o : Option Coded.Naming)
+    → MatchOption o ((get_or table r 0 ≡ 0) ⊎ (get_or table r 0 ≡ 65535))
+    (λ n. (get_or table r 0 ≡ 8 * n.by + n.at + 1) × (n.at < 8) × (get_or table r 0 < 65535))
+    → (b : Bool) → is_some o ≡ not b → b ≡ wrong_naming s r
+misnamed s table r h l all None m true e = go m
+  where
+    go : (get_or table r 0 ≡ 0) ⊎ (get_or table r 0 ≡ 65535) → true ≡ wrong_naming s r
+    go (inl z) = sym (unnamed s table all r h l z)
+    go (inr z) = sym (named-badly s table all r h l z)
+misnamed s table r h l all None m false e = absurd (false≢true e)
+misnamed s table r h l all (Some n) m false e =
+    sym (named-well s table all r h l (λ z. omega (arith, m.0, z)) (λ z. omega (arith, m.2, z)))
+misnamed s table r h l all (Some n) m true e = absurd (false≢true (sym e))
 
 pub one-record-more : (s : List ℕ) (r q : ℕ) → namings_below s r (q + 1) ≡ namings_below s r q ++ namings_in s r q 5
 one-record-more s r q = rw (add-one q)

@@ -1,9 +1,10 @@
 -- The index of pair types as records are added to it. A search ends at one slot. A record put into the empty slot at which the
 -- search for its parts ended is found there, and a search for other parts that comes to it goes on to its own slots, which are
 -- empty, so it still finds nothing. Assumes nothing.
-use mathlib.Core.Path.{◌≡◌, refl, sym, ◌∙◌}
+use mathlib.Core.Path.{◌≡◌, refl, sym, ◌∙◌, ap}
 use mathlib.Core.Bool.{Bool, true, false, cond, false≢true}
 use mathlib.Core.List.{List}
+use Rattle.std.specs.Prelude.{None, is_some}
 use Prim.Native.Nat.{ℕ, zero, suc, ◌+◌, ◌*◌, ◌/◌, ◌%◌, ◌≤◌, ◌<◌}
 use native.Mathlib.Numerals.{add-one}
 use native.Mathlib.Omega.{arith}
@@ -13,10 +14,10 @@ use lib.ListN.{get_or, set, replicate, length-set, length-replicate}
 use lib.Seq.{get_or-set_same, get_or-set_other, set-get_or}
 use Rattle.records.specs.Words.{word, word_a, word_b}
 use Rattle.records.specs.Trees.{is_pair_of, pair_below}
-use Rattle.records.proofs.CodeTable.{pair-number}
+use Rattle.records.specs.Kinds.{is_pair}
+use Rattle.records.specs.Says.{kind_at}
 use Rattle.records.proofs.Pairs.{pair-with-parts}
-use Rattle.structure.proofs.PairRecords.{another-kind}
-use Rattle.structure.specs.PairIndex.{another, onwards, Ends, SlotFound, Linked, Indexed, lower_pair}
+use Rattle.structure.specs.PairIndex.{another, onwards, Ends, SlotFound, Linked, Indexed, lower_pair, some_record}
 
 -- no slot holds anything
 empty : (n i : ℕ) → ◌≡◌ {A = ℕ} (get_or (replicate n 0) i 0) 0
@@ -59,13 +60,13 @@ module _ (s index : List ℕ) (a b : ℕ) where
       go (suc q) z = omega arith
 
   -- a search that goes on comes to a later slot
-  pub goes_on : {m slot : ℕ} {r : Bool} → Linked m index → m ≤ 4096 → (bits : ℕ) → r ≡ another s index a b slot → r ≡ true
-      → (slot < onwards index slot bits) × (onwards index slot bits < 12288) × (another s index a b slot ≡ true)
-  goes_on {slot = slot} links few bits e t =
-      let on = sym e ∙ t in
+  pub goes_on : {m slot q : ℕ} → Linked m index → m ≤ 4096 → (bits : ℕ) → another s index a b slot ≡ true → q ≡ get_or index slot 0
+      → (q < m) × (slot < 4096 + 2 * q + bits % 2) × (4096 + 2 * q + bits % 2 < 12288)
+      × (4096 + 2 * q + bits % 2 ≡ onwards index slot bits)
+  goes_on {slot = slot} links few bits on e =
       let low = links.lower slot (another-some slot on) in
       let later = links.later slot (another-some slot on) in
-      (omega arith, omega arith, on)
+      (omega arith, omega arith, omega arith, rw e)
 
   same_end : (k l slot bits e f : ℕ) → Ends s index a b k slot bits e → Ends s index a b l slot bits f → e ≡ f
   same_end zero zero slot bits e f p q = sym p.1 ∙ q.1
@@ -206,19 +207,20 @@ header-pair s a b = go (is_pair_of s a b 0)
     go true = refl
     go false = refl
 
-module _ {s index : List ℕ} {r k : ℕ} (ix : Indexed s r index) (ek : k ≡ word s r 0) where
-  pub no-pair-noted : (k ≡ 17 → ⊥) → (0 ≡ lower_pair s r) × Indexed s (r + 1) index
+module _ {s index : List ℕ} {r : ℕ} (ix : Indexed s r index) where
+  pub no-pair-noted : is_pair (kind_at s r) ≡ false → (None ≡ some_record (lower_pair s r)) × Indexed s (r + 1) index
   no-pair-noted f = (
-    rw (pair-number, ← ek, ne_eqb k 17 f),
-    indexed-more ix (λ a b. next-pair s a b r (λ e. absurd (false≢true (another-kind s a b r ek f ∙ e)))),
+    rw f,
+    indexed-more ix (λ a b. next-pair s a b r (λ e. let z : is_pair_of s a b r ≡ false = rw f in absurd (false≢true (sym z ∙ e)))),
   )
 
-  module _ (e : k ≡ 17) {x y end : ℕ} (ex : x ≡ word s r 2) (ey : y ≡ word s r 3) (reached : SlotFound s index x y end) where
+  module _ (e : is_pair (kind_at s r) ≡ true) {x y end : ℕ} (ex : x ≡ word s r 2) (ey : y ≡ word s r 3) (reached : SlotFound s index x y end) where
     lower-found : get_or index end 0 ≡ lower_pair s r
-    lower-found = ix.finds x y end reached ∙ rw (ex, ey, pair-number, ← ek, e)
+    lower-found = ix.finds x y end reached ∙ rw (ex, ey, e)
 
-    pub lower-noted : (get_or index end 0 ≡ 0 → ⊥) → (get_or index end 0 ≡ lower_pair s r) × Indexed s (r + 1) index
-    lower-noted f = (lower-found, indexed-more ix (λ a b. next-pair s a b r (some a b)))
+    pub lower-noted : (get_or index end 0 ≡ 0 → ⊥)
+        → (some_record (get_or index end 0) ≡ some_record (lower_pair s r)) × Indexed s (r + 1) index
+    lower-noted f = (ap some_record lower-found, indexed-more ix (λ a b. next-pair s a b r (some a b)))
       where
         some : (a b : ℕ) → is_pair_of s a b r ≡ true → 0 < pair_below s a b r
         some a b t =
@@ -227,10 +229,19 @@ module _ {s index : List ℕ} {r k : ℕ} (ix : Indexed s r index) (ek : k ≡ w
             omega arith
 
     pub pair-noted : r < 4096 → get_or index end 0 ≡ 0
-        → (get_or index end 0 ≡ lower_pair s r) × Indexed s (r + 1) (set index end r)
-    pair-noted few free = (lower-found, go r refl)
+        → (some_record (get_or index end 0) ≡ some_record (lower_pair s r)) × Indexed s (r + 1) (set index end r)
+    pair-noted few free = (ap some_record lower-found, go r refl)
       where
         go : (q : ℕ) → r ≡ q → Indexed s (r + 1) (set index end r)
         go zero z =
             rw (z, ← free, set-get_or) (rw z at (indexed-more ix (λ a b. rw z (header-pair s a b))))
         go (suc q) z = noted-past ix few (omega arith) (rw (ex, ey) at reached) free
+
+-- what is given is 0 exactly where there is none
+pub none-given : (v : ℕ) → is_some (some_record v) ≡ false → v ≡ 0
+none-given zero e = refl
+none-given (suc v) e = absurd (false≢true (sym e))
+
+pub some-given : (v : ℕ) → is_some (some_record v) ≡ true → v ≡ 0 → ⊥
+some-given zero e z = false≢true e
+some-given (suc v) e z = omega arith

@@ -1,31 +1,46 @@
--- Codes 2 and 3 by what the code reads: the kind's number is 1 exactly at a header. Assumes nothing.
-use mathlib.Core.Path.{◌≡◌}
-use mathlib.Core.Bool.{Bool, true, false, not}
+-- Codes 2 and 3 by what the code reads: the kind is that of a header exactly at a header. Assumes nothing.
+use mathlib.Core.Path.{◌≡◌, refl}
+use mathlib.Core.Bool.{Bool, true, false, not, ◌&&◌}
 use mathlib.Core.List.{List}
 use Prim.Native.Nat.{ℕ, ◌<◌}
 use native.Mathlib.Omega.{arith}
-use borrow.Author.Tests.{ne_eqb, lt-ltb}
-use Rattle.records.specs.Words.{word}
-use Rattle.records.specs.Says.{well_said}
-use Rattle.records.proofs.CodeTable.{header-number}
+use borrow.Author.Tests.{lt-ltb}
+use denote.Enum.Bare.{sameb}
+use Rattle.records.specs.contracts.kinds.Kind.{the_type}
+use Rattle.records.specs.declared.kinds.Kind.{Kind}
+use Rattle.records.specs.declared.kinds.Kind.TheVariants.{Header}
+use Rattle.records.specs.Kinded.{kind_meant}
+use Rattle.records.specs.Says.{kind_at, well_said}
+use Rattle.records.proofs.Tests.{never_both}
+use Rattle.records.proofs.Kinded.{same-header}
 use Rattle.structure.specs.Rules.{wrong_header, wrong_record}
 
-module _ (s : List ℕ) {k : ℕ} (said : Bool) where
-  pub header-tested : k ≡ word s 0 0 → k ≡ 1 → said ≡ well_said s 0 → not said ≡ wrong_header s
-  unfolding wrong_header
-  header-tested ek e1 es = rw (header-number, ← ek, e1, es)
-
-  pub no_header : k ≡ word s 0 0 → (k ≡ 1 → ⊥) → true ≡ wrong_header s
-  unfolding wrong_header
-  no_header ek n1 = rw (header-number, ← ek, ne_eqb k 1 n1)
-
-  pub second-header : (r : ℕ) → 0 < r → k ≡ word s r 0 → k ≡ 1 → true ≡ wrong_record s r
+module _ (s : List ℕ) (r : ℕ) (k : Kind) {b : Bool} where
+  pub second-header : 0 < r → kind_meant k ≡ kind_at s r → b ≡ sameb the_type k Header → b ≡ true → b ≡ wrong_record s r
   unfolding wrong_record
-  second-header r h ek e1 = rw (lt-ltb 0 r h, header-number, ← ek, e1)
+  second-header h ek eb et = rw (lt-ltb 0 r h, ← ek, ← same-header k, ← eb, et)
 
-  pub record-tested : (r : ℕ) → 0 < r → k ≡ word s r 0 → (k ≡ 1 → ⊥) → said ≡ well_said s r → not said ≡ wrong_record s r
+  pub record-tested : {said : Bool} → 0 < r → kind_meant k ≡ kind_at s r → b ≡ sameb the_type k Header → b ≡ false → said ≡ well_said s r
+      → not said ≡ wrong_record s r
   unfolding wrong_record
-  record-tested r h ek n1 es = rw (lt-ltb 0 r h, header-number, ← ek, ne_eqb k 1 n1, es)
+  record-tested {said} h ek eb ef es = rw (lt-ltb 0 r h, ← ek, ← same-header k, ← eb, ef, es)
+
+module _ (s : List ℕ) (k : Kind) {b : Bool} (ek : kind_meant k ≡ kind_at s 0) (eb : b ≡ not (sameb the_type k Header)) where
+  pub no_header : b ≡ true → b ≡ wrong_header s
+  unfolding wrong_header
+  no_header et = rw (← ek, ← same-header k) (go (sameb the_type k Header) eb)
+    where
+      go : (t : Bool) → b ≡ not t → b ≡ not (t && well_said s 0)
+      go true e = absurd (never_both b et e)
+      go false e = e
+
+  pub header-tested : {said : Bool} → b ≡ false → said ≡ well_said s 0 → not said ≡ wrong_header s
+  unfolding wrong_header
+  header-tested {said} ef es = rw (← ek, ← same-header k, es) (go (sameb the_type k Header) eb)
+    where
+      go : (t : Bool) → b ≡ not t → not (well_said s 0) ≡ not (t && well_said s 0)
+      go true e = refl
+      go false e = absurd (never_both b e ef)
 
 -- the header is no record that code 3 speaks of
 pub not-the-header : (s : List ℕ) (q : ℕ) → q < 1 → wrong_record s q ≡ false

@@ -1,6 +1,6 @@
 -- Tables of how deep each record below a number lies, and in how many feedbacks' defining parts, one byte a record. A depth above
 -- 64 stands as 65, a nesting above 3 as 4.
-use Rattle.std.specs.Prelude.{ℕ, min, ◌≤◌, ◌<◌, ◌≡◌, List, length, get_or}
+use Rattle.std.specs.Prelude.{ℕ, min, ◌<◌, ◌≡◌, List, length, get_or}
 use Rattle.records.specs.Limits.{most_records}
 use Rattle.records.specs.Sized.{Sized}
 use Rattle.records.specs.Says.{namings}

@@ -3,6 +3,8 @@
 pub mod Rules
 -- What functions ask and give, and their proofs need:
 pub mod NamerTable
+pub mod NamerEntries
 pub mod LeafTable
 pub mod DepthTable
 pub mod PairIndex
+pub mod Search

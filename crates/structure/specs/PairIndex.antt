@@ -2,7 +2,7 @@
 -- the pair type of a and b begins at slot a. Where a slot holds a pair type of other parts, it goes on at one of the two slots
 -- that belong to that type, by the lowest bit of b, then by the next. A first part from 4,096 on, which no sheet that passes code
 -- 3 has, begins at its rest by 4,096.
-use Rattle.std.specs.Prelude.{ℕ, zero, suc, ◌+◌, ◌*◌, ◌/◌, ◌%◌, ◌≤◌, ◌<◌, ◌≡◌, Bool, true, false, cond, not, ◌&&◌, List, length, get_or, eqb}
+use Rattle.std.specs.Prelude.{ℕ, zero, suc, ◌+◌, ◌*◌, ◌/◌, ◌%◌, ◌≤◌, ◌<◌, ◌≡◌, Bool, true, false, cond, not, ◌&&◌, List, length, get_or, eqb, Option, Some, None}
 use Rattle.records.specs.Limits.{most_records}
 use Rattle.records.specs.Words.{word_a, word_b}
 use Rattle.records.specs.Kinds.{is_pair}
@@ -46,3 +46,8 @@ pub record Indexed (s : List ℕ) (m : ℕ) (index : List ℕ) : Type 0 where
 -- the lowest pair type below record r with the parts of r, 0 where there is none
 abbrev pub lower_pair : List ℕ → ℕ → ℕ
 lower_pair s r = cond (is_pair (kind_at s r)) (pair_below s (word_a s r) (word_b s r) r) 0
+
+-- a record that a slot or a search gives, where 0 stands for none
+abbrev pub some_record : ℕ → Option ℕ
+some_record zero = None
+some_record (suc r) = Some (suc r)

@@ -5,10 +5,12 @@ mod depth;
 mod naming;
 mod pairs;
 mod said;
+mod search;
 mod types;
 
-pub use depth::{first_too_deep, no_depths, place_all};
-pub use naming::{first_wrong_naming, no_namings, note_all};
-pub use pairs::{PairIndex, no_pairs, pair_of};
+pub use depth::Placements;
+pub use naming::{Naming, NamingTable};
+pub use pairs::PairIndex;
 pub use said::{first_wrong_record, wrong_header};
+pub use search::lowest_record;
 pub use types::{capped_sum, count_types, first_wrong_type, no_leaves};

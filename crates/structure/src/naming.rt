@@ -1,102 +1,154 @@
 // Which words name each record: code 4.
-ghost use Rattle.std.specs.Prelude.{◌≡◌, ℕ, ◌≤◌, ◌<◌, length, List, [], ◌∷◌, ◌++◌};
-ghost use Rattle.records.specs.Words.{kind_word};
-ghost use Rattle.records.specs.AskNumbers.{ask_numbers};
-ghost use Rattle.records.specs.Kinds.{row_of};
-ghost use Rattle.records.specs.Sized.{Sized};
-ghost use Rattle.records.specs.Says.{Naming, namings, namings_in, names_at, if_named};
+ghost use Rattle.std.specs.Prelude.{◌≡◌, ℕ, ◌+◌, ◌*◌, ◌<◌, ◌⊎◌, List, [], ◌∷◌, ◌++◌, get_or, MatchOption};
+ghost use Rattle.records.specs.Words.{count};
+ghost use Rattle.records.specs.Limits.{most_records};
+ghost use Rattle.records.specs.Kinded.{ask_meant};
+ghost use Rattle.records.specs.Says.{Naming as SaidNaming, names, namings, namings_in};
 ghost use Rattle.answers.specs.Answers.{lowest};
 ghost use Rattle.answers.specs.Searches.{found};
 ghost use Rattle.structure.specs.Rules.{wrong_naming};
-ghost use Rattle.structure.specs.NamerTable.{summary, ByWords, NamingsAdded, NamingsHeld};
-ghost use Rattle.records.specs.Limits.{most_records};
+ghost use Rattle.structure.specs.NamerTable.{summary, named_several, ByWords, NamingsAdded, NamingsHeld};
+ghost use Rattle.structure.specs.NamerEntries.{entry_of, FitsEntry, NamingNoted};
 
-use answers::Found;
-use records::{
-    NAMED_SEVERAL, NAMES, Namers, RECORDS, WORD_A, WORD_B, WORD_C, WORD_D, WORD_KIND, WORD_NEXT,
-    WORDS, asks, word,
-};
+use crate::search::lowest_record;
+use records::{Ask, RECORDS, Sheet, WORD_D, WORD_NEXT, WORDS};
+use std::marker::Model;
 
-// The entry of a record that is well named, first by word k of record q, is this number times q, plus k + 1.
-pub const NAMER_STEP: usize = 8;
-
-// A table of namings with no naming in it.
-pub fn no_namings() -> Namers
-    ensures { NamingsHeld (λ _. []) result }
-{
-    [0; RECORDS]
+// A word that names a record: the record that it stands in, and its number there.
+#[derive(Clone, Copy, Debug, PartialEq, Eq)]
+pub struct Naming {
+    pub by: usize,
+    pub at: usize,
 }
 
-// A record's entry where word k of record q names it too: several words d share a pattern and leave the first one's entry.
-fn with_naming(entry: u16, q: usize, k: usize) -> u16
-    requires { (q < most_records) × (k < 6) }
-    ensures { (ns : List Naming) → ByWords ns → entry ≡ summary ns → result ≡ summary (ns ++ (record { by = q; at = k } ∷ [])) }
-{
-    if entry == 0 {
-        return (NAMER_STEP * q + k + 1) as u16;
-    }
-    if k < WORD_D {
-        return NAMED_SEVERAL;
-    }
-    if entry as usize % NAMER_STEP != k + 1 {
-        return NAMED_SEVERAL;
-    }
-    entry
+// How a record is named.
+#[derive(Clone, Copy, Debug, PartialEq, Eq)]
+enum Named {
+    Nowhere,
+    // Well, and first by this word; several words d share a pattern.
+    Well(Naming),
+    Badly,
 }
 
-// Adds to the table what word k of record q names, where `asks` is what the words of its kind ask.
-fn note_word(sheet: &[u8], n: usize, q: usize, asks: &[usize; WORDS], k: usize, namers: &mut Namers)
-    requires { Sized sheet.now n × (q < n) × (asks.now ≡ ask_numbers (row_of (kind_word sheet.now q))) × (0 < k) × (k < 6) × (length namers.old ≡ most_records) }
-    ensures { NamingsAdded (λ r. if_named (names_at sheet.now r q k) q k) namers.old namers.new }
-{
-    if NAMES <= asks[k] {
-        let w = word(sheet, n, q, k);
-        if w < RECORDS {
-            namers[w] = with_naming(namers[w], q, k);
+// In 16 bits a record that is well named is this number times the record that first names it, plus one more than the word's number.
+const NAMER_STEP: usize = 8;
+
+const NAMED_BADLY: u16 = 65535;
+
+impl From<u16> for Named {
+    ghost from_gives = { λ entry named. (entry_of named ≡ entry) × FitsEntry named };
+
+    fn from(entry: u16) -> Named {
+        match entry {
+            0 => Named::Nowhere,
+            NAMED_BADLY => Named::Badly,
+            _ => {
+                let word = usize::from(entry) - 1;
+                Named::Well(Naming {
+                    by: word / NAMER_STEP,
+                    at: word % NAMER_STEP,
+                })
+            }
         }
     }
 }
 
-// Adds to the table what the words of record q name.
-fn note_record(sheet: &[u8], n: usize, q: usize, namers: &mut Namers)
-    requires { Sized sheet.now n × (q < n) × (length namers.old ≡ most_records) }
-    ensures { NamingsAdded (λ r. namings_in sheet.now r q 5) namers.old namers.new }
-{
-    let asks = asks(word(sheet, n, q, WORD_KIND));
-    note_word(sheet, n, q, &asks, WORD_NEXT, namers);
-    note_word(sheet, n, q, &asks, WORD_A, namers);
-    note_word(sheet, n, q, &asks, WORD_B, namers);
-    note_word(sheet, n, q, &asks, WORD_C, namers);
-    note_word(sheet, n, q, &asks, WORD_D, namers);
-}
+impl Named {
+    fn entry(self) -> u16
+        requires { FitsEntry self }
+        ensures { result ≡ entry_of self }
+    {
+        match self {
+            Named::Nowhere => 0,
+            Named::Well(first) => (NAMER_STEP * first.by + first.at + 1) as u16,
+            Named::Badly => NAMED_BADLY,
+        }
+    }
 
-// Fills an empty table with what every record names.
-pub fn note_all(sheet: &[u8], n: usize, namers: &mut Namers)
-    requires { Sized sheet.now n × NamingsHeld (λ _. []) namers.old }
-    ensures { NamingsHeld (namings sheet.now) namers.new }
-{
-    let mut q = 0;
-    while q < n {
-        note_record(sheet, n, q, namers);
-        q += 1;
+    // How a record is named that one word more names.
+    fn with(self, naming: Naming) -> Named
+        requires { FitsEntry self × (naming.by < most_records) × (naming.at < 6) }
+        ensures summed { (ns : List SaidNaming) → ByWords ns → entry_of self ≡ summary ns → entry_of result ≡ summary (ns ++ (record { by = naming.by; at = naming.at } ∷ [])) }
+        ensures fits { FitsEntry result }
+    {
+        match self {
+            Named::Nowhere => Named::Well(naming),
+            Named::Well(first) if naming.at == WORD_D && first.at == naming.at => self,
+            _ => Named::Badly,
+        }
     }
 }
 
-// The lowest record that is not well named: code 4.
-pub fn first_wrong_naming(n: usize, namers: &Namers) -> Found
-    requires { (n ≤ most_records) × (length namers.now ≡ most_records) }
-    ensures { (s : List ℕ) → NamingsHeld (namings s) namers.now → found result ≡ lowest (wrong_naming s) n }
-{
-    let mut rec = 1;
-    while rec < n {
-        let namer = namers[rec];
-        if namer == 0 {
-            return Found::At(rec);
+// How each record is named, in 16 bits each.
+#[derive(Drop)]
+pub struct NamingTable {
+    entries: [u16; RECORDS],
+}
+
+impl Model for NamingTable {
+    ghost Value = { List ℕ };
+
+    ghost view = { λ n. n.entries };
+}
+
+impl NamingTable {
+    // What the records of a sheet name.
+    pub fn of(sheet: &Sheet) -> NamingTable
+        ensures { NamingsHeld (namings sheet.now) result }
+    {
+        let mut table = NamingTable {
+            entries: [0; RECORDS],
+        };
+        for q in 0..sheet.records() {
+            table.note_record(sheet, q);
         }
-        if namer == NAMED_SEVERAL {
-            return Found::At(rec);
-        }
-        rec += 1;
+        table
     }
-    Found::Nothing
+
+    // Adds what the words of record q name.
+    fn note_record(&mut self, sheet: &Sheet, q: usize)
+        requires { (q < count sheet.now) × (q < most_records) }
+        ensures { NamingsAdded (λ r. namings_in sheet.now r q 5) self.old self.new }
+    {
+        let asks = sheet.kind(q).asks();
+        for at in WORD_NEXT..WORDS {
+            self.note(asks[at], sheet.word(q, at), Naming { by: q, at });
+        }
+    }
+
+    // Adds what a word with rec in it names, by what is asked of it.
+    fn note(&mut self, ask: Ask, rec: usize, naming: Naming)
+        requires { (naming.by < most_records) × (naming.at < 6) }
+        ensures { NamingNoted (names (ask_meant ask)) rec naming.by naming.at self.old self.new }
+    {
+        if ask.names() && rec < RECORDS {
+            self.entries[rec] = Named::from(self.entries[rec]).with(naming).entry();
+        }
+    }
+
+    // The word that names a record, the first where several share a pattern, if it is well named.
+    pub fn namer(&self, rec: usize) -> Option<Naming>
+        requires { rec < most_records }
+        ensures { MatchOption result ((get_or self.now rec 0 ≡ 0) ⊎ (get_or self.now rec 0 ≡ named_several)) (λ naming. (get_or self.now rec 0 ≡ 8 * naming.by + naming.at + 1) × (naming.at < 8) × (get_or self.now rec 0 < named_several)) }
+    {
+        match Named::from(self.entries[rec]) {
+            Named::Well(first) => Some(first),
+            Named::Nowhere | Named::Badly => None,
+        }
+    }
+
+    // Whether a record is not well named.
+    fn is_wrong(&self, rec: usize) -> bool
+        requires { (0 < rec) × (rec < most_records) }
+        ensures { (s : List ℕ) → NamingsHeld (namings s) self.now → result ≡ wrong_naming s rec }
+    {
+        self.namer(rec).is_none()
+    }
+
+    // The lowest record that is not well named: code 4.
+    pub fn first_wrong(&self, sheet: &Sheet) -> Option<usize>
+        ensures { NamingsHeld (namings sheet.now) self.now → found result ≡ lowest (wrong_naming sheet.now) (count sheet.now) }
+    {
+        lowest_record(sheet, 1, |rec| self.is_wrong(rec))
+    }
 }

@@ -1,45 +1,31 @@
 // What the records say against the table: codes 2 and 3.
 ghost use Rattle.std.specs.Prelude.{◌≡◌, ◌<◌};
-ghost use Rattle.records.specs.Sized.{Sized};
+ghost use Rattle.records.specs.Words.{count};
 ghost use Rattle.answers.specs.Answers.{lowest};
 ghost use Rattle.answers.specs.Searches.{found};
 ghost use Rattle.structure.specs.Rules.{wrong_header, wrong_record};
 
-use answers::Found;
-use records::{KIND_HEADER, WORD_KIND, well_said, word};
+use crate::search::lowest_record;
+use records::{Kind, Sheet};
 
 // Whether the header breaks its rule: code 2.
-pub fn wrong_header(sheet: &[u8], n: usize) -> bool
-    requires { Sized sheet.now n }
+pub fn wrong_header(sheet: &Sheet) -> bool
     ensures { result ≡ wrong_header sheet.now }
 {
-    if word(sheet, n, 0, WORD_KIND) == KIND_HEADER {
-        return !well_said(sheet, n, 0);
-    }
-    true
+    let header = sheet.header();
+    sheet.kind(header) != Kind::Header || !sheet.well_said(header)
 }
 
 // Whether a record says something against the table: code 3.
-fn wrong_record(sheet: &[u8], n: usize, rec: usize) -> bool
-    requires { Sized sheet.now n × (0 < rec) × (rec < n) }
+fn wrong_record(sheet: &Sheet, rec: usize) -> bool
+    requires { (0 < rec) × (rec < count sheet.now) }
     ensures { result ≡ wrong_record sheet.now rec }
 {
-    if word(sheet, n, rec, WORD_KIND) == KIND_HEADER {
-        return true;
-    }
-    !well_said(sheet, n, rec)
+    sheet.kind(rec) == Kind::Header || !sheet.well_said(rec)
 }
 
-pub fn first_wrong_record(sheet: &[u8], n: usize) -> Found
-    requires { Sized sheet.now n }
-    ensures { found result ≡ lowest (wrong_record sheet.now) n }
+pub fn first_wrong_record(sheet: &Sheet) -> Option<usize>
+    ensures { found result ≡ lowest (wrong_record sheet.now) (count sheet.now) }
 {
-    let mut rec = 1;
-    while rec < n {
-        if wrong_record(sheet, n, rec) {
-            return Found::At(rec);
-        }
-        rec += 1;
-    }
-    Found::Nothing
+    lowest_record(sheet, 1, |rec| wrong_record(sheet, rec))
 }

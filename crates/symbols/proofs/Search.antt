@@ -6,17 +6,22 @@ use native.Mathlib.Numerals.{add-one}
 use native.Mathlib.Decide.{ℕ_discrete, dec_lt}
 use mathlib.Core.Path.{◌≡◌, refl, sym, ap, ap₂, subst, ◌∙◌}
 use mathlib.Core.Bool.{Bool, true, false, cond}
-use mathlib.Core.List.{List, [], ◌∷◌}
+use mathlib.Core.List.{List}
 use lib.ListN.{length, get_or, set, length-set, replicate, get_or-replicate, length-replicate}
 use lib.Seq.{get_or-set_same, get_or-set_other}
 use lib.Dec.{T, eqb, eqb→eq}
 use borrow.Author.Tests.{eq-eqb, ne_eqb}
+use Rattle.std.proofs.lemmas.Grind.{get_or_default_zero}
 use Rattle.name_rules.specs.Declared.{same_name}
 use Rattle.name_rules.proofs.SameName.{same-equal}
 use Rattle.symbols.specs.Names.{letters_at, Inside, hash_of, nearest, last_hashed, Hashed}
 
 abbrev pub entry_name : (text spans : List ℕ) → ℕ → List ℕ
 entry_name text spans k = letters_at text (get_or spans k 0)
+
+-- as it is read, with any default
+pub entry-read : (text spans : List ℕ) (k x : ℕ) → k < length spans → letters_at text (get_or spans k x) ≡ entry_name text spans k
+entry-read text spans k x h = ap (letters_at text) (get_or_default_zero spans k x h)
 
 -- one of two by a test, with what the test says
 choose : (a b : ℕ) (P : ℕ → Type 0) (x y : ℕ) → (a ≡ b → P x) → ((a ≡ b → ⊥) → P y) → P (cond (eqb a b) x y)
@@ -47,7 +52,7 @@ module _ (text spans : List ℕ) where
       go true h = omega arith
       go false h = omega arith
 
-  last-below : (b m : ℕ) → last_hashed text spans b m ≤ m
+  pub last-below : (b m : ℕ) → last_hashed text spans b m ≤ m
   last-below b zero = omega arith
   last-below b (suc k) =
       let h = last-below b k in
@@ -90,42 +95,34 @@ module _ (text spans : List ℕ) where
           ap (nearest text spans w) f ∙ passed_over w limit n ∙ ap (λ x. nearest text spans w (min limit x)) (sym e),
         )
 
-    pub search-found : (k : ℕ) → (k ≡ 0 → ⊥) → k ≤ limit → nearest text spans w limit ≡ nearest text spans w (min limit k)
-        → true ≡ same_name w (entry_name text spans (k - 1)) → k ≡ nearest text spans w limit
-    search-found k nz l e s =
-        let f : min limit k ≡ suc (k - 1) = omega (arith, nz) in
-        let g : suc (k - 1) ≡ k = omega (arith, nz) in
-        sym (e ∙ ap (nearest text spans w) f ∙ ap (λ x. cond x (suc (k - 1)) (nearest text spans w (k - 1))) (sym s) ∙ g)
+    -- the entry k, of a link
+    module _ (link k : ℕ) (is : link ≡ suc k) (e : nearest text spans w limit ≡ nearest text spans w (min limit link)) where
+      pub search-found : k < limit → true ≡ same_name w (entry_name text spans k) → suc k ≡ nearest text spans w limit
+      search-found l s =
+          let f : min limit link ≡ suc k = omega arith in
+          sym (e ∙ ap (nearest text spans w) f ∙ ap (λ x. cond x (suc k) (nearest text spans w k)) (sym s))
 
-    pub search-ended : (k : ℕ) → k ≡ 0 → nearest text spans w limit ≡ nearest text spans w (min limit k) → 0 ≡ nearest text spans w limit
-    search-ended k z e = let f : min limit k ≡ 0 = omega arith in sym (e ∙ ap (nearest text spans w) f)
-
-    -- the entry before k with its hash
-    pub search-next : (k j : ℕ) → (k ≡ 0 → ⊥) → k ≤ n → nearest text spans w limit ≡ nearest text spans w (min limit k)
-        → (k ≤ limit → false ≡ same_name w (entry_name text spans (k - 1)))
-        → HasHash text spans (hash_of w) k → j ≡ last_hashed text spans (hash_of (entry_name text spans (k - 1))) (k - 1)
-        → (j ≤ n) × HasHash text spans (hash_of w) j × (nearest text spans w limit ≡ nearest text spans w (min limit j)) × (j < k)
-    search-next k j nz l e s h f =
-        let g : j ≡ last_hashed text spans (hash_of w) (k - 1) = f ∙ ap (λ b. last_hashed text spans b (k - 1)) (h (k - 1) (omega (arith, nz))) in
-        let low' : j ≤ k - 1 = subst (λ x. x ≤ k - 1) (sym g) (last-below (hash_of w) (k - 1)) in (
-          omega (arith, low'),
-          subst (HasHash text spans (hash_of w)) (sym g) (last-hash (hash_of w) (k - 1)),
-          e ∙ one_less (dec_lt limit k) ∙ passed_over w limit (k - 1) ∙ ap (λ x. nearest text spans w (min limit x)) (sym g),
-          omega (arith, low', nz),
-        )
-      where
-        one_less : Dec (limit < k) → nearest text spans w (min limit k) ≡ nearest text spans w (min limit (k - 1))
-        one_less (yes m) = let o : min limit k ≡ min limit (k - 1) = omega arith in ap (nearest text spans w) o
-        one_less (no m) =
-            let o : min limit k ≡ suc (k - 1) = omega (arith, m, nz) in
-            let r : min limit (k - 1) ≡ k - 1 = omega (arith, m) in
-            ap (nearest text spans w) o
-            ∙ ap (λ x. cond x (suc (k - 1)) (nearest text spans w (k - 1))) (sym (s (omega (arith, m))))
-            ∙ sym (ap (nearest text spans w) r)
-
--- an entry above the limit is not compared
-pub search-passed : {x y : Bool} {k limit : ℕ} → k ≤ limit → limit < k → x ≡ y
-search-passed h l = absurd (omega arith)
+      -- the entry before it with its hash
+      pub search-next : (j : ℕ) → link ≤ n → (k < limit → false ≡ same_name w (entry_name text spans k))
+          → HasHash text spans (hash_of w) link → j ≡ last_hashed text spans (hash_of (entry_name text spans k)) k
+          → (j ≤ n) × HasHash text spans (hash_of w) j × (nearest text spans w limit ≡ nearest text spans w (min limit j)) × (j < link)
+      search-next j l s h f =
+          let g : j ≡ last_hashed text spans (hash_of w) k = f ∙ ap (λ b. last_hashed text spans b k) (h k is) in
+          let low' : j ≤ k = subst (λ x. x ≤ k) (sym g) (last-below (hash_of w) k) in (
+            omega (arith, low'),
+            subst (HasHash text spans (hash_of w)) (sym g) (last-hash (hash_of w) k),
+            e ∙ one_less (dec_lt limit link) ∙ passed_over w limit k ∙ ap (λ x. nearest text spans w (min limit x)) (sym g),
+            omega (arith, low'),
+          )
+        where
+          one_less : Dec (limit < link) → nearest text spans w (min limit link) ≡ nearest text spans w (min limit k)
+          one_less (yes m) = let o : min limit link ≡ min limit k = omega arith in ap (nearest text spans w) o
+          one_less (no m) =
+              let o : min limit link ≡ suc k = omega (arith, m) in
+              let r : min limit k ≡ k = omega (arith, m) in
+              ap (nearest text spans w) o
+              ∙ ap (λ x. cond x (suc k) (nearest text spans w k)) (sym (s (omega (arith, m))))
+              ∙ sym (ap (nearest text spans w) r)
 
 -- no name
 pub none-hashed : (text spans links : List ℕ) → length spans ≡ 65536 → length links ≡ 65536 → Hashed text 0 spans links (replicate 4096 0)

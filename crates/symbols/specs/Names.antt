@@ -1,6 +1,6 @@
 -- The names of a text by their places in it, and the table that finds them: for each hash the last name with it, and from each name the
 -- last one before it with the same hash. What a search finds is said without the hashes.
-use Rattle.std.specs.Prelude.{ℕ, zero, suc, ◌+◌, ◌*◌, ◌/◌, ◌%◌, ◌≤◌, ◌<◌, ◌≡◌, Bool, cond, List, [], ◌∷◌, length, take, drop, get_or, eqb, leb}
+use Rattle.std.specs.Prelude.{ℕ, zero, suc, ◌+◌, ◌*◌, ◌/◌, ◌%◌, ◌≤◌, ◌<◌, ◌≡◌, cond, List, [], ◌∷◌, length, take, drop, get_or, eqb, Option, None, Some}
 use Rattle.grammar.specs.Sizes.{text_table}
 use Rattle.name_rules.specs.Declared.{Role, a_type, a_constructor, DeclaredName, declared_as, same_name, at_first}
 use Rattle.name_rules.specs.TokenWalk.{role_in}
@@ -43,6 +43,11 @@ abbrev pub last_hashed : (text spans : List ℕ) (hash : ℕ) → ℕ → ℕ
 last_hashed text spans hash zero = 0
 last_hashed text spans hash (suc k) =
     cond (eqb (hash_of (letters_at text (get_or spans k 0))) hash) (suc k) (last_hashed text spans hash k)
+
+-- an entry that was found, counted from 1, or 0
+abbrev pub entry_number : Option ℕ → ℕ
+entry_number None = 0
+entry_number (Some k) = suc k
 
 -- the table of the first n names
 pub record Hashed (text : List ℕ) (n : ℕ) (spans links heads : List ℕ) : Type 0 where

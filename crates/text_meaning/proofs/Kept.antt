@@ -24,7 +24,7 @@ use Rattle.meaning.specs.Rules.{ReducesSeq, s_end, s_cycle}
 use Rattle.meaning.proofs.FlattenOneToOne.{flatten-onto}
 use Rattle.stimulus.specs.Stimulus.{input_type, cycle_count, cycles, pieces, end_to_end}
 use Rattle.answers.specs.Answers.{packed}
-use Rattle.answers.specs.declared.Verdict.TheVariants.{Accepted}
+use Rattle.answers.specs.Answers.{Accepted}
 use Rattle.verdict.specs.Verdict.{verdict}
 use Rattle.behaviour.specs.Run.{answer, final_out, final_next}
 use Rattle.behaviour.proofs.ByRules.{pieces-back, call_by_rules}

@@ -13,7 +13,7 @@ use Rattle.records.specs.Says.{well_said, namings}
 use Rattle.records.specs.Trees.{type_within, type_at, pair_of, chain_within, chain, alternatives_within, alternatives, tree_within, tree_at, circuit}
 use Rattle.structure.specs.Rules.{ancestry_within, ancestry, depth, nesting, wrong_length, wrong_header, wrong_record, wrong_naming, wrong_type, too_deep}
 use Rattle.answers.specs.Answers.{lowest}
-use Rattle.answers.specs.declared.Verdict.TheVariants.{Accepted, WrongRecord, WrongType, TooDeep, IllTyped}
+use Rattle.answers.specs.Answers.{Accepted, WrongRecord, WrongType, TooDeep, IllTyped}
 use Rattle.verdict.specs.Verdict.{by_types, by_records, verdict}
 use Rattle.grammar.specs.Source.{Identifier, identifier, Declaration, Constructors, PairOf, Text, text}
 use Rattle.grammar.specs.Source.{OfConstructor, Undefined, ConstantPair, Alone, PatternPair, Either}

@@ -17,8 +17,8 @@ use Rattle.records.specs.SheetOf.{sheet_of}
 use Rattle.answers.specs.Answers.{code, verdict_answer, lowest}
 use Rattle.answers.specs.Promises.{LowestBreaking}
 use Rattle.answers.proofs.Kept as Answers
-use Rattle.answers.specs.declared.Verdict.{Verdict}
-use Rattle.answers.specs.declared.Verdict.TheVariants.{Accepted, WrongRecord, WrongType, TooDeep, IllTyped}
+use Rattle.answers.specs.Answers.{Verdict}
+use Rattle.answers.specs.Answers.{Accepted, WrongRecord, WrongType, TooDeep, IllTyped}
 use Rattle.structure.specs.Rules.{wrong_length, wrong_header, wrong_record, wrong_naming, wrong_type, too_deep}
 use Rattle.typing.specs.Judgements.{judgements, first_failing}
 use Rattle.records.specs.Trees.{circuit, type_at, TypeRecord}

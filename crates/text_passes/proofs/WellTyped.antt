@@ -19,7 +19,7 @@ use Rattle.records.specs.Kinds.{types}
 use Rattle.records.specs.Trees.{type_at, TypeRecord, Declared}
 use Rattle.answers.specs.Answers.{lowest}
 use Rattle.answers.proofs.Kept as Answers
-use Rattle.answers.specs.declared.Verdict.TheVariants.{Accepted}
+use Rattle.answers.specs.Answers.{Accepted}
 use Rattle.structure.specs.Rules.{Passes}
 use Rattle.verdict.specs.Verdict.{verdict}
 use Rattle.accepted.proofs.Laws.{exact}

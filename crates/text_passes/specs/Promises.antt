@@ -8,7 +8,7 @@ use Rattle.records.specs.Says.{namings}
 use Rattle.records.specs.Trees.{type_at}
 use Rattle.answers.specs.Answers.{code, verdict_answer}
 use Rattle.answers.specs.Promises.{LowestBreaking}
-use Rattle.answers.specs.declared.Verdict.TheVariants.{Accepted, WrongRecord, WrongType, TooDeep, IllTyped}
+use Rattle.answers.specs.Answers.{Accepted, WrongRecord, WrongType, TooDeep, IllTyped}
 use Rattle.verdict.specs.Verdict.{verdict}
 use Rattle.grammar.specs.Tokens.{Token}
 use Rattle.grammar.specs.Source.{Declaration, Text}

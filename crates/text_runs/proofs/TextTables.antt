@@ -8,6 +8,10 @@ use native.Mathlib.Omega.{arith}
 use lib.ListN.{length, take, replicate, length-append, length-replicate, length-take}
 use lib.Dec.{T, leb, leb→le}
 use Rattle.symbols.specs.Names.{place_of, count_of, Inside}
+use Rattle.instructions.specs.Instruction.{Instruction}
+use Rattle.instructions.specs.Code.{instructions_held}
+use Rattle.instructions.specs.declared.Op.{Op}
+use Rattle.instructions.specs.declared.Op.TheVariants.{DeclareType, CountConstructor, InputHas, UseName, UseConstant, OpenRec, OpenIf, OpenDelay, Close, CloseIf, BeginPattern, MatchOne, UseLeaf, EndConstant}
 use Rattle.text_table.specs.SheetRows.{sheet_rows}
 use Rattle.text_runs.specs.RunRows.{text_at}
 
@@ -31,22 +35,28 @@ pub inside-parity : (span : ℕ) → T (leb (place_of span + count_of span) 165)
 unfolding parity_text
 inside-parity span h = leb→le (place_of span + count_of span) 165 h
 
--- a table of 65,536 entries, with zeros after the first
-pub some_zeros : ℕ → List ℕ
-some_zeros n = replicate n 0
+-- a table of 65,536 entries, with one and the same after the first
+unfoldable pub copies : {A : Type 0} → A → ℕ → List A
+copies x n = replicate n x
 
-zeros-many : (n : ℕ) → length (some_zeros n) ≡ n
-unfolding some_zeros
-zeros-many n = length-replicate {A = ℕ} n 0
+copies-many : {A : Type 0} (x : A) (n : ℕ) → length (copies x n) ≡ n
+unfolding copies
+copies-many {A} x n = length-replicate {A = A} n x
+
+abbrev pub padded_with : {A : Type 0} → A → List A → List A
+padded_with x xs = xs ++ copies x (65536 - length xs)
+
+pub padded-with-long : {A : Type 0} (x : A) (xs : List A) → length xs ≤ 65536 → length (padded_with x xs) ≡ 65536
+padded-with-long x xs h =
+    let a = length-append xs (copies x (65536 - length xs)) in
+    let b = copies-many x (65536 - length xs) in
+    omega (arith, a, b)
 
 abbrev pub padded : List ℕ → List ℕ
-padded xs = xs ++ some_zeros (65536 - length xs)
+padded xs = padded_with 0 xs
 
 pub padded-long : (xs : List ℕ) → length xs ≤ 65536 → length (padded xs) ≡ 65536
-padded-long xs h =
-    let a = length-append xs (some_zeros (65536 - length xs)) in
-    let b = zeros-many (65536 - length xs) in
-    omega (arith, a, b)
+padded-long xs h = padded-with-long 0 xs h
 
 pub taken-long : (n : ℕ) (xs : List ℕ) → length xs ≤ 65536 → length (padded (take n xs)) ≡ 65536
 taken-long n xs h = padded-long (take n xs) (let l = length-take n xs in omega (arith, l))
@@ -55,20 +65,18 @@ pub four-long : (a b c d : ℕ) → length (padded (a ∷ b ∷ c ∷ d ∷ []))
 four-long a b c d = padded-long (a ∷ b ∷ c ∷ d ∷ []) (omega arith)
 
 -- the instructions of T in text order
-abbrev pub text_ops : List ℕ
-text_ops = 0 ∷ 1 ∷ 1 ∷ 4 ∷ 10 ∷ 12 ∷ 24 ∷ 28 ∷ 11 ∷ 5 ∷ 17 ∷ 19 ∷ 11 ∷ 5 ∷ 17 ∷ 19 ∷ 6 ∷ 6 ∷ 16 ∷ 5 ∷ 16 ∷ 15 ∷ 5 ∷ 15 ∷ []
+abbrev text_ops : List Op
+text_ops =
+    DeclareType ∷ CountConstructor ∷ CountConstructor ∷ InputHas ∷ OpenRec ∷ OpenDelay ∷ UseLeaf ∷ EndConstant
+    ∷ OpenIf ∷ UseName ∷ BeginPattern ∷ MatchOne ∷ OpenIf ∷ UseName ∷ BeginPattern ∷ MatchOne ∷ UseConstant
+    ∷ UseConstant ∷ CloseIf ∷ UseName ∷ CloseIf ∷ Close ∷ UseName ∷ Close ∷ []
 
-abbrev pub text_firsts : List ℕ
+abbrev text_firsts : List ℕ
 text_firsts = 0 ∷ 0 ∷ 0 ∷ 1 ∷ 1 ∷ 58 ∷ 1 ∷ 68 ∷ 71 ∷ 1 ∷ 80 ∷ 1 ∷ 98 ∷ 0 ∷ 103 ∷ 1 ∷ 1 ∷ 1 ∷ 132 ∷ 0 ∷ 140 ∷ 141 ∷ 0 ∷ 148 ∷ []
 
-abbrev pub text_seconds : List ℕ
+abbrev text_seconds : List ℕ
 text_seconds = 0 ∷ 0 ∷ 0 ∷ 0 ∷ 0 ∷ 0 ∷ 2 ∷ 0 ∷ 0 ∷ 0 ∷ 0 ∷ 1 ∷ 0 ∷ 0 ∷ 0 ∷ 2 ∷ 1 ∷ 2 ∷ 0 ∷ 0 ∷ 0 ∷ 0 ∷ 0 ∷ 0 ∷ []
 
-abbrev pub ops : ℕ → List ℕ
-ops n = padded (take n text_ops)
-
-abbrev pub firsts_table : ℕ → List ℕ
-firsts_table n = padded (take n text_firsts)
-
-abbrev pub seconds_table : ℕ → List ℕ
-seconds_table n = padded (take n text_seconds)
+-- the first n of them, the last on top
+abbrev pub table_code : ℕ → List Instruction
+table_code n = instructions_held (padded_with DeclareType text_ops) (padded text_firsts) (padded text_seconds) n

@@ -1,79 +1,86 @@
 -- What the functions ask of their callers that keep a text's names is not contradictory: on the text of sheet T there is an instance of each
--- record that a `requires` of `symbols` or `scoping` names. The tables are those that the walk over T has at a token, which a comment
+-- struct of `symbols` or `scoping`, with its invariants, and of what a `requires` asks of it. The tables are those that the walk over T has at a token, which a comment
 -- names by its place. T declares no pair type: for `note_pair` the text is that of the parity checker.
 -- Assumes nothing.
-use Prim.Native.Nat.{ℕ, zero, suc, ◌≤◌, ◌<◌}
-use mathlib.Core.Path.{◌≡◌, refl, subst}
+use Prim.Native.Nat.{ℕ, zero, suc, ◌+◌, ◌≤◌, ◌<◌}
+use mathlib.Core.Path.{◌≡◌, refl, subst, ◌∙◌}
 use mathlib.Core.List.{List, [], ◌∷◌}
 use native.Mathlib.Omega.{arith}
 use lib.ListN.{length, get_or, set, replicate}
 use Rattle.name_rules.specs.Declared.{declared_as, a_type, a_constructor, at_first}
 use Rattle.name_rules.specs.TokenWalk.{scope}
+use Rattle.std.proofs.Common.{Bor}
+use Rattle.std.proofs.lemmas.List.{length-map}
 use Rattle.symbols.specs.Names.{Inside, Hashed, Roles, declared_role, BoundRoles}
+use Rattle.symbols.specs.RoleNumbers.{role_code, role_codes}
+use Rattle.symbols.specs.declared.meanings.Role.{Role}
+use Rattle.symbols.specs.declared.meanings.Role.TheVariants.{TypeName, Constructor, Unknown}
+use Rattle.symbols.specs.declared.tables.NameTable.{NameTable}
 use Rattle.symbols.proofs.Search.{none-hashed, hashed-more}
-use Rattle.scoping.specs.Scoped.{admission_table, held_scope, Scoping}
-use Rattle.text_runs.proofs.TextTables.{toggle_text, inside, parity_text, inside-parity, padded, padded-long, four-long}
+use Rattle.scoping.specs.Held.{held}
+use Rattle.scoping.specs.declared.scopes.Scope.{Scope}
+use Rattle.text_runs.proofs.TextTables.{toggle_text, inside, parity_text, inside-parity, padded_with, padded-with-long, padded, padded-long, four-long}
 
 -- The names of T, each by its place and letters: bit, one and two are declared, x is bound.
-abbrev pub spans₀ : List ℕ
+abbrev spans₀ : List ℕ
 spans₀ = padded (0 ∷ 0 ∷ 0 ∷ 0 ∷ [])
 
 abbrev spans₁ : List ℕ
 spans₁ = padded (163 ∷ 0 ∷ 0 ∷ 0 ∷ [])
 
-abbrev pub spans₂ : List ℕ
+abbrev spans₂ : List ℕ
 spans₂ = padded (163 ∷ 355 ∷ 0 ∷ 0 ∷ [])
 
 abbrev spans₃ : List ℕ
 spans₃ = padded (163 ∷ 355 ∷ 547 ∷ 0 ∷ [])
 
-abbrev pub spans₄ : List ℕ
+abbrev spans₄ : List ℕ
 spans₄ = padded (163 ∷ 355 ∷ 547 ∷ 1697 ∷ [])
 
 pub heads₀ : List ℕ
 heads₀ = replicate 4096 0
 
 -- their hashes are 3341, 3686, 588 and 120
-abbrev pub heads₁ : List ℕ
+abbrev heads₁ : List ℕ
 heads₁ = set heads₀ 3341 1
 
-abbrev pub heads₂ : List ℕ
+abbrev heads₂ : List ℕ
 heads₂ = set heads₁ 3686 2
 
-abbrev pub heads₃ : List ℕ
+abbrev heads₃ : List ℕ
 heads₃ = set heads₂ 588 3
 
-abbrev pub heads₄ : List ℕ
+abbrev heads₄ : List ℕ
 heads₄ = set heads₃ 120 4
 
-abbrev pub links₁ : List ℕ
+abbrev links₁ : List ℕ
 links₁ = set spans₀ 0 (get_or heads₀ 3341 0)
 
-abbrev pub links₂ : List ℕ
+abbrev links₂ : List ℕ
 links₂ = set links₁ 1 (get_or heads₁ 3686 0)
 
-abbrev pub links₃ : List ℕ
+abbrev links₃ : List ℕ
 links₃ = set links₂ 2 (get_or heads₂ 588 0)
 
-abbrev pub links₄ : List ℕ
+abbrev links₄ : List ℕ
 links₄ = set links₃ 3 (get_or heads₃ 120 0)
 
 none-hashed-yet : (text : List ℕ) → Hashed text 0 spans₀ spans₀ heads₀
 unfolding heads₀
 none-hashed-yet text = none-hashed text spans₀ spans₀ (four-long 0 0 0 0) (four-long 0 0 0 0)
 
-hashed₀ : Hashed toggle_text 0 spans₀ spans₀ heads₀
+pub hashed₀ : Hashed toggle_text 0 spans₀ spans₀ heads₀
 hashed₀ = none-hashed-yet toggle_text
 
 hashed₁ : Hashed toggle_text 1 spans₁ links₁ heads₁
 unfolding toggle_text
 hashed₁ = hashed-more hashed₀ 163 3341 (inside 163 tt) (omega arith) refl (omega arith)
 
-hashed₂ : Hashed toggle_text 2 spans₂ links₂ heads₂
+pub hashed₂ : Hashed toggle_text 2 spans₂ links₂ heads₂
 unfolding toggle_text
 hashed₂ = hashed-more hashed₁ 355 3686 (inside 355 tt) (omega arith) refl (omega arith)
 
-hashed₃ : Hashed toggle_text 3 spans₃ links₃ heads₃
+pub hashed₃ : Hashed toggle_text 3 spans₃ links₃ heads₃
 unfolding toggle_text
 hashed₃ = hashed-more hashed₂ 547 588 (inside 547 tt) (omega arith) refl (omega arith)
 
@@ -81,158 +88,215 @@ pub hashed₄ : Hashed toggle_text 4 spans₄ links₄ heads₄
 unfolding toggle_text
 hashed₄ = hashed-more hashed₃ 1697 120 (inside 1697 tt) (omega arith) refl (omega arith)
 
+-- the tables of names: of no name, of those before `two`, with it, and with x
+abbrev lent : List ℕ → Bor (List ℕ)
+lent text = record { ref_ptr = (0, 0); now = text }
+
+abbrev names₀ : NameTable
+names₀ = record { text = lent toggle_text; count = 0; spans = spans₀; links = spans₀; heads = heads₀; hashed = hashed₀ }
+
+abbrev names₂ : NameTable
+names₂ = record { text = lent toggle_text; count = 2; spans = spans₂; links = links₂; heads = heads₂; hashed = hashed₂ }
+
+abbrev names₃ : NameTable
+names₃ = record { text = lent toggle_text; count = 3; spans = spans₃; links = links₃; heads = heads₃; hashed = hashed₃ }
+
+abbrev names₄ : NameTable
+names₄ = record { text = lent toggle_text; count = 4; spans = spans₄; links = links₄; heads = heads₄; hashed = hashed₄ }
+
 -- the roles of the declared names: a type and two constructors; x is none of them
-abbrev pub roles₂ : List ℕ
-roles₂ = padded (0 ∷ 1 ∷ 0 ∷ 0 ∷ [])
+abbrev roles : List Role → List Role
+roles rs = padded_with Unknown rs
 
-abbrev pub roles₃ : List ℕ
-roles₃ = padded (0 ∷ 1 ∷ 1 ∷ 0 ∷ [])
+abbrev roles₀ : List Role
+roles₀ = roles []
 
-abbrev pub roles₄ : List ℕ
-roles₄ = padded (0 ∷ 1 ∷ 1 ∷ 4 ∷ [])
+abbrev roles₂ : List Role
+roles₂ = roles (TypeName ∷ Constructor ∷ Unknown ∷ Unknown ∷ [])
 
-pub roles-of : (c d base : ℕ) → c < 2 → base ≤ 3 → Roles (padded (0 ∷ 1 ∷ c ∷ d ∷ [])) base
-roles-of c d base h l = record { roles_long = four-long 0 1 c d; few_roles = λ k m. few k (omega arith) }
-  where
-    few : (k : ℕ) → k < 3 → get_or (padded (0 ∷ 1 ∷ c ∷ d ∷ [])) k 0 < 2
-    few zero m = omega arith
-    few (suc zero) m = omega arith
-    few (suc (suc zero)) m = h
-    few (suc (suc (suc k))) m = absurd (omega arith)
+abbrev pub roles₃ : List Role
+roles₃ = roles (TypeName ∷ Constructor ∷ Constructor ∷ Unknown ∷ [])
 
-no-roles : Roles spans₀ 0
-no-roles = record { roles_long = four-long 0 0 0 0; few_roles = λ k m. absurd (omega arith) }
+abbrev pub roles₄ : List Role
+roles₄ = roles (TypeName ∷ Constructor ∷ Constructor ∷ Unknown ∷ [])
 
-none-bound : (text spans roles : List ℕ) (base : ℕ) → BoundRoles text spans roles base base
+roles-long : (rs : List Role) → length rs ≤ 65536 → length (role_codes (roles rs)) ≡ 65536
+roles-long rs h = length-map (roles rs) role_code ∙ padded-with-long Unknown rs h
+
+roles-of : (c d : Role) (base : ℕ) → ((k : ℕ) → k < base → get_or (role_codes (roles (TypeName ∷ Constructor ∷ c ∷ d ∷ []))) k 0 < 2)
+    → Roles (role_codes (roles (TypeName ∷ Constructor ∷ c ∷ d ∷ []))) base
+roles-of c d base f = record { roles_long = roles-long (TypeName ∷ Constructor ∷ c ∷ d ∷ []) (omega arith); few_roles = f }
+
+first-two : (c d : Role) (k : ℕ) → k < 2 → get_or (role_codes (roles (TypeName ∷ Constructor ∷ c ∷ d ∷ []))) k 0 < 2
+first-two c d zero h = omega arith
+first-two c d (suc zero) h = omega arith
+first-two c d (suc (suc k)) h = absurd (omega arith)
+
+first-three : (d : Role) (k : ℕ) → k < 3 → get_or (role_codes (roles (TypeName ∷ Constructor ∷ Constructor ∷ d ∷ []))) k 0 < 2
+first-three d zero h = omega arith
+first-three d (suc zero) h = omega arith
+first-three d (suc (suc zero)) h = omega arith
+first-three d (suc (suc (suc k))) h = absurd (omega arith)
+
+pub named₂ : Roles (role_codes roles₂) 2
+named₂ = roles-of Unknown Unknown 2 (first-two Unknown Unknown)
+
+pub named₃ : Roles (role_codes roles₃) 3
+named₃ = roles-of Constructor Unknown 3 (first-three Unknown)
+
+pub no-roles : Roles (role_codes roles₀) 0
+no-roles = record { roles_long = roles-long [] (omega arith); few_roles = λ k m. absurd (omega arith) }
+
+pub none-bound : (text spans roles : List ℕ) (base : ℕ) → BoundRoles text spans roles base base
 none-bound text spans roles base k l h = absurd (omega arith)
 
-pub x-bound : BoundRoles toggle_text spans₄ roles₄ 3 4
+pub x-bound : BoundRoles toggle_text spans₄ (role_codes roles₄) 3 4
 unfolding toggle_text
 x-bound k l h =
     let e : 3 ≡ k = omega arith in
-    subst (λ j. get_or roles₄ j 0 ≡ declared_role toggle_text spans₄ roles₄ 3 (get_or spans₄ j 0)) e refl
+    subst (λ j. get_or (role_codes roles₄) j 0 ≡ declared_role toggle_text spans₄ (role_codes roles₄) 3 (get_or spans₄ j 0)) e refl
 
 -- Crate `symbols`.
-hash-asks : Inside toggle_text 3233
-hash-asks = inside 3233 tt
+span-asks : 1 < 32
+span-asks = omega arith
 
--- x where it is used, at 101, and where it is bound, at 53
-same-asks : Inside toggle_text 3233 × Inside toggle_text 1697
-same-asks = (inside 3233 tt, inside 1697 tt)
+letters-asks : Inside toggle_text 3233
+letters-asks = inside 3233 tt
 
-is-input-asks : Inside toggle_text 2373
-is-input-asks = inside 2373 tt
-
-find-name-asks : Hashed toggle_text 4 spans₄ links₄ heads₄ × Inside toggle_text 3233 × (4 ≤ 4)
-find-name-asks = (hashed₄, inside 3233 tt, omega arith)
+find-asks : Inside names₄.text.now 3233 × (4 ≤ names₄.count)
+find-asks = (inside 3233 tt, omega arith)
 
 -- x is bound
-push-name-asks : Hashed toggle_text 3 spans₃ links₃ heads₃ × Inside toggle_text 1697 × (3 < 65536)
-push-name-asks = (hashed₃, inside 1697 tt, omega arith)
+push-asks : Inside names₃.text.now 1697 × (names₃.count < 65536)
+push-asks = (inside 1697 tt, omega arith)
 
 -- the last bracket
-pop-name-asks : Hashed toggle_text 4 spans₄ links₄ heads₄ × (0 < 4)
-pop-name-asks = (hashed₄, omega arith)
+pop-asks : 0 < names₄.count
+pop-asks = omega arith
 
-role-asks : Hashed toggle_text 4 spans₄ links₄ heads₄ × Inside toggle_text 3233 × (4 ≤ 4) × (3 ≤ 4) × Roles roles₄ 3
-role-asks = (hashed₄, inside 3233 tt, omega arith, omega arith, roles-of 1 4 3 (omega arith) (omega arith))
+role-asks : Inside names₄.text.now 3233 × (4 ≤ names₄.count) × (3 ≤ 4) × Roles (role_codes roles₄) 3
+role-asks = (inside 3233 tt, omega arith, omega arith, named₃)
 
 -- `two` in the pattern at 111; so asks `find_declared` too
-declared-role-asks : Hashed toggle_text 4 spans₄ links₄ heads₄ × Inside toggle_text 3555 × (3 ≤ 4) × Roles roles₄ 3
-    × BoundRoles toggle_text spans₄ roles₄ 3 4
-declared-role-asks = (hashed₄, inside 3555 tt, omega arith, roles-of 1 4 3 (omega arith) (omega arith), x-bound)
+declared-role-asks : Inside names₄.text.now 3555 × (3 ≤ names₄.count) × Roles (role_codes roles₄) 3
+    × BoundRoles names₄.text.now names₄.spans (role_codes roles₄) 3 names₄.count
+declared-role-asks = (inside 3555 tt, omega arith, named₃, x-bound)
 
--- Crate `scoping`. `two` is declared as a constructor.
-declare-name-asks : Hashed toggle_text 2 spans₂ links₂ heads₂ × Inside toggle_text 547 × (2 < 65536) × Roles roles₂ 2 × (1 < 2)
-declare-name-asks = (hashed₂, inside 547 tt, omega arith, roles-of 0 0 2 (omega arith) (omega arith), omega arith)
-
-bind-name-asks : Hashed toggle_text 3 spans₃ links₃ heads₃ × Inside toggle_text 1697 × (3 < 65536) × (3 ≤ 3) × Roles roles₃ 3
-    × BoundRoles toggle_text spans₃ roles₃ 3 3
-bind-name-asks =
-    (hashed₃, inside 1697 tt, omega arith, omega arith, roles-of 1 0 3 (omega arith) (omega arith), none-bound toggle_text spans₃ roles₃ 3)
-
--- the type's name is kept until `one`, its first constructor
+-- Crate `scoping`. The type's name is kept until `one`, its first constructor.
 abbrev pub pendings : List ℕ
 pendings = padded (163 ∷ [])
 
-pendings_long : length pendings ≡ 65536
-pendings_long = padded-long (163 ∷ []) (omega arith)
+pub pendings-long : length pendings ≡ 65536
+pendings-long = padded-long (163 ∷ []) (omega arith)
 
-bit-pending : (k : ℕ) → k < 1 → Inside toggle_text (get_or pendings k 0)
+pub bit-pending : (k : ℕ) → k < 1 → Inside toggle_text (get_or pendings k 0)
 bit-pending zero h = inside 163 tt
 bit-pending (suc k) h = absurd (omega arith)
 
-scoping-at-one : (room : ℕ) → 1 ≤ room → room ≤ 65536 → Scoping toggle_text room 0 0 1 spans₀ spans₀ heads₀ spans₀ pendings
-scoping-at-one room l h = record {
-  hashed = hashed₀;
+pub none-pending : (text : List ℕ) (k : ℕ) → k < 0 → Inside text (get_or pendings k 0)
+none-pending text k h = absurd (omega arith)
+
+-- at `one`, at the first `two`, after it, and at x at 101, in `IF x MATCHES two`
+abbrev pub scope_one : Scope
+scope_one = record {
+  names = names₀;
+  roles = roles₀;
+  base = 0;
+  pendings = pendings;
+  waiting = 1;
+  above = omega arith;
   named = no-roles;
-  bound_roles = none-bound toggle_text spans₀ spans₀ 0;
-  above = omega arith;
-  pendings_long = pendings_long;
+  bound_roles = none-bound toggle_text spans₀ (role_codes roles₀) 0;
+  pendings_long = pendings-long;
+  few_waiting = omega arith;
   pendings_inside = bit-pending;
-  few = l;
-  roomy = h;
 }
 
-scoping-at-two : Scoping toggle_text 65534 2 2 0 spans₂ links₂ heads₂ roles₂ pendings
-scoping-at-two = record {
-  hashed = hashed₂;
-  named = roles-of 0 0 2 (omega arith) (omega arith);
-  bound_roles = none-bound toggle_text spans₂ roles₂ 2;
+abbrev pub scope_two : Scope
+scope_two = record {
+  names = names₂;
+  roles = roles₂;
+  base = 2;
+  pendings = pendings;
+  waiting = 0;
   above = omega arith;
-  pendings_long = pendings_long;
-  pendings_inside = λ k m. absurd (omega arith);
-  few = omega arith;
-  roomy = omega arith;
+  named = named₂;
+  bound_roles = none-bound toggle_text spans₂ (role_codes roles₂) 2;
+  pendings_long = pendings-long;
+  few_waiting = omega arith;
+  pendings_inside = none-pending toggle_text;
 }
 
--- x at 101, in `IF x MATCHES two`
-pub scoping-at-x : (room : ℕ) → 4 ≤ room → room ≤ 65536 → Scoping toggle_text room 3 4 0 spans₄ links₄ heads₄ roles₄ pendings
-scoping-at-x room l h = record {
-  hashed = hashed₄;
-  named = roles-of 1 4 3 (omega arith) (omega arith);
+abbrev pub scope_three : Scope
+scope_three = record {
+  names = names₃;
+  roles = roles₃;
+  base = 3;
+  pendings = pendings;
+  waiting = 0;
+  above = omega arith;
+  named = named₃;
+  bound_roles = none-bound toggle_text spans₃ (role_codes roles₃) 3;
+  pendings_long = pendings-long;
+  few_waiting = omega arith;
+  pendings_inside = none-pending toggle_text;
+}
+
+abbrev pub scope_x : Scope
+scope_x = record {
+  names = names₄;
+  roles = roles₄;
+  base = 3;
+  pendings = pendings;
+  waiting = 0;
+  above = omega arith;
+  named = named₃;
   bound_roles = x-bound;
-  above = omega arith;
-  pendings_long = pendings_long;
-  pendings_inside = λ k m. absurd (omega arith);
-  few = l;
-  roomy = h;
+  pendings_long = pendings-long;
+  few_waiting = omega arith;
+  pendings_inside = none-pending toggle_text;
 }
 
 -- the names in scope there
-scope-at-x : held_scope toggle_text 3 4 0 spans₄ roles₄ pendings
+scope-at-x : held scope_x
     ≡ scope [] ((120 ∷ []) ∷ [])
     (declared_as (116 ∷ 119 ∷ 111 ∷ []) a_constructor ∷ declared_as (111 ∷ 110 ∷ 101 ∷ []) a_constructor ∷ declared_as (98 ∷ 105 ∷ 116 ∷ []) a_type ∷ at_first)
 unfolding toggle_text
 scope-at-x = refl
 
-declare-pending-asks : Scoping toggle_text 65535 0 0 1 spans₀ spans₀ heads₀ spans₀ pendings
-declare-pending-asks = scoping-at-one 65535 (omega arith) (omega arith)
+-- `two` is declared as a constructor
+declare-asks : Inside scope_two.names.text.now 547 × (scope_two.names.count < 65536) × (scope_two.base ≡ scope_two.names.count) × (role_code Constructor < 2)
+declare-asks = (inside 547 tt, omega arith, refl, omega arith)
 
-name-holds-asks : Hashed toggle_text 4 spans₄ links₄ heads₄ × Inside toggle_text 3233 × (3 ≤ 4) × Roles roles₄ 3
-    × BoundRoles toggle_text spans₄ roles₄ 3 4 × (13 < 47) × (admission_table ≡ admission_table)
-name-holds-asks =
-    (hashed₄, inside 3233 tt, omega arith, roles-of 1 4 3 (omega arith) (omega arith), x-bound, omega arith, refl)
+bind-asks : Inside scope_three.names.text.now 1697 × (scope_three.names.count < 65536)
+bind-asks = (inside 1697 tt, omega arith)
 
-note-first-asks : Scoping toggle_text 65534 0 0 1 spans₀ spans₀ heads₀ spans₀ pendings × Inside toggle_text 355 × (4 < 47)
-    × (admission_table ≡ admission_table)
-note-first-asks = (scoping-at-one 65534 (omega arith) (omega arith), inside 355 tt, omega arith, refl)
+declare-pending-asks : (scope_one.base ≡ scope_one.names.count) × (scope_one.base + scope_one.waiting ≤ 65535)
+declare-pending-asks = (refl, omega arith)
 
-note-next-asks : Scoping toggle_text 65534 2 2 0 spans₂ links₂ heads₂ roles₂ pendings × Inside toggle_text 547 × (6 < 47)
-    × (admission_table ≡ admission_table)
-note-next-asks = (scoping-at-two, inside 547 tt, omega arith, refl)
+-- so ask `NameRule::at` and `Effect::at` of the state
+admits-asks : Inside scope_x.names.text.now 3233 × (13 < 47)
+admits-asks = (inside 3233 tt, omega arith)
 
--- so asks `note` of `resolving` too
-note-name-asks : Scoping toggle_text 65534 3 4 0 spans₄ links₄ heads₄ roles₄ pendings × Inside toggle_text 3233 × (13 < 47)
-    × (admission_table ≡ admission_table)
-note-name-asks = (scoping-at-x 65534 (omega arith) (omega arith), inside 3233 tt, omega arith, refl)
+effect-asks : (13 < 47) × (10 < 18)
+effect-asks = (omega arith, omega arith)
 
--- the last bracket
-note-other-asks : Scoping toggle_text 65534 3 4 0 spans₄ links₄ heads₄ roles₄ pendings
-note-other-asks = note-name-asks.0
+note-first-asks : Inside scope_one.names.text.now 355 × (scope_one.names.count + scope_one.waiting < 65535) × (4 < 47)
+note-first-asks = (inside 355 tt, omega arith, omega arith)
+
+note-next-asks : Inside scope_two.names.text.now 547 × (scope_two.names.count + scope_two.waiting < 65535) × (6 < 47)
+note-next-asks = (inside 547 tt, omega arith, omega arith)
+
+-- so asks `note_token` of `resolving` too
+note-name-asks : Inside scope_x.names.text.now 3233 × (scope_x.names.count + scope_x.waiting < 65535) × (13 < 47)
+note-name-asks = (inside 3233 tt, omega arith, omega arith)
+
+-- the last bracket; so ask `bind_pending` and `unbind` too
+note-other-asks : scope_x.names.count + scope_x.waiting < 65535
+note-other-asks = omega arith
 
 -- the second `bit` of `TYPE two = (bit, bit)`, at 39 in the parity checker: bit, hi and lo are declared, and two is kept for later
-abbrev pub parity_spans : List ℕ
+abbrev parity_spans : List ℕ
 parity_spans = padded (163 ∷ 354 ∷ 514 ∷ 0 ∷ [])
 
 abbrev parity_heads : List ℕ
@@ -241,7 +305,7 @@ parity_heads = set heads₁ 3329 2
 abbrev parity_links : List ℕ
 parity_links = set (set links₁ 1 (get_or heads₁ 3329 0)) 2 (get_or parity_heads 3459 0)
 
-parity-hashed : Hashed parity_text 3 parity_spans parity_links (set parity_heads 3459 3)
+pub parity-hashed : Hashed parity_text 3 parity_spans parity_links (set parity_heads 3459 3)
 unfolding parity_text
 parity-hashed =
     hashed-more
@@ -250,27 +314,34 @@ parity-hashed =
     354 3329 (inside-parity 354 tt) (omega arith) refl (omega arith))
     514 3459 (inside-parity 514 tt) (omega arith) refl (omega arith)
 
-abbrev pub two_pending : List ℕ
+abbrev two_pending : List ℕ
 two_pending = padded (867 ∷ [])
 
-two-pending : (k : ℕ) → k < 1 → Inside parity_text (get_or two_pending k 0)
+pub two-pending : (k : ℕ) → k < 1 → Inside parity_text (get_or two_pending k 0)
 two-pending zero h = inside-parity 867 tt
 two-pending (suc k) h = absurd (omega arith)
 
-note-pair-asks : Scoping parity_text 65534 3 3 1 parity_spans parity_links (set parity_heads 3459 3) roles₃ two_pending × Inside parity_text 1251 × (9 < 47)
-    × (admission_table ≡ admission_table)
-note-pair-asks = (
-  record {
+abbrev pub scope_pair : Scope
+scope_pair = record {
+  names = record {
+    text = lent parity_text;
+    count = 3;
+    spans = parity_spans;
+    links = parity_links;
+    heads = set parity_heads 3459 3;
     hashed = parity-hashed;
-    named = roles-of 1 0 3 (omega arith) (omega arith);
-    bound_roles = none-bound parity_text parity_spans roles₃ 3;
-    above = omega arith;
-    pendings_long = padded-long (867 ∷ []) (omega arith);
-    pendings_inside = two-pending;
-    few = omega arith;
-    roomy = omega arith;
-  },
-  inside-parity 1251 tt,
-  omega arith,
-  refl,
-)
+  };
+  roles = roles₃;
+  base = 3;
+  pendings = two_pending;
+  waiting = 1;
+  above = omega arith;
+  named = named₃;
+  bound_roles = none-bound parity_text parity_spans (role_codes roles₃) 3;
+  pendings_long = padded-long (867 ∷ []) (omega arith);
+  few_waiting = omega arith;
+  pendings_inside = two-pending;
+}
+
+note-pair-asks : Inside scope_pair.names.text.now 1251 × (scope_pair.names.count + scope_pair.waiting < 65535) × (9 < 47)
+note-pair-asks = (inside-parity 1251 tt, omega arith, omega arith)

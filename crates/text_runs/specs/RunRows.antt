@@ -2,10 +2,10 @@
 -- t + 1 if there have been an even number of hi's on the input signal input during the closed time interval [0, t]. At time zero it
 -- outputs hi." Where an input was undefined, so are the outputs after it. Outputs were found by hand.
 use Rattle.std.specs.Prelude.{ℕ, zero, suc, ◌≡◌, List, [], ◌∷◌, length, replicate}
-use Rattle.records.specs.SheetOf.{Record, sheet_of}
-use Rattle.answers.specs.declared.Answer.TheVariants.{Done}
+use Rattle.records.specs.SheetOf.{sheet_of}
+use Rattle.answers.specs.Answers.{Done}
 use Rattle.verdict.specs.Verdict.{verdict}
-use Rattle.answers.specs.declared.Verdict.TheVariants.{Accepted}
+use Rattle.answers.specs.Answers.{Accepted}
 use Rattle.behaviour.specs.Run.{answer, final_out}
 use Rattle.translator.specs.Translated.{Translated}
 use Rattle.text_table.specs.SheetRows.{SheetRow, sheet_row, sheet_rows}

@@ -10,8 +10,8 @@ use lib.ListN.{length, replicate, length-replicate, take-append-drop}
 use lib.Dec.{ltb}
 use Rattle.records.specs.SheetOf.{Record, sheet_of}
 use Rattle.answers.specs.Answers.{when}
-use Rattle.answers.specs.declared.Answer.{Answer}
-use Rattle.answers.specs.declared.Answer.TheVariants.{Done, Refused}
+use Rattle.answers.specs.Answers.{Answer}
+use Rattle.answers.specs.Answers.{Done, Refused}
 use Rattle.grammar.specs.Tokens.{Token}
 use Rattle.grammar.specs.Source.{identifier, Text, text}
 use Rattle.grammar.specs.Grammar.{ReadsText}
@@ -33,7 +33,7 @@ use Rattle.instructions.specs.Assembly.{assembly, nothing_assembled, assemble_al
 use Rattle.instructions.specs.RecordOrder.{declared_types, text_code}
 use Rattle.instructions.specs.Emission.{emission, emit_all, records_written}
 use Rattle.instructions.proofs.Instructed.{instructed}
-use Rattle.instructions.proofs.Assembled.{assembled}
+use Rattle.instructions.proofs.Assembled.{text-assembled}
 use Rattle.instructions.proofs.Written.{declared-many, emitted, records-written}
 use Rattle.translator.specs.Translated.{length_needed, lacks_room, text_answer, final_sheet, Translated, outside_grammar, in_grammar}
 use Rattle.translator.proofs.Answered.{answer_by, answered}
@@ -57,7 +57,7 @@ assembly-answer (text d ds (identifier w p) e) room r g =
     let n : suc (length (declared_types (d ∷ ds))) + room_of (d ∷ ds) [] e ≡ records_needed t =
     let m = declared-many (d ∷ ds) in omega (arith, m) in
     ap (λ is. assembly_answer (assemble_all nothing_assembled is) room) (instructed r h)
-    ∙ ap (λ a. assembly_answer a room) (assembled d ds (identifier w p) e h)
+    ∙ ap (λ a. assembly_answer a room) (text-assembled d ds (identifier w p) e h)
     ∙ ap (λ k. untyped_answer (first_bad_place (constants_of_text t)) k room) n
     ∙ go (first_bad_place (constants_of_text t)) refl
   where
@@ -101,7 +101,7 @@ records-computed (text d ds (identifier w p) e) r h =
     let i = type_number (type_entries (d ∷ ds)) w in
     ap (λ ts. assembly_records (assembled_from ts)) (tokens-are r.lexed)
     ∙ ap (λ is. assembly_records (assemble_all nothing_assembled is)) (instructed r.parsed names)
-    ∙ ap assembly_records (assembled d ds (identifier w p) e names)
+    ∙ ap assembly_records (text-assembled d ds (identifier w p) e names)
     ∙ ap (λ k. records_written T i (written_of (emit_all T (emission [] k [] 0) (text_code t)))) n
     ∙ ap (λ x. records_written T i (written_of x)) (emitted d ds w p e h) ∙ records-written d ds w p e h
 

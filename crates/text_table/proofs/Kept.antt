@@ -5,8 +5,8 @@ use mathlib.Core.Path.{◌≡◌, refl, ap, subst, ◌∙◌}
 use mathlib.Core.List.{List, [], ◌∷◌}
 use lib.ListN.{length, replicate, length-replicate}
 use Rattle.records.specs.SheetOf.{Record, sheet_of}
-use Rattle.answers.specs.declared.Answer.{Answer}
-use Rattle.answers.specs.declared.Answer.TheVariants.{Done}
+use Rattle.answers.specs.Answers.{Answer}
+use Rattle.answers.specs.Answers.{Done}
 use Rattle.grammar.specs.Walk.{first_illegal}
 use Rattle.translator.specs.Translated.{Translated}
 use Rattle.text_table.specs.Computed.{computed_answer, computed_records}

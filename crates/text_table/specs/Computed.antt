@@ -3,8 +3,7 @@ use Rattle.std.specs.Prelude.{ℕ, suc, ◌+◌, ◌*◌, Bool, true, cond, List
 use Rattle.std.proofs.Math.Option.{Option, none, some}
 use Rattle.records.specs.Limits.{most_records}
 use Rattle.records.specs.SheetOf.{Record}
-use Rattle.answers.specs.declared.Answer.{Answer}
-use Rattle.answers.specs.declared.Answer.TheVariants.{Done, Refused}
+use Rattle.answers.specs.Answers.{Answer, Done, Refused}
 use Rattle.grammar.specs.Tokens.{Token}
 use Rattle.grammar.specs.Machine.{begins}
 use Rattle.grammar.specs.Walk.{first_illegal}

@@ -1,8 +1,8 @@
 -- What is promised of the table: each row of it holds of the translation. One term of each promise stands in `proofs/Kept.antt`.
 use Rattle.std.specs.Prelude.{ℕ, ◌≡◌, List, [], ◌∷◌, length, take, replicate}
 use Rattle.records.specs.SheetOf.{sheet_of}
-use Rattle.answers.specs.declared.Answer.{Answer}
-use Rattle.answers.specs.declared.Answer.TheVariants.{Done}
+use Rattle.answers.specs.Answers.{Answer}
+use Rattle.answers.specs.Answers.{Done}
 use Rattle.translator.specs.Translated.{Translated}
 use Rattle.text_table.specs.Rows.{TextRow, text_row, text_rows}
 use Rattle.text_table.specs.SheetRows.{SheetRow, sheet_row, sheet_rows}

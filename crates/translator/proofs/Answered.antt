@@ -1,25 +1,20 @@
 -- What each step of the call finds is the answer, and what the slice then holds is what it holds at the end.
 -- Assumes nothing.
-use Prim.Native.Nat.{ℕ, ◌*◌, ◌-◌, ◌≤◌, ◌<◌}
-use native.Mathlib.Omega.{arith}
-use mathlib.Core.Path.{◌≡◌, refl, sym, ap, subst, ◌∙◌}
-use mathlib.Core.Bool.{Bool, true, false, cond}
-use mathlib.Core.List.{List, [], ◌∷◌, ◌++◌}
+use Prim.Native.Nat.{ℕ, ◌-◌}
+use mathlib.Core.Path.{◌≡◌, refl, ap, subst, ◌∙◌}
+use mathlib.Core.Bool.{Bool, true, false}
+use mathlib.Core.List.{List, ◌++◌}
 use mathlib.Core.Option.{Option, none, some}
 use lib.ListN.{length, replicate}
-use lib.Dec.{T, ltb, lt→ltb}
-use Rattle.answers.specs.Answers.{when_done, check, when, or_refused, first_applying}
-use Rattle.answers.specs.declared.Answer.{Answer}
-use Rattle.answers.specs.declared.Answer.TheVariants.{Done, Refused}
+use Rattle.answers.specs.Answers.{Answer, Done, Refused, when_done, when, or_refused}
 use Rattle.grammar.specs.Tokens.{Token}
 use Rattle.grammar.specs.Source.{Text}
 use Rattle.grammar.specs.Legal.{Reading, Keeps}
 use Rattle.name_rules.specs.Checks.{first_bad_place}
 use Rattle.name_rules.specs.Constants.{constants_of_text}
 use Rattle.name_rules.specs.Names.{name_checks}
-use Rattle.name_rules.specs.RecordsNeeded.{records_needed}
 use Rattle.layout.specs.Layout.{sheet_of_text}
-use Rattle.translator.specs.Translated.{length_needed, lacks_room, text_call_checks, text_answer, final_sheet, Translated, in_grammar}
+use Rattle.translator.specs.Translated.{length_needed, lacks_room, text_answer, final_sheet, Translated, in_grammar}
 
 -- the answer by what the three checks find
 abbrev pub answer_by : (names constants room : Option ℕ) → ℕ → Answer

@@ -1,6 +1,6 @@
 -- One term of every promise of the front page.
 -- Assumes nothing.
-use Prim.Native.Nat.{ℕ, ◌+◌, ◌*◌, ◌-◌, ◌^◌, ◌≤◌, ◌<◌}
+use Prim.Native.Nat.{ℕ, ◌*◌, ◌-◌, ◌^◌, ◌≤◌, ◌<◌}
 use native.Mathlib.Omega.{arith}
 use mathlib.Core.Path.{◌≡◌, refl, sym, ap, subst, ◌∙◌}
 use mathlib.Core.Logic.{◌⊎◌, inl, inr, ◌↔◌}
@@ -10,10 +10,8 @@ use mathlib.Core.Option.{none, some}
 use lib.ListN.{length, take, drop, replicate, length-append, length-replicate}
 use lib.Dec.{T, ltb, nltb→le}
 use Rattle.records.specs.SheetOf.{Record, words, sheet_of}
-use Rattle.answers.specs.Answers.{when_done, check, when, NoneApplies, SaysOf}
+use Rattle.answers.specs.Answers.{Answer, Done, Refused, when_done, check, when, NoneApplies, SaysOf}
 use Rattle.answers.specs.GivenSlices.{no_slice, one_slice}
-use Rattle.answers.specs.declared.Answer.{Answer}
-use Rattle.answers.specs.declared.Answer.TheVariants.{Done, Refused}
 use Rattle.answers.proofs.First.{first_says, says_first, when-none, when-some}
 use Rattle.answers.proofs.StandardLaws.{first-place, standard-laws}
 use Rattle.grammar.specs.Tokens.{Token}

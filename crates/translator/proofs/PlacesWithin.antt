@@ -1,22 +1,22 @@
 -- The places that code 14 tells lie in the text: those of its names are places of tokens, and so is the bracket of a constant.
 -- Assumes nothing.
-use Prim.Native.Nat.{ℕ, suc, ◌+◌, ◌≤◌, ◌<◌}
+use Prim.Native.Nat.{ℕ, ◌+◌, ◌≤◌, ◌<◌}
 use native.Mathlib.Omega.{arith}
-use mathlib.Core.Path.{◌≡◌, sym, subst}
+use mathlib.Core.Path.{◌≡◌}
 use mathlib.Core.Bool.{Bool, true, false}
 use mathlib.Core.List.{List, [], ◌∷◌, ◌++◌}
-use mathlib.Core.Option.{Option, none, some}
+use mathlib.Core.Option.{some}
 use lib.ListN.{length}
 use Rattle.grammar.specs.Tokens.{Token, keyword, symbol, name_token, Tokens, no_token, a_blank, a-symbol, a_word, LetterRun, run_last, run_more}
 use Rattle.grammar.specs.Tokens.{Spells, spells_keyword, spells_name}
-use Rattle.grammar.specs.Source.{identifier, Declaration, SourceConstant, SourcePattern, Expression, Text, text}
+use Rattle.grammar.specs.Source.{Declaration, SourceConstant, SourcePattern, Expression, Text}
 use Rattle.grammar.specs.Grammar.{ReadsOthers, no_other, one_other, ReadsDeclaration, reads_constructors, reads_pair_of}
 use Rattle.grammar.specs.Grammar.{ReadsConstant, reads_constructor, reads_undefined, reads_both}
 use Rattle.grammar.specs.Grammar.{ReadsPattern, reads_alone, reads_parts, reads_alone_or, reads_parts_or}
 use Rattle.grammar.specs.Grammar.{ReadsExpression, reads_named, reads_undefined_of, reads_pair, reads_first, reads_second, reads_let}
 use Rattle.grammar.specs.Grammar.{reads_let_rec, reads_if, reads_delay, ReadsMore, no_more, one_more, ReadsText, reads_text}
 use Rattle.name_rules.specs.Checks.{PlacedCheck, check_at, first_bad_place, check_places}
-use Rattle.name_rules.specs.Constants.{constant_place, constant_checks, constants_of_text, is_typed, constant_type}
+use Rattle.name_rules.specs.Constants.{constant_place, constant_checks, constants_of_text}
 use Rattle.name_rules.specs.Names.{name_checks}
 use Rattle.name_rules.specs.Promises.{name_places}
 use Rattle.name_rules.proofs.EachOnce.{each_once}

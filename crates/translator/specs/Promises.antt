@@ -1,10 +1,8 @@
 -- What is promised of the translation: each promise a named type, and at the end the list of them. One term of each stands in
 -- `proofs/Kept.antt`.
 use Rattle.std.specs.Prelude.{ℕ, ◌-◌, ◌≤◌, ◌≡◌, ◌↔◌, List, [], ◌∷◌, length, take, drop, replicate}
-use Rattle.answers.specs.Answers.{Check, SaysOf}
+use Rattle.answers.specs.Answers.{Answer, Done, Check, SaysOf}
 use Rattle.answers.specs.StandardLaws.{lent_slice, StandardLaws}
-use Rattle.answers.specs.declared.Answer.{Answer}
-use Rattle.answers.specs.declared.Answer.TheVariants.{Done}
 use Rattle.grammar.specs.Tokens.{Token}
 use Rattle.grammar.specs.Source.{Text}
 use Rattle.grammar.specs.Legal.{Reading}

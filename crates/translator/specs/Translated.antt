@@ -4,9 +4,7 @@
 -- there to its end."
 use Rattle.std.specs.Prelude.{ℕ, ◌*◌, ◌-◌, ◌≡◌, Bool, true, false, cond, List, [], ◌∷◌, ◌++◌, length, replicate, ltb}
 use Rattle.std.proofs.Math.Option.{none, some}
-use Rattle.answers.specs.Answers.{packed, when_done, Check, check, when, first_applying}
-use Rattle.answers.specs.declared.Answer.{Answer}
-use Rattle.answers.specs.declared.Answer.TheVariants.{Done, Refused}
+use Rattle.answers.specs.Answers.{Answer, Done, Refused, packed, when_done, Check, check, when, first_applying}
 use Rattle.grammar.specs.Tokens.{Token}
 use Rattle.grammar.specs.Source.{Text}
 use Rattle.grammar.specs.Legal.{Reading, LeavesGrammar, Keeps}

@@ -1,121 +1,89 @@
 // The translation of a text into a sheet: the grammar, the names, the constants, the room, in this order, and then the sheet is written.
-// Each step leaves tables for the next; nothing is written to the lent slice before all is checked.
+// Each step leaves what it found for the next; nothing is written to the lent slice before all is checked.
 #![tactic(auto)]
 
 ghost use Rattle.std.specs.Prelude.{◌≡◌, List, length};
+ghost use Rattle.answers.specs.Results.{answer_of};
 ghost use Rattle.grammar.specs.Legal.{Keeps};
-ghost use Rattle.translator.specs.Translated.{TranslatedInOne};
+ghost use Rattle.translator.specs.Translated.{Translated, TranslatedInOne};
 ghost use Rattle.translator.specs.LayingOut.{TranslatingResolved, TranslatingAssembled};
 
-use answers::{NO_ROOM, WRONG_NAME, WRONG_TEXT, in_one};
+use answers::{Answer, Code, Refusal, packed};
 use emitting::write_sheet;
-use instructions::{Operands, Ops, no_operands, no_ops};
-use ordering::assembly::assemble;
-use recognizer::{Illegal, first_illegal};
+use instructions::code::Code as Instructions;
+use ordering::assembly::Assembly;
+use recognizer::first_illegal;
 use records::{RECORD_BYTES, RECORDS};
-use resolving::{Resolved, resolve};
+use resolving::resolve;
 
-// The sheet from the instructions in record order, where all constants have a type and there is room.
-fn write_out(
-    text: &[u8],
-    ops: &Ops,
-    firsts: &Operands,
-    seconds: &Operands,
-    code: usize,
-    pairs: &Ops,
-    parts: &Operands,
-    others: &Operands,
-    leaves: &Ops,
-    types: usize,
-    input: u16,
-    expression: usize,
-    ok: bool,
-    place: usize,
-    sheet: &mut [u8],
-) -> u64
-    requires { TranslatingAssembled text.now pairs.now parts.now others.now leaves.now ops.now firsts.now seconds.now types input code expression ok place }
-    ensures { TranslatedInOne text.now sheet.old result sheet.new }
+// The sheet from the assembled instructions, where all constants have a type and there is room, and how many bytes it has.
+fn write_out(text: &[u8], assembly: &Assembly, sheet: &mut [u8]) -> Answer
+    requires { TranslatingAssembled text.now assembly.now }
+    ensures { Translated text.now sheet.old (answer_of result) sheet.new }
 {
-    if !ok {
-        return in_one(WRONG_NAME, place as u64);
+    if let Some(place) = assembly.untyped {
+        return Err(Refusal {
+            code: Code::WrongName,
+            place: u32::from(place),
+        });
     }
-    let records = 1 + types + expression;
+    let records = 1 + assembly.types.len() + assembly.records;
     let needed = RECORD_BYTES * records;
+    let no_room = Refusal {
+        code: Code::NoRoom,
+        place: needed as u32,
+    };
     if sheet.len() < needed {
-        return in_one(NO_ROOM, needed as u64);
+        return Err(no_room);
     }
     if RECORDS < records {
-        return in_one(NO_ROOM, needed as u64);
+        return Err(no_room);
     }
     write_sheet(
-        ops, firsts, seconds, code, pairs, parts, others, leaves, types, input, records, sheet,
+        &assembly.code,
+        &assembly.types,
+        assembly.input,
+        records,
+        sheet,
     );
-    needed as u64
+    Ok(needed as u32)
 }
 
 // The sheet of a text whose names are good, from its instructions in text order.
-fn lay_out(
-    text: &[u8],
-    ops: &Ops,
-    firsts: &Operands,
-    seconds: &Operands,
-    n: usize,
-    sheet: &mut [u8],
-) -> u64
-    requires { TranslatingResolved text.now ops.now firsts.now seconds.now n }
-    ensures { TranslatedInOne text.now sheet.old result sheet.new }
+fn lay_out(text: &[u8], instructions: &Instructions, sheet: &mut [u8]) -> Answer
+    requires { TranslatingResolved text.now instructions.now }
+    ensures { Translated text.now sheet.old (answer_of result) sheet.new }
 {
-    let mut code_ops = no_ops();
-    let mut code_firsts = no_operands();
-    let mut code_seconds = no_operands();
-    let mut pairs = no_ops();
-    let mut parts = no_operands();
-    let mut others = no_operands();
-    let mut leaves = no_ops();
-    let totals = assemble(
-        ops,
-        firsts,
-        seconds,
-        n,
-        &mut code_ops,
-        &mut code_firsts,
-        &mut code_seconds,
-        &mut pairs,
-        &mut parts,
-        &mut others,
-        &mut leaves,
-    );
-    write_out(
-        text,
-        &code_ops,
-        &code_firsts,
-        &code_seconds,
-        totals.code,
-        &pairs,
-        &parts,
-        &others,
-        &leaves,
-        totals.types,
-        totals.input,
-        totals.records,
-        totals.ok,
-        totals.place,
-        sheet,
-    )
+    let mut assembly = Assembly::new();
+    assembly.read(instructions);
+    write_out(text, &assembly, sheet)
 }
 
 // The sheet of a text in the grammar, or its first bad name or constant, or that there is no room.
-fn translate_legal(text: &[u8], sheet: &mut [u8]) -> u64
+fn translate_legal(text: &[u8], sheet: &mut [u8]) -> Answer
     requires { Keeps text.now }
-    ensures { TranslatedInOne text.now sheet.old result sheet.new }
+    ensures { Translated text.now sheet.old (answer_of result) sheet.new }
 {
-    let mut ops = no_ops();
-    let mut firsts = no_operands();
-    let mut seconds = no_operands();
-    let resolved = resolve(text, &mut ops, &mut firsts, &mut seconds);
-    match resolved {
-        Resolved::BadName(p) => in_one(WRONG_NAME, p as u64),
-        Resolved::Instructions(n) => lay_out(text, &ops, &firsts, &seconds, n, sheet),
+    let mut instructions = Instructions::new();
+    match resolve(text, &mut instructions) {
+        Ok(()) => lay_out(text, &instructions, sheet),
+        Err(bad_name) => Err(Refusal {
+            code: Code::WrongName,
+            place: bad_name.place as u32,
+        }),
+    }
+}
+
+// The sheet of a text, or the first place where it leaves the grammar, or what comes after that.
+fn translate_any(text: &[u8], sheet: &mut [u8]) -> Answer
+    ensures { Translated text.now sheet.old (answer_of result) sheet.new }
+{
+    match first_illegal(text) {
+        Some(i) => Err(Refusal {
+            code: Code::WrongText,
+            place: i as u32,
+        }),
+        None => translate_legal(text, sheet),
     }
 }
 
@@ -123,9 +91,5 @@ fn translate_legal(text: &[u8], sheet: &mut [u8]) -> u64
 pub fn translate(text: &[u8], sheet: &mut [u8]) -> u64
     ensures { TranslatedInOne text.now sheet.old result sheet.new }
 {
-    let illegal = first_illegal(text);
-    match illegal {
-        Illegal::Offset(i) => in_one(WRONG_TEXT, i as u64),
-        Illegal::Nowhere => translate_legal(text, sheet),
-    }
+    packed(translate_any(text, sheet))
 }

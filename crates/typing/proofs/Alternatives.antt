@@ -39,7 +39,7 @@ use Rattle.structure.proofs.LeafCounts.{pair-kind}
 use Rattle.typing.specs.Judgements.{pattern_fits}
 use Rattle.typing.specs.Judging.{Fitting, FittedOne}
 
-abbrev is_parts : Kind → Bool
+abbrev pub is_parts : Kind → Bool
 is_parts header = false
 is_parts (type_of k) = false
 is_parts (expression k) = false
@@ -57,6 +57,14 @@ is-parts : (k : PatternKind) → is_parts (pattern k) ≡ true → k ≡ parts
 is-parts whole e = absurd (never_both false e refl)
 is-parts constructor e = absurd (never_both false e refl)
 is-parts parts e = refl
+
+pub is-parts-kind : (k : Kind) → is_parts k ≡ true → k ≡ pattern parts
+is-parts-kind header e = absurd (never_both false e refl)
+is-parts-kind (type_of k) e = absurd (never_both false e refl)
+is-parts-kind (expression k) e = absurd (never_both false e refl)
+is-parts-kind (pattern k) e = ap pattern (is-parts k e)
+is-parts-kind leaf e = absurd (never_both false e refl)
+is-parts-kind unknown e = absurd (never_both false e refl)
 
 module _ {s : List ℕ} {n p t : ℕ} (m : Fitting s n p t) where
   w : Written s

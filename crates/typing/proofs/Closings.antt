@@ -1,41 +1,38 @@
 -- The last judgement of an expression: where its rule fails it is the fault, and where it holds the type's leaf count is noted.
 -- Assumes nothing.
 use mathlib.Core.Path.{◌≡◌, refl, sym, ◌∙◌, ap}
-use mathlib.Core.Bool.{Bool, true, false}
-use mathlib.Core.List.{List, ◌∷◌}
-use Prim.Native.Nat.{ℕ, zero, suc, ◌+◌, ◌-◌, ◌≤◌, ◌<◌}
+use mathlib.Core.Bool.{true, false}
+use mathlib.Core.List.{List}
+use Prim.Native.Nat.{ℕ, zero, suc, ◌<◌}
 use native.Mathlib.Omega.{arith}
-use native.Mathlib.Numerals.{add-one}
-use borrow.Author.Tests.{lt-ltb, ne_eqb, eq-eqb}
-use lib.ListN.{length, set, length-set}
-use lib.Seq.{get_or-set_same, get_or-set_other}
+use borrow.Author.Tests.{lt-ltb}
+use lib.ListN.{set, length-set}
+use lib.Seq.{get_or-set_other}
 use Rattle.picoella.specs.Language.{leaves}
 use Rattle.records.specs.Words.{word}
-use Rattle.records.specs.Kinds.{types, expressions, sort_number}
-use Rattle.records.specs.Says.{sort_at}
+use Rattle.records.specs.Kinds.{types, expressions, sort_number, is_pair}
+use Rattle.records.specs.Says.{kind_at, sort_at}
 use Rattle.records.specs.Trees.{type_at, TypeRecord, pair_of, pair_below}
-use Rattle.records.proofs.CodeTable.{pair-number}
 use Rattle.records.proofs.TypeRecords.{found-pair, first_part, second-part}
-use Rattle.structure.proofs.LeafCounts.{pair-kind}
-use Rattle.typing.specs.Judgements.{Rule, holds, pair_declared, pair_type, same_type}
-use Rattle.typing.specs.Judging.{TypesCounted, Closing, Closed, lastly, scope_of}
-use Rattle.typing.specs.declared.Outcome.{Outcome}
-use Rattle.typing.specs.declared.Outcome.TheVariants.{Sound, Fault}
+use Rattle.typing.specs.Judgements.{Rule, holds, pair_declared, pair_type}
+use Rattle.typing.specs.Judging.{TypesCounted, Closing, Closed}
+use Rattle.structure.specs.PairIndex.{some_record}
+use Rattle.std.specs.Prelude.{Some, None}
+use Rattle.records.proofs.Table.{is-pair}
+use Rattle.typing.specs.Outcomes.{Sound, Fault}
 use Rattle.typing.proofs.Bounds.{ground-written}
-
--- a store above a stack's names leaves them
-below-store : (stack : List ℕ) (m v n : ℕ) → n ≤ m → scope_of n (set stack m v) ≡ scope_of n stack
-below-store stack m v zero h = refl
-below-store stack m v (suc n) h =
-    rw (get_or-set_other stack m n v 0 (λ e. omega arith), below-store stack m v n (omega arith))
-
-pub one-name-more : (stack : List ℕ) (n t : ℕ) → length stack ≡ 64 → n < 64
-    → scope_of (n + 1) (set stack n t) ≡ t ∷ scope_of n stack
-one-name-more stack n t long h =
-    rw (add-one n, get_or-set_same stack n t 0 (omega arith), below-store stack n t n (omega arith))
 
 not-typed : (r u : ℕ) → Fault r ≡ Sound u → ⊥
 not-typed r u e = let z : ◌≡◌ {A = ℕ} 0 1 = cc in omega arith
+
+-- a record that a search gives
+no-record : (x : ℕ) → some_record x ≡ None → x ≡ 0
+no-record zero e = refl
+no-record (suc x) e = let z : ◌≡◌ {A = ℕ} 0 1 = cc in absurd (omega arith)
+
+a-record : (x p : ℕ) → some_record x ≡ Some p → (p ≡ x) × (0 < p)
+a-record zero p e = let z : ◌≡◌ {A = ℕ} 0 1 = cc in absurd (omega arith)
+a-record (suc x) p e = let q : p ≡ suc x = cc in (q, omega arith)
 
 module _ {s : List ℕ} {n : ℕ} {rec : ℕ} {before : List ℕ} (c : Closing s n rec before) where
   pub closing-counted : TypesCounted s before
@@ -53,68 +50,53 @@ module _ {s : List ℕ} {n : ℕ} {rec : ℕ} {before : List ℕ} (c : Closing s
           let z : sort_number types ≡ sort_number expressions = ap sort_number (sym r.sort ∙ ap (sort_at s) e ∙ c.sort) in
           omega arith
 
-  pub fails-closed : (rule : Rule) (t : ℕ) → holds s rule ≡ false → Closed s rule rec t (Fault rec) before before
-  fails-closed rule t e = record {
-    answered = rw e;
+  pub fails-closed : (rule : Rule) (t r : ℕ) → holds s rule ≡ false → r ≡ rec → Closed s rule rec t (Fault r) before before
+  fails-closed rule t r e here = record {
+    answered = rw (e, here);
     counted = closing-counted;
-    notes = λ u q. absurd (not-typed rec u q);
+    notes = λ u q. absurd (not-typed r u q);
   }
 
-  pub noted-closed : (rule : Rule) (t : ℕ) (answer : Outcome) (after : List ℕ) → holds s rule ≡ true → answer ≡ Sound t
-      → after ≡ set before rec (leaves (type_at s t)) → Closed s rule rec t answer before after
-  noted-closed rule t answer after e ea en = record {
-    answered = ea ∙ rw e;
+  pub noted-closed : (rule : Rule) (t : ℕ) (after : List ℕ) → holds s rule ≡ true → after ≡ set before rec (leaves (type_at s t))
+      → Closed s rule rec t (Sound t) before after
+  noted-closed rule t after e en = record {
+    answered = rw e;
     counted = rw en (note-counted (leaves (type_at s t)));
     notes = λ u q. en;
   }
 
   -- the pair record of two types
-  pub pair-of-closing : (t u p : ℕ) → p ≡ pair_below s t u n → p ≡ pair_of s t u
+  pair-of-closing : (t u p : ℕ) → p ≡ pair_below s t u n → p ≡ pair_of s t u
   unfolding pair_of
   pair-of-closing t u p e = e ∙ ap (λ (m : ℕ). pair_below s t u m) c.ground.sized.counted
 
-  pub no-pair-closed : (t u p : ℕ) → p ≡ pair_below s t u n → p ≡ 0 → Closed s (pair_declared t u) rec (pair_of s t u) (Fault rec) before before
-  no-pair-closed t u p e z = fails-closed (pair_declared t u) (pair_of s t u) (rw (← pair-of-closing t u p e, z))
+  pub no-pair-closed : (t u r : ℕ) → some_record (pair_below s t u n) ≡ None → r ≡ rec
+      → Closed s (pair_declared t u) rec (pair_of s t u) (Fault r) before before
+  no-pair-closed t u r e here =
+      fails-closed (pair_declared t u) (pair_of s t u) r
+      (rw (← pair-of-closing t u _ refl, no-record (pair_below s t u n) e)) here
 
-  pub pair-is-type : (t u p : ℕ) → p ≡ pair_below s t u n → (p ≡ 0 → ⊥) → TypeRecord s p
-  pair-is-type t u p e f =
-      let q = pair-of-closing t u p e in
-      rw q (found-pair (ground-written c.ground) t u (rw (← q) (omega arith)))
+  module _ (t u p : ℕ) (e : some_record (pair_below s t u n) ≡ Some p) where
+    found : (p ≡ pair_of s t u) × (0 < p)
+    found = let q = a-record (pair_below s t u n) p e in (pair-of-closing t u p q.0, q.1)
 
-  pub pair-closed : (t u p : ℕ) (answer : Outcome) (after : List ℕ) → p ≡ pair_below s t u n → (p ≡ 0 → ⊥) → answer ≡ Sound p
-      → after ≡ set before rec (leaves (type_at s p)) → Closed s (pair_declared t u) rec (pair_of s t u) answer before after
-  pair-closed t u p answer after e f ea en =
-      let q = pair-of-closing t u p e in
-      noted-closed (pair_declared t u) (pair_of s t u) answer after (rw (← q) (lt-ltb 0 p (omega arith))) (rw (← q) ea) (rw (← q) en)
+    pub pair-is-type : TypeRecord s p
+    pair-is-type = rw found.0 (found-pair (ground-written c.ground) t u (rw (← found.0) found.1))
+
+    pub pair-closed : (after : List ℕ) → after ≡ set before rec (leaves (type_at s p))
+        → Closed s (pair_declared t u) rec (pair_of s t u) (Sound p) before after
+    pair-closed after en =
+        rw (← found.0) (noted-closed (pair_declared t u) p after (rw (← found.0) (lt-ltb 0 p found.1)) en)
 
   -- the part of a pair type in word k of its record
-  pub no-pair-part : (t k x : ℕ) → x ≡ word s t 0 → (x ≡ 17 → ⊥) → Closed s (pair_type t) rec (word s t k) (Fault rec) before before
-  no-pair-part t k x e f = fails-closed (pair_type t) (word s t k) (pair-number (word s t 0) ∙ rw (← e) (ne_eqb x 17 f))
+  pub part-is-type : (t k y : ℕ) → TypeRecord s t → is_pair (kind_at s t) ≡ true → y ≡ word s t k → 1 < k → k < 4 → TypeRecord s y
+  part-is-type t zero y r e ey l h = absurd (omega arith)
+  part-is-type t (suc zero) y r e ey l h = absurd (omega arith)
+  part-is-type t (suc (suc zero)) y r e ey l h = rw ey (first_part (ground-written c.ground) t r.there (is-pair (kind_at s t) e))
+  part-is-type t (suc (suc (suc zero))) y r e ey l h =
+      rw ey (second-part (ground-written c.ground) t r.there (is-pair (kind_at s t) e))
+  part-is-type t (suc (suc (suc (suc k)))) y r e ey l h = absurd (omega arith)
 
-  pub part-is-type : (t k x y : ℕ) → TypeRecord s t → x ≡ word s t 0 → x ≡ 17 → y ≡ word s t k → 1 < k → k < 4 → TypeRecord s y
-  part-is-type t zero x y r e f ey l h = absurd (omega arith)
-  part-is-type t (suc zero) x y r e f ey l h = absurd (omega arith)
-  part-is-type t (suc (suc zero)) x y r e f ey l h =
-      rw ey (first_part (ground-written c.ground) t r.there (pair-kind s t x e f))
-  part-is-type t (suc (suc (suc zero))) x y r e f ey l h =
-      rw ey (second-part (ground-written c.ground) t r.there (pair-kind s t x e f))
-  part-is-type t (suc (suc (suc (suc k)))) x y r e f ey l h = absurd (omega arith)
-
-  pub part-closed : (t k x y : ℕ) (answer : Outcome) (after : List ℕ) → x ≡ word s t 0 → x ≡ 17 → y ≡ word s t k → answer ≡ Sound y
-      → after ≡ set before rec (leaves (type_at s y)) → Closed s (pair_type t) rec (word s t k) answer before after
-  part-closed t k x y answer after e f ey ea en =
-      noted-closed (pair_type t) (word s t k) answer after (pair-number (word s t 0) ∙ rw (← e) (eq-eqb x 17 f)) (rw (← ey) ea) (rw (← ey) en)
-
-  pub differ-closed : (x y t : ℕ) → (x ≡ y → ⊥) → Closed s (same_type x y) rec t (Fault rec) before before
-  differ-closed x y t f = fails-closed (same_type x y) t (ne_eqb x y f)
-
-  pub same-closed : (x y t : ℕ) (answer : Outcome) (after : List ℕ) → x ≡ y → answer ≡ Sound t
-      → after ≡ set before rec (leaves (type_at s t)) → Closed s (same_type x y) rec t answer before after
-  same-closed x y t answer after e ea en = noted-closed (same_type x y) t answer after (eq-eqb x y e) ea en
-
--- a judgement that is no last one
-pub lastly-typed : (b : Bool) (rec t : ℕ) → b ≡ true → Sound t ≡ lastly b rec t
-lastly-typed b rec t e = rw e
-
-pub lastly-fault : (b : Bool) (rec t : ℕ) → b ≡ false → Fault rec ≡ lastly b rec t
-lastly-fault b rec t e = rw e
+  pub part-closed : (t k y : ℕ) (after : List ℕ) → is_pair (kind_at s t) ≡ true → y ≡ word s t k
+      → after ≡ set before rec (leaves (type_at s y)) → Closed s (pair_type t) rec (word s t k) (Sound y) before after
+  part-closed t k y after e ey en = rw (← ey) (noted-closed (pair_type t) y after e en)

@@ -1,10 +1,9 @@
 -- The laws of `Parts` at a record: the tree of a record of each kind is made of the trees of its parts, so what judging the parts gave
 -- is what judging the record gives. Assumes nothing.
-use mathlib.Core.Path.{◌≡◌, refl, sym, ◌∙◌, ap}
+use mathlib.Core.Path.{◌≡◌, refl, ◌∙◌}
+use mathlib.Core.Bool.{true, false}
 use mathlib.Core.List.{List, ◌∷◌}
-use mathlib.Core.Option.{none}
-use Prim.Native.Nat.{ℕ, zero, suc, ◌-◌, ◌≤◌, ◌<◌}
-use native.Mathlib.Omega.{arith}
+use Prim.Native.Nat.{ℕ, ◌≤◌, ◌<◌}
 use borrow.Author.Tests.{lt-ltb, le-ltb}
 use lib.ListN.{length, get_or, set}
 use Rattle.picoella.specs.Language.{leaves}
@@ -25,11 +24,11 @@ use Rattle.records.specs.Says.{kind_at}
 use Rattle.records.specs.Trees.{type_at, TypeRecord, pair_of, tree_at, chain, alternatives, constant_of, tuple_of, let_of, feedback_of, if_of, delay_of}
 use Rattle.records.specs.Written.{Written}
 use Rattle.records.proofs.Trees.{tree-of}
-use Rattle.typing.specs.Judgements.{holds, leaves_fit, in_scope, pair_declared, pair_type, same_type, pattern_has, judge, first_failing}
-use Rattle.typing.specs.Judging.{TypesCounted, Judged, Closed, Closing, PartAt, at_first, at_second, lastly, scope_of, Context}
-use Rattle.typing.specs.declared.Outcome.{Outcome}
-use Rattle.typing.specs.declared.Outcome.TheVariants.{Sound, Fault}
-use Rattle.typing.proofs.Outcomes.{Passed, lastly-fails}
+use Rattle.typing.specs.Judgements.{holds, leaves_fit, in_scope, pair_declared, pair_type, same_type, pattern_has}
+use Rattle.typing.specs.Judging.{TypesCounted, Judged, Closed, Closing, PartAt, at_first, at_second, Context}
+use Rattle.typing.specs.Outcomes.{Outcome}
+use Rattle.typing.specs.Outcomes.{Sound, Fault}
+use Rattle.typing.proofs.Outcomes.{Passed, rule-holds, rule-fails}
 use Rattle.typing.proofs.Closings.{fails-closed, noted-closed}
 use Rattle.typing.proofs.Parts.{
   first-faults,
@@ -138,26 +137,26 @@ module _ {s : List ℕ} {rec : ℕ} (w : Written s) (h : rec < count s) where
       if-tested-faults p w0 w1 d f = rw if-tree (first-faults Γ _ (tree_at s (word_a s rec)) _ p w0 w1 refl (rw ea at d) f)
 
       module _ (t : ℕ) (w0 w1 : List ℕ) (pa : Passed s Γ (tree_at s a) t w0 w1) where
-        pub if-pattern-fault : (p u : ℕ) → ans ≡ lastly (holds s (pattern_has t (alternatives s m))) rec u → ans ≡ Fault p
+        pub if-pattern-fault : (p : ℕ) → holds s (pattern_has t (alternatives s m)) ≡ false → p ≡ rec → ans ≡ Fault p
             → Judged s Γ (tree_at s rec) ans w0 w1
-        if-pattern-fault p u f g =
+        if-pattern-fault p f r g =
             rw if-tree
             (if-pattern-faults _ _ _ _ t w0 w1 (rw ea at pa) p
-            (lastly-fails s rec (pattern_has t (alternatives s m)) u p ans f g) g)
+            (rule-fails s rec (pattern_has t (alternatives s m)) p f r) g)
 
-        module _ (matched : first_failing s (judge rec (pattern_has t (alternatives s m))) ≡ none) where
+        module _ (held : holds s (pattern_has t (alternatives s m)) ≡ true) where
           pub if-then-fault : (p : ℕ) (w2 : List ℕ) → Judged s Γ (tree_at s b) ans w1 w2 → ans ≡ Fault p → Judged s Γ (tree_at s rec) ans w0 w2
-          if-then-fault p w2 d g = rw if-tree (if-then-faults _ _ _ _ t w0 w1 (rw ea at pa) matched p w2 (rw eb at d) g)
+          if-then-fault p w2 d g = rw if-tree (if-then-faults _ _ _ _ t w0 w1 (rw ea at pa) (rule-holds s rec (pattern_has t (alternatives s m)) held) p w2 (rw eb at d) g)
 
           module _ (u : ℕ) (w2 : List ℕ) (pb : Passed s Γ (tree_at s b) u w1 w2) where
             pub if-else-fault : (p : ℕ) (w3 : List ℕ) → Judged s Γ (tree_at s c) ans w2 w3 → ans ≡ Fault p → Judged s Γ (tree_at s rec) ans w0 w3
             if-else-fault p w3 d g =
-                rw if-tree (if-else-faults _ _ _ _ t w0 w1 (rw ea at pa) matched u w2 (rw eb at pb) p w3 (rw ec at d) g)
+                rw if-tree (if-else-faults _ _ _ _ t w0 w1 (rw ea at pa) (rule-holds s rec (pattern_has t (alternatives s m)) held) u w2 (rw eb at pb) p w3 (rw ec at d) g)
 
             pub if-closing : (v : ℕ) (w3 w4 : List ℕ) → Passed s Γ (tree_at s c) v w2 w3 → Closed s (same_type u v) rec u ans w3 w4
                 → Judged s Γ (tree_at s rec) ans w0 w4
             if-closing v w3 w4 pc d =
-                rw if-tree (if-closes _ _ _ _ t w0 w1 (rw ea at pa) matched u w2 (rw eb at pb) v w3 w4 (rw ec at pc) d)
+                rw if-tree (if-closes _ _ _ _ t w0 w1 (rw ea at pa) (rule-holds s rec (pattern_has t (alternatives s m)) held) u w2 (rw eb at pb) v w3 w4 (rw ec at pc) d)
 
   module _ (e : kind_at s rec ≡ expression delay) (a t l : ℕ) (ea : a ≡ word s rec 4) (et : t ≡ word s rec 2) (el : l ≡ word s rec 3) where
     delay-tree : tree_at s rec ≡ delay_of rec t (chain s l) (tree_at s (word_c s rec))
@@ -167,61 +166,48 @@ module _ {s : List ℕ} {rec : ℕ} (w : Written s) (h : rec < count s) where
       pub delay-part-faults : (p : ℕ) (w0 w1 : List ℕ) → Judged s Γ (tree_at s a) ans w0 w1 → ans ≡ Fault p → Judged s Γ (tree_at s rec) ans w0 w1
       delay-part-faults p w0 w1 d f = rw delay-tree (first-faults Γ _ (tree_at s (word_c s rec)) _ p w0 w1 refl (rw ea at d) f)
 
-      pub delay-leaves-faults : (u v p : ℕ) (w0 w1 : List ℕ) → Passed s Γ (tree_at s a) u w0 w1
-          → ans ≡ lastly (holds s (leaves_fit t (chain s l))) rec v → ans ≡ Fault p → Judged s Γ (tree_at s rec) ans w0 w1
-      delay-leaves-faults u v p w0 w1 pa f g =
+      pub delay-leaves-faults : (u p : ℕ) (w0 w1 : List ℕ) → Passed s Γ (tree_at s a) u w0 w1
+          → holds s (leaves_fit t (chain s l)) ≡ false → p ≡ rec → ans ≡ Fault p → Judged s Γ (tree_at s rec) ans w0 w1
+      delay-leaves-faults u p w0 w1 pa f r g =
           rw delay-tree
           (delay-leaves-fault _ t (chain s l) u p w0 w1 (rw ea at pa)
-          (lastly-fails s rec (leaves_fit t (chain s l)) v p ans f g) g)
+          (rule-fails s rec (leaves_fit t (chain s l)) p f r) g)
 
-      pub delay-closing : (u : ℕ) (w0 w1 w2 : List ℕ) → Passed s Γ (tree_at s a) u w0 w1 → first_failing s (judge rec (leaves_fit t (chain s l))) ≡ none
+      pub delay-closing : (u : ℕ) (w0 w1 w2 : List ℕ) → Passed s Γ (tree_at s a) u w0 w1 → holds s (leaves_fit t (chain s l)) ≡ true
           → Closed s (same_type u t) rec t ans w1 w2 → Judged s Γ (tree_at s rec) ans w0 w2
-      delay-closing u w0 w1 w2 pa f c = rw delay-tree (delay-closes _ t (chain s l) u w0 w1 w2 (rw ea at pa) f c)
+      delay-closing u w0 w1 w2 pa f c =
+          rw delay-tree
+          (delay-closes _ t (chain s l) u w0 w1 w2 (rw ea at pa) (rule-holds s rec (leaves_fit t (chain s l)) f) c)
 
   module _ (e : kind_at s rec ≡ expression constant) (t l : ℕ) (et : t ≡ word s rec 2) (el : l ≡ word s rec 3) (w0 : List ℕ) where
     constant-tree : tree_at s rec ≡ constant_of rec t (chain s l)
     constant-tree = tree-of w rec h (expression constant) e ∙ rw (← et, ← el)
 
     module _ {Γ : List ℕ} {ans : Outcome} where
-      pub constant-fault : (u p : ℕ) → ans ≡ lastly (holds s (leaves_fit t (chain s l))) rec u → ans ≡ Fault p → TypesCounted s w0
+      pub constant-fault : (p : ℕ) → holds s (leaves_fit t (chain s l)) ≡ false → p ≡ rec → ans ≡ Fault p → TypesCounted s w0
           → Judged s Γ (tree_at s rec) ans w0 w0
-      constant-fault u p f g n =
+      constant-fault p f r g n =
           rw constant-tree
-          (constant-faults t p (chain s l) w0
-          (lastly-fails s rec (leaves_fit t (chain s l)) u p ans f g) g n)
+          (constant-faults t p (chain s l) w0 (rule-fails s rec (leaves_fit t (chain s l)) p f r) g n)
 
-      pub constant_typed : (w1 : List ℕ) → first_failing s (judge rec (leaves_fit t (chain s l))) ≡ none → ans ≡ Sound t
+      pub constant_typed : (w1 : List ℕ) → holds s (leaves_fit t (chain s l)) ≡ true → ans ≡ Sound t
           → w1 ≡ set w0 rec (leaves (type_at s t)) → TypesCounted s w1 → Judged s Γ (tree_at s rec) ans w0 w1
-      constant_typed w1 f g n k = rw constant-tree (constant-passes t (chain s l) w0 w1 f g k n)
+      constant_typed w1 f g n k =
+          rw constant-tree
+          (constant-passes t (chain s l) w0 w1 (rule-holds s rec (leaves_fit t (chain s l)) f) g k n)
 
   module _ (e : kind_at s rec ≡ expression name) (k : ℕ) (ek : k ≡ word s rec 2) {Γ : List ℕ} {ans : Outcome} where
     pub name-closing : (w0 w1 : List ℕ) → Closed s (in_scope k (length Γ)) rec (get_or Γ k 0) ans w0 w1 → Judged s Γ (tree_at s rec) ans w0 w1
     name-closing w0 w1 c = rw (tree-of w rec h (expression name) e, ← ek) (name-closes k w0 w1 c)
 
--- a stack read by distance
-pub scope-length : (n : ℕ) (stack : List ℕ) → length (scope_of n stack) ≡ n
-scope-length zero stack = refl
-scope-length (suc n) stack = ap suc (scope-length n stack)
+-- a name by its distance
+module _ {s : List ℕ} {n : ℕ} {rec : ℕ} {w0 : List ℕ} (c : Closing s n rec w0) (Γ : List ℕ) (k : ℕ) where
+  pub name-outside : (r : ℕ) → length Γ ≤ k → r ≡ rec → Closed s (in_scope k (length Γ)) rec (get_or Γ k 0) (Fault r) w0 w0
+  name-outside r h e = fails-closed c (in_scope k (length Γ)) (get_or Γ k 0) r (le-ltb k (length Γ) h) e
 
-pub scope-at : (n : ℕ) (stack : List ℕ) (k : ℕ) → k < n → get_or (scope_of n stack) k 0 ≡ get_or stack (n - 1 - k) 0
-scope-at zero stack k h = absurd (omega arith)
-scope-at (suc n) stack zero h = ap (λ (i : ℕ). get_or stack i 0) (omega arith)
-scope-at (suc n) stack (suc k) h = scope-at n stack k (omega arith) ∙ ap (λ (i : ℕ). get_or stack i 0) (omega arith)
+  pub name-inside : (x : ℕ) (w1 : List ℕ) → k < length Γ → x ≡ get_or Γ k 0 → w1 ≡ set w0 rec (leaves (type_at s x))
+      → Closed s (in_scope k (length Γ)) rec (get_or Γ k 0) (Sound x) w0 w1
+  name-inside x w1 h e n = rw (← e) (noted-closed c (in_scope k (length Γ)) x w1 (lt-ltb k (length Γ) h) n)
 
-module _ {s : List ℕ} {n : ℕ} {rec : ℕ} {w0 : List ℕ} (c : Closing s n rec w0) (stack : List ℕ) (names k : ℕ) where
-  pub name-outside : names ≤ k → Closed s (in_scope k (length (scope_of names stack))) rec (get_or (scope_of names stack) k 0) (Fault rec) w0 w0
-  name-outside h =
-      fails-closed c (in_scope k (length (scope_of names stack))) (get_or (scope_of names stack) k 0)
-      (rw (scope-length names stack) (le-ltb k names h))
-
-  pub name-inside : (x : ℕ) (ans : Outcome) (w1 : List ℕ) → k < names → x ≡ get_or stack (names - 1 - k) 0 → ans ≡ Sound x
-      → w1 ≡ set w0 rec (leaves (type_at s x)) → Closed s (in_scope k (length (scope_of names stack))) rec (get_or (scope_of names stack) k 0) ans w0 w1
-  name-inside x ans w1 h ex a n =
-      let q : x ≡ get_or (scope_of names stack) k 0 = ex ∙ sym (scope-at names stack k h) in
-      noted-closed c (in_scope k (length (scope_of names stack))) (get_or (scope_of names stack) k 0) ans w1
-      (rw (scope-length names stack) (lt-ltb k names h)) (a ∙ ap Sound q) (n ∙ ap (λ (y : ℕ). set w0 rec (leaves (type_at s y))) q)
-
-  pub name_typed : (x : ℕ) → k < names → x ≡ get_or stack (names - 1 - k) 0 → Context s (scope_of names stack) → TypeRecord s x
-  name_typed x h ex ctx =
-      let q : x ≡ get_or (scope_of names stack) k 0 = ex ∙ sym (scope-at names stack k h) in
-      rw q (in-context s (scope_of names stack) k ctx (rw (scope-length names stack) h))
+pub name_typed : {s : List ℕ} (Γ : List ℕ) (k x : ℕ) → k < length Γ → x ≡ get_or Γ k 0 → Context s Γ → TypeRecord s x
+name_typed {s} Γ k x h e ctx = rw e (in-context s Γ k ctx h)

@@ -7,11 +7,13 @@ pub mod Failing
 pub mod Judged
 pub mod Judgings
 pub mod KindNumbers
+pub mod KindTests
 pub mod Outcomes
 pub mod Parts
 pub mod PatternNumbers
 pub mod PatternTypes
 pub mod Readiness
+pub mod ScopeLists
 pub mod TypeRecordsOf
 pub mod TypedPatterns
 pub mod Typings

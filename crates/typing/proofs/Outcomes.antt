@@ -11,8 +11,8 @@ use Rattle.records.specs.Trees.{Tree, type_record_of}
 use Rattle.typing.specs.Judgements.{Judgement, Rule, holds, judge, judgements, first_failing}
 use Rattle.typing.specs.Judging.{conclude, judged, noted, TypesCounted, Judged, lastly, Closed}
 use Rattle.typing.specs.ExpressionWidth.{width}
-use Rattle.typing.specs.declared.Outcome.{Outcome}
-use Rattle.typing.specs.declared.Outcome.TheVariants.{Sound, Fault}
+use Rattle.typing.specs.Outcomes.{Outcome}
+use Rattle.typing.specs.Outcomes.{Sound, Fault}
 use Rattle.typing.proofs.Failing.{first-of-both}
 
 -- an expression that was judged without a fault
@@ -74,21 +74,11 @@ module _ {s Γ : List ℕ} {e : Tree} {answer : Outcome} {before after : List �
 
 -- a judgement that stands before others
 module _ (s : List ℕ) (rec : ℕ) where
-  pub lastly-holds : (rule : Rule) (t u : ℕ) (answer : Outcome) → answer ≡ lastly (holds s rule) rec t → answer ≡ Sound u
-      → (first_failing s (judge rec rule) ≡ none) × (u ≡ t)
-  lastly-holds rule t u answer a b = go (holds s rule) (sym a ∙ b)
-    where
-      go : (h : Bool) → lastly h rec t ≡ Sound u → (cond h none (some rec) ≡ none) × (u ≡ t)
-      go true q = (refl, cc)
-      go false q = let z : ◌≡◌ {A = ℕ} 0 1 = cc in absurd (omega arith)
+  pub rule-holds : (rule : Rule) → holds s rule ≡ true → first_failing s (judge rec rule) ≡ none
+  rule-holds rule h = rw h
 
-  pub lastly-fails : (rule : Rule) (t p : ℕ) (answer : Outcome) → answer ≡ lastly (holds s rule) rec t → answer ≡ Fault p
-      → first_failing s (judge rec rule) ≡ some p
-  lastly-fails rule t p answer a b = go (holds s rule) (sym a ∙ b)
-    where
-      go : (h : Bool) → lastly h rec t ≡ Fault p → cond h none (some rec) ≡ some p
-      go true q = let z : ◌≡◌ {A = ℕ} 0 1 = cc in absurd (omega arith)
-      go false q = cc
+  pub rule-fails : (rule : Rule) (p : ℕ) → holds s rule ≡ false → p ≡ rec → first_failing s (judge rec rule) ≡ some p
+  rule-fails rule p h e = rw (h, e)
 
 -- lists of judgements, in order
 module _ (s : List ℕ) (js ks : List Judgement) where

@@ -37,8 +37,8 @@ use Rattle.typing.specs.Judgements.{
 }
 use Rattle.typing.specs.Judging.{noted, TypesCounted, Judged, Closed}
 use Rattle.typing.specs.ExpressionWidth.{width}
-use Rattle.typing.specs.declared.Outcome.{Outcome}
-use Rattle.typing.specs.declared.Outcome.TheVariants.{Sound, Fault}
+use Rattle.typing.specs.Outcomes.{Outcome}
+use Rattle.typing.specs.Outcomes.{Sound, Fault}
 use Rattle.typing.proofs.Outcomes.{Passed, faulted, fault-done, typed-done, closing-done, fault-first, then-second}
 
 -- the width noted last, where the table before it is what the parts noted

@@ -62,7 +62,7 @@ module _ (s : List ℕ) (r k : ℕ) (ek : k ≡ word s r 0) where
   pattern-kind parts e = numbered s r k 50 (pattern parts) ek e refl
 
   -- the number by the kind
-  number-of-pattern : (q : PatternKind) → kind_at s r ≡ pattern q → k ≡ number_of_pattern q
+  pub number-of-pattern : (q : PatternKind) → kind_at s r ≡ pattern q → k ≡ number_of_pattern q
   number-of-pattern q e =
       ek ∙ eqb-true (word s r 0) (number_of_pattern q) (sym (pattern_number q (word s r 0)) ∙ ap (is_pattern q) e ∙ itself q)
 

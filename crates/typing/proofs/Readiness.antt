@@ -1,14 +1,12 @@
 -- An expression that is ready to be judged has parts that are: they are higher expressions, one deeper, so that there is room for
 -- one name more; and what an expression was judged to have is a type record. Assumes nothing.
-use mathlib.Core.Path.{◌≡◌, refl, sym, subst}
+use mathlib.Core.Path.{◌≡◌, refl}
 use mathlib.Core.Bool.{true, ◌&&◌}
 use mathlib.Core.List.{List, ◌∷◌}
-use Prim.Native.Nat.{ℕ, suc, ◌+◌, ◌≤◌, ◌<◌}
+use Prim.Native.Nat.{ℕ, suc, ◌<◌}
 use native.Mathlib.Omega.{arith}
 use lib.Dec.{ltb}
 use lib.ListN.{length}
-use mir.Syntax.{w64}
-use mir.Val.{Fits}
 use Rattle.records.specs.Words.{count, word}
 use Rattle.records.specs.Kinds.{Kind, expressions, patterns, leafs, part, lower_type, expression, first, second}
 use Rattle.records.specs.Says.{kind_at, sort_at}
@@ -21,12 +19,12 @@ use Rattle.records.proofs.TypeRecords.{type-word}
 use Rattle.structure.specs.Rules.{depth}
 use Rattle.structure.proofs.Passes.{written, well-named, not-deep}
 use Rattle.structure.proofs.Depths.{depth-of-part}
-use Rattle.typing.specs.Judging.{Ground, TypesCounted, Judging, Closing, Fitting, Context, scope_of, PartAt, at_first, at_second}
+use Rattle.typing.specs.Judging.{Ground, TypesCounted, Judging, Closing, Fitting, PartAt, at_first, at_second}
 use Rattle.typing.proofs.Judged.{passed-judged}
 use Rattle.typing.proofs.TypeRecordsOf.{type-of-record}
 use Rattle.typing.proofs.Outcomes.{Passed}
 
-module _ {s : List ℕ} {n : ℕ} {stack : List ℕ} {names rec : ℕ} {widths : List ℕ} (r : Judging s n stack names rec widths) where
+module _ {s : List ℕ} {n : ℕ} {Γ : List ℕ} {rec : ℕ} {widths : List ℕ} (r : Judging s n Γ rec widths) where
   pub judging-written : Written s
   judging-written = written r.ground.passes
 
@@ -55,7 +53,7 @@ module _ {s : List ℕ} {n : ℕ} {stack : List ℕ} {names rec : ℕ} {widths :
     part-there : (rec < x) × (x < count s) × (sort_at s x ≡ expressions)
     part-there = rw ex (part-of-kind judging-written rec k expressions judging-there e j t a)
 
-    pub room-for-name : names < 64
+    pub room-for-name : length Γ < 64
     room-for-name =
         let p = part-there in
         let d = not-deep r.ground.passes x p.1 p.2 in
@@ -63,7 +61,7 @@ module _ {s : List ℕ} {n : ℕ} {stack : List ℕ} {names rec : ℕ} {widths :
         let l = r.deep in
         omega (arith, d.0)
 
-    pub part-ready : (after : List ℕ) → TypesCounted s after → (rec < x) × Judging s n stack names x after
+    pub part-ready : (after : List ℕ) → TypesCounted s after → (rec < x) × Judging s n Γ x after
     part-ready after l =
         let p = part-there in
         let c = r.ground.sized.counted in
@@ -72,7 +70,6 @@ module _ {s : List ℕ} {n : ℕ} {stack : List ℕ} {names rec : ℕ} {widths :
           p.0,
           record {
             ground = ground-after after l;
-            wide = r.wide;
             long = l.long;
             there = omega (arith, p.1);
             sort = p.2;
@@ -81,9 +78,8 @@ module _ {s : List ℕ} {n : ℕ} {stack : List ℕ} {names rec : ℕ} {widths :
           },
         )
 
-    pub body-ready : (inner : List ℕ) (u : ℕ) (after : List ℕ) → length inner ≡ 64 → scope_of (names + 1) inner ≡ u ∷ scope_of names stack
-        → TypeRecord s u → TypesCounted s after → (rec < x) × Judging s n inner (names + 1) x after
-    body-ready inner u after wide scope typed l =
+    pub body-ready : (u : ℕ) (after : List ℕ) → TypeRecord s u → TypesCounted s after → (rec < x) × Judging s n (u ∷ Γ) x after
+    body-ready u after typed l =
         let p = part-there in
         let c = r.ground.sized.counted in
         let m = deeper in
@@ -91,12 +87,11 @@ module _ {s : List ℕ} {n : ℕ} {stack : List ℕ} {names rec : ℕ} {widths :
           p.0,
           record {
             ground = ground-after after l;
-            wide = wide;
             long = l.long;
             there = omega (arith, p.1);
             sort = p.2;
             deep = omega arith;
-            context = subst (λ (Γ : List ℕ). Context s Γ) (sym scope) (typed, r.context);
+            context = (typed, r.context);
           },
         )
 
@@ -114,12 +109,12 @@ module _ {s : List ℕ} {n : ℕ} {stack : List ℕ} {names rec : ℕ} {widths :
       }
 
   -- what was judged is a type record
-  pub typed-record : (t : ℕ) (before after : List ℕ) → Passed s (scope_of names stack) (tree_at s rec) t before after → TypeRecord s t
+  pub typed-record : (t : ℕ) (before after : List ℕ) → Passed s Γ (tree_at s rec) t before after → TypeRecord s t
   typed-record t before after p =
       rw p.typed at
-      (type-of-record judging-written (scope_of names stack) (tree_at s rec)
+      (type-of-record judging-written Γ (tree_at s rec)
       (grown-tree judging-written rec judging-there r.sort) r.context
-      (passed-judged s (scope_of names stack) (tree_at s rec) p.none-fails))
+      (passed-judged s Γ (tree_at s rec) p.none-fails))
 
 -- a chain of leaves in a word of a record
 pub leaves-there : {s : List ℕ} {n : ℕ} {rec : ℕ} {w : List ℕ} → Closing s n rec w → (k : Kind) → kind_at s rec ≡ k
@@ -137,22 +132,7 @@ typed-word {rec = rec} c k e j t a x ex =
     let h = c.there in
     rw ex (type-word (written c.ground.passes) rec k (omega arith) e j t a)
 
-module _ {s : List ℕ} {n : ℕ} {stack : List ℕ} {names rec : ℕ} {widths : List ℕ} (r : Judging s n stack names rec widths) where
-  pub judging-names-few : names ≤ 64
-  judging-names-few =
-      let c = r.ground.sized.counted in
-      let h = r.there in
-      let l = r.deep in
-      let d = not-deep r.ground.passes rec (omega arith) r.sort in
-      omega (arith, d.0)
-
-  pub type-small : (t : ℕ) → TypeRecord s t → Fits w64 t
-  type-small t u =
-      let c = r.ground.sized.counted in
-      let f = r.ground.sized.few in
-      let h = u.there in
-      omega arith
-
+module _ {s : List ℕ} {n : ℕ} {Γ : List ℕ} {rec : ℕ} {widths : List ℕ} (r : Judging s n Γ rec widths) where
   pub small-record : (t : ℕ) → TypeRecord s t → t < 65536
   small-record t u =
       let c = r.ground.sized.counted in
@@ -162,7 +142,7 @@ module _ {s : List ℕ} {n : ℕ} {stack : List ℕ} {names rec : ℕ} {widths :
 
   -- the whole of which a first or second part is taken
   pub part-of-pair : (k : ℕ) → PartAt s rec k → (x : ℕ) → x ≡ word s rec 2 → (after : List ℕ) → TypesCounted s after
-      → (rec < x) × Judging s n stack names x after
+      → (rec < x) × Judging s n Γ x after
   part-of-pair k (at_first e) x ex after l =
       part-ready r (expression first) e 2 refl (unfold ask_of_kind in refl) x ex after l
   part-of-pair k (at_second e) x ex after l =

@@ -2,15 +2,19 @@
 -- types, as no two pair types have the same parts, and a chain the type that its first alternative and the rest of it share.
 -- Assumes nothing.
 use mathlib.Core.Path.{◌≡◌, refl, sym, ◌∙◌, ap}
-use mathlib.Core.Bool.{Bool, true, false, ◌&&◌}
+use mathlib.Core.Bool.{Bool, true, false, not, ◌&&◌}
 use mathlib.Core.List.{List}
+use mathlib.Core.Logic.{◌⊎◌, inl, inr}
 use Prim.Native.Nat.{ℕ, zero, suc, ◌≤◌, ◌<◌}
 use native.Mathlib.Omega.{arith}
 use native.Mathlib.Decide.{ℕ_discrete}
 use lib.Dec.{eqb, ltb}
 use lib.ListN.{get_or, set, replicate, length-set, length-replicate}
 use lib.Seq.{get_or-set_same, get_or-set_other}
-use borrow.Author.Tests.{eq-eqb, ne_eqb}
+use borrow.Author.Tests.{eq-eqb, ne_eqb, eqb-true}
+use Rattle.std.specs.Prelude.{Option, Some, None}
+use Rattle.std.specs.Option.{option_eq}
+use Rattle.structure.specs.PairIndex.{some_record}
 use Rattle.records.specs.Words.{count, word, word_a, word_b, next_word}
 use Rattle.records.specs.Kinds.{pattern, whole, constructor, parts, patterns, part, type_of, pair, is_pair}
 use Rattle.records.specs.Says.{kind_at, sort_at}
@@ -24,9 +28,9 @@ use Rattle.records.proofs.TypeRecords.{first_part, second-part, input-type}
 use Rattle.structure.proofs.Passes.{written, types-fit}
 use Rattle.typing.specs.Judgements.{pattern_fits}
 use Rattle.typing.specs.Judging.{Fitting}
-use Rattle.typing.specs.PatternTable.{TypedOne, TypedAll, PatternsTyped, TypingPattern}
+use Rattle.typing.specs.PatternTable.{TypedOne, TypedAll, PatternsTyped, TypingPattern, or_zero}
 use Rattle.typing.proofs.Alternatives.{next-matching, fits_word, both-parts}
-use Rattle.typing.proofs.PatternNumbers.{pattern-kind}
+use Rattle.typing.proofs.PatternNumbers.{pattern-kind, number-of-pattern}
 
 -- the types of no patterns
 nothing : (n i : ℕ) → get_or (replicate n 0) i 0 < 65536
@@ -60,6 +64,39 @@ shared x y t differ past = go (ℕ_discrete x t)
     go (yes e) = rw (eq-eqb x t e, ne_eqb y t (λ f. differ (f ∙ sym e))) (sym none)
     go (no f) = rw (ne_eqb x t f) (sym none)
 
+-- a record that may be none, and its number
+pub or-zero-of : (x : ℕ) → or_zero (some_record x) ≡ x
+or-zero-of zero = refl
+or-zero-of (suc x) = refl
+
+pub none-zero : {x : ℕ} → None ≡ some_record x → x ≡ 0
+none-zero {x = zero} e = refl
+none-zero {x = suc x} e = let z : ◌≡◌ {A = ℕ} 0 1 = cc in absurd (omega arith)
+
+pub some-number : {x t : ℕ} → Some t ≡ some_record x → t ≡ x
+some-number {x = zero} {t = t} e = let z : ◌≡◌ {A = ℕ} 0 1 = cc in absurd (omega arith)
+some-number {x = suc x} {t = t} e = cc
+
+pub differing : (x : ℕ) (o : Option ℕ) → option_eq eqb (some_record x) o ≡ false → x ≡ or_zero o → or_zero o ≡ 0
+differing zero None e q = refl
+differing zero (Some t) e q = sym q
+differing (suc x) None e q = absurd (omega arith)
+differing (suc x) (Some t) e q = absurd (never_both false (sym e ∙ eq-eqb (suc x) t q) refl)
+
+negated : (b : Bool) → not b ≡ false → b ≡ true
+negated true e = refl
+negated false e = sym e
+
+negated-true : (b : Bool) → not b ≡ true → b ≡ false
+negated-true true e = sym e
+negated-true false e = refl
+
+pub same-number : (x : ℕ) (o : Option ℕ) → option_eq eqb (some_record x) o ≡ true → x ≡ or_zero o
+same-number zero None e = refl
+same-number zero (Some t) e = absurd (never_both false e refl)
+same-number (suc x) None e = absurd (never_both false e refl)
+same-number (suc x) (Some t) e = eqb-true (suc x) t e
+
 module _ {s : List ℕ} {n : ℕ} {index types : List ℕ} {p : ℕ} (q : TypingPattern s n index types p) (sort : sort_at s p ≡ patterns) where
   w : Written s
   w = written q.passes
@@ -68,14 +105,17 @@ module _ {s : List ℕ} {n : ℕ} {index types : List ℕ} {p : ℕ} (q : Typing
   fitting t u = record { sized = q.sized; passes = q.passes; there = q.there; sort = sort; typed = u }
 
   -- no pair pattern: the type in word a
-  pub word-type : {k x : ℕ} → k ≡ word s p 0 → (k ≡ 50 → ⊥) → x ≡ word s p 2 → TypedOne s p x
-  word-type {k} {x} ek f ex t u = fits_word (fitting t u) k ek x f ex
+  pub word-type : {x : ℕ} → (kind_at s p ≡ pattern parts → ⊥) → x ≡ word s p 2 → TypedOne s p x
+  word-type {x} f ex t u = fits_word (fitting t u) (word s p 0) refl x (λ z. f (pattern-kind s p (word s p 0) refl parts z)) ex
+
+  -- a pair type has parts
+  pair-parts-there : (a b r : ℕ) → r ≡ pair_of s a b → 0 < r → (0 < a) × (0 < b)
+  pair-parts-there a b r e h =
+      let f = pair-of-found s a b r (sym e) h in
+      (rw (← f.2) (first_part w r f.0 f.1).past, rw (← f.3) (second-part w r f.0 f.1).past)
 
   -- a pair pattern
-  module _ {k : ℕ} (ek : k ≡ word s p 0) (e : k ≡ 50) where
-    pair-pattern : kind_at s p ≡ pattern parts
-    pair-pattern = pattern-kind s p k ek parts e
-
+  module _ (pair-pattern : kind_at s p ≡ pattern parts) where
     part-entry : (j : ℕ) → (ltb 0 j && ltb j 6) ≡ true → ask_of_kind (pattern parts) j ≡ part patterns
         → (word s p j < 4096) × TypedAll s (word s p j) (get_or types (word s p j) 0)
     part-entry j h a =
@@ -141,7 +181,7 @@ module _ {s : List ℕ} {n : ℕ} {index types : List ℕ} {p : ℕ} (q : Typing
           go (yes f) (no g) (no h) = rw (eq-eqb a (word_a s t) f, ne_eqb b (word_b s t) g, ne_eqb r t h)
 
       pub pair-type-of-parts : TypedOne s p r
-      pair-type-of-parts t u = both-parts (fitting t u) k ek e ∙ go (is_pair (kind_at s t)) refl
+      pair-type-of-parts t u = both-parts (fitting t u) (word s p 0) refl (number-of-pattern s p (word s p 0) refl parts pair-pattern) ∙ go (is_pair (kind_at s t)) refl
         where
           rest : Bool
           rest = pattern_fits s (follow end (alternatives s) (next_word s p)) t
@@ -153,6 +193,34 @@ module _ {s : List ℕ} {n : ℕ} {index types : List ℕ} {p : ℕ} (q : Typing
               let kind = is-pair (kind_at s t) f in
               rw (f, first_entry.1 (word_a s t) (first_part w t u.there kind), second-entry.1 (word_b s t) (second-part w t u.there kind))
               (pair_fits t u kind rest)
+
+    module _ {x y : ℕ} (ex : x ≡ word s p 2) (ey : y ≡ word s p 3) where
+      -- a part whose alternatives have no one type
+      no-part : (get_or types x 0 ≡ 0) ⊎ (get_or types y 0 ≡ 0) → pair_below s (get_or types x 0) (get_or types y 0) n ≡ 0
+      unfolding pair_of
+      no-part z = go z (ℕ_discrete (pair_below s (get_or types x 0) (get_or types y 0) n) 0)
+        where
+          parts-above : (pair_below s (get_or types x 0) (get_or types y 0) n ≡ 0 → ⊥)
+              → (0 < get_or types x 0) × (0 < get_or types y 0)
+          parts-above f =
+              pair-parts-there (get_or types x 0) (get_or types y 0) _
+              (ap (λ (m : ℕ). pair_below s (get_or types x 0) (get_or types y 0) m) q.sized.counted) (omega arith)
+
+          go : (get_or types x 0 ≡ 0) ⊎ (get_or types y 0 ≡ 0) → Dec (pair_below s (get_or types x 0) (get_or types y 0) n ≡ 0)
+              → pair_below s (get_or types x 0) (get_or types y 0) n ≡ 0
+          go z (yes e) = e
+          go (inl z) (no f) = let h = parts-above f in absurd (omega (arith, h.0))
+          go (inr z) (no f) = let h = parts-above f in absurd (omega (arith, h.1))
+
+      pub pair-given : (a b : ℕ) (o : Option ℕ) → Some a ≡ some_record (get_or types x 0) → Some b ≡ some_record (get_or types y 0)
+          → o ≡ some_record (pair_below s a b n) → TypedOne s p (or_zero o) × (or_zero o < 65536)
+      pair-given a b o ea eb eo =
+          let r : or_zero o ≡ pair_below s (get_or types x 0) (get_or types y 0) n =
+          ap or_zero eo ∙ or-zero-of (pair_below s a b n) ∙ rw (some-number ea, some-number eb) in
+          (pair-type-of-parts ex ey r, pair_small ex ey r)
+
+      pub no-part-type : (get_or types x 0 ≡ 0) ⊎ (get_or types y 0 ≡ 0) → TypedOne s p 0
+      no-part-type z = pair-type-of-parts ex ey (sym (no-part z))
 
   -- a chain of alternatives
   module _ {y : ℕ} (ey : y ≡ word s p 1) where
@@ -187,6 +255,21 @@ module _ {s : List ℕ} {n : ℕ} {index types : List ℕ} {p : ℕ} (q : Typing
 
       pub no-common-type : (x : ℕ) → TypedOne s p x → (get_or types y 0 ≡ x → ⊥) → TypedAll s p 0
       no-common-type x one differ t u = goes_on x one t u ∙ shared x (get_or types y 0) t differ u.past
+
+      module _ (o : Option ℕ) (one : TypedOne s p (or_zero o)) (e : Option ℕ) (ee : e ≡ some_record (get_or types y 0)) (b : Bool)
+          (eb : b ≡ not (option_eq eqb e o)) where
+        pub entry-same : b ≡ false → TypedAll s p (or_zero o)
+        entry-same h = all-the-same (or_zero o) one (same-number (get_or types y 0) o (rw (← ee) (negated (option_eq eqb e o) (sym eb ∙ h))))
+
+        pub entry-other : b ≡ true → TypedAll s p 0 × (0 < 65536)
+        entry-other h = (go (ℕ_discrete (get_or types y 0) (or_zero o)), omega arith)
+          where
+            unequal : option_eq eqb (some_record (get_or types y 0)) o ≡ false
+            unequal = rw (← ee) (negated-true (option_eq eqb e o) (sym eb ∙ h))
+
+            go : Dec (get_or types y 0 ≡ or_zero o) → TypedAll s p 0
+            go (yes q) = rw (differing (get_or types y 0) o unequal q) at (all-the-same (or_zero o) one q)
+            go (no f) = no-common-type (or_zero o) one f
 
 -- the table with one more record
 module _ {s : List ℕ} {n : ℕ} {index types : List ℕ} {p : ℕ} (q : TypingPattern s n index types p) where

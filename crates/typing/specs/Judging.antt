@@ -44,8 +44,8 @@ use Rattle.typing.specs.TypeRows.{type_rows}
 use Rattle.typing.specs.PatternRows.{pattern_rows}
 use Rattle.typing.specs.OrderRows.{order_rows}
 use Rattle.typing.specs.ExpressionWidth.{width}
-use Rattle.typing.specs.declared.Outcome.{Outcome}
-use Rattle.typing.specs.declared.Outcome.TheVariants.{Sound, Fault}
+use Rattle.typing.specs.Outcomes.{Outcome}
+use Rattle.typing.specs.Outcomes.{Sound, Fault}
 
 abbrev pub conclude : Option ℕ → ℕ → Outcome
 conclude none t = Sound t
@@ -109,15 +109,14 @@ pub record TypesCounted (s widths : List ℕ) : Type 0 where
   pub long : length widths ≡ most_records
   pub leaves : (t : ℕ) → TypeRecord s t → get_or widths t 0 ≡ leaves (type_at s t)
 
--- an expression is judged
-pub record Judging (s : List ℕ) (n : ℕ) (stack : List ℕ) (names rec : ℕ) (widths : List ℕ) : Type 0 where
+-- an expression is judged, where the names in scope have these types, innermost first
+pub record Judging (s : List ℕ) (n : ℕ) (Γ : List ℕ) (rec : ℕ) (widths : List ℕ) : Type 0 where
   pub ground : Ground s n widths
-  pub wide : length stack ≡ 64
   pub long : length widths ≡ most_records
   pub there : rec < n
   pub sort : sort_at s rec ≡ expressions
-  pub deep : names ≤ depth s rec
-  pub context : Context s (scope_of names stack)
+  pub deep : length Γ ≤ depth s rec
+  pub context : Context s Γ
 
 -- and this is what comes of it
 pub record Judged (s Γ : List ℕ) (e : Tree) (answer : Outcome) (before after : List ℕ) : Type 0 where

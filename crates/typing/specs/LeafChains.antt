@@ -1,5 +1,5 @@
 -- The leaves of a type taken off the front of a chain of leaves.
-use Rattle.std.specs.Prelude.{ℕ, ◌<◌, ◌≡◌, Bool, false, List, [], ◌++◌}
+use Rattle.std.specs.Prelude.{ℕ, ◌<◌, ◌≡◌, Bool, false, List, [], ◌++◌, Option, Some, None}
 use Rattle.picoella.specs.Language.{bounds}
 use Rattle.records.specs.Words.{count}
 use Rattle.records.specs.Kinds.{leafs}
@@ -7,8 +7,6 @@ use Rattle.records.specs.Says.{sort_at}
 use Rattle.records.specs.Trees.{type_at, chain, follow}
 use Rattle.records.specs.Decoding.{leaf_values}
 use Rattle.typing.specs.Judgements.{within}
-use Rattle.typing.specs.declared.Remaining.{Remaining}
-use Rattle.typing.specs.declared.Remaining.TheVariants.{From, Misfit}
 
 -- where r is not 0, the end of a chain, it is a leaf
 pub record LeafOrEnd (s : List ℕ) (r : ℕ) : Type 0 where
@@ -19,11 +17,11 @@ abbrev pub values_from : List ℕ → ℕ → List ℕ
 values_from s r = leaf_values s (follow [] (chain s) r)
 
 -- what is left fits these bounds
-abbrev pub remains_within : List ℕ → List ℕ → Remaining → Bool
-remains_within s ns (From r) = within ns (values_from s r)
-remains_within s ns Misfit = false
+abbrev pub remains_within : List ℕ → List ℕ → Option ℕ → Bool
+remains_within s ns (Some r) = within ns (values_from s r)
+remains_within s ns None = false
 
 -- the chain fits the type's bounds and then others exactly where what is left fits the others
-pub record TakenOff (s : List ℕ) (t leaf : ℕ) (answer : Remaining) : Type 0 where
-  pub goes_on : (r : ℕ) → answer ≡ From r → LeafOrEnd s r
+pub record TakenOff (s : List ℕ) (t leaf : ℕ) (answer : Option ℕ) : Type 0 where
+  pub goes_on : (r : ℕ) → answer ≡ Some r → LeafOrEnd s r
   pub same : (ns : List ℕ) → within (bounds (type_at s t) ++ ns) (values_from s leaf) ≡ remains_within s ns answer

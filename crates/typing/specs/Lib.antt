@@ -3,6 +3,7 @@
 pub mod ExpressionWidth
 -- What the promises pin down, so that it need not be believed:
 pub mod Judgements
+pub mod Outcomes
 -- Examples, by computation:
 pub mod Rows
 pub mod NameRows

@@ -4,7 +4,7 @@
 -- leaf is above the number of constructors of the flat type at that leaf; 0 stands for undefined").
 use Rattle.std.specs.Prelude.{List, [], ◌∷◌}
 use Rattle.records.specs.SheetOf.{words}
-use Rattle.typing.specs.declared.Outcome.TheVariants.{Sound, Fault}
+use Rattle.typing.specs.Outcomes.{Sound, Fault}
 use Rattle.typing.specs.Rows.{TypingRow, judged_to}
 
 abbrev pub name_rows : List TypingRow

@@ -3,7 +3,7 @@
 -- reported at the IF"): each sheet breaks two rules, the one that is judged later at a lower record where it can be.
 use Rattle.std.specs.Prelude.{List, [], ◌∷◌}
 use Rattle.records.specs.SheetOf.{words}
-use Rattle.typing.specs.declared.Outcome.TheVariants.{Fault}
+use Rattle.typing.specs.Outcomes.{Fault}
 use Rattle.typing.specs.Rows.{TypingRow, judged_to}
 
 abbrev pub order_rows : List TypingRow

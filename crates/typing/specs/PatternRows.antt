@@ -3,7 +3,7 @@
 -- of its second").
 use Rattle.std.specs.Prelude.{List, [], ◌∷◌}
 use Rattle.records.specs.SheetOf.{words}
-use Rattle.typing.specs.declared.Outcome.TheVariants.{Sound, Fault}
+use Rattle.typing.specs.Outcomes.{Sound, Fault}
 use Rattle.typing.specs.Rows.{TypingRow, judged_to}
 
 abbrev pub pattern_rows : List TypingRow

@@ -1,6 +1,6 @@
 -- A table of the types of patterns, by record: of the chain of alternatives from a record the one type that each of them has, 0
 -- where there is none. It is filled from the last record down, since the parts of a pattern and what follows it are higher.
-use Rattle.std.specs.Prelude.{ℕ, ◌+◌, ◌≤◌, ◌<◌, ◌≡◌, List, length, get_or, eqb}
+use Rattle.std.specs.Prelude.{ℕ, ◌+◌, ◌≤◌, ◌<◌, ◌≡◌, List, length, get_or, eqb, zero, Option, Some, None}
 use Rattle.records.specs.Limits.{most_records, word_bound}
 use Rattle.records.specs.Words.{count}
 use Rattle.records.specs.Kinds.{patterns}
@@ -38,3 +38,8 @@ pub record TypingPattern (s : List ℕ) (n : ℕ) (index types : List ℕ) (p : 
 pub record TypeTables (s : List ℕ) (n : ℕ) (index types : List ℕ) : Type 0 where
   pub indexed : Indexed s n index
   pub typed : PatternsTyped s 0 types
+
+-- the number of a record, 0 where there is none
+abbrev pub or_zero : Option ℕ → ℕ
+or_zero None = zero
+or_zero (Some r) = r

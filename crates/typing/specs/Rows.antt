@@ -4,7 +4,7 @@
 use Prim.Native.String.{String}
 use Rattle.std.specs.Prelude.{List}
 use Rattle.records.specs.SheetOf.{Record}
-use Rattle.typing.specs.declared.Outcome.{Outcome}
+use Rattle.typing.specs.Outcomes.{Outcome}
 
 pub data TypingRow : Type 0 where
   judged_to : (name : String) → List Record → Outcome → TypingRow

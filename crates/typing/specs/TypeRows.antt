@@ -4,7 +4,7 @@
 -- record.").
 use Rattle.std.specs.Prelude.{List, [], ◌∷◌}
 use Rattle.records.specs.SheetOf.{words}
-use Rattle.typing.specs.declared.Outcome.TheVariants.{Sound, Fault}
+use Rattle.typing.specs.Outcomes.{Sound, Fault}
 use Rattle.typing.specs.Rows.{TypingRow, judged_to}
 
 abbrev pub type_rows : List TypingRow

@@ -3,250 +3,166 @@ ghost use Rattle.std.specs.Prelude.{◌≡◌};
 ghost use Rattle.records.specs.Kinds.{expression, tuple, let_in, feedback, if_matches, delay};
 ghost use Rattle.records.specs.Says.{kind_at};
 ghost use Rattle.records.specs.Trees.{tree_at};
+ghost use Rattle.records.specs.Words.{count};
 ghost use Rattle.structure.specs.PairIndex.{Indexed};
-ghost use Rattle.typing.specs.Judging.{Judging, Judged, scope_of, PartAt};
+ghost use Rattle.typing.specs.Judging.{Judging, Judged, PartAt};
+ghost use Rattle.typing.specs.Outcomes.{outcome_of};
 ghost use Rattle.typing.specs.PatternTable.{TypeTables};
 
-use crate::Outcome;
-use crate::closing::{note, pair_type, part_type, same_type};
-use crate::leaves::leaves_type;
-use crate::patterns::{PatternTypes, no_types, note_types, pattern_type};
-use crate::scopes::with_name;
+use crate::BrokenRule;
+use crate::closing::{note, pair_type, part_type, require, same_type};
+use crate::leaves::leaves_fit;
+use crate::patterns::PatternTypes;
+use crate::scopes::Scope;
 use crate::simple::{of_constant, of_name};
-use records::{
-    KIND_CONSTANT, KIND_FEEDBACK, KIND_FIRST, KIND_IF, KIND_LET, KIND_NAME, KIND_PAIR, KIND_SECOND,
-    ScopeTable, WORD_A, WORD_B, WORD_C, WORD_D, WORD_KIND, WidthTable, word,
-};
+use records::{Kind, Sheet, WORD_A, WORD_B, WORD_C, WORD_D, WidthTable};
 use structure::PairIndex;
 
-// Judges an expression: its parts in the order of its words, then the whole.
-#[cycle(judge_expression_of_delay_of_feedback_of_if_of_let_of_pair_of_part)]
-fn judge_expression(
-    sheet: &[u8],
-    n: usize,
-    index: &PairIndex,
-    types: &PatternTypes,
-    scope: &ScopeTable,
-    names: usize,
-    rec: usize,
-    widths: &mut WidthTable,
-) -> Outcome
-    requires { Judging sheet.now n scope.now names rec widths.old × TypeTables sheet.now n index.now types.now }
-    ensures { Judged sheet.now (scope_of names scope.now) (tree_at sheet.now rec) result widths.old widths.new }
-{
-    let kind = word(sheet, n, rec, WORD_KIND);
-    if kind == KIND_CONSTANT {
-        return of_constant(sheet, n, rec, widths);
-    }
-    if kind == KIND_NAME {
-        return of_name(sheet, n, scope, names, rec, widths);
-    }
-    if kind == KIND_PAIR {
-        return of_pair(sheet, n, index, types, scope, names, rec, widths);
-    }
-    if kind == KIND_FIRST {
-        return of_part(sheet, n, index, types, scope, names, rec, WORD_A, widths);
-    }
-    if kind == KIND_SECOND {
-        return of_part(sheet, n, index, types, scope, names, rec, WORD_B, widths);
-    }
-    if kind == KIND_LET {
-        return of_let(sheet, n, index, types, scope, names, rec, widths);
-    }
-    if kind == KIND_FEEDBACK {
-        return of_feedback(sheet, n, index, types, scope, names, rec, widths);
-    }
-    if kind == KIND_IF {
-        return of_if(sheet, n, index, types, scope, names, rec, widths);
-    }
-    of_delay(sheet, n, index, types, scope, names, rec, widths)
+// What judging looks up: words of the sheet, pair types by their parts, and the types of patterns.
+#[derive(Drop)]
+struct Judge<'a> {
+    sheet: &'a Sheet<'a>,
+    index: &'a PairIndex,
+    types: &'a PatternTypes,
+    ghost tables: { TypeTables sheet.now (count sheet.now) index.now types.now },
 }
 
-#[cycle(judge_expression_of_delay_of_feedback_of_if_of_let_of_pair_of_part)]
-fn of_pair(
-    sheet: &[u8],
-    n: usize,
-    index: &PairIndex,
-    types: &PatternTypes,
-    scope: &ScopeTable,
-    names: usize,
-    rec: usize,
-    widths: &mut WidthTable,
-) -> Outcome
-    requires { Judging sheet.now n scope.now names rec widths.old × (kind_at sheet.now rec ≡ expression tuple) × TypeTables sheet.now n index.now types.now }
-    ensures { Judged sheet.now (scope_of names scope.now) (tree_at sheet.now rec) result widths.old widths.new }
-{
-    let a = word(sheet, n, rec, WORD_A);
-    let first = judge_expression(sheet, n, index, types, scope, names, a, widths);
-    let Outcome::Sound(t) = first else {
-        return first;
-    };
-    let b = word(sheet, n, rec, WORD_B);
-    let second = judge_expression(sheet, n, index, types, scope, names, b, widths);
-    let Outcome::Sound(u) = second else {
-        return second;
-    };
-    pair_type(sheet, n, index, rec, t, u, widths)
-}
+impl<'a> Judge<'a> {
+    // Judges an expression: its parts in the order of its words, then the whole.
+    #[cycle(judging)]
+    fn expression(
+        &self,
+        scope: &Scope,
+        rec: usize,
+        widths: &mut WidthTable,
+    ) -> Result<usize, BrokenRule>
+        requires { Judging self.now.sheet.now (count self.now.sheet.now) scope.now rec widths.old }
+        ensures { Judged self.now.sheet.now scope.now (tree_at self.now.sheet.now rec) (outcome_of result) widths.old widths.new }
+    {
+        match self.sheet.kind(rec) {
+            Kind::Constant => of_constant(self.sheet, rec, widths),
+            Kind::Name => of_name(self.sheet, scope, rec, widths),
+            Kind::Pair => self.of_pair(scope, rec, widths),
+            Kind::First => self.of_part(scope, rec, WORD_A, widths),
+            Kind::Second => self.of_part(scope, rec, WORD_B, widths),
+            Kind::Let => self.of_let(scope, rec, widths),
+            Kind::Feedback => self.of_feedback(scope, rec, widths),
+            Kind::If => self.of_if(scope, rec, widths),
+            _ => self.of_delay(scope, rec, widths),
+        }
+    }
 
-// A first part where k is 2, a second part where k is 3.
-#[cycle(judge_expression_of_delay_of_feedback_of_if_of_let_of_pair_of_part)]
-fn of_part(
-    sheet: &[u8],
-    n: usize,
-    index: &PairIndex,
-    types: &PatternTypes,
-    scope: &ScopeTable,
-    names: usize,
-    rec: usize,
-    k: usize,
-    widths: &mut WidthTable,
-) -> Outcome
-    requires { Judging sheet.now n scope.now names rec widths.old × PartAt sheet.now rec k × TypeTables sheet.now n index.now types.now }
-    ensures { Judged sheet.now (scope_of names scope.now) (tree_at sheet.now rec) result widths.old widths.new }
-{
-    let a = word(sheet, n, rec, WORD_A);
-    let whole = judge_expression(sheet, n, index, types, scope, names, a, widths);
-    let Outcome::Sound(t) = whole else {
-        return whole;
-    };
-    part_type(sheet, n, rec, t, k, widths)
-}
+    #[cycle(judging)]
+    fn of_pair(
+        &self,
+        scope: &Scope,
+        rec: usize,
+        widths: &mut WidthTable,
+    ) -> Result<usize, BrokenRule>
+        requires { Judging self.now.sheet.now (count self.now.sheet.now) scope.now rec widths.old × (kind_at self.now.sheet.now rec ≡ expression tuple) }
+        ensures { Judged self.now.sheet.now scope.now (tree_at self.now.sheet.now rec) (outcome_of result) widths.old widths.new }
+    {
+        let t = self.expression(scope, self.sheet.word(rec, WORD_A), widths)?;
+        let u = self.expression(scope, self.sheet.word(rec, WORD_B), widths)?;
+        pair_type(self.sheet, self.index, rec, t, u, widths)
+    }
 
-#[cycle(judge_expression_of_delay_of_feedback_of_if_of_let_of_pair_of_part)]
-fn of_let(
-    sheet: &[u8],
-    n: usize,
-    index: &PairIndex,
-    types: &PatternTypes,
-    scope: &ScopeTable,
-    names: usize,
-    rec: usize,
-    widths: &mut WidthTable,
-) -> Outcome
-    requires { Judging sheet.now n scope.now names rec widths.old × (kind_at sheet.now rec ≡ expression let_in) × TypeTables sheet.now n index.now types.now }
-    ensures { Judged sheet.now (scope_of names scope.now) (tree_at sheet.now rec) result widths.old widths.new }
-{
-    let a = word(sheet, n, rec, WORD_A);
-    let defined = judge_expression(sheet, n, index, types, scope, names, a, widths);
-    let Outcome::Sound(t) = defined else {
-        return defined;
-    };
-    let inner = with_name(scope, names, t);
-    let b = word(sheet, n, rec, WORD_B);
-    let body = judge_expression(sheet, n, index, types, &inner, names + 1, b, widths);
-    let Outcome::Sound(u) = body else {
-        return body;
-    };
-    note(sheet, n, rec, u, widths)
-}
+    // A first part where k is 2, a second part where k is 3.
+    #[cycle(judging)]
+    fn of_part(
+        &self,
+        scope: &Scope,
+        rec: usize,
+        k: usize,
+        widths: &mut WidthTable,
+    ) -> Result<usize, BrokenRule>
+        requires { Judging self.now.sheet.now (count self.now.sheet.now) scope.now rec widths.old × PartAt self.now.sheet.now rec k }
+        ensures { Judged self.now.sheet.now scope.now (tree_at self.now.sheet.now rec) (outcome_of result) widths.old widths.new }
+    {
+        let t = self.expression(scope, self.sheet.word(rec, WORD_A), widths)?;
+        part_type(self.sheet, rec, t, k, widths)
+    }
 
-#[cycle(judge_expression_of_delay_of_feedback_of_if_of_let_of_pair_of_part)]
-fn of_feedback(
-    sheet: &[u8],
-    n: usize,
-    index: &PairIndex,
-    types: &PatternTypes,
-    scope: &ScopeTable,
-    names: usize,
-    rec: usize,
-    widths: &mut WidthTable,
-) -> Outcome
-    requires { Judging sheet.now n scope.now names rec widths.old × (kind_at sheet.now rec ≡ expression feedback) × TypeTables sheet.now n index.now types.now }
-    ensures { Judged sheet.now (scope_of names scope.now) (tree_at sheet.now rec) result widths.old widths.new }
-{
-    let t = word(sheet, n, rec, WORD_A);
-    let inner = with_name(scope, names, t);
-    let b = word(sheet, n, rec, WORD_B);
-    let defined = judge_expression(sheet, n, index, types, &inner, names + 1, b, widths);
-    let Outcome::Sound(d) = defined else {
-        return defined;
-    };
-    let c = word(sheet, n, rec, WORD_C);
-    let body = judge_expression(sheet, n, index, types, &inner, names + 1, c, widths);
-    let Outcome::Sound(u) = body else {
-        return body;
-    };
-    same_type(sheet, n, rec, d, t, u, widths)
-}
+    #[cycle(judging)]
+    fn of_let(
+        &self,
+        scope: &Scope,
+        rec: usize,
+        widths: &mut WidthTable,
+    ) -> Result<usize, BrokenRule>
+        requires { Judging self.now.sheet.now (count self.now.sheet.now) scope.now rec widths.old × (kind_at self.now.sheet.now rec ≡ expression let_in) }
+        ensures { Judged self.now.sheet.now scope.now (tree_at self.now.sheet.now rec) (outcome_of result) widths.old widths.new }
+    {
+        let t = self.expression(scope, self.sheet.word(rec, WORD_A), widths)?;
+        let inner = scope.with(t);
+        let u = self.expression(&inner, self.sheet.word(rec, WORD_B), widths)?;
+        note(self.sheet, rec, u, widths);
+        Ok(u)
+    }
 
-#[cycle(judge_expression_of_delay_of_feedback_of_if_of_let_of_pair_of_part)]
-fn of_if(
-    sheet: &[u8],
-    n: usize,
-    index: &PairIndex,
-    types: &PatternTypes,
-    scope: &ScopeTable,
-    names: usize,
-    rec: usize,
-    widths: &mut WidthTable,
-) -> Outcome
-    requires { Judging sheet.now n scope.now names rec widths.old × (kind_at sheet.now rec ≡ expression if_matches) × TypeTables sheet.now n index.now types.now }
-    ensures { Judged sheet.now (scope_of names scope.now) (tree_at sheet.now rec) result widths.old widths.new }
-{
-    let a = word(sheet, n, rec, WORD_A);
-    let tested = judge_expression(sheet, n, index, types, scope, names, a, widths);
-    let Outcome::Sound(t) = tested else {
-        return tested;
-    };
-    let matched = pattern_type(sheet, n, types, rec, word(sheet, n, rec, WORD_D), t);
-    let Outcome::Sound(_) = matched else {
-        return matched;
-    };
-    let b = word(sheet, n, rec, WORD_B);
-    let then = judge_expression(sheet, n, index, types, scope, names, b, widths);
-    let Outcome::Sound(u) = then else {
-        return then;
-    };
-    let c = word(sheet, n, rec, WORD_C);
-    let otherwise = judge_expression(sheet, n, index, types, scope, names, c, widths);
-    let Outcome::Sound(v) = otherwise else {
-        return otherwise;
-    };
-    same_type(sheet, n, rec, u, v, u, widths)
-}
+    #[cycle(judging)]
+    fn of_feedback(
+        &self,
+        scope: &Scope,
+        rec: usize,
+        widths: &mut WidthTable,
+    ) -> Result<usize, BrokenRule>
+        requires { Judging self.now.sheet.now (count self.now.sheet.now) scope.now rec widths.old × (kind_at self.now.sheet.now rec ≡ expression feedback) }
+        ensures { Judged self.now.sheet.now scope.now (tree_at self.now.sheet.now rec) (outcome_of result) widths.old widths.new }
+    {
+        let t = self.sheet.word(rec, WORD_A);
+        let inner = scope.with(t);
+        let defined = self.expression(&inner, self.sheet.word(rec, WORD_B), widths)?;
+        let u = self.expression(&inner, self.sheet.word(rec, WORD_C), widths)?;
+        same_type(self.sheet, rec, defined, t, u, widths)
+    }
 
-#[cycle(judge_expression_of_delay_of_feedback_of_if_of_let_of_pair_of_part)]
-fn of_delay(
-    sheet: &[u8],
-    n: usize,
-    index: &PairIndex,
-    types: &PatternTypes,
-    scope: &ScopeTable,
-    names: usize,
-    rec: usize,
-    widths: &mut WidthTable,
-) -> Outcome
-    requires { Judging sheet.now n scope.now names rec widths.old × (kind_at sheet.now rec ≡ expression delay) × TypeTables sheet.now n index.now types.now }
-    ensures { Judged sheet.now (scope_of names scope.now) (tree_at sheet.now rec) result widths.old widths.new }
-{
-    let c = word(sheet, n, rec, WORD_C);
-    let delayed = judge_expression(sheet, n, index, types, scope, names, c, widths);
-    let Outcome::Sound(u) = delayed else {
-        return delayed;
-    };
-    let t = word(sheet, n, rec, WORD_A);
-    let fit = leaves_type(sheet, n, rec, t, word(sheet, n, rec, WORD_B));
-    let Outcome::Sound(_) = fit else {
-        return fit;
-    };
-    same_type(sheet, n, rec, u, t, t, widths)
+    #[cycle(judging)]
+    fn of_if(&self, scope: &Scope, rec: usize, widths: &mut WidthTable) -> Result<usize, BrokenRule>
+        requires { Judging self.now.sheet.now (count self.now.sheet.now) scope.now rec widths.old × (kind_at self.now.sheet.now rec ≡ expression if_matches) }
+        ensures { Judged self.now.sheet.now scope.now (tree_at self.now.sheet.now rec) (outcome_of result) widths.old widths.new }
+    {
+        let t = self.expression(scope, self.sheet.word(rec, WORD_A), widths)?;
+        require(self.types.fits(self.sheet.word(rec, WORD_D), t), rec)?;
+        let u = self.expression(scope, self.sheet.word(rec, WORD_B), widths)?;
+        let v = self.expression(scope, self.sheet.word(rec, WORD_C), widths)?;
+        same_type(self.sheet, rec, u, v, u, widths)
+    }
+
+    #[cycle(judging)]
+    fn of_delay(
+        &self,
+        scope: &Scope,
+        rec: usize,
+        widths: &mut WidthTable,
+    ) -> Result<usize, BrokenRule>
+        requires { Judging self.now.sheet.now (count self.now.sheet.now) scope.now rec widths.old × (kind_at self.now.sheet.now rec ≡ expression delay) }
+        ensures { Judged self.now.sheet.now scope.now (tree_at self.now.sheet.now rec) (outcome_of result) widths.old widths.new }
+    {
+        let u = self.expression(scope, self.sheet.word(rec, WORD_C), widths)?;
+        let t = self.sheet.word(rec, WORD_A);
+        require(leaves_fit(self.sheet, t, self.sheet.word(rec, WORD_B)), rec)?;
+        same_type(self.sheet, rec, u, t, t, widths)
+    }
 }
 
 // Finds the types of patterns by the index of the sheet's pair types, and judges an expression.
 pub fn judge_root(
-    sheet: &[u8],
-    n: usize,
+    sheet: &Sheet,
     index: &PairIndex,
-    scope: &ScopeTable,
-    names: usize,
+    scope: &Scope,
     rec: usize,
     widths: &mut WidthTable,
-) -> Outcome
-    requires { Judging sheet.now n scope.now names rec widths.old × Indexed sheet.now n index.now }
-    ensures { Judged sheet.now (scope_of names scope.now) (tree_at sheet.now rec) result widths.old widths.new }
+) -> Result<usize, BrokenRule>
+    requires { Judging sheet.now (count sheet.now) scope.now rec widths.old × Indexed sheet.now (count sheet.now) index.now }
+    ensures { Judged sheet.now scope.now (tree_at sheet.now rec) (outcome_of result) widths.old widths.new }
 {
-    let mut types = no_types();
-    note_types(sheet, n, index, &mut types);
-    judge_expression(sheet, n, index, &types, scope, names, rec, widths)
+    let mut types = PatternTypes::new();
+    types.note_all(sheet, index);
+    let judge = Judge {
+        sheet,
+        index,
+        types: &types,
+    };
+    judge.expression(scope, rec, widths)
 }

@@ -1,103 +1,104 @@
-// The types of patterns, each found once, and the patterns of IFs held against the tested type.
-ghost use Rattle.std.specs.Prelude.{◌≡◌, ℕ, ◌<◌, List};
+// The types of patterns, each found once, and held against the types that IFs test.
+ghost use Rattle.std.specs.Prelude.{◌≡◌, ℕ, ◌<◌, List, length, get_or, eqb};
 ghost use Rattle.records.specs.Kinds.{patterns};
 ghost use Rattle.records.specs.Says.{sort_at};
-ghost use Rattle.records.specs.Sized.{Sized};
-ghost use Rattle.records.specs.Trees.{alternatives};
 ghost use Rattle.records.specs.Words.{count};
-ghost use Rattle.structure.specs.PairIndex.{Indexed};
+ghost use Rattle.records.specs.Limits.{word_bound, most_records};
+ghost use Rattle.structure.specs.PairIndex.{Indexed, some_record};
 ghost use Rattle.structure.specs.Rules.{Passes};
-ghost use Rattle.typing.specs.Judgements.{holds, pattern_has};
-ghost use Rattle.typing.specs.Judging.{Fitting, lastly};
-ghost use Rattle.typing.specs.PatternTable.{TypedOne, TypedAll, PatternsTyped, TypingPattern};
-ghost use Rattle.records.specs.Limits.{word_bound};
+ghost use Rattle.typing.specs.PatternTable.{TypedOne, TypedAll, PatternsTyped, TypingPattern, or_zero};
 
-use crate::Outcome;
-use records::{
-    KIND_PAIR_PATTERN, KIND_WHOLE_PATTERN, RECORDS, WORD_A, WORD_B, WORD_KIND, WORD_NEXT, word,
-};
-use structure::{PairIndex, pair_of};
+use records::{Kind, RECORDS, Sheet, WORD_A, WORD_B, WORD_NEXT};
+use std::marker::Model;
+use structure::PairIndex;
 
-// By pattern record the type that all alternatives from it have, 0 where there is none.
-pub type PatternTypes = [u16; RECORDS];
-
-// The types of no patterns.
-pub fn no_types() -> PatternTypes
-    ensures { (s : List ℕ) → PatternsTyped s (count s) result }
-{
-    [0; RECORDS]
+// By pattern record the type that all alternatives from it have, 0 where there is none: two bytes a record.
+#[derive(Drop)]
+pub struct PatternTypes {
+    types: [u16; RECORDS],
 }
 
-// The type of the alternative at p, or 0: a pair pattern's is the pair type of its parts' types.
-fn one_type(sheet: &[u8], n: usize, index: &PairIndex, types: &PatternTypes, p: usize) -> usize
-    requires { TypingPattern sheet.now n index.now types.now p × (sort_at sheet.now p ≡ patterns) }
-    ensures { TypedOne sheet.now p result × (result < word_bound) }
-{
-    let a = word(sheet, n, p, WORD_A);
-    if word(sheet, n, p, WORD_KIND) != KIND_PAIR_PATTERN {
-        return a;
-    }
-    let b = word(sheet, n, p, WORD_B);
-    pair_of(sheet, n, index, types[a] as usize, types[b] as usize)
+impl Model for PatternTypes {
+    ghost Value = { List ℕ };
+
+    ghost view = { λ p. p.types };
 }
 
-// The type that all alternatives from p have, or 0.
-fn common_type(sheet: &[u8], n: usize, index: &PairIndex, types: &PatternTypes, p: usize) -> usize
-    requires { TypingPattern sheet.now n index.now types.now p × (sort_at sheet.now p ≡ patterns) }
-    ensures { TypedAll sheet.now p result × (result < word_bound) }
-{
-    let one = one_type(sheet, n, index, types, p);
-    let following = word(sheet, n, p, WORD_NEXT);
-    if following == 0 {
-        return one;
+impl PatternTypes {
+    // The types of no patterns.
+    pub fn new() -> PatternTypes
+        ensures { (s : List ℕ) → PatternsTyped s (count s) result }
+    {
+        PatternTypes {
+            types: [0; RECORDS],
+        }
     }
-    if types[following] as usize != one {
-        return 0;
-    }
-    one
-}
 
-// Notes the type of the alternatives from p, where it is a pattern.
-fn note_pattern_type(sheet: &[u8], n: usize, index: &PairIndex, p: usize, types: &mut PatternTypes)
-    requires { TypingPattern sheet.now n index.now types.old p }
-    ensures { PatternsTyped sheet.now p types.new }
-{
-    let kind = word(sheet, n, p, WORD_KIND);
-    if kind < KIND_WHOLE_PATTERN {
-        return;
+    // The type of all alternatives from p.
+    fn of(&self, p: usize) -> Option<usize>
+        requires { (p < most_records) × (length self.now ≡ most_records) }
+        ensures { result ≡ some_record (get_or self.now p 0) }
+    {
+        match self.types[p] {
+            0 => None,
+            t => Some(usize::from(t)),
+        }
     }
-    if KIND_PAIR_PATTERN < kind {
-        return;
-    }
-    types[p] = common_type(sheet, n, index, types, p) as u16;
-}
 
-// Notes the type of every pattern, the last record first.
-pub fn note_types(sheet: &[u8], n: usize, index: &PairIndex, types: &mut PatternTypes)
-    requires { Sized sheet.now n × Passes sheet.now × Indexed sheet.now n index.now × PatternsTyped sheet.now (count sheet.now) types.old }
-    ensures { PatternsTyped sheet.now 0 types.new }
-{
-    let mut rec = n;
-    while 0 < rec {
-        rec -= 1;
-        note_pattern_type(sheet, n, index, rec, types);
+    // Whether each alternative from p has type t.
+    pub fn fits(&self, p: usize, t: usize) -> bool
+        requires { (p < most_records) × (length self.now ≡ most_records) }
+        ensures { result ≡ eqb (get_or self.now p 0) t }
+    {
+        usize::from(self.types[p]) == t
     }
-}
 
-// Whether each alternative from p has type t, as a judgement at rec.
-pub fn pattern_type(
-    sheet: &[u8],
-    n: usize,
-    types: &PatternTypes,
-    rec: usize,
-    p: usize,
-    t: usize,
-) -> Outcome
-    requires { Fitting sheet.now n p t × PatternsTyped sheet.now 0 types.now }
-    ensures { result ≡ lastly (holds sheet.now (pattern_has t (alternatives sheet.now p))) rec t }
-{
-    if types[p] as usize == t {
-        return Outcome::Sound(t);
+    // The type of the alternative at p: a pair pattern's is the pair type of its parts' types.
+    fn one_type(&self, sheet: &Sheet, index: &PairIndex, p: usize) -> Option<usize>
+        requires { TypingPattern sheet.now (count sheet.now) index.now self.now p × (sort_at sheet.now p ≡ patterns) }
+        ensures { TypedOne sheet.now p (or_zero result) × (or_zero result < word_bound) }
+    {
+        let a = sheet.word(p, WORD_A);
+        if sheet.kind(p) == Kind::PairPattern {
+            index.pair_of(sheet, self.of(a)?, self.of(sheet.word(p, WORD_B))?)
+        } else {
+            Some(a)
+        }
     }
-    Outcome::Fault(rec)
+
+    // The type that all alternatives from p have.
+    fn common_type(&self, sheet: &Sheet, index: &PairIndex, p: usize) -> Option<usize>
+        requires { TypingPattern sheet.now (count sheet.now) index.now self.now p × (sort_at sheet.now p ≡ patterns) }
+        ensures { TypedAll sheet.now p (or_zero result) × (or_zero result < word_bound) }
+    {
+        let one = self.one_type(sheet, index, p);
+        let following = sheet.word(p, WORD_NEXT);
+        if following != 0 && self.of(following) != one {
+            return None;
+        }
+        one
+    }
+
+    // Notes the type of the alternatives from p, where it is a pattern.
+    fn note(&mut self, sheet: &Sheet, index: &PairIndex, p: usize)
+        requires { TypingPattern sheet.now (count sheet.now) index.now self.old p }
+        ensures { PatternsTyped sheet.now p self.new }
+    {
+        match sheet.kind(p) {
+            Kind::WholePattern | Kind::ConstructorPattern | Kind::PairPattern => {
+                self.types[p] = self.common_type(sheet, index, p).unwrap_or(0) as u16;
+            }
+            _ => {}
+        }
+    }
+
+    // Notes the type of every pattern, the last record first.
+    pub fn note_all(&mut self, sheet: &Sheet, index: &PairIndex)
+        requires { Passes sheet.now × Indexed sheet.now (count sheet.now) index.now × PatternsTyped sheet.now (count sheet.now) self.old }
+        ensures { PatternsTyped sheet.now 0 self.new }
+    {
+        for rec in (0..sheet.records()).rev() {
+            self.note(sheet, index, rec);
+        }
+    }
 }

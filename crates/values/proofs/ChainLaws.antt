@@ -1,6 +1,6 @@
 -- Laws of decisions along a chain: what is told of it, the first yes, and the leaves of a pattern by its first alternative.
 -- Assumes nothing.
-use Prim.Native.Nat.{ℕ, ◌-◌, ◌<◌}
+use Prim.Native.Nat.{ℕ, ◌<◌}
 use mathlib.Core.List.{List}
 use mathlib.Core.Path.{◌≡◌, refl, sym, ◌∙◌}
 use Rattle.picoella.specs.Language.{Pattern, Whole, Constructor, Parts, Bar}
@@ -44,12 +44,6 @@ pub few-told : (d : Decision) (r q : ℕ) → r < 4096 → q < 4096 → or_after
 few-told Yes r q h k = h
 few-told No r q h k = k
 few-told Undecided r q h k = k
-
--- and 0 where it says no yes
-pub told-alone : (a : Match) → or_after (decision_of a) (told a) 0 ≡ told a
-told-alone (Matched'.Yes r) = refl
-told-alone Matched'.No = refl
-told-alone Matched'.Undecided = refl
 
 -- after a yes the rest changes nothing
 pub yes-stays : (says : Pattern → Decision) (s : List ℕ) (m : Alternatives) → with_rest says Yes s m ≡ Yes

@@ -2,7 +2,7 @@
 -- Assumes nothing.
 use Prim.Native.Nat.{ℕ, ◌+◌, ◌≤◌, ◌<◌}
 use mathlib.Core.List.{List}
-use mathlib.Core.Path.{◌≡◌, refl, sym, ap, ◌∙◌}
+use mathlib.Core.Path.{◌≡◌, sym, ap, ◌∙◌}
 use native.Mathlib.Decide.{ℕ_discrete}
 use native.Mathlib.Omega.{arith}
 use lib.ListN.{length, get_or, set, length-set}
@@ -15,9 +15,6 @@ module _ (leaf : ℕ → ℕ → ℕ) (otherwise out₀ : List ℕ) where
     pub long : length out ≡ length out₀
     pub so_far : (j : ℕ) → j < i → get_or out j 0 ≡ leaf (get_or out₀ j 0) (get_or otherwise j 0)
     pub rest : (j : ℕ) → i ≤ j → get_or out j 0 ≡ get_or out₀ j 0
-
-  pub none-joined : JoinedTo 0 out₀
-  none-joined = record { few = omega arith; long = refl; so_far = λ j h. absurd (omega arith); rest = λ j h. refl }
 
   pub join-next : (i : ℕ) (out : List ℕ) (v : ℕ) → i < length out₀ → JoinedTo i out
       → v ≡ leaf (get_or out i 0) (get_or otherwise i 0) → JoinedTo (i + 1) (set out i v)

@@ -1,6 +1,6 @@
 -- A chain gone along leaf by leaf, its leaves read into a slice or a value held at them.
 -- Assumes nothing.
-use Prim.Native.Nat.{ℕ, zero, suc, ◌+◌, ◌-◌, ◌≤◌, ◌<◌}
+use Prim.Native.Nat.{ℕ, zero, suc, ◌+◌, ◌≤◌, ◌<◌}
 use mathlib.Core.List.{List, [], ◌∷◌, ◌++◌, append-nil}
 use mathlib.Core.Path.{◌≡◌, refl, sym, ap, ◌∙◌}
 use native.Mathlib.Omega.{arith}
@@ -30,9 +30,6 @@ module _ {s : List ℕ} (w : Written s) where
       pub there : i < length (chain s first) → l < count s
       pub sort : i < length (chain s first) → sort_at s l ≡ leafs
       pub rest : i < length (chain s first) → drop i (chain s first) ≡ chain s l
-
-    pub from_first : first < count s → sort_at s first ≡ leafs → Along 0 first
-    from_first h e = record { there = λ _. h; sort = λ _. e; rest = λ _. refl }
 
     module _ {i l : ℕ} (a : Along i l) (h : i < length (chain s first)) where
       after : drop i (chain s first) ≡ l ∷ follow [] (chain s) (next_word s l)
@@ -66,9 +63,6 @@ module _ {s : List ℕ} (w : Written s) where
     pub record Read (i : ℕ) (out : List ℕ) : Type 0 where
       pub long : length out ≡ length (chain s first)
       pub so_far : take i out ++ leaf_values s (drop i (chain s first)) ≡ leaf_values s (chain s first)
-
-    pub none_read : (out : List ℕ) → length (chain s first) ≡ length out → Read 0 out
-    none_read out e = record { long = sym e; so_far = refl }
 
     module _ {i l : ℕ} (a : Along i l) (h : i < length (chain s first)) where
       pub read_next : (out : List ℕ) {x : ℕ} → x ≡ word_a s l → Read i out → Read (i + 1) (set out i x)

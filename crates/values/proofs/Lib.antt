@@ -1,6 +1,6 @@
 -- Laws on values as bytes.
+pub mod LastKinds
 pub mod Leaves
-pub mod Slots
 pub mod LeafByLeaf
 pub mod Agreement
 pub mod ChainLaws

@@ -48,12 +48,11 @@ use Rattle.records.specs.Kinds.{
   never,
   is_header,
 }
-use Rattle.records.specs.AskNumbers.{ask_number}
 use Rattle.records.specs.Says.{kind_at, sort_at, ask_at, Naming, names, namings, well_named}
 use Rattle.records.specs.Trees.{tree_at, type_record_of}
 use Rattle.records.specs.Written.{Written}
 use Rattle.records.proofs.Tests.{never_both, both_left, both_right}
-use Rattle.records.proofs.Table.{ask_of_kind, ask-by-kind}
+use Rattle.records.proofs.Table.{ask_of_kind, ask-by-kind, ask_number}
 use Rattle.records.proofs.Asked.{AskMeans, as-asked, past-header}
 use Rattle.records.proofs.Namings.{in-namings-names, namer-lower}
 use Rattle.structure.specs.Rules.{Passes}

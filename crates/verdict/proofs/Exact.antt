@@ -17,7 +17,7 @@ use Rattle.structure.specs.Rules.{Passes}
 use Rattle.verdict.specs.Verdict.{refusing, by_types, verdict}
 use Rattle.verdict.specs.Scopes.{inputs}
 use Rattle.verdict.specs.Promises.{WellTyped, Exact}
-use Rattle.answers.specs.declared.Verdict.TheVariants.{Accepted, IllTyped}
+use Rattle.answers.specs.Answers.{Accepted, IllTyped}
 use Rattle.structure.proofs.Passes.{written, types-fit}
 use Rattle.verdict.proofs.Places.{accepted-by-types}
 use Rattle.typing.proofs.Judged.{RulesHold, NoneFails, passed-judged, judged-passed}

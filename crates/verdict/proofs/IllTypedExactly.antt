@@ -56,7 +56,7 @@ use Rattle.verdict.specs.Scopes.{
   in_if_else,
   in_delay,
 }
-use Rattle.answers.specs.declared.Verdict.TheVariants.{IllTyped}
+use Rattle.answers.specs.Answers.{IllTyped}
 use Rattle.verdict.proofs.Places.{places-right, passes-by-types}
 use Rattle.verdict.proofs.SaysExactly.{failing-first}
 use Rattle.verdict.proofs.Reached.{

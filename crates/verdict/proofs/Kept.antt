@@ -4,7 +4,7 @@
 use mathlib.Core.Path.{refl}
 use native.Mathlib.Omega.{arith}
 use Rattle.answers.specs.GivenSlices.{no_slice}
-use Rattle.answers.specs.declared.Verdict.TheVariants.{Accepted}
+use Rattle.answers.specs.Answers.{Accepted}
 use Rattle.answers.proofs.StandardLaws.{standard-laws}
 use Rattle.verdict.specs.Verdict.{output_type}
 use Rattle.verdict.specs.Promises.{CheckPromises, CheckLaws}

@@ -1,76 +1,81 @@
--- A lent table is written for an accepted sheet alone.
+-- The length is the first stage; a lent table is written for an accepted sheet alone.
 -- Assumes nothing.
-use mathlib.Core.Path.{◌≡◌, refl, sym, ◌∙◌}
-use mathlib.Core.Bool.{Bool, true, false, not}
+use mathlib.Core.Path.{◌≡◌, refl, sym}
+use mathlib.Core.Bool.{Bool, true, false}
 use mathlib.Core.List.{List}
+use mathlib.Core.Logic.{◌↔◌}
 use Prim.Native.Nat.{ℕ, ◌/◌}
 use native.Mathlib.Omega.{arith}
 use lib.ListN.{length}
+use Rattle.std.specs.Prelude.{Option, Some, None, Result, Ok, Err, IsSome, IfErr, IsErrAnd, ok_or}
+use Rattle.answers.specs.declared.Fault.{Fault}
+use Rattle.answers.specs.declared.Fault.TheVariants as Faulty
+use Rattle.answers.specs.declared.Refusal.{Refusal}
+use Rattle.answers.specs.Answers.{Verdict, Accepted, verdict_answer}
+use Rattle.answers.specs.Results.{refusal_of, verdict_of, answer_of}
+use Rattle.records.specs.Words.{count}
 use Rattle.records.specs.Sized.{Sized}
-use Rattle.structure.specs.Rules.{Passes}
+use Rattle.structure.specs.Rules.{Passes, wrong_length}
 use Rattle.verdict.specs.Stages.{StagesChecked}
-use Rattle.verdict.specs.Widths.{Widths}
-use Rattle.verdict.specs.CheckedTable.{PatternsFrom, Checked, accepts}
-use Rattle.answers.specs.declared.Verdict.{Verdict}
-use Rattle.answers.specs.declared.Verdict.TheVariants.{
-  Accepted,
-  WrongLength,
-  WrongHeader,
-  WrongRecord,
-  WrongNaming,
-  WrongType,
-  TooDeep,
-  IllTyped,
-}
+use Rattle.verdict.specs.Verdict.{verdict}
+use Rattle.verdict.specs.CheckedTable.{PatternsFrom, Checked}
+use Rattle.verdict.specs.CheckedSheet.{checked_verdict}
+use Rattle.verdict.specs.declared.checked.Checked.{Checked as CheckedSheet}
 use Rattle.verdict.proofs.Exact.{exact}
 use Rattle.verdict.proofs.Stages.{length-passed}
 use Rattle.verdict.proofs.Widths.{judged-widths}
 
-module _ {s : List ℕ} {n : ℕ} {answer : Verdict} {after : List ℕ} (t : StagesChecked s n answer after) where
-  pub refused-lent : (before : List ℕ) (b : Bool) → b ≡ accepts answer → not b ≡ true → Checked s answer before before
-  refused-lent before b e f =
-      let z : accepts answer ≡ false = sym e ∙ not_so b f in
-      record {
-        answered = t.answered;
-        refused = λ q. refl;
-        accepted = λ q. let y : ◌≡◌ {A = Bool} true false = sym q ∙ z in let x : ◌≡◌ {A = ℕ} 0 1 = cc in absurd (omega arith);
-      }
-    where
-      not_so : (b : Bool) → not b ≡ true → b ≡ false
-      not_so true q = sym q
-      not_so false q = refl
+-- bytes that are no sheet have a wrong length
+pub no-sheet : {S : Type 0} (s : List ℕ) (o : Option S) {r : Result S Fault} → r ≡ ok_or o Faulty.WrongLength
+    → IsSome o ↔ Sized s (count s) → IfErr r (λ f. (f ≡ Faulty.WrongLength) × (wrong_length s ≡ true))
+unfolding count
+no-sheet s o e h = rw e (go o h)
+  where
+    wrong : (b : Bool) → wrong_length s ≡ b → (Sized s (count s) → ⊥) → wrong_length s ≡ true
+    wrong true q none = q
+    wrong false q none = absurd (none (length-passed refl q).sized)
 
-  some-type : (v : Verdict) → accepts v ≡ true → (u : ℕ) × (v ≡ Accepted u)
-  some-type (Accepted u) q = (u, refl)
-  some-type WrongLength q = let x : ◌≡◌ {A = ℕ} 0 1 = cc in absurd (omega arith)
-  some-type WrongHeader q = let x : ◌≡◌ {A = ℕ} 0 1 = cc in absurd (omega arith)
-  some-type (WrongRecord r) q = let x : ◌≡◌ {A = ℕ} 0 1 = cc in absurd (omega arith)
-  some-type (WrongNaming r) q = let x : ◌≡◌ {A = ℕ} 0 1 = cc in absurd (omega arith)
-  some-type (WrongType r) q = let x : ◌≡◌ {A = ℕ} 0 1 = cc in absurd (omega arith)
-  some-type (TooDeep r) q = let x : ◌≡◌ {A = ℕ} 0 1 = cc in absurd (omega arith)
-  some-type (IllTyped r) q = let x : ◌≡◌ {A = ℕ} 0 1 = cc in absurd (omega arith)
+    go : {S : Type 0} (o : Option S) → IsSome o ↔ Sized s (count s)
+        → IfErr (ok_or o Faulty.WrongLength) (λ f. (f ≡ Faulty.WrongLength) × (wrong_length s ≡ true))
+    go (Some x) h = tt
+    go None h = (refl, wrong (wrong_length s) refl (λ z. let q : ◌≡◌ {A = Bool} false true = h.1 z in let y : ◌≡◌ {A = ℕ} 0 1 = cc in absurd (omega arith)))
 
-  module _ {b : Bool} (e : b ≡ accepts answer) (f : not b ≡ false) where
-    is-so : accepts answer ≡ true
-    is-so = sym e ∙ go b f
-      where
-        go : (b : Bool) → not b ≡ false → b ≡ true
-        go true q = refl
-        go false q = sym q
+-- a fault as the answer of a call
+pub refused-answer : (r : Result ℕ Refusal) (f : Fault) {v : Verdict} → IsErrAnd r (λ e. e ≡ refusal_of f) → verdict_of (Err f) ≡ v
+    → answer_of r ≡ verdict_answer v
+refused-answer (Ok x) f p q = absurd p
+refused-answer (Err e) f p q = rw (p, ← q) (go f)
+  where
+    go : (f : Fault) → answer_of (Err (refusal_of f)) ≡ verdict_answer (verdict_of (Err f))
+    go Faulty.WrongLength = refl
+    go Faulty.WrongHeader = refl
+    go (Faulty.WrongRecord r) = refl
+    go (Faulty.WrongNaming r) = refl
+    go (Faulty.WrongType r) = refl
+    go (Faulty.TooDeep r) = refl
+    go (Faulty.IllTyped r) = refl
 
-    accepted-passes : Passes s
-    accepted-passes = let u = some-type answer is-so in ((exact s u.0).0 (sym t.answered ∙ u.1)).0
+pub length-verdict : (s : List ℕ) {f : Fault} → (f ≡ Faulty.WrongLength) × (wrong_length s ≡ true) → verdict_of (Err f) ≡ verdict s
+unfolding verdict
+length-verdict s h = rw (h.0, h.1)
 
-    pub patterns-ready : n ≡ length s / 12 → Sized s n × Passes s × PatternsFrom s n after
-    patterns-ready c =
-        let u = some-type answer is-so in
-        let k = t.notes u.0 u.1 in
-        let z = (length-passed c accepted-passes.length).sized in
-        (z, accepted-passes, rw k.2 (judged-widths accepted-passes z.counted k.1))
+pub length-lent : (s : List ℕ) {f : Fault} (r : Result ℕ Fault) (table : List ℕ) → IsErrAnd r (λ e. e ≡ f)
+    → (f ≡ Faulty.WrongLength) × (wrong_length s ≡ true) → Checked s (verdict_of r) table table
+length-lent s (Ok x) table p h = absurd p
+length-lent s (Err e) table p h = record {
+  answered = rw p (length-verdict s h);
+  refused = λ q. refl;
+  accepted = λ q. absurd (let e = rw (p, h.0) at q in let y : ◌≡◌ {A = ℕ} 0 1 = cc in omega arith);
+}
 
-    pub accepted-lent : (before table : List ℕ) → Widths s table → Checked s answer before table
-    accepted-lent before table w = record {
-      answered = t.answered;
-      refused = λ q. let y : ◌≡◌ {A = Bool} true false = sym is-so ∙ q in let x : ◌≡◌ {A = ℕ} 0 1 = cc in absurd (omega arith);
-      accepted = λ q. w;
-    }
+pub length-checked : (s : List ℕ) {f : Fault} (r : Result CheckedSheet Fault) → IsErrAnd r (λ e. e ≡ f)
+    → (f ≡ Faulty.WrongLength) × (wrong_length s ≡ true) → checked_verdict r ≡ verdict s
+length-checked s (Ok x) p h = absurd p
+length-checked s (Err e) p h = rw p (length-verdict s h)
+
+module _ {s : List ℕ} {t : ℕ} {after : List ℕ} (c : StagesChecked s (count s) (Accepted t) after) where
+  pub passes-accepted : Passes s
+  passes-accepted = ((exact s t).0 (sym c.answered)).0
+
+  pub patterns-ready : Passes s × PatternsFrom s (count s) after
+  patterns-ready = let k = c.notes t refl in (passes-accepted, rw k.2 (judged-widths passes-accepted refl k.1))

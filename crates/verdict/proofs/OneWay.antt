@@ -7,10 +7,10 @@ use mathlib.Core.Bool.{true, ◌&&◌}
 use mathlib.Core.List.{List}
 use mathlib.Core.Path.{◌≡◌, refl, sym, ap, ◌∙◌}
 use native.Mathlib.Omega.{arith}
-use lib.Dec.{eqb, ltb}
+use lib.Dec.{ltb}
 use Rattle.records.specs.Words.{count, word, word_b}
 use Rattle.records.specs.Kinds.{expressions, expression, ExpressionKind, part}
-use Rattle.records.specs.Says.{kind_at, sort_at, Naming, names}
+use Rattle.records.specs.Says.{kind_at, Naming}
 use Rattle.records.proofs.Table.{ask_of_kind}
 use Rattle.records.proofs.Asked.{part-of-kind, root_is, past-header}
 use Rattle.records.proofs.Namings.{Names, namer-lower, part-names, part-word-other, only-naming}

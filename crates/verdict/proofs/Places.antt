@@ -15,8 +15,8 @@ use Rattle.typing.specs.Judgements.{judgements, first_failing}
 use Rattle.verdict.specs.Verdict.{unless, refusing, by_types, by_records, verdict}
 use Rattle.verdict.specs.Scopes.{inputs}
 use Rattle.verdict.specs.Promises.{Says, Places}
-use Rattle.answers.specs.declared.Verdict.{Verdict}
-use Rattle.answers.specs.declared.Verdict.TheVariants.{
+use Rattle.answers.specs.Answers.{Verdict}
+use Rattle.answers.specs.Answers.{
   Accepted,
   WrongLength,
   WrongHeader,

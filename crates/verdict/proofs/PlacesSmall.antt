@@ -1,6 +1,6 @@
 -- The place of a verdict is a record of the sheet, so it is below 4,096.
 -- Assumes nothing.
-use mathlib.Core.Path.{◌≡◌, refl}
+use mathlib.Core.Path.{◌≡◌, refl, sym}
 use mathlib.Core.List.{List}
 use Prim.Native.Nat.{ℕ, ◌<◌}
 use native.Mathlib.Omega.{arith}
@@ -8,8 +8,8 @@ use Rattle.answers.specs.Answers.{place, verdict_answer}
 use Rattle.structure.proofs.Passes.{length-fits}
 use Rattle.verdict.specs.Promises.{Says, PlacesBelow}
 use Rattle.verdict.specs.Verdict.{verdict}
-use Rattle.answers.specs.declared.Verdict.{Verdict}
-use Rattle.answers.specs.declared.Verdict.TheVariants.{
+use Rattle.answers.specs.Answers.{Verdict}
+use Rattle.answers.specs.Answers.{
   Accepted,
   WrongLength,
   WrongHeader,
@@ -41,3 +41,7 @@ place-below s (IllTyped r) e says =
 
 pub verdict-place : PlacesBelow
 verdict-place s = place-below s (verdict s) refl (places-right s)
+
+-- the type of an accepted sheet
+pub output-place : (s : List ℕ) (t : ℕ) → Accepted t ≡ verdict s → t < 4096
+output-place s t e = let q : verdict s ≡ Accepted t = sym e in rw q at (verdict-place s)

@@ -14,8 +14,8 @@ use Rattle.typing.specs.Judgements.{Judgement, holds, judgements, first_failing}
 use Rattle.verdict.specs.Verdict.{verdict, by_records, by_types}
 use Rattle.verdict.specs.Scopes.{inputs}
 use Rattle.verdict.specs.Promises.{AllHold, FailsFirst, Says, SaysExactly}
-use Rattle.answers.specs.declared.Verdict.{Verdict}
-use Rattle.answers.specs.declared.Verdict.TheVariants.{
+use Rattle.answers.specs.Answers.{Verdict}
+use Rattle.answers.specs.Answers.{
   Accepted,
   WrongLength,
   WrongHeader,

@@ -1,86 +1,71 @@
 -- The stages of the check, one after the other: where a stage finds no fault the next begins, and
 -- the first that finds one gives the verdict. Assumes nothing.
-use mathlib.Core.Path.{◌≡◌, refl, sym, ◌∙◌, ap, subst}
-use mathlib.Core.Bool.{Bool, true, false, not, ◌||◌, or-true}
+use mathlib.Core.Path.{◌≡◌, sym, ◌∙◌, ap, subst}
+use mathlib.Core.Bool.{Bool, true, false, not, ◌||◌}
 use mathlib.Core.List.{List, [], ◌∷◌}
 use mathlib.Core.Option.{none, some}
-use Prim.Native.Nat.{ℕ, ◌*◌, ◌/◌, ◌%◌, ◌≤◌, ◌<◌}
+use Prim.Native.Nat.{ℕ, ◌/◌, ◌%◌, ◌≤◌, ◌<◌}
 use native.Mathlib.Omega.{arith}
-use native.Mathlib.Decide.{ℕ_discrete}
-use borrow.Author.Tests.{ltb-false, eqb-true, lt-ltb, le-ltb, eq-eqb, ne_eqb, not-false}
+use borrow.Author.Tests.{ltb-false, eqb-true, le-ltb, eq-eqb, not-false}
 use lib.Dec.{eqb, ltb}
 use lib.ListN.{length}
 use Rattle.records.specs.Words.{count, word}
 use Rattle.records.specs.Trees.{tree_at, circuit}
 use Rattle.records.specs.Written.{Written}
-use Rattle.records.specs.Says.{namings}
 use Rattle.records.proofs.Tests.{neither_left, neither_right}
 use Rattle.records.proofs.Asked.{root_is}
 use Rattle.records.proofs.TypeRecords.{input-type}
 use Rattle.answers.specs.Answers.{lowest, code, verdict_answer}
 use Rattle.answers.specs.Searches.{found}
-use Rattle.structure.specs.Rules.{Passes, wrong_length, wrong_header, wrong_record, wrong_naming, wrong_type, too_deep, depth, nesting}
-use Rattle.structure.specs.NamerTable.{NamingsHeld}
+use Rattle.answers.proofs.Lowest.{lowest-some-passes}
+use Rattle.records.specs.Sized.{Sized}
+use Rattle.structure.specs.Rules.{Passes, wrong_length, wrong_header, wrong_record, wrong_naming, wrong_type, too_deep}
 use Rattle.structure.specs.LeafTable.{LeavesCounted}
-use Rattle.structure.specs.DepthTable.{Capped, Placing}
-use Rattle.answers.specs.declared.Found.{Found}
-use Rattle.answers.specs.declared.Found.TheVariants.{At, Nothing}
-use Rattle.structure.proofs.Passes.{written, written-by, well-named-by, well-named}
+use Rattle.std.specs.Prelude.{Option, Some, None}
+use Rattle.structure.proofs.Passes.{written, written-by, well-named}
 use Rattle.structure.proofs.Depths.{depth-of-root}
-use Rattle.structure.proofs.DepthCounts.{depth-of-header, nesting-of-header}
-use Rattle.typing.specs.Judging.{Ground, Judging, Judged, Context, scope_of}
+use Rattle.typing.specs.Judging.{Ground, Judging, Judged, Context}
 use Rattle.verdict.specs.Stages.{CheckingRecords, CheckingNamings, CheckingTypes, CheckingDepths, RulesChecked, StagesChecked}
 use Rattle.verdict.specs.Verdict.{verdict, by_types, by_records}
 use Rattle.verdict.specs.Scopes.{inputs}
-use Rattle.typing.specs.declared.Outcome.{Outcome}
-use Rattle.typing.specs.declared.Outcome.TheVariants.{Sound, Fault}
-use Rattle.answers.specs.declared.Verdict.{Verdict}
-use Rattle.answers.specs.declared.Verdict.TheVariants.{
-  Accepted,
-  WrongLength,
-  WrongHeader,
-  WrongRecord,
-  WrongNaming,
-  WrongType,
-  TooDeep,
-  IllTyped,
-}
+use Rattle.typing.specs.Outcomes.{Outcome, Sound, Fault}
+use Rattle.answers.specs.Answers.{Verdict}
+use Rattle.answers.specs.Answers.{Accepted, WrongHeader, WrongRecord, WrongNaming, WrongType, TooDeep, IllTyped}
 use Rattle.typing.proofs.Bounds.{counts-leaves}
 use Rattle.typing.proofs.Outcomes.{passed, faulted}
 
 -- the type rules
-module _ {s : List ℕ} {n : ℕ} {widths : List ℕ} (g : Ground s n widths) (stack : List ℕ) {x y : ℕ} (ex : x ≡ word s 0 2)
-    (ey : y ≡ word s 0 3) (scope : scope_of 1 stack ≡ x ∷ []) where
-  pub root-ready : length stack ≡ 64 → length widths ≡ 4096 → Judging s n stack 1 y widths
-  root-ready wide long =
+module _ {s : List ℕ} {n : ℕ} {widths : List ℕ} (g : Ground s n widths) (Γ : List ℕ) {x y : ℕ} (ex : x ≡ word s 0 2)
+    (ey : y ≡ word s 0 3) (scope : Γ ≡ x ∷ []) where
+  pub root-ready : length widths ≡ 4096 → Judging s n Γ y widths
+  root-ready long =
       let w = written g.passes in
       let r = root_is w in
       let c = g.sized.counted in
       let d = depth-of-root w (well-named g.passes) in
       record {
         ground = g;
-        wide = wide;
         long = long;
         there = omega (arith, r.1, ey);
         sort = rw ey r.2;
-        deep = rw ey (omega arith);
+        deep = rw (scope, ey) (omega arith);
         context = subst (λ (Γ : List ℕ). Context s Γ) (sym scope) (rw ex (input-type w), tt);
       }
 
   -- judging the root is judging the circuit
-  the-circuit : (answer : Outcome) (before after : List ℕ) → Judged s (scope_of 1 stack) (tree_at s y) answer before after
+  the-circuit : (answer : Outcome) (before after : List ℕ) → Judged s Γ (tree_at s y) answer before after
       → Judged s (inputs s) (circuit s) answer before after
   unfolding circuit
   the-circuit answer before after d = rw (scope, ex, ey) at d
 
-  pub rules-accept : (answer : Outcome) (t : ℕ) (before after : List ℕ) → Judged s (scope_of 1 stack) (tree_at s y) answer before after
+  pub rules-accept : (answer : Outcome) (t : ℕ) (before after : List ℕ) → Judged s Γ (tree_at s y) answer before after
       → answer ≡ Sound t → RulesChecked s (by_types s) (Accepted t) before after
   unfolding by_types
   rules-accept answer t before after d e =
       let p = passed t (the-circuit answer before after d) e in
       record { answered = rw (p.none-fails, p.typed); long = p.counted.long; notes = λ u q. p.notes }
 
-  pub rules-refuse : (answer : Outcome) (r : ℕ) (before after : List ℕ) → Judged s (scope_of 1 stack) (tree_at s y) answer before after
+  pub rules-refuse : (answer : Outcome) (r : ℕ) (before after : List ℕ) → Judged s Γ (tree_at s y) answer before after
       → answer ≡ Fault r → RulesChecked s (by_types s) (IllTyped r) before after
   unfolding by_types
   rules-refuse answer r before after d e =
@@ -93,32 +78,12 @@ module _ {s : List ℕ} {n : ℕ} {widths : List ℕ} (g : Ground s n widths) (s
       }
 
 -- what a search over n records found is what one over all records finds
-module _ (s : List ℕ) {n : ℕ} (p : ℕ → Bool) {o : Found} (c : n ≡ count s) (e : found o ≡ lowest p n) where
-  found_none : o ≡ Nothing → lowest p (count s) ≡ none
+module _ (s : List ℕ) {n : ℕ} (p : ℕ → Bool) {o : Option ℕ} (c : n ≡ count s) (e : found o ≡ lowest p n) where
+  found_none : o ≡ None → lowest p (count s) ≡ none
   found_none q = rw (← c) (sym e ∙ ap found q)
 
-  found_at : {r : ℕ} → o ≡ At r → lowest p (count s) ≡ some r
+  found_at : {r : ℕ} → o ≡ Some r → lowest p (count s) ≡ some r
   found_at q = rw (← c) (sym e ∙ ap found q)
-
--- the length
--- no signature here determines the sheet
-module _ (s : List ℕ) where
-  pub short-wrong : length s < 12 → true ≡ wrong_length s
-  unfolding wrong_length
-  short-wrong h = rw (lt-ltb (length s) 12 h)
-
-  pub long-wrong : 49152 < length s → true ≡ wrong_length s
-  unfolding wrong_length
-  long-wrong h = sym (rw (lt-ltb 49152 (length s) h) (or-true (ltb (length s) 12)))
-
-  pub length-tested : (n : ℕ) → n ≡ length s / 12 → 12 ≤ length s → length s ≤ 49152 → not (eqb (12 * n) (length s)) ≡ wrong_length s
-  unfolding wrong_length
-  length-tested n e low high =
-      rw (le-ltb (length s) 12 low, le-ltb 49152 (length s) high) (ap not (go (ℕ_discrete (length s % 12) 0)))
-    where
-      go : Dec (length s % 12 ≡ 0) → eqb (12 * n) (length s) ≡ eqb (length s % 12) 0
-      go (yes z) = rw (eq-eqb (length s % 12) 0 z) (eq-eqb (12 * n) (length s) (omega arith))
-      go (no z) = rw (ne_eqb (length s % 12) 0 z) (ne_eqb (12 * n) (length s) (λ q. z (omega arith)))
 
 -- a stage that finds nothing: the next may begin
 module _ {s : List ℕ} {n : ℕ} where
@@ -136,7 +101,26 @@ module _ {s : List ℕ} {n : ℕ} where
         length = w;
       }
 
-  pub records-passed : CheckingRecords s n → wrong_header s ≡ false → (o : Found) → found o ≡ lowest (wrong_record s) n → o ≡ Nothing
+  -- a sheet has a length that is no code's
+  pub checking : Sized s n → CheckingRecords s n
+  unfolding wrong_length
+  checking z =
+      let w = z.whole in
+      let a = z.some in
+      let b = z.few in
+      record {
+        sized = z;
+        length = rw (le-ltb (length s) 12 (omega arith), le-ltb 49152 (length s) (omega arith), eq-eqb (length s % 12) 0 (omega arith));
+      }
+
+  -- what a search finds is a record's number, and small
+  pub record-fits : Sized s n → (p : ℕ → Bool) (o : Option ℕ) → found o ≡ lowest p n → {r : ℕ} → o ≡ Some r → r < 4294967296
+  record-fits z p o e {r} q =
+      let f = lowest-some-passes p n r (sym e ∙ ap found q) in
+      let b = z.few in
+      omega (arith, f.0)
+
+  pub records-passed : CheckingRecords s n → wrong_header s ≡ false → (o : Option ℕ) → found o ≡ lowest (wrong_record s) n → o ≡ None
       → CheckingNamings s n
   records-passed m h o e q = record {
     measured = m;
@@ -144,13 +128,13 @@ module _ {s : List ℕ} {n : ℕ} where
     records = found_none s (wrong_record s) m.sized.counted e q;
   }
 
-  pub names-passed : CheckingNamings s n → (o : Found) → found o ≡ lowest (wrong_naming s) n → o ≡ Nothing → CheckingTypes s n
+  pub names-passed : CheckingNamings s n → (o : Option ℕ) → found o ≡ lowest (wrong_naming s) n → o ≡ None → CheckingTypes s n
   names-passed r o e q = record {
     recorded = r;
     namings = found_none s (wrong_naming s) r.measured.sized.counted e q;
   }
 
-  pub types-passed : CheckingTypes s n → (o : Found) → found o ≡ lowest (wrong_type s) n → o ≡ Nothing → CheckingDepths s n
+  pub types-passed : CheckingTypes s n → (o : Option ℕ) → found o ≡ lowest (wrong_type s) n → o ≡ None → CheckingDepths s n
   types-passed t o e q = record {
     named = t;
     types = found_none s (wrong_type s) t.recorded.measured.sized.counted e q;
@@ -159,19 +143,7 @@ module _ {s : List ℕ} {n : ℕ} where
   pub recorded-written : CheckingNamings s n → Written s
   recorded-written r = written-by r.measured.length r.header r.records
 
-  pub placing : CheckingTypes s n → (namers depths nestings : List ℕ) → NamingsHeld (namings s) namers
-      → ((cap : ℕ) (g : ℕ → ℕ) → g 0 ≡ 0 → Capped cap g 1 depths) → ((cap : ℕ) (g : ℕ → ℕ) → g 0 ≡ 0 → Capped cap g 1 nestings)
-      → Placing s n 1 namers depths nestings
-  placing t namers depths nestings h d m = record {
-    sized = t.recorded.measured.sized;
-    written = recorded-written t.recorded;
-    well = well-named-by s t.namings;
-    named = h;
-    some = let z = t.recorded.measured.sized.some in omega arith;
-    placed = record { deep = d 65 (depth s) (depth-of-header s); nested = m 4 (nesting s) (nesting-of-header s) };
-  }
-
-  pub depths-passed : CheckingDepths s n → (o : Found) → found o ≡ lowest (too_deep s) n → o ≡ Nothing → (table : List ℕ)
+  pub depths-passed : CheckingDepths s n → (o : Option ℕ) → found o ≡ lowest (too_deep s) n → o ≡ None → (table : List ℕ)
       → LeavesCounted s n table → Ground s n table
   depths-passed f o e q table c =
       let r = f.named.recorded in
@@ -195,15 +167,11 @@ module _ {s : List ℕ} {n : ℕ} where
     notes = λ t q. let z : code (verdict_answer answer) ≡ 0 = ap (λ (w : Verdict). code (verdict_answer w)) q in absurd (omega arith);
   }
 
-  pub length-refused : (after : List ℕ) → wrong_length s ≡ true → StagesChecked s n WrongLength after
-  unfolding verdict
-  length-refused after e = refused WrongLength after (omega arith) (rw e)
-
   pub header_refused : (after : List ℕ) → wrong_length s ≡ false → wrong_header s ≡ true → StagesChecked s n WrongHeader after
   unfolding verdict
   header_refused after l e = refused WrongHeader after (omega arith) (rw (l, e))
 
-  module _ (o : Found) (r : ℕ) (q : o ≡ At r) (after : List ℕ) where
+  module _ (o : Option ℕ) (r : ℕ) (q : o ≡ Some r) (after : List ℕ) where
     pub record-refused : (m : CheckingRecords s n) → wrong_header s ≡ false → found o ≡ lowest (wrong_record s) n → StagesChecked s n (WrongRecord r) after
     unfolding verdict by_records
     record-refused m h e =

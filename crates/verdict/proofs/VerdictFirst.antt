@@ -6,8 +6,8 @@ use native.Mathlib.Omega.{arith}
 use mathlib.Core.Bool.{Bool, true, false}
 use mathlib.Core.List.{List}
 use mathlib.Core.Option.{Option, none, some}
-use Rattle.answers.specs.declared.Answer.{Answer}
-use Rattle.answers.specs.declared.Answer.TheVariants.{Done, Refused}
+use Rattle.answers.specs.Answers.{Answer}
+use Rattle.answers.specs.Answers.{Done, Refused}
 use Rattle.answers.specs.Answers.{when, or_refused, first_applying, NoneApplies, SaysOf, lowest, verdict_answer}
 use Rattle.answers.proofs.First.{none_done, first_says}
 use Rattle.records.specs.Words.{count}
@@ -16,8 +16,8 @@ use Rattle.structure.specs.Rules.{wrong_length, wrong_header, wrong_record, wron
 use Rattle.typing.specs.Judgements.{judgements, first_failing}
 use Rattle.verdict.specs.Verdict.{output_type, sheet_checks, unless, refusing, by_types, by_depths, by_type_records, by_namings, by_records, verdict}
 use Rattle.verdict.specs.Scopes.{inputs}
-use Rattle.answers.specs.declared.Verdict.{Verdict}
-use Rattle.answers.specs.declared.Verdict.TheVariants.{
+use Rattle.answers.specs.Answers.{Verdict}
+use Rattle.answers.specs.Answers.{
   Accepted,
   WrongLength,
   WrongHeader,

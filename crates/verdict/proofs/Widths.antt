@@ -47,7 +47,6 @@ use Rattle.typing.specs.ExpressionWidth.{width}
 use Rattle.verdict.specs.Scopes.{inputs}
 use Rattle.verdict.specs.Widths.{pattern_leaves, pattern_entry, has_entry, Widths}
 use Rattle.verdict.specs.CheckedTable.{PatternsFrom}
-use Rattle.typing.proofs.PatternNumbers.{pattern-kind, no-pattern}
 use Rattle.verdict.proofs.Stores.{notes, Stored}
 use Rattle.verdict.proofs.Noted.{circuit-expressions, scope-noting, scope-noted, circuit-stored}
 
@@ -150,89 +149,78 @@ module _ {s : List ℕ} (n m : ℕ) {table : List ℕ} (p : Passes s) (counted :
         filled q low l f (yes z) = absurd (other (rw z at f))
         filled q low l f (no z) = o.patterns q (omega arith) l f
 
-    module _ (k : ℕ) (ek : k ≡ word s m 0) where
-      pub no-pattern-widths : (k ≡ 48 → ⊥) → (k ≡ 49 → ⊥) → (k ≡ 50 → ⊥) → PatternsFrom s m table
-      no-pattern-widths a b c = unpatterned (no-pattern s m k ek a b c)
+    -- a whole type: the entry of its type
+    module _ (is_whole : kind_at s m ≡ pattern whole) (x : ℕ) (ex : x ≡ word s m 2) where
+      pub whole_typed : TypeRecord s x
+      whole_typed = rw ex (type-word (written p) m (pattern whole) in-sheet is_whole 2 refl (unfold ask_of_kind in refl))
 
-      -- a whole type: the entry of its type
-      module _ (e : k ≡ 48) (x : ℕ) (ex : x ≡ word s m 2) where
-        is_whole : kind_at s m ≡ pattern whole
-        is_whole = pattern-kind s m k ek whole e
+      pub whole-in-table : x < 4096
+      whole-in-table = let l = whole_typed.there in let f = (written p).few in omega arith
 
-        pub whole_typed : TypeRecord s x
-        whole_typed = rw ex (type-word (written p) m (pattern whole) in-sheet is_whole 2 refl (unfold ask_of_kind in refl))
+      pub whole-few : get_or table x 0 ≤ 65
+      whole-few = let l = few-of p x whole_typed in let q = o.types x whole_typed in omega arith
 
-        pub whole-in-table : x < 4096
-        whole-in-table = let l = whole_typed.there in let f = (written p).few in omega arith
+      pub whole-widths : PatternsFrom s m (set table m (get_or table x 0))
+      whole-widths = entry-stored (get_or table x 0) (rw is_whole)
+          (let l = few-of p x whole_typed in
+          o.types x whole_typed ∙ rw (alternatives-of (written p) m in-sheet (pattern whole) is_whole, ← ex) (omega arith))
 
-        pub whole-few : get_or table x 0 ≤ 65
-        whole-few = let l = few-of p x whole_typed in let q = o.types x whole_typed in omega arith
+    -- one constructor: one leaf
+    pub constructor-widths : kind_at s m ≡ pattern constructor → PatternsFrom s m (set table m 1)
+    constructor-widths f =
+        entry-stored 1 (rw f) (rw (alternatives-of (written p) m in-sheet (pattern constructor) f))
 
-        pub whole-widths : PatternsFrom s m (set table m (get_or table x 0))
-        whole-widths = entry-stored (get_or table x 0) (rw is_whole)
-            (let l = few-of p x whole_typed in
-            o.types x whole_typed ∙ rw (alternatives-of (written p) m in-sheet (pattern whole) is_whole, ← ex) (omega arith))
+    -- a pair of patterns: the entries of both
+    module _ (is-parts : kind_at s m ≡ pattern parts) where
+      -- what is known of a part
+      record Part (x : ℕ) : Type 0 where
+        there : x < count s
+        entry : get_or table x 0 ≡ pattern_entry s x
 
-      -- one constructor: one leaf
-      pub constructor-widths : k ≡ 49 → PatternsFrom s m (set table m 1)
-      constructor-widths e =
-          let f = pattern-kind s m k ek constructor e in
-          entry-stored 1 (rw f) (rw (alternatives-of (written p) m in-sheet (pattern constructor) f))
+      part_at : (j : ℕ) → (ltb 0 j && ltb j 6) ≡ true → ask_of_kind (pattern parts) j ≡ part patterns → (x : ℕ) → x ≡ word s m j → Part x
+      part_at j t a x ex =
+          let f = part-of-kind (written p) m (pattern parts) patterns in-sheet is-parts j t a in
+          rw ex (record { there = f.1; entry = o.patterns (word s m j) (omega arith) f.1 f.2 })
 
-      -- a pair of patterns: the entries of both
-      module _ (e : k ≡ 50) where
-        is-parts : kind_at s m ≡ pattern parts
-        is-parts = pattern-kind s m k ek parts e
+      first_part : (x : ℕ) → x ≡ word s m 2 → Part x
+      first_part = part_at 2 refl (unfold ask_of_kind in refl)
 
-        -- what is known of a part
-        record Part (x : ℕ) : Type 0 where
-          there : x < count s
-          entry : get_or table x 0 ≡ pattern_entry s x
+      second-part : (y : ℕ) → y ≡ word s m 3 → Part y
+      second-part = part_at 3 refl (unfold ask_of_kind in refl)
 
-        part_at : (j : ℕ) → (ltb 0 j && ltb j 6) ≡ true → ask_of_kind (pattern parts) j ≡ part patterns → (x : ℕ) → x ≡ word s m j → Part x
-        part_at j t a x ex =
-            let f = part-of-kind (written p) m (pattern parts) patterns in-sheet is-parts j t a in
-            rw ex (record { there = f.1; entry = o.patterns (word s m j) (omega arith) f.1 f.2 })
+      part-in-table : (x : ℕ) → Part x → x < 4096
+      part-in-table x q = let l = q.there in let f = (written p).few in omega arith
 
-        first_part : (x : ℕ) → x ≡ word s m 2 → Part x
-        first_part = part_at 2 refl (unfold ask_of_kind in refl)
+      part-few : (x : ℕ) → Part x → get_or table x 0 ≤ 65
+      part-few x q = let l = q.entry in omega arith
 
-        second-part : (y : ℕ) → y ≡ word s m 3 → Part y
-        second-part = part_at 3 refl (unfold ask_of_kind in refl)
+      pub first-in-table : (x : ℕ) → x ≡ word s m 2 → x < 4096
+      first-in-table x ex = part-in-table x (first_part x ex)
 
-        part-in-table : (x : ℕ) → Part x → x < 4096
-        part-in-table x q = let l = q.there in let f = (written p).few in omega arith
+      pub second-in-table : (y : ℕ) → y ≡ word s m 3 → y < 4096
+      second-in-table y ey = part-in-table y (second-part y ey)
 
-        part-few : (x : ℕ) → Part x → get_or table x 0 ≤ 65
-        part-few x q = let l = q.entry in omega arith
+      pub first-width-few : (x : ℕ) → x ≡ word s m 2 → get_or table x 0 ≤ 65
+      first-width-few x ex = part-few x (first_part x ex)
 
-        pub first-in-table : (x : ℕ) → x ≡ word s m 2 → x < 4096
-        first-in-table x ex = part-in-table x (first_part x ex)
+      pub second-width-few : (y : ℕ) → y ≡ word s m 3 → get_or table y 0 ≤ 65
+      second-width-few y ey = part-few y (second-part y ey)
 
-        pub second-in-table : (y : ℕ) → y ≡ word s m 3 → y < 4096
-        second-in-table y ey = part-in-table y (second-part y ey)
-
-        pub first-width-few : (x : ℕ) → x ≡ word s m 2 → get_or table x 0 ≤ 65
-        first-width-few x ex = part-few x (first_part x ex)
-
-        pub second-width-few : (y : ℕ) → y ≡ word s m 3 → get_or table y 0 ≤ 65
-        second-width-few y ey = part-few y (second-part y ey)
-
-        pub parts-widths : (x y : ℕ) → x ≡ word s m 2 → y ≡ word s m 3
-            → PatternsFrom s m (set table m (min 65 (get_or table x 0 + get_or table y 0)))
-        parts-widths x y ex ey =
-            entry-stored (min 65 (get_or table x 0 + get_or table y 0)) (rw is-parts)
-            (rw (
-              alternatives-of (written p) m in-sheet (pattern parts) is-parts,
-              ← ex,
-              ← ey,
-              (first_part x ex).entry,
-              (second-part y ey).entry,
-            )
-            (capped (pattern_leaves s (alternatives s x)) (pattern_leaves s (alternatives s y))))
-          where
-            capped : (a b : ℕ) → min 65 (min 65 a + min 65 b) ≡ min 65 (a + b)
-            capped a b = omega arith
+      pub parts-widths : (x y : ℕ) → x ≡ word s m 2 → y ≡ word s m 3
+          → PatternsFrom s m (set table m (min 65 (get_or table x 0 + get_or table y 0)))
+      parts-widths x y ex ey =
+          entry-stored (min 65 (get_or table x 0 + get_or table y 0)) (rw is-parts)
+          (rw (
+            alternatives-of (written p) m in-sheet (pattern parts) is-parts,
+            ← ex,
+            ← ey,
+            (first_part x ex).entry,
+            (second-part y ey).entry,
+          )
+          (capped (pattern_leaves s (alternatives s x)) (pattern_leaves s (alternatives s y))))
+        where
+          capped : (a b : ℕ) → min 65 (min 65 a + min 65 b) ≡ min 65 (a + b)
+          capped a b = omega arith
 
 -- at the first record
 pub whole-table : {s table : List ℕ} → PatternsFrom s 0 table → Widths s table

@@ -8,8 +8,8 @@ use Rattle.records.specs.Says.{sort_at}
 use Rattle.records.specs.Trees.{type_at, TypeRecord, tree_at}
 use Rattle.typing.specs.ExpressionWidth.{width}
 use Rattle.verdict.specs.Verdict.{verdict}
-use Rattle.answers.specs.declared.Verdict.{Verdict}
-use Rattle.answers.specs.declared.Verdict.TheVariants.{
+use Rattle.answers.specs.Answers.{Verdict}
+use Rattle.answers.specs.Answers.{
   Accepted,
   WrongLength,
   WrongHeader,

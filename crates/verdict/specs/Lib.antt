@@ -8,3 +8,4 @@ pub mod Verdict
 -- What functions ask and give, and their proofs need:
 pub mod Stages
 pub mod CheckedTable
+pub mod CheckedSheet

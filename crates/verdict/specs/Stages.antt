@@ -1,20 +1,18 @@
 -- What is known before each stage of the check: the codes so far do not apply. And what a stage gives.
-use Rattle.std.specs.Prelude.{ℕ, ◌≡◌, false, List, length}
+use Rattle.std.specs.Prelude.{ℕ, ◌≡◌, false, List, length, Option, None}
 use Rattle.std.proofs.Math.Option.{none}
 use Rattle.records.specs.Limits.{most_records}
 use Rattle.records.specs.Words.{count}
 use Rattle.records.specs.Sized.{Sized}
 use Rattle.answers.specs.Answers.{lowest}
 use Rattle.answers.specs.Searches.{found}
-use Rattle.answers.specs.declared.Found.{Found}
-use Rattle.answers.specs.declared.Found.TheVariants.{Nothing}
 use Rattle.records.specs.Trees.{circuit}
 use Rattle.structure.specs.LeafTable.{LeavesCounted}
 use Rattle.structure.specs.PairIndex.{Indexed}
 use Rattle.structure.specs.Rules.{wrong_length, wrong_header, wrong_record, wrong_naming, wrong_type}
 use Rattle.typing.specs.Judging.{noted}
-use Rattle.answers.specs.declared.Verdict.{Verdict}
-use Rattle.answers.specs.declared.Verdict.TheVariants.{Accepted}
+use Rattle.answers.specs.Answers.{Verdict}
+use Rattle.answers.specs.Answers.{Accepted}
 use Rattle.verdict.specs.Verdict.{verdict}
 use Rattle.verdict.specs.Scopes.{inputs}
 
@@ -41,10 +39,10 @@ pub record CheckingDepths (s : List ℕ) (n : ℕ) : Type 0 where
 
 -- what the search of the type records gives: the lowest that is wrong, the leaf counts of types,
 -- and where none is wrong the pair types by their parts
-pub record TypesChecked (s : List ℕ) (n : ℕ) (answer : Found) (widths index : List ℕ) : Type 0 where
+pub record TypesChecked (s : List ℕ) (n : ℕ) (answer : Option ℕ) (widths index : List ℕ) : Type 0 where
   pub answered : found answer ≡ lowest (wrong_type s) n
   pub counted : LeavesCounted s n widths
-  pub indexed : answer ≡ Nothing → Indexed s n index
+  pub indexed : answer ≡ None → Indexed s n index
 
 -- what the last stage gives: the verdict v, and for an accepted sheet the table `before` with the
 -- leaf count of each expression noted

@@ -6,9 +6,9 @@ use Rattle.records.specs.Trees.{circuit, type_record_of}
 use Rattle.answers.specs.Answers.{Check, check, when, lowest}
 use Rattle.structure.specs.Rules.{wrong_length, wrong_header, wrong_record, wrong_naming, wrong_type, too_deep}
 use Rattle.typing.specs.Judgements.{judgements, first_failing}
-use Rattle.answers.specs.declared.Verdict.{Verdict}
+use Rattle.answers.specs.Answers.{Verdict}
 use Rattle.verdict.specs.Scopes.{inputs}
-use Rattle.answers.specs.declared.Verdict.TheVariants.{Accepted, WrongLength, WrongHeader, WrongRecord, WrongNaming, WrongType, TooDeep, IllTyped}
+use Rattle.answers.specs.Answers.{Accepted, WrongLength, WrongHeader, WrongRecord, WrongNaming, WrongType, TooDeep, IllTyped}
 
 -- a test or a search that refuses, or else what comes after it
 abbrev pub unless : Bool → Verdict → Verdict → Verdict

@@ -1,7 +1,7 @@
 -- Accepted sheets that no other file has: the smallest, the sheet T of docs/SHEETS.md, and one whose input type is a high record.
 use Rattle.std.specs.Prelude.{List, [], ◌∷◌}
 use Rattle.records.specs.SheetOf.{words}
-use Rattle.answers.specs.declared.Verdict.TheVariants.{Accepted}
+use Rattle.answers.specs.Answers.{Accepted}
 use Rattle.verdict_table.specs.Rows.{VerdictRow, gives}
 
 abbrev pub accepted_rows : List VerdictRow

@@ -2,7 +2,7 @@
 -- leaves have no depth").
 use Rattle.std.specs.Prelude.{ℕ, zero, suc, ◌+◌, List, [], ◌∷◌}
 use Rattle.records.specs.SheetOf.{Record, words}
-use Rattle.answers.specs.declared.Verdict.TheVariants.{Accepted, TooDeep}
+use Rattle.answers.specs.Answers.{Accepted, TooDeep}
 use Rattle.verdict_table.specs.Rows.{VerdictRow, gives}
 
 -- LETs, each in the body of the one before, the first at record r; the defining part of each is name 0

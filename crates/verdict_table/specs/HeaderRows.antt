@@ -2,7 +2,7 @@
 -- each row breaks one word of the header of an accepted sheet, `smallest`.
 use Rattle.std.specs.Prelude.{List, [], ◌∷◌}
 use Rattle.records.specs.SheetOf.{words}
-use Rattle.answers.specs.declared.Verdict.TheVariants.{WrongHeader}
+use Rattle.answers.specs.Answers.{WrongHeader}
 use Rattle.verdict_table.specs.Rows.{VerdictRow, gives}
 
 abbrev pub header_rows : List VerdictRow

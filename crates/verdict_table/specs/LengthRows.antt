@@ -2,7 +2,7 @@
 -- that passes the length is refused for its header.
 use Rattle.std.specs.Prelude.{List, [], ◌∷◌, ◌++◌, replicate}
 use Rattle.records.specs.SheetOf.{words, sheet_of}
-use Rattle.answers.specs.declared.Verdict.TheVariants.{WrongLength, WrongHeader}
+use Rattle.answers.specs.Answers.{WrongLength, WrongHeader}
 use Rattle.verdict_table.specs.Rows.{VerdictRow, bytes_give}
 
 abbrev pub length_rows : List VerdictRow

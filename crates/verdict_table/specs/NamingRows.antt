@@ -2,7 +2,7 @@
 -- `next` words are"). `SharingRows` has what IFs may share.
 use Rattle.std.specs.Prelude.{List, [], ◌∷◌}
 use Rattle.records.specs.SheetOf.{words}
-use Rattle.answers.specs.declared.Verdict.TheVariants.{Accepted, WrongNaming}
+use Rattle.answers.specs.Answers.{Accepted, WrongNaming}
 use Rattle.verdict_table.specs.Rows.{VerdictRow, gives}
 
 abbrev pub naming_rows : List VerdictRow

@@ -4,7 +4,7 @@
 -- word names is of the sort that the word asks for.").
 use Rattle.std.specs.Prelude.{List, [], ◌∷◌}
 use Rattle.records.specs.SheetOf.{words}
-use Rattle.answers.specs.declared.Verdict.TheVariants.{WrongRecord}
+use Rattle.answers.specs.Answers.{WrongRecord}
 use Rattle.verdict_table.specs.Rows.{VerdictRow, gives}
 
 abbrev pub numbering_rows : List VerdictRow

@@ -5,10 +5,10 @@ use Rattle.std.specs.Prelude.{ℕ, ◌≡◌, List, map}
 use Prim.Native.String.{String}
 use Rattle.records.specs.SheetOf.{Record, sheet_of}
 use Rattle.typing.specs.Rows.{TypingRow, judged_to}
-use Rattle.typing.specs.declared.Outcome.TheVariants.{Sound, Fault}
+use Rattle.typing.specs.Outcomes.{Sound, Fault}
 use Rattle.verdict.specs.Verdict.{verdict}
-use Rattle.answers.specs.declared.Verdict.{Verdict}
-use Rattle.answers.specs.declared.Verdict.TheVariants.{Accepted, IllTyped}
+use Rattle.answers.specs.Answers.{Verdict}
+use Rattle.answers.specs.Answers.{Accepted, IllTyped}
 
 pub data VerdictRow : Type 0 where
   gives : (name : String) → List Record → Verdict → VerdictRow

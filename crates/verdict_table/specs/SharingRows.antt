@@ -3,7 +3,7 @@
 -- tested type.
 use Rattle.std.specs.Prelude.{List, [], ◌∷◌}
 use Rattle.records.specs.SheetOf.{words}
-use Rattle.answers.specs.declared.Verdict.TheVariants.{Accepted, WrongNaming, IllTyped}
+use Rattle.answers.specs.Answers.{Accepted, WrongNaming, IllTyped}
 use Rattle.verdict_table.specs.Rows.{VerdictRow, gives}
 
 abbrev pub sharing_rows : List VerdictRow

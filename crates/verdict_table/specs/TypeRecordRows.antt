@@ -1,7 +1,7 @@
 -- Code 5 (docs/SHEETS.md, "Codes": "a pair type whose two parts a lower pair type has, or that has more than 64 leaves").
 use Rattle.std.specs.Prelude.{List, [], ◌∷◌}
 use Rattle.records.specs.SheetOf.{words}
-use Rattle.answers.specs.declared.Verdict.TheVariants.{Accepted, WrongType}
+use Rattle.answers.specs.Answers.{Accepted, WrongType}
 use Rattle.verdict_table.specs.Rows.{VerdictRow, gives}
 
 abbrev pub type_record_rows : List VerdictRow

@@ -2,7 +2,7 @@
 -- does not allow"): the kind, words that a kind does not mention, and numbers out of the table's bounds.
 use Rattle.std.specs.Prelude.{List, [], ◌∷◌}
 use Rattle.records.specs.SheetOf.{words}
-use Rattle.answers.specs.declared.Verdict.TheVariants.{Accepted, WrongRecord}
+use Rattle.answers.specs.Answers.{Accepted, WrongRecord}
 use Rattle.verdict_table.specs.Rows.{VerdictRow, gives}
 
 abbrev pub word_rows : List VerdictRow

@@ -1,7 +1,6 @@
--- Each way out: a label stands twice, the slice has another length than the new sheet, or all is
--- taken. Assumes nothing.
+-- The labels of an accepted sheet are entered in an empty table. Assumes nothing.
 use Rattle.carry.proofs.Calls.{searching}
 use Rattle.carry.proofs.carry_values.Goals as goal
 
-pub note_bearers-twice-requires : goal.note_bearers-twice-requires
-note_bearers-twice-requires c = let p = searching c.requires.0 in (p.0, p.1, c.no_bearers-table.ensures _)
+pub note_all-twice-requires : goal.note_all-twice-requires
+note_all-twice-requires c = (searching c.requires.0, c.new-labels.ensures _)

@@ -7,7 +7,7 @@ pub offset-at-requires : goal.offset-at-requires
 offset-at-requires c = let h = taking-in c.requires (c.loop-taking.invariant c.requires) c.loop-taking-test.true in let f = c.requires.after.sized.few in (omega arith, omega arith)
 
 pub word-requires : goal.word-requires
-word-requires c = (c.requires.before.sized, giving-in c.requires (c.loop-taking.invariant c.requires) c.loop-taking-test.true, omega arith)
+word-requires c = (giving-in c.requires (c.loop-taking.invariant c.requires) c.loop-taking-test.true, omega arith)
 
 pub overflow_cast-next : goal.overflow_cast-next
 overflow_cast-next c = let b = giving-byte c.requires (c.loop-taking.invariant c.requires) c.loop-taking-test.true in let w = c.word.ensures.0 in omega arith
@@ -19,10 +19,10 @@ pub bounds-next-at-in-loop-taking : goal.bounds-next-at-in-loop-taking
 bounds-next-at-in-loop-taking c = rw c.offset-at.ensures (high-byte c.requires (c.loop-taking.invariant c.requires) c.loop-taking-test.true _)
 
 pub word-giving-requires : goal.word-giving-requires
-word-giving-requires c = (c.requires.before.sized, giving-in c.requires (c.loop-taking.invariant c.requires) c.loop-taking-test.true, omega arith)
+word-giving-requires c = (giving-in c.requires (c.loop-taking.invariant c.requires) c.loop-taking-test.true, omega arith)
 
 pub word-taking-requires : goal.word-taking-requires
-word-taking-requires c = (c.requires.after.sized, taking-in c.requires (c.loop-taking.invariant c.requires) c.loop-taking-test.true, omega arith)
+word-taking-requires c = (taking-in c.requires (c.loop-taking.invariant c.requires) c.loop-taking-test.true, omega arith)
 
 pub loop-taking-smaller : goal.loop-taking-smaller
 loop-taking-smaller c = remaining-falls c.requires (c.loop-taking.invariant c.requires) c.loop-taking-test.true _ c.word-taking.ensures.0

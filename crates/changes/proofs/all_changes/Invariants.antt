@@ -1,10 +1,7 @@
--- Assumes nothing.
-use Prim.Native.Nat.{◌-◌}
-use Rattle.changes.proofs.Loops.{AllCounted}
+-- The changes before cycle k are counted. Assumes nothing.
+use Rattle.std.proofs.Common.{◌≡◌, ◌-◌, ◌≤◌, ◌*◌, length}
+use Rattle.changes.specs.Changes.{changes_up_to}
 use Rattle.changes.proofs.all_changes.Given as goal
 
 abbrev pub invariant-loop-k : goal.invariant-loop-k
-invariant-loop-k l = AllCounted l.w l.outputs l.cycles l.changes l.at l.k
-
-abbrev pub decreases-loop-k : goal.decreases-loop-k
-decreases-loop-k l = l.cycles - l.k
+invariant-loop-k l = (l.changes ≡ length (changes_up_to l.outputs.width l.outputs.leaves.now l.k)) × (l.changes ≤ l.k * l.outputs.width) × (l.k - 1 ≤ l.k-end - 1)

@@ -1,10 +1,7 @@
--- Assumes nothing.
-use Prim.Native.Nat.{◌-◌}
-use Rattle.changes.proofs.Loops.{LeafCounted}
+-- The changes before cycle k are counted. Assumes nothing.
+use Rattle.std.proofs.Common.{◌≡◌, ◌-◌, ◌≤◌}
+use Rattle.changes.specs.Changes.{change_at, count_below}
 use Rattle.changes.proofs.changes_of.Given as goal
 
 abbrev pub invariant-loop-k : goal.invariant-loop-k
-invariant-loop-k l = LeafCounted l.w l.outputs l.leaf l.cycles l.changes l.at l.k
-
-abbrev pub decreases-loop-k : goal.decreases-loop-k
-decreases-loop-k l = l.cycles - l.k
+invariant-loop-k l = (l.changes ≡ count_below (λ k. change_at l.outputs.width l.outputs.leaves.now k l.leaf) l.k) × (l.k - 1 ≤ l.k-end - 1)

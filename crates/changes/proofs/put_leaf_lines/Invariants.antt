@@ -1,10 +1,11 @@
--- Assumes nothing.
-use Prim.Native.Nat.{◌-◌}
-use Rattle.changes.proofs.Lines.{LinesPut}
+-- The lines of the leaves before the one at hand are written. Assumes nothing.
+use Rattle.std.proofs.Common.{◌+◌, ◌*◌, ◌≤◌, length}
+use Rattle.listing.specs.Wrote.{line_bytes}
+use Rattle.listing.specs.Texts.{Added}
+use Rattle.changes.specs.ReportLines.{leaf_lines}
 use Rattle.changes.proofs.put_leaf_lines.Given as goal
 
 abbrev pub invariant-loop-leaf : goal.invariant-loop-leaf
-invariant-loop-leaf l = LinesPut l.initial.buffer l.w l.outputs l.buffer l.at l.leaf
-
-abbrev pub decreases-loop-leaf : goal.decreases-loop-leaf
-decreases-loop-leaf l = l.w - l.leaf
+invariant-loop-leaf l =
+    Added l.initial.text (leaf_lines l.outputs.width l.outputs.leaves.now l.leaf) l.text
+    × (length l.text.bytes ≤ length l.initial.text.bytes + l.leaf * line_bytes)

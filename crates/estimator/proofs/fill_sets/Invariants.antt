@@ -1,10 +1,6 @@
 -- Assumes nothing.
-use Prim.Native.Nat.{◌-◌}
 use Rattle.estimator.proofs.SetLeaves.{WordsFilled}
 use Rattle.estimator.proofs.fill_sets.Given as goal
 
 abbrev pub invariant-loop-i : goal.invariant-loop-i
 invariant-loop-i l = WordsFilled l.counts l.value l.i l.out
-
-abbrev pub decreases-loop-i : goal.decreases-loop-i
-decreases-loop-i l = l.all - l.i

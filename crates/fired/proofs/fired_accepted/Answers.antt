@@ -1,15 +1,17 @@
 -- Assumes nothing.
+use mathlib.Core.Path.{refl, ◌∙◌}
+use Rattle.accepted.proofs.Calls.{accepting, same-refusal}
 use Rattle.fired.proofs.Telling.{told-input, told-length, telling, told-done}
 use Rattle.fired.proofs.fired_accepted.Goals as goal
 
-pub returns-in_default : goal.returns-in_default
-returns-in_default c = told-input c.requires.0 c.requires.1 c.args.stim.now c.args.words.now _ c.check_one_cycle-answer.ensures _ _ c.in_default.is _ c.packed.ensures
+pub returns-in_err-check_one_cycle : goal.returns-in_err-check_one_cycle
+returns-in_err-check_one_cycle c = rw (same-refusal _ _ c.from_residual.ensures.1) (told-input (accepting c.args.checked.now) c.args.checked.now.accepted c.args.stim.now c.args.words.now _ c.in_err-check_one_cycle.ensures _ _ refl)
 
-pub returns-then-words-n : goal.returns-then-words-n
-returns-then-words-n c = told-length c.requires.0 c.requires.1 c.args.stim.now c.args.words.now _ c.check_one_cycle-answer.ensures _ c.in-Done.is c.if-words-n.true _ c.in_one.ensures
+pub returns-then-words-records : goal.returns-then-words-records
+returns-then-words-records c = told-length (accepting c.args.checked.now) c.args.checked.now.accepted c.args.stim.now c.args.words.now _ c.in_ok-check_one_cycle.ensures _ refl _ c.records-records.ensures.counted c.if-words-records.true
 
 pub tell_fired-requires : goal.tell_fired-requires
-tell_fired-requires c = telling c.requires.0 c.requires.1 c.args.stim.now c.args.words.now _ c.check_one_cycle-answer.ensures _ c.in-Done.is c.if-words-n.false
+tell_fired-requires c = telling (accepting c.args.checked.now) c.args.checked.now.accepted c.args.stim.now c.args.words.now _ c.in_ok-check_one_cycle.ensures _ refl (c.if-words-records.false ∙ c.records-records.ensures.counted)
 
 pub returns : goal.returns
-returns c = told-done c.requires.0 c.requires.1 c.args.stim.now c.args.words.now _ c.check_one_cycle-answer.ensures _ c.in-Done.is c.if-words-n.false _ c.tell_fired.ensures
+returns c = told-done (accepting c.args.checked.now) c.args.checked.now.accepted c.args.stim.now c.args.words.now _ c.in_ok-check_one_cycle.ensures _ refl (c.if-words-records.false ∙ c.records-records.ensures.counted) _ c.tell_fired.ensures

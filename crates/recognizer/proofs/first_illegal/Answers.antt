@@ -1,16 +1,25 @@
--- What is left to read is what the machine has left to read; the depth is at most the number of bytes read, so the stack has room.
+-- What is left to read is what the machine has left to read.
 -- Assumes nothing.
-use borrow.Author.Rules.{rules}
 use native.Mathlib.Omega.{arith}
-use Rattle.recognizer.proofs.Loop.{ready-next, byte-after, byte-refused, text-read}
-use Rattle.recognizer.proofs.Steps.{letter-read}
+use mathlib.Core.Path.{sym, ◌∙◌}
+use Rattle.recognizer.proofs.Loop.{left-at-first, byte-read, byte-refused, text-whole, text-unfinished, past-limit}
+use Rattle.recognizer.proofs.first_illegal.Goals.{else-text-le-TEXT_BYTES-via-then-text-le-TEXT_BYTES+else-is_done, else-text-le-TEXT_BYTES-via-else-text-le-TEXT_BYTES}
 use Rattle.recognizer.proofs.first_illegal.Goals as goal
 
-pub returns-then-not-moved : goal.returns-then-not-moved
-returns-then-not-moved c = byte-refused c.loop-i.invariant.0 (search rules) _ _ _ _ _ c.step-moved.ensures c.if-not-moved.true
+pub loop-i-init : goal.loop-i-init
+loop-i-init c = left-at-first _ c.new-machine.ensures
+
+pub step-requires : goal.step-requires
+step-requires c = let h = c.loop-i.invariant.1 in let l = c.loop-i-test.true in omega (arith, lib.ListN.length-take c.min.result c.args.text.now, c.min.ensures)
+
+pub returns-then-not-step : goal.returns-then-not-step
+returns-then-not-step c = byte-refused c.args.text.now c.min.ensures c.loop-i.invariant.0 c.loop-i-test.true c.step.ensures c.if-not-step.true
 
 pub loop-i-preserved : goal.loop-i-preserved
-loop-i-preserved c = (byte-after c.loop-i.invariant.0 (search rules) _ _ _ _ _ c.step-moved.ensures c.if-not-moved.false, search rules, (let h = c.step-moved.ensures.higher in omega arith), ready-next c.loop-i.i c.step-moved.ensures c.loop-i.invariant.2 (search rules))
+loop-i-preserved c = (byte-read c.args.text.now c.min.ensures c.loop-i.invariant.0 c.loop-i-test.true c.step.ensures c.if-not-step.false, (let h = c.loop-i.invariant.1 in omega (arith, c.step.ensures.higher)))
 
-pub returns : goal.returns
-returns c = text-read c.loop-i.invariant.0 (search rules) c.loop-i.invariant.3 _ (letter-read _ _ _ c.letter_table-letters.ensures c.wide.ensures) _ c.conclude.ensures
+pub returns-then-is_done : goal.returns-then-is_done
+returns-then-is_done c = text-whole c.args.text.now c.min.ensures c.loop-i.invariant.0 c.loop-i-test.false c.if-text-le-TEXT_BYTES.true (sym c.is_done.ensures ∙ c.if-is_done.true)
+
+pub returns-else-text-le-TEXT_BYTES : goal.returns-else-text-le-TEXT_BYTES
+returns-else-text-le-TEXT_BYTES c = elim c.else-text-le-TEXT_BYTES.branch [ else-text-le-TEXT_BYTES-via-then-text-le-TEXT_BYTES+else-is_done w ↦ text-unfinished c.args.text.now c.min.ensures c.loop-i.invariant.0 c.loop-i-test.false w.if-text-le-TEXT_BYTES.true (sym w.is_done.ensures ∙ w.if-is_done.false) | else-text-le-TEXT_BYTES-via-else-text-le-TEXT_BYTES w ↦ past-limit c.args.text.now c.min.ensures c.loop-i.invariant.0 c.loop-i-test.false w.if-text-le-TEXT_BYTES.false ]

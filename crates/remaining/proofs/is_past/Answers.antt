@@ -1,12 +1,13 @@
 -- Assumes nothing.
+use mathlib.Core.Path.{sym}
 use Rattle.remaining.proofs.PastRecords.{past-feedback, past-flat, past-neither}
 use Rattle.remaining.proofs.is_past.Goals as goal
 
-pub returns-then-kind-eq-KIND_FEEDBACK : goal.returns-then-kind-eq-KIND_FEEDBACK
-returns-then-kind-eq-KIND_FEEDBACK c = past-feedback _ _ _ c.word-kind.ensures.0 c.if-kind-eq-KIND_FEEDBACK.true
+pub returns-in-Feedback : goal.returns-in-Feedback
+returns-in-Feedback c = past-feedback _ _ (sym c.in-Feedback.ensures)
 
-pub returns-then-kind-eq-KIND_FLAT_TYPE : goal.returns-then-kind-eq-KIND_FLAT_TYPE
-returns-then-kind-eq-KIND_FLAT_TYPE c = past-flat _ _ _ c.word-kind.ensures.0 c.if-kind-eq-KIND_FEEDBACK.false c.if-kind-eq-KIND_FLAT_TYPE.true c.word.ensures.0
+pub returns-in-FlatType : goal.returns-in-FlatType
+returns-in-FlatType c = past-flat _ _ (sym c.in-FlatType.ensures) c.word.ensures.0
 
-pub returns : goal.returns
-returns c = past-neither _ _ _ c.word-kind.ensures.0 c.if-kind-eq-KIND_FEEDBACK.false c.if-kind-eq-KIND_FLAT_TYPE.false
+pub returns-in_default : goal.returns-in_default
+returns-in_default c = past-neither _ _ _ c.kind.ensures c.in_default.not-Feedback c.in_default.not-FlatType

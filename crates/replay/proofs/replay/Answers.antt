@@ -1,15 +1,11 @@
 -- Assumes nothing.
-use Rattle.accepted.proofs.Calls.{accepting-checked}
-use Rattle.accepted.proofs.Laws.{verdict-place}
-use native.Mathlib.Omega.{arith}
-use Rattle.replay.proofs.Answered.{replay-refused-sheet}
+use mathlib.Core.Path.{refl, ◌∙◌}
+use Rattle.replay.specs.Replay.{Agrees}
+use Rattle.replay.proofs.Answered.{replay-numbers}
 use Rattle.replay.proofs.replay.Goals as goal
 
-pub packed_verdict-requires : goal.packed_verdict-requires
-packed_verdict-requires c = rw c.check_into-verdict.ensures.answered (let h = verdict-place c.args.sheet.now in omega arith)
+pub returns-in-Ok : goal.returns-in-Ok
+returns-in-Ok c = let u = c.compared.ensures in replay-numbers _ _ _ _ _ _ c.in-Ok.ensures _ refl u.0 u.1 u.2 u.3
 
-pub returns-in_default : goal.returns-in_default
-returns-in_default c = replay-refused-sheet _ _ _ _ c.check_into-verdict.result c.check_into-verdict.ensures.answered c.in_default.not-Accepted c.packed_verdict.ensures c.refused.ensures
-
-pub replay_accepted-requires : goal.replay_accepted-requires
-replay_accepted-requires c = accepting-checked _ _ c.records_in-n.ensures _ _ _ _ c.check_into-verdict.ensures c.in-Accepted.is
+pub returns-in-Err : goal.returns-in-Err
+returns-in-Err c = let u = c.refused.ensures in replay-numbers _ _ _ _ _ _ c.in-Err.ensures (Agrees 0) tt (u.0 ∙ c.packed.ensures) u.1 u.2 u.3

@@ -1,7 +1,13 @@
 -- Assumes nothing.
-use native.Mathlib.Nat.{sub-zero}
-use Rattle.report.proofs.Telling.{report-told}
+use mathlib.Core.Path.{◌∙◌}
+use Rattle.report.proofs.Telling.{told-reported, refused-reported}
 use Rattle.report.proofs.tell_report.Goals as goal
+use Rattle.report.proofs.tell_report.Goals.{in-Ok, in-Err}
 
 pub returns : goal.returns
-returns c = report-told c.tell-told.ensures (rw sub-zero at c.put_told.ensures)
+returns c =
+    c.into_bytes.ensures
+    ∙ elim c.match-tell.branch [
+      | in-Ok w ↦ rw w.text-is ((rw c.new-text.ensures at w.put_report.ensures.bytes) ∙ told-reported w.in-Ok.ensures)
+      | in-Err w ↦ rw w.text-is ((rw (c.new-text.ensures, w.number.ensures, w.from.ensures) at w.put_refused.ensures.bytes) ∙ refused-reported _ w.in-Err.ensures)
+    ]

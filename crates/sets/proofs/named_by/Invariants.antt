@@ -1,4 +1,5 @@
 -- Assumes nothing.
+use Rattle.records.specs.Words.{count}
 use Prim.Native.Nat.{ℕ}
 use mathlib.Core.Path.{◌≡◌}
 use Rattle.sets.specs.SetMatchings.{FlatFitting}
@@ -7,7 +8,7 @@ use Rattle.sets.proofs.Naming.{NamedTo}
 use Rattle.sets.proofs.named_by.Given as goal
 
 abbrev pub invariant-loop-at : goal.invariant-loop-at
-invariant-loop-at l = NamedTo l.sheet l.p l.named l.at × ((l.at ≡ 0 → ⊥) → (t : ℕ) × FlatFitting l.sheet l.n l.at t)
+invariant-loop-at l = NamedTo l.sheet l.p l.named l.at × ((l.at ≡ 0 → ⊥) → (t : ℕ) × FlatFitting l.sheet (count l.sheet) l.at t)
 
 abbrev pub decreases-loop-at : goal.decreases-loop-at
-decreases-loop-at l = left l.n l.at
+decreases-loop-at l = left (count l.sheet) l.at

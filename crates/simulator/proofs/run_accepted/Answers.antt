@@ -1,26 +1,31 @@
 -- Assumes nothing.
-use Rattle.simulator.proofs.Calls.{call-accepting, refused-stimulus, refused-output, refused-next, call-running, call-done}
-use Rattle.stepper.proofs.CallCycles.{output-there}
-use Rattle.stimulus.proofs.Holding.{input-there}
+use mathlib.Core.Path.{refl}
+use native.Mathlib.Omega.{arith}
+use Rattle.accepted.proofs.Calls.{accepting, same-refusal}
+use Rattle.accepted.proofs.Small.{accepted-length}
+use Rattle.simulator.proofs.Calls.{refused-stimulus, refused-output, refused-next, call-running, call-done}
 use Rattle.simulator.proofs.run_accepted.Goals as goal
 
-pub returns-in_default : goal.returns-in_default
-returns-in_default c = refused-stimulus c.requires c.check_stimulus-answer.ensures c.in_default.is c.packed.ensures
-
-pub bounds-widths-a : goal.bounds-widths-a
-bounds-widths-a c = input-there (call-accepting c.requires) c.word-a.ensures.0
-
-pub bounds-widths-t : goal.bounds-widths-t
-bounds-widths-t c = output-there (call-accepting c.requires) c.requires.accepted
+pub returns-in_err-cycles : goal.returns-in_err-cycles
+returns-in_err-cycles c = rw (same-refusal _ _ c.from_residual.ensures.1) (refused-stimulus (accepting c.args.checked.now) c.args.checked.now.accepted c.in_err-cycles.ensures c.args.out.now c.args.next.now _ _ refl)
 
 pub returns-then-out-needed : goal.returns-then-out-needed
-returns-then-out-needed c = refused-output c.requires c.check_stimulus-answer.ensures c.in-Done.is c.if-out-needed.true c.in_one.ensures
+returns-then-out-needed c = refused-output (accepting c.args.checked.now) c.args.checked.now.accepted c.in_ok-cycles.ensures refl c.leaves_of-leaves.ensures c.args.out.now c.args.next.now c.if-out-needed.true
 
-pub returns-then-next-sheet : goal.returns-then-next-sheet
-returns-then-next-sheet c = refused-next c.requires c.check_stimulus-answer.ensures c.in-Done.is c.if-out-needed.false c.if-next-sheet.true c.in_one-then-next-sheet.ensures
+pub overflow_cast-result-then-next-long : goal.overflow_cast-result-then-next-long
+overflow_cast-result-then-next-long c = rw c.bytes-long.ensures (let l = accepted-length _ c.args.checked.now.accepted in omega arith)
 
-pub run_from-requires : goal.run_from-requires
-run_from-requires c = call-running c.requires c.check_stimulus-answer.ensures c.in-Done.is c.if-out-needed.false c.args.next.now c.if-next-sheet.false c.word-a.ensures.0 c.put.ensures
+pub returns-then-next-long : goal.returns-then-next-long
+returns-then-next-long c =
+    rw c.bytes-long.ensures
+    (refused-next (accepting c.args.checked.now) c.args.checked.now.accepted c.in_ok-cycles.ensures refl c.leaves_of-leaves.ensures c.if-out-needed.false c.args.next.now (rw c.bytes-long.ensures at c.if-next-long.true))
+
+pub run_all-requires : goal.run_all-requires
+run_all-requires c =
+    call-running (accepting c.args.checked.now) c.args.checked.now.accepted c.in_ok-cycles.ensures refl c.leaves_of-leaves.ensures c.if-out-needed.false c.args.next.now
+    (rw c.bytes-long.ensures at c.if-next-long.false) (rw c.bytes.ensures at c.put.ensures)
 
 pub returns : goal.returns
-returns c = call-done c.requires c.check_stimulus-answer.ensures c.in-Done.is c.if-out-needed.false c.args.next.now c.if-next-sheet.false c.run_from.ensures
+returns c =
+    call-done (accepting c.args.checked.now) c.args.checked.now.accepted c.in_ok-cycles.ensures refl c.leaves_of-leaves.ensures c.if-out-needed.false c.args.next.now
+    (rw c.bytes-long.ensures at c.if-next-long.false) c.run_all.ensures

@@ -1,10 +1,9 @@
 -- Assumes nothing.
-use Prim.Native.Nat.{◌-◌}
+use Prim.Native.Nat.{◌*◌}
 use Rattle.simulator.proofs.Running.{Before}
 use Rattle.simulator.proofs.run_all.Given as goal
 
 abbrev pub invariant-loop-k : goal.invariant-loop-k
-invariant-loop-k l = Before l.sheet l.stim l.wi l.wo l.count l.initial.out l.k l.from l.at l.env l.held l.current l.out
-
-abbrev pub decreases-loop-k : goal.decreases-loop-k
-decreases-loop-k l = l.count - l.k
+invariant-loop-k l =
+    Before l.checked.sheet l.stim l.leaves.input l.leaves.output l.cycles l.initial.out l.k (l.k * l.leaves.input) (l.k * l.leaves.output)
+    l.room.env l.room.held l.current l.out

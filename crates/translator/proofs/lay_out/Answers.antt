@@ -3,6 +3,5 @@
 use Rattle.translator.proofs.LaysOut.{laid_out}
 use Rattle.translator.proofs.lay_out.Goals as goal
 
--- src/lib.rt:111:5
 pub write_out-requires : goal.write_out-requires
-write_out-requires c = laid_out _ _ _ _ c.requires c.assemble-totals.ensures
+write_out-requires c = laid_out c.args.instructions.now c.read.new.self c.requires c.read.ensures

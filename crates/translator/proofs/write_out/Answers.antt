@@ -1,28 +1,29 @@
 -- What each step found is the call's answer.
 -- Assumes nothing.
 use native.Mathlib.Omega.{arith}
-use mathlib.Core.Path.{sym, subst}
-use borrow.Author.Tests.{not-true, not-false}
-use Rattle.translator.specs.Translated.{TranslatedInOne}
+use mathlib.Core.Path.{refl, sym, subst}
+use Rattle.answers.specs.Answers.{Refused}
+use Rattle.translator.specs.Translated.{Translated}
 use Rattle.translator.proofs.LaysOut.{untyped-found, too_short, too_many, emitting, out_written}
 use Rattle.translator.proofs.write_out.Goals as goal
 
--- src/lib.rt:52:9
-pub returns-then-not-ok : goal.returns-then-not-ok
-returns-then-not-ok c = subst (λ r. TranslatedInOne c.args.text.now c.args.sheet.now r c.args.sheet.now) (sym c.in_one.ensures) (untyped-found c.requires c.args.sheet.now (not-true _ c.if-not-ok.true-raw))
+pub returns-in-Some : goal.returns-in-Some
+returns-in-Some c =
+    subst (λ p. Translated c.args.text.now c.args.sheet.now (Refused 14 p) c.args.sheet.now) (sym c.from.ensures)
+    (untyped-found refl c.requires c.args.sheet.now c.in-Some.place c.in-Some.is)
 
--- src/lib.rt:57:9
 pub returns-then-sheet-needed : goal.returns-then-sheet-needed
-returns-then-sheet-needed c = subst (λ r. TranslatedInOne c.args.text.now c.args.sheet.now r c.args.sheet.now) (sym c.in_one-then-sheet-needed.ensures) (too_short c.requires c.args.sheet.now (not-false _ c.if-not-ok.false-raw) c.if-sheet-needed.true)
+returns-then-sheet-needed c = too_short c.len.ensures.0 c.requires c.args.sheet.now c.in_default.is c.if-sheet-needed.true
 
--- src/lib.rt:60:9
 pub returns-then-records-gt-RECORDS : goal.returns-then-records-gt-RECORDS
-returns-then-records-gt-RECORDS c = subst (λ r. TranslatedInOne c.args.text.now c.args.sheet.now r c.args.sheet.now) (sym c.in_one-then-records-gt-RECORDS.ensures) (too_many c.requires c.args.sheet.now (not-false _ c.if-not-ok.false-raw) c.if-records-gt-RECORDS.true)
+returns-then-records-gt-RECORDS c = too_many c.len.ensures.0 c.requires c.args.sheet.now c.in_default.is c.if-records-gt-RECORDS.true
 
--- src/lib.rt:62:5
 pub write_sheet-requires : goal.write_sheet-requires
-write_sheet-requires c = emitting c.requires c.args.sheet.now (not-false _ c.if-not-ok.false-raw) (let h = c.if-sheet-needed.false in omega (arith, h)) (let h = c.if-records-gt-RECORDS.false in omega (arith, h))
+write_sheet-requires c =
+    emitting c.len.ensures.0 c.requires c.args.sheet.now c.in_default.is (let h = c.if-sheet-needed.false in omega (arith, h))
+    (let h = c.if-records-gt-RECORDS.false in omega (arith, h))
 
--- src/lib.rt:31:1
 pub returns : goal.returns
-returns c = out_written c.requires c.args.sheet.now _ (not-false _ c.if-not-ok.false-raw) (let h = c.if-sheet-needed.false in omega (arith, h)) (let h = c.if-records-gt-RECORDS.false in omega (arith, h)) c.write_sheet.ensures
+returns c =
+    out_written c.len.ensures.0 c.requires c.args.sheet.now _ c.in_default.is (let h = c.if-sheet-needed.false in omega (arith, h))
+    (let h = c.if-records-gt-RECORDS.false in omega (arith, h)) c.write_sheet.ensures

@@ -1,13 +1,11 @@
 -- The invariant: the value is held at the leaves before the one at hand. Assumes nothing.
-use Prim.Native.Nat.{◌-◌, ◌≤◌}
+use lib.ListN.{length}
+use Rattle.records.specs.Words.{count}
 use Rattle.values.specs.Chained.{Chained}
 use Rattle.values.proofs.Leaves.{Along, HeldLeaves}
 use Rattle.values.proofs.hold_leaves.Given as goal
 
-abbrev pub invariant-loop-i : goal.invariant-loop-i
-invariant-loop-i l =
-    (g : Chained l.sheet l.n l.first l.all)
-    → (l.i ≤ l.all) × Along g.written l.first l.i l.leaf × HeldLeaves g.written l.first l.value l.initial.held l.i l.held
-
-abbrev pub decreases-loop-i : goal.decreases-loop-i
-decreases-loop-i l = l.all - l.i
+abbrev pub invariant-loop-byte : goal.invariant-loop-byte
+invariant-loop-byte l =
+    (g : Chained l.sheet (count l.sheet) l.first (length l.value))
+    → Along g.written l.first l.byte-index l.leaf × HeldLeaves g.written l.first l.value l.initial.held l.byte-index l.held

@@ -1,11 +1,9 @@
 -- The invariant: the leaves before the one at hand are read. Assumes nothing.
-use Prim.Native.Nat.{◌-◌, ◌≤◌}
+use lib.ListN.{length}
+use Rattle.records.specs.Words.{count}
 use Rattle.values.specs.Chained.{Chained}
 use Rattle.values.proofs.Leaves.{Along, Read}
 use Rattle.values.proofs.read_leaves.Given as goal
 
-abbrev pub invariant-loop-i : goal.invariant-loop-i
-invariant-loop-i l = (g : Chained l.sheet l.n l.first l.all) → (l.i ≤ l.all) × Along g.written l.first l.i l.leaf × Read g.written l.first l.i l.out
-
-abbrev pub decreases-loop-i : goal.decreases-loop-i
-decreases-loop-i l = l.all - l.i
+abbrev pub invariant-loop-value : goal.invariant-loop-value
+invariant-loop-value l = (g : Chained l.sheet (count l.sheet) l.first (length l.initial.out)) → Along g.written l.first l.value-index l.leaf × Read g.written l.first l.value-index l.out

@@ -1,9 +1,9 @@
--- The stages decide, and the lent table gets an accepted sheet's widths. Assumes nothing.
-use Rattle.verdict.proofs.Lending.{patterns-ready}
+-- Bytes of a wrong length leave the table. Assumes nothing.
+use Rattle.verdict.proofs.Lending.{length-lent}
 use Rattle.verdict.proofs.check_into.Goals as goal
 
-pub check_stages-answer-requires : goal.check_stages-answer-requires
-check_stages-answer-requires c = (c.requires, c.no_leaves-widths.ensures _)
+pub returns-in_err-sheet : goal.returns-in_err-sheet
+returns-in_err-sheet c = length-lent _ _ _ c.from_residual.ensures.1 c.in_err-sheet.ensures.err
 
-pub note_patterns-requires : goal.note_patterns-requires
-note_patterns-requires c = patterns-ready c.check_stages-answer.ensures c.is_accepted.ensures c.if-not-is_accepted.false-raw c.requires
+pub check_whole-requires : goal.check_whole-requires
+check_whole-requires c = rw c.in_ok-sheet.ensures.ok.0 c.in_ok-sheet.ensures.ok.1

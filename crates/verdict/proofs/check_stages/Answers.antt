@@ -1,44 +1,45 @@
 -- Each stage begins where those before it found nothing, and the first that finds a fault gives the
 -- verdict. Assumes nothing.
+use native.Mathlib.Omega.{arith}
 use mathlib.Core.Path.{sym, ◌∙◌}
-use Rattle.verdict.proofs.Stages.{length-passed, records-passed, names-passed, types-passed, recorded-written, depths-passed, length-refused, header_refused, record-refused, naming-refused, type-refused, depth-refused, rules-decide}
+use Rattle.verdict.proofs.Stages.{record-fits, checking, records-passed, names-passed, types-passed, recorded-written, depths-passed, header_refused, record-refused, naming-refused, type-refused, depth-refused, rules-decide}
 use Rattle.verdict.proofs.check_stages.Goals as goal
 
-pub returns-then-wrong_length : goal.returns-then-wrong_length
-returns-then-wrong_length c = length-refused _ (sym c.wrong_length.ensures ∙ c.if-wrong_length.true)
-
-pub wrong_header-requires : goal.wrong_header-requires
-wrong_header-requires c = (length-passed c.requires.0 (sym c.wrong_length.ensures ∙ c.if-wrong_length.false)).sized
-
 pub returns-then-wrong_header : goal.returns-then-wrong_header
-returns-then-wrong_header c = header_refused _ (sym c.wrong_length.ensures ∙ c.if-wrong_length.false) (sym c.wrong_header.ensures ∙ c.if-wrong_header.true)
+returns-then-wrong_header c = header_refused _ (checking c.requires.0).length (sym c.wrong_header.ensures ∙ c.if-wrong_header.true)
 
-pub first_wrong_record-wrong-requires : goal.first_wrong_record-wrong-requires
-first_wrong_record-wrong-requires c = (length-passed c.requires.0 (sym c.wrong_length.ensures ∙ c.if-wrong_length.false)).sized
+pub overflow_cast-result : goal.overflow_cast-result
+overflow_cast-result c = omega (arith, record-fits c.requires.0 _ _ c.first_wrong_record.ensures c.in-Some.is)
 
-pub returns-in-At : goal.returns-in-At
-returns-in-At c = record-refused _ _ c.in-At.is _ (length-passed c.requires.0 (sym c.wrong_length.ensures ∙ c.if-wrong_length.false)) (sym c.wrong_header.ensures ∙ c.if-wrong_header.false) c.first_wrong_record-wrong.ensures
+pub returns-in-Some : goal.returns-in-Some
+returns-in-Some c = record-refused _ _ c.in-Some.is _ (checking c.requires.0) (sym c.wrong_header.ensures ∙ c.if-wrong_header.false) c.first_wrong_record.ensures
 
-pub check_names-misnamed-requires : goal.check_names-misnamed-requires
-check_names-misnamed-requires c = ((length-passed c.requires.0 (sym c.wrong_length.ensures ∙ c.if-wrong_length.false)).sized, c.no_namings-namers.ensures)
+pub overflow_cast-result-in-Some-first_wrong : goal.overflow_cast-result-in-Some-first_wrong
+overflow_cast-result-in-Some-first_wrong c = omega (arith, record-fits c.requires.0 _ _ (c.first_wrong.ensures c.of-table.ensures) c.in-Some-first_wrong.is)
 
-pub returns-in-At-misnamed : goal.returns-in-At-misnamed
-returns-in-At-misnamed c = naming-refused _ _ c.in-At-misnamed.is _ (records-passed (length-passed c.requires.0 (sym c.wrong_length.ensures ∙ c.if-wrong_length.false)) (sym c.wrong_header.ensures ∙ c.if-wrong_header.false) _ c.first_wrong_record-wrong.ensures c.in_default.is) c.check_names-misnamed.ensures.0
+pub returns-in-Some-first_wrong : goal.returns-in-Some-first_wrong
+returns-in-Some-first_wrong c = naming-refused _ _ c.in-Some-first_wrong.is _ (records-passed (checking c.requires.0) (sym c.wrong_header.ensures ∙ c.if-wrong_header.false) _ c.first_wrong_record.ensures c.in_default.is) (c.first_wrong.ensures c.of-table.ensures)
 
-pub check_types-mistyped-requires : goal.check_types-mistyped-requires
-check_types-mistyped-requires c = let r = (records-passed (length-passed c.requires.0 (sym c.wrong_length.ensures ∙ c.if-wrong_length.false)) (sym c.wrong_header.ensures ∙ c.if-wrong_header.false) _ c.first_wrong_record-wrong.ensures c.in_default.is) in (r.measured.sized, recorded-written r, c.requires.1, c.no_pairs-index.ensures _)
+pub check_types-requires : goal.check_types-requires
+check_types-requires c = (recorded-written (records-passed (checking c.requires.0) (sym c.wrong_header.ensures ∙ c.if-wrong_header.false) _ c.first_wrong_record.ensures c.in_default.is), c.requires.1, c.new-index.ensures _)
 
-pub returns-in-At-mistyped : goal.returns-in-At-mistyped
-returns-in-At-mistyped c = type-refused _ _ c.in-At-mistyped.is _ (names-passed (records-passed (length-passed c.requires.0 (sym c.wrong_length.ensures ∙ c.if-wrong_length.false)) (sym c.wrong_header.ensures ∙ c.if-wrong_header.false) _ c.first_wrong_record-wrong.ensures c.in_default.is) _ c.check_names-misnamed.ensures.0 c.in_default-misnamed.is) c.check_types-mistyped.ensures.answered
+pub overflow_cast-result-in-Some-check_types : goal.overflow_cast-result-in-Some-check_types
+overflow_cast-result-in-Some-check_types c = omega (arith, record-fits c.requires.0 _ _ c.check_types.ensures.answered c.in-Some-check_types.is)
 
-pub check_depths-deep-requires : goal.check_depths-deep-requires
-check_depths-deep-requires c = ((names-passed (records-passed (length-passed c.requires.0 (sym c.wrong_length.ensures ∙ c.if-wrong_length.false)) (sym c.wrong_header.ensures ∙ c.if-wrong_header.false) _ c.first_wrong_record-wrong.ensures c.in_default.is) _ c.check_names-misnamed.ensures.0 c.in_default-misnamed.is), c.check_names-misnamed.ensures.1)
+pub returns-in-Some-check_types : goal.returns-in-Some-check_types
+returns-in-Some-check_types c = type-refused _ _ c.in-Some-check_types.is _ (names-passed (records-passed (checking c.requires.0) (sym c.wrong_header.ensures ∙ c.if-wrong_header.false) _ c.first_wrong_record.ensures c.in_default.is) _ (c.first_wrong.ensures c.of-table.ensures) c.in_default-first_wrong.is) c.check_types.ensures.answered
 
-pub returns-in-At-deep : goal.returns-in-At-deep
-returns-in-At-deep c = depth-refused _ _ c.in-At-deep.is _ (types-passed (names-passed (records-passed (length-passed c.requires.0 (sym c.wrong_length.ensures ∙ c.if-wrong_length.false)) (sym c.wrong_header.ensures ∙ c.if-wrong_header.false) _ c.first_wrong_record-wrong.ensures c.in_default.is) _ c.check_names-misnamed.ensures.0 c.in_default-misnamed.is) _ c.check_types-mistyped.ensures.answered c.in_default-mistyped.is) c.check_depths-deep.ensures
+pub check_depths-requires : goal.check_depths-requires
+check_depths-requires c = ((names-passed (records-passed (checking c.requires.0) (sym c.wrong_header.ensures ∙ c.if-wrong_header.false) _ c.first_wrong_record.ensures c.in_default.is) _ (c.first_wrong.ensures c.of-table.ensures) c.in_default-first_wrong.is), c.of-table.ensures)
+
+pub overflow_cast-result-in-Some-check_depths : goal.overflow_cast-result-in-Some-check_depths
+overflow_cast-result-in-Some-check_depths c = omega (arith, record-fits c.requires.0 _ _ c.check_depths.ensures c.in-Some-check_depths.is)
+
+pub returns-in-Some-check_depths : goal.returns-in-Some-check_depths
+returns-in-Some-check_depths c = depth-refused _ _ c.in-Some-check_depths.is _ (types-passed (names-passed (records-passed (checking c.requires.0) (sym c.wrong_header.ensures ∙ c.if-wrong_header.false) _ c.first_wrong_record.ensures c.in_default.is) _ (c.first_wrong.ensures c.of-table.ensures) c.in_default-first_wrong.is) _ c.check_types.ensures.answered c.in_default-check_types.is) c.check_depths.ensures
 
 pub check_rules-requires : goal.check_rules-requires
-check_rules-requires c = ((depths-passed (types-passed (names-passed (records-passed (length-passed c.requires.0 (sym c.wrong_length.ensures ∙ c.if-wrong_length.false)) (sym c.wrong_header.ensures ∙ c.if-wrong_header.false) _ c.first_wrong_record-wrong.ensures c.in_default.is) _ c.check_names-misnamed.ensures.0 c.in_default-misnamed.is) _ c.check_types-mistyped.ensures.answered c.in_default-mistyped.is) _ c.check_depths-deep.ensures c.in_default-deep.is _ c.check_types-mistyped.ensures.counted), c.check_types-mistyped.ensures.counted.long, c.check_types-mistyped.ensures.indexed c.in_default-mistyped.is)
+check_rules-requires c = ((depths-passed (types-passed (names-passed (records-passed (checking c.requires.0) (sym c.wrong_header.ensures ∙ c.if-wrong_header.false) _ c.first_wrong_record.ensures c.in_default.is) _ (c.first_wrong.ensures c.of-table.ensures) c.in_default-first_wrong.is) _ c.check_types.ensures.answered c.in_default-check_types.is) _ c.check_depths.ensures c.in_default-check_depths.is _ c.check_types.ensures.counted), c.check_types.ensures.counted.long, c.check_types.ensures.indexed c.in_default-check_types.is)
 
 pub returns : goal.returns
-returns c = rules-decide (depths-passed (types-passed (names-passed (records-passed (length-passed c.requires.0 (sym c.wrong_length.ensures ∙ c.if-wrong_length.false)) (sym c.wrong_header.ensures ∙ c.if-wrong_header.false) _ c.first_wrong_record-wrong.ensures c.in_default.is) _ c.check_names-misnamed.ensures.0 c.in_default-misnamed.is) _ c.check_types-mistyped.ensures.answered c.in_default-mistyped.is) _ c.check_depths-deep.ensures c.in_default-deep.is _ c.check_types-mistyped.ensures.counted) c.check_types-mistyped.ensures.counted c.check_rules.ensures
+returns c = rules-decide (depths-passed (types-passed (names-passed (records-passed (checking c.requires.0) (sym c.wrong_header.ensures ∙ c.if-wrong_header.false) _ c.first_wrong_record.ensures c.in_default.is) _ (c.first_wrong.ensures c.of-table.ensures) c.in_default-first_wrong.is) _ c.check_types.ensures.answered c.in_default-check_types.is) _ c.check_depths.ensures c.in_default-check_depths.is _ c.check_types.ensures.counted) c.check_types.ensures.counted c.check_rules.ensures

@@ -1,16 +1,28 @@
--- From the top down.
+-- Those passed begin no pattern.
 -- Assumes nothing.
+use Prim.Native.Nat.{suc, ◌+◌, ◌-◌, ◌<◌, ◌≤◌}
 use native.Mathlib.Omega.{arith}
-use Rattle.ordering.proofs.CodeLaws.{pattern-begun, pattern-passed}
-use Rattle.ordering.proofs.OpLaws.{begins-read}
-use borrow.Author.Tests.{eq-eqb, ne_eqb}
-use Prim.Native.Nat.{◌-◌}
-use mathlib.Core.Path.{◌∙◌}
-use lib.ListN.{get_or}
+use borrow.Author.Rules.{rules}
+use mathlib.Core.Path.{◌≡◌, sym, ap, subst, ◌∙◌}
+use lib.ListN.{length, get_or}
+use Rattle.instructions.specs.Instruction.{close_constant}
+use Rattle.instructions.specs.Assembly.{begins_pattern}
+use Rattle.instructions.specs.declared.Op.TheVariants.{BeginPattern}
+use Rattle.ordering.proofs.ListLaws.{PatternSought, pattern-passed}
+use Rattle.ordering.proofs.OpLaws.{begins-no-pattern}
 use Rattle.ordering.proofs.code.pattern_start.Goals as goal
 
-pub returns-then-ops-k-eq-BEGIN_PATTERN : goal.returns-then-ops-k-eq-BEGIN_PATTERN
-returns-then-ops-k-eq-BEGIN_PATTERN c = (let z = c.loop-k-test.true in let l = c.loop-k.invariant.0 in omega (arith, z), λ F S. (pattern-begun (c.loop-k.invariant.1 F S) c.loop-k.invariant.0 c.loop-k-test.true (begins-read (get_or c.args.ops.now (c.loop-k.k - 1) 0) (get_or F (c.loop-k.k - 1) 0) (get_or S (c.loop-k.k - 1) 0) ∙ eq-eqb _ 17 c.if-ops-k-eq-BEGIN_PATTERN.true)).0, λ F S. (pattern-begun (c.loop-k.invariant.1 F S) c.loop-k.invariant.0 c.loop-k-test.true (begins-read (get_or c.args.ops.now (c.loop-k.k - 1) 0) (get_or F (c.loop-k.k - 1) 0) (get_or S (c.loop-k.k - 1) 0) ∙ eq-eqb _ 17 c.if-ops-k-eq-BEGIN_PATTERN.true)).1)
-
 pub loop-k-preserved : goal.loop-k-preserved
-loop-k-preserved c = (let z = c.loop-k-test.true in let l = c.loop-k.invariant.0 in omega (arith, z), λ F S. pattern-passed (c.loop-k.invariant.1 F S) c.loop-k.invariant.0 c.loop-k-test.true (begins-read (get_or c.args.ops.now (c.loop-k.k - 1) 0) (get_or F (c.loop-k.k - 1) 0) (get_or S (c.loop-k.k - 1) 0) ∙ ne_eqb _ 17 c.if-ops-k-eq-BEGIN_PATTERN.false))
+loop-k-preserved c =
+    let W = c.args.waiting.now in
+    let k = c.loop-k.k in
+    let other : (c.get.result.op ≡ BeginPattern → ⊥) = search rules in
+    let below : k ≤ length W = (let b = c.loop-k.auto.k in let e = c.len-k.ensures in omega arith) in
+    let above : 0 < k = c.loop-k-test.true in
+    let at : length W - suc (k - 1) ≡ length W - k = omega arith in
+    let next : length W - k + 1 ≡ length W - (k - 1) = omega arith in
+    subst (PatternSought W) next
+    (pattern-passed c.loop-k.invariant (omega arith)
+    (ap (λ i. begins_pattern (get_or W i close_constant)) (sym at)
+    ∙ ap begins_pattern (sym c.get.ensures)
+    ∙ begins-no-pattern c.get.result.op c.get.result.first c.get.result.second other))

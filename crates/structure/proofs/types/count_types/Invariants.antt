@@ -1,10 +1,6 @@
 -- The invariant: the table has the leaf counts of the types below rec. Assumes nothing.
-use Prim.Native.Nat.{◌-◌, ◌≤◌}
 use Rattle.structure.specs.LeafTable.{LeavesCounted}
 use Rattle.structure.proofs.types.count_types.Given as goal
 
 abbrev pub invariant-loop-rec : goal.invariant-loop-rec
-invariant-loop-rec l = (l.rec ≤ l.n) × LeavesCounted l.sheet l.rec l.table
-
-abbrev pub decreases-loop-rec : goal.decreases-loop-rec
-decreases-loop-rec l = l.n - l.rec
+invariant-loop-rec l = LeavesCounted l.sheet l.rec l.table

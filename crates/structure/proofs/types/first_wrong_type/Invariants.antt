@@ -1,5 +1,5 @@
 -- The invariant: no record below rec breaks the rule, and the index has the pair types below rec. Assumes nothing.
-use Prim.Native.Nat.{ℕ, ◌-◌, ◌≤◌, ◌<◌}
+use Prim.Native.Nat.{ℕ, ◌<◌}
 use mathlib.Core.Path.{◌≡◌}
 use mathlib.Core.Bool.{false}
 use Rattle.structure.specs.Rules.{wrong_type}
@@ -7,7 +7,4 @@ use Rattle.structure.specs.PairIndex.{Indexed}
 use Rattle.structure.proofs.types.first_wrong_type.Given as goal
 
 abbrev pub invariant-loop-rec : goal.invariant-loop-rec
-invariant-loop-rec l = (l.rec ≤ l.n) × ((q : ℕ) → q < l.rec → wrong_type l.sheet q ≡ false) × Indexed l.sheet l.rec l.index
-
-abbrev pub decreases-loop-rec : goal.decreases-loop-rec
-decreases-loop-rec l = l.n - l.rec
+invariant-loop-rec l = ((q : ℕ) → q < l.rec → wrong_type l.sheet q ≡ false) × Indexed l.sheet l.rec l.index

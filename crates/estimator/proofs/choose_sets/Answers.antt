@@ -1,6 +1,0 @@
--- Assumes nothing.
-use Rattle.estimator.proofs.SetLeaves.{chosen-joined}
-use Rattle.estimator.proofs.choose_sets.Goals as goal
-
-pub returns-in-Undecided : goal.returns-in-Undecided
-returns-in-Undecided c = chosen-joined c.args.sheet.now c.args.p c.args.tested.now c.args.otherwise.now c.args.out.now c.match_sets-answer.result c.match_sets-answer.ensures _ c.in-Undecided.is c.join_sets.ensures

@@ -1,6 +1,0 @@
--- Assumes nothing.
-use Rattle.replay.proofs.Cycles.{outputs-fit}
-use Rattle.replay.proofs.replay_from.Goals as goal
-
-pub slice_bounds-out-end : goal.slice_bounds-out-end
-slice_bounds-out-end c = outputs-fit c.requires.over c.room-out.ensures

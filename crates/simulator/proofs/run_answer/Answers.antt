@@ -1,0 +1,6 @@
+-- Assumes nothing.
+use Rattle.simulator.proofs.Calls.{refused-sheet}
+use Rattle.simulator.proofs.run_answer.Goals as goal
+
+pub returns-in_err-checked : goal.returns-in_err-checked
+returns-in_err-checked c = refused-sheet _ _ _ _ _ c.in_err-checked.field-0.0 c.from_residual.ensures.1 c.in_err-checked.ensures.verdict

@@ -1,0 +1,8 @@
+-- Every hash is without a name.
+-- Assumes nothing.
+use Rattle.symbols.proofs.Search.{none-hashed}
+use Rattle.std.proofs.Common.{refl}
+use Rattle.symbols.proofs.tables.NameTable.new.Goals as goal
+
+pub invariant_of-result-2 : goal.invariant_of-result-2
+invariant_of-result-2 c = record { hashed = none-hashed _ _ _ refl refl }
