@@ -6,9 +6,7 @@ use mathlib.Core.List.{List, [], ◌∷◌}
 use native.Mathlib.Omega.{arith}
 use lib.ListN.{length, drop, get_or}
 use Rattle.records.specs.SheetOf.{word_then}
-use Rattle.records.specs.Kinded.{kind_number}
-use Rattle.records.specs.declared.kinds.Kind.{Kind}
-use Rattle.emitting.specs.Emitting.{RecordPut, record_of}
+use Rattle.emitting.specs.Emitting.{RecordPut, record_numbered}
 
 -- the bytes of words, and those after them
 abbrev pub words_then : List ℕ → List ℕ → List ℕ
@@ -33,18 +31,16 @@ word-put ws start k now after rest above under put e =
     ∙ ap (λ j. word_then w (words_then (drop j ws) rest)) one ∙ sym (word-before ws (k - 1) rest (omega arith))
 
 -- all are written
-pub all-put : {before after : List ℕ} {cursor r k number : ℕ} (kind : Kind) (w : List ℕ) → number ≡ kind_number kind → k ≡ 0 → r ≡ cursor - 1
+pub all-put : {before after : List ℕ} {cursor r k : ℕ} (kind : ℕ) (w : List ℕ) → k ≡ 0 → r ≡ cursor - 1
     → drop (12 * r + 2 * k) after
-    ≡ words_then (drop k (number ∷ get_or w 0 0 ∷ get_or w 1 0 ∷ get_or w 2 0 ∷ get_or w 3 0 ∷ get_or w 4 0 ∷ [])) (drop (12 * cursor) before)
-    → length after ≡ length before → RecordPut before after cursor (record_of kind w) (cursor - 1)
-all-put {before} {after} {cursor} {r} {k} {number} kind w told none one written long =
+    ≡ words_then (drop k (kind ∷ get_or w 0 0 ∷ get_or w 1 0 ∷ get_or w 2 0 ∷ get_or w 3 0 ∷ get_or w 4 0 ∷ [])) (drop (12 * cursor) before)
+    → length after ≡ length before → RecordPut before after cursor (record_numbered kind w) (cursor - 1)
+all-put {before} {after} {cursor} {r} {k} kind w none one written long =
     let rest = drop (12 * cursor) before in
     let start : 12 * (cursor - 1) ≡ 12 * r + 2 * k = omega arith in
-    let after-kind = get_or w 0 0 ∷ get_or w 1 0 ∷ get_or w 2 0 ∷ get_or w 3 0 ∷ get_or w 4 0 ∷ [] in
+    let whole = kind ∷ get_or w 0 0 ∷ get_or w 1 0 ∷ get_or w 2 0 ∷ get_or w 3 0 ∷ get_or w 4 0 ∷ [] in
     record {
       one_less = refl;
-      put_there = λ h.
-          ap (λ n. drop n after) start ∙ written ∙ ap (λ j. words_then (drop j (number ∷ after-kind)) rest) none
-          ∙ ap (λ n. words_then (n ∷ after-kind) rest) told;
+      put_there = λ h. ap (λ n. drop n after) start ∙ written ∙ ap (λ j. words_then (drop j whole) rest) none;
       as_long = long;
     }

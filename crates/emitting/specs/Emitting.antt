@@ -13,9 +13,13 @@ use Rattle.instructions.specs.Assembly.{DeclaredType}
 use Rattle.instructions.specs.Emission.{Emission, emission, written_of, cursor_of, zeros_written, zeros_next, emit_all, types_written, records_written}
 use Rattle.emitting.specs.declared.writer.Writer.{Writer}
 
+-- the record of a kind's number and the five words after it
+abbrev pub record_numbered : ℕ → List ℕ → Record
+record_numbered kind w = words kind (get_or w 0 0) (get_or w 1 0) (get_or w 2 0) (get_or w 3 0) (get_or w 4 0)
+
 -- the record of a kind and the five words after its own
 abbrev pub record_of : Kind → List ℕ → Record
-record_of kind w = words (kind_number kind) (get_or w 0 0) (get_or w 1 0) (get_or w 2 0) (get_or w 3 0) (get_or w 4 0)
+record_of kind w = record_numbered (kind_number kind) w
 
 -- a record put before the one at the cursor
 pub record RecordPut (before after : List ℕ) (cursor : ℕ) (w : Record) (r : ℕ) : Type 0 where
@@ -43,9 +47,13 @@ InstructionWritten F before after w w' = ((R : List Record) → Advanced R w.cur
 abbrev pub standing : Writer → List Record → Emission
 standing w R = emission R w.cursor w.stack w.next
 
--- the record of an expression, by its kind and four words
+-- the record of an expression, by its kind's number and four words
+abbrev pub expression_numbered : ℕ → List ℕ → Record
+expression_numbered kind w = words kind 0 (get_or w 0 0) (get_or w 1 0) (get_or w 2 0) (get_or w 3 0)
+
+-- and by its kind
 abbrev pub expression_record : Kind → List ℕ → Record
-expression_record kind w = words (kind_number kind) 0 (get_or w 0 0) (get_or w 1 0) (get_or w 2 0) (get_or w 3 0)
+expression_record kind w = expression_numbered (kind_number kind) w
 
 -- so many undefined leaves
 pub record ZerosPut (count : ℕ) (before after : List ℕ) (c x cursor next : ℕ) : Type 0 where

@@ -2,13 +2,13 @@
 // the parts stand already, and where they begin is on the stack.
 ghost use Rattle.std.specs.Prelude.{◌≡◌, [], ◌+◌, ◌*◌, ◌-◌, ◌≤◌, ◌<◌, List, ◌∷◌, length};
 ghost use Rattle.records.specs.SheetOf.{Record, words};
-ghost use Rattle.instructions.specs.Emission.{Emission, completed, emission, emit, zeros_written};
+ghost use Rattle.instructions.specs.Emission.{Emission, completed, emission, emit, pop, top, zeros_written};
 ghost use Rattle.instructions.specs.Said.{said};
 ghost use Rattle.emitting.specs.Slots.{popped, slot_of};
 ghost use Rattle.grammar.specs.Sizes.{text_table};
-ghost use Rattle.emitting.specs.Emitting.{Advancing, InstructionWritten, ZerosPut, expression_record, record_of, standing};
+ghost use Rattle.emitting.specs.Emitting.{Advancing, InstructionWritten, ZerosPut, expression_numbered, expression_record, record_of, standing};
 
-use crate::bytes::put_record;
+use crate::bytes::{put_numbered, put_record};
 use crate::stack::{Slot, Stack};
 use instructions::types::DeclaredTypes;
 use instructions::{Instruction, Op};
@@ -36,7 +36,7 @@ impl Writer {
     }
 
     // So many undefined leaves, the last with the word next.
-    fn put_zeros(&mut self, sheet: &mut [u8], count: usize)
+    pub fn put_zeros(&mut self, sheet: &mut [u8], count: usize)
         requires { 12 * self.old.cursor ≤ length sheet.old }
         ensures { ZerosPut count sheet.old sheet.new self.old.cursor self.old.next self.new.cursor self.new.next × (self.new.stack ≡ self.old.stack) }
     {
@@ -48,7 +48,7 @@ impl Writer {
 
     // The expression at the cursor is written: so are the indices that wait for it, and it is a
     // part of what stands before it.
-    fn complete(&mut self, sheet: &mut [u8])
+    pub fn complete(&mut self, sheet: &mut [u8])
         requires { Advancing sheet.old self.old }
         ensures { InstructionWritten (λ R. completed R self.old.cursor self.old.stack) sheet.old sheet.new self.old self.new }
     {
@@ -59,19 +59,36 @@ impl Writer {
         self.next = 0;
     }
 
-    // An expression's record, in the place of so many slots.
-    fn put_expression(&mut self, sheet: &mut [u8], slots: usize, kind: Kind, words: [u16; 4])
+    // An expression's record by the number of its kind, in the place of so many slots.
+    pub fn put_numbered(&mut self, sheet: &mut [u8], slots: usize, kind: u16, words: [u16; 4])
         requires { Advancing sheet.old self.old }
-        ensures { InstructionWritten (λ R. completed (expression_record kind words ∷ R) (self.old.cursor - 1) (popped slots self.old.stack)) sheet.old sheet.new self.old self.new }
+        ensures { InstructionWritten (λ R. completed (expression_numbered kind words ∷ R) (self.old.cursor - 1) (popped slots self.old.stack)) sheet.old sheet.new self.old self.new }
     {
         let [a, b, c, d] = words;
-        self.cursor = put_record(sheet, self.cursor, kind, [0, a, b, c, d]);
+        self.cursor = put_numbered(sheet, self.cursor, kind, [0, a, b, c, d]);
         self.stack.pop(slots);
         self.complete(sheet);
     }
 
+    // An expression's record, in the place of so many slots.
+    pub fn put_expression(&mut self, sheet: &mut [u8], slots: usize, kind: Kind, words: [u16; 4])
+        requires { Advancing sheet.old self.old }
+        ensures { InstructionWritten (λ R. completed (expression_record kind words ∷ R) (self.old.cursor - 1) (popped slots self.old.stack)) sheet.old sheet.new self.old self.new }
+    {
+        self.put_numbered(sheet, slots, kind.number(), words);
+    }
+
+    // An expression of the two parts on top, by the number of its kind.
+    pub fn put_two(&mut self, sheet: &mut [u8], kind: u16)
+        requires { Advancing sheet.old self.old }
+        ensures { InstructionWritten (λ R. completed (expression_numbered kind (top self.old.stack ∷ top (pop self.old.stack) ∷ 0 ∷ 0 ∷ []) ∷ R) (self.old.cursor - 1) (popped 3 self.old.stack)) sheet.old sheet.new self.old self.new }
+    {
+        let words = [self.stack.below(0), self.stack.below(1), 0, 0];
+        self.put_numbered(sheet, 3, kind, words);
+    }
+
     // A constant of one leaf, which stands behind it.
-    fn put_constant(&mut self, sheet: &mut [u8], declared: u16, number: u16)
+    pub fn put_constant(&mut self, sheet: &mut [u8], declared: u16, number: u16)
         requires { Advancing sheet.old self.old }
         ensures { InstructionWritten (λ R. completed (words 32 0 declared (self.old.cursor - 1) 0 0 ∷ words 64 0 number 0 0 0 ∷ R) (self.old.cursor - 2) self.old.stack) sheet.old sheet.new self.old self.new }
     {
@@ -80,7 +97,7 @@ impl Writer {
     }
 
     // An undefined constant of so many leaves.
-    fn put_undefined(&mut self, sheet: &mut [u8], declared: u16, count: usize)
+    pub fn put_undefined(&mut self, sheet: &mut [u8], declared: u16, count: usize)
         requires { Advancing sheet.old self.old }
         ensures { InstructionWritten (λ R. completed (words 32 0 declared (self.old.cursor - count) 0 0 ∷ zeros_written count R self.old.cursor 0) (self.old.cursor - count - 1) self.old.stack) sheet.old sheet.new self.old self.new }
     {
@@ -118,14 +135,8 @@ impl Writer {
             Op::UseName => self.put_expression(sheet, 0, Kind::Name, [first, 0, 0, 0]),
             Op::UseConstant => self.put_constant(sheet, first, second),
             Op::UseUndefined => self.put_undefined(sheet, first, types.leaves(first)),
-            Op::OpenPair => {
-                let words = [self.stack.below(0), self.stack.below(1), 0, 0];
-                self.put_expression(sheet, 3, Kind::Pair, words);
-            }
-            Op::OpenLet => {
-                let words = [self.stack.below(0), self.stack.below(1), 0, 0];
-                self.put_expression(sheet, 3, Kind::Let, words);
-            }
+            Op::OpenPair => self.put_two(sheet, Kind::Pair.number()),
+            Op::OpenLet => self.put_two(sheet, Kind::Let.number()),
             Op::OpenRec => {
                 let words = [first, self.stack.below(0), self.stack.below(1), 0];
                 self.put_expression(sheet, 3, Kind::Feedback, words);

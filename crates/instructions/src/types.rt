@@ -62,6 +62,13 @@ impl DeclaredTypes {
         self.len
     }
 
+    // No types any more.
+    pub fn clear(&mut self)
+        ensures { self.new ≡ [] }
+    {
+        self.len = 0;
+    }
+
     // The type with so many before it.
     pub fn get(&self, k: usize) -> DeclaredType
         requires { k < length self.now }

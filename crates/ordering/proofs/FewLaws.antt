@@ -7,7 +7,7 @@ use mathlib.Core.Bool.{Bool, true, false, cond}
 use mathlib.Core.List.{List, [], ◌∷◌}
 use mathlib.Core.Option.{Option}
 use lib.ListN.{length}
-use Rattle.std.proofs.lemmas.List.{reverse-append}
+use Rattle.std.proofs.lemmas.List.{length-reverse, reverse-append}
 use Rattle.std.specs.Prelude.{reverse}
 use Rattle.instructions.specs.Instruction.{
   Instruction,
@@ -128,6 +128,9 @@ few-one (assembly T i C W Y p r u) close_constant f = more f (omega arith) (omeg
 few-one (assembly T i C W Y p r u) end_constant f = more f (omega arith) (omega arith) (omega arith) (omega arith) (omega arith)
 few-one (assembly T i C W Y p r u) (constant_has t) f = more f (omega arith) (omega arith) (omega arith) (omega arith) (omega arith)
 
+pub few-after : (A B : Assembly) (i : Instruction) → B ≡ assemble_one A i → (n : ℕ) → Few n A → Few (n + 1) B
+few-after A B i e n f = subst (Few (n + 1)) (sym e) (few-one A i f)
+
 few-more : (A : Assembly) (is : List Instruction) (n : ℕ) → Few n A → Few (length is + n) (assemble_all A is)
 few-more A [] n f = let e : n ≡ 0 + n = omega arith in subst (λ k. Few k A) e f
 few-more A (i ∷ is) n f =
@@ -141,10 +144,12 @@ few-assembled is =
     record { few_types = omega arith; few_constructors = omega arith; few_instructions = omega arith; few_constants = omega arith; few_records = omega arith } in
     subst (λ k. Few k (assemble_all nothing_assembled is)) e (few-more nothing_assembled is 0 f)
 
+pub few-read : (A : Assembly) (C : List Instruction) → A ≡ assemble_all nothing_assembled (reverse C) → Few (length C) A
+few-read A C e = subst (λ n. Few n A) (length-reverse C) (subst (Few (length (reverse C))) (sym e) (few-assembled (reverse C)))
+
 -- so there is room for one more while they are fewer than the bytes of a text
-pub has-room : (a : AssemblyHeld) (is : List Instruction) → assembled a ≡ assemble_all nothing_assembled is → length is < 65535 → HasRoom a
-has-room a is e l =
-    let f : Few (length is) (assembled a) = subst (Few (length is)) (sym e) (few-assembled is) in
+pub room-for-one : (a : AssemblyHeld) (n : ℕ) → Few n (assembled a) → n < 65535 → HasRoom a
+room-for-one a n f l =
     record {
       few_types = (let h = f.few_types in omega arith);
       few_constructors = (let h = f.few_constructors in omega arith);
@@ -152,6 +157,9 @@ has-room a is e l =
       few_constants = (let h = f.few_constants in omega arith);
       few_records = (let h = f.few_records in omega arith);
     }
+
+pub has-room : (a : AssemblyHeld) (is : List Instruction) → assembled a ≡ assemble_all nothing_assembled is → length is < 65535 → HasRoom a
+has-room a is e l = room-for-one a (length is) (subst (Few (length is)) (sym e) (few-assembled is)) l
 
 -- one instruction more
 pub one-more : (A B C : Assembly) (is : List Instruction) (i : Instruction) → B ≡ assemble_all A (reverse is) → C ≡ assemble_one B i

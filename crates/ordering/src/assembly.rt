@@ -1,8 +1,9 @@
 // The assembly of a text's instructions, one after the other.
-ghost use Rattle.std.specs.Prelude.{◌≡◌, ◌+◌, ◌≤◌, length, reverse};
+ghost use Rattle.std.specs.Prelude.{◌≡◌, ℕ, ◌+◌, ◌≤◌, length, reverse};
 ghost use Rattle.instructions.specs.Assembly.{assemble_all, assemble_one, nothing_assembled};
 ghost use Rattle.instructions.specs.Instruction.{end_constant};
 ghost use Rattle.instructions.specs.Said.{said};
+ghost use Rattle.ordering.specs.Assembled.{Few};
 ghost use Rattle.ordering.specs.Held.{HasRoom, assembled, records_of};
 ghost use Rattle.grammar.specs.Legal.{text_bytes};
 
@@ -44,12 +45,28 @@ impl Assembly {
         }
     }
 
-    // All instructions of a text, in its order, from a new assembly on. It stays in its place,
+    // Before the first instruction again. The lengths alone say so: no table is written.
+    fn clear(&mut self)
+        ensures { assembled self.new ≡ nothing_assembled }
+    {
+        self.types.clear();
+        self.input = 0;
+        self.code.truncate(0);
+        self.waiting.truncate(0);
+        self.constants.clear();
+        self.place = 0;
+        self.records = 0;
+        self.untyped = None;
+    }
+
+    // All instructions of a text, in its order, whatever was held before. It stays in its place,
     // since a copy would not fit the stack beside it.
     pub fn read(&mut self, instructions: &Code)
-        requires { (assembled self.old ≡ nothing_assembled) × (length instructions.now ≤ text_bytes) }
-        ensures { assembled self.new ≡ assemble_all nothing_assembled (reverse instructions.now) }
+        requires { length instructions.now ≤ text_bytes }
+        ensures whole { assembled self.new ≡ assemble_all nothing_assembled (reverse instructions.now) }
+        ensures few { Few (length instructions.now) (assembled self.new) }
     {
+        self.clear();
         for k in 0..instructions.len() {
             self.step(instructions.get(k));
         }
@@ -79,10 +96,11 @@ impl Assembly {
         }
     }
 
-    // One instruction more.
-    fn step(&mut self, instruction: Instruction)
+    // One instruction more, from any assembly with room for it.
+    pub fn step(&mut self, instruction: Instruction)
         requires { HasRoom self.old }
-        ensures { assembled self.new ≡ assemble_one (assembled self.old) (said instruction) }
+        ensures one_more { assembled self.new ≡ assemble_one (assembled self.old) (said instruction) }
+        ensures few { (n : ℕ) → Few n (assembled self.old) → Few (n + 1) (assembled self.new) }
     {
         self.records += self.records_of(instruction);
         match instruction.op {

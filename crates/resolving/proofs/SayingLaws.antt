@@ -117,14 +117,19 @@ module _ (op : ℕ) (delayed : Bool) (w : List ℕ) (B : List (List ℕ)) (D : L
   pub class-other : (class place : ℕ) (q : State) → (class ≡ 10 → ⊥) → class_said class place q op delayed w B D ≡ other_said op place
   class-other class place q n = ap (λ x. cond x (pair_before q (name_said op delayed w B D)) (other_said op place)) (ne_eqb class 10 n)
 
--- what any other token says
-pub other-said-as : (row place : ℕ) {q : State} (class : ℕ) (delayed : Bool) (w : List ℕ) (B : List (List ℕ)) (D : List DeclaredName) (o : Option Op)
-    → (class ≡ 10 → ⊥) → state_of row ≡ q → op_said o ≡ op_by (state_of row) (get_or lead_bytes class 0)
-    → class_said class place q (op_by q (get_or lead_bytes class 0)) delayed w B D ≡ other_said (op_said o) place
-other-said-as row place {q} class delayed w B D o n told e =
-    class-other (op_by q (get_or lead_bytes class 0)) delayed w B D class place q n
-    ∙ ap (λ x. other_said x place) (sym (e ∙ ap (λ s. op_by s (get_or lead_bytes class 0)) told))
+-- what a token says in a state by its number, and by the row of the table
+pub said-by-row : (state byte class place : ℕ) {q : State} (K : List State) (delayed : Bool) (w : List ℕ) (B : List (List ℕ)) (D : List DeclaredName) (o : Option Op)
+    {C E : List Instruction} → state_of state ≡ q → op_said o ≡ op_by (state_of state) byte → delayed ≡ in_constant K
+    → CodeSaid C (class_said class place (state_of state) (op_said o) delayed w B D) E → CodeSaid C (class_said class place q (op_by q byte) (in_constant K) w B D) E
+said-by-row state byte class place {q} K delayed w B D o told e waits s =
+    said-as
+    (sym
+    (ap (λ r. class_said class place r (op_said o) delayed w B D) told
+    ∙ ap (λ n. class_said class place q n delayed w B D) (e ∙ ap (λ r. op_by r byte) told)
+    ∙ ap (λ d. class_said class place q (op_by q byte) d w B D) waits))
+    s
 
+-- what any other token says
 pub silent-other : (o : Option Op) (place : ℕ) → o ≡ None → other_said (op_said o) place ≡ []
 silent-other o place e = ap (λ x. other_said (op_said x) place) e
 

@@ -6,7 +6,6 @@ ghost use Rattle.resolving.specs.Said.{Numbered, entry_in, role_at};
 ghost use Rattle.grammar.specs.Legal.{text_bytes};
 ghost use Rattle.grammar.specs.Sizes.{text_table};
 
-use scoping::scopes::Scope;
 use symbols::tables::NameRoles;
 use symbols::{Role, SYMBOLS};
 
@@ -82,17 +81,17 @@ impl NameNumbers {
         }
     }
 
-    // The declared names from one number on get their numbers.
-    pub fn number_from(&mut self, from: usize, scope: &Scope)
-        requires { Numbered (role_codes scope.now.roles) self.old.types self.old.ranks from × (from ≤ scope.now.base) × (scope.now.base ≤ text_bytes) }
-        ensures { Numbered (role_codes scope.now.roles) self.new.types self.new.ranks scope.now.base }
+    // The names from one number to another get their numbers, by their roles.
+    pub fn number_from(&mut self, from: usize, to: usize, roles: &NameRoles)
+        requires { Numbered (role_codes roles.now) self.old.types self.old.ranks from × (from ≤ to) × (to ≤ text_bytes) }
+        ensures { Numbered (role_codes roles.now) self.new.types self.new.ranks to }
     {
         let last = before(from);
         let mut types = entry(last, &self.types);
         let mut rank = entry(last, &self.ranks);
-        for k in from..scope.base {
-            types = types_after(scope.roles[k], types);
-            rank = ranks_after(scope.roles[k], rank);
+        for k in from..to {
+            types = types_after(roles[k], types);
+            rank = ranks_after(roles[k], rank);
             self.types[k] = types;
             self.ranks[k] = rank;
         }

@@ -10,6 +10,7 @@ ghost use Rattle.grammar.specs.Legal.{text_bytes};
 ghost use Rattle.grammar.specs.Sizes.{state_count};
 
 use crate::BadName;
+use crate::tables::saying;
 use crate::walk::Walk;
 use instructions::code::Code;
 use lexer::token_end;
@@ -56,8 +57,10 @@ impl<'a> Walk<'a> {
         }
         let end = token_end(text, start, class);
         let span = span_of(start, end);
-        self.say_token(start, span, class, code);
         let state = self.machine.row() as u8;
+        let said = saying(usize::from(state), class);
+        let delayed = self.is_in_constant();
+        self.say_token(start, span, class, state, said, delayed, code);
         let effect = Effect::at(state, class.index() as u8);
         if !self.machine.begin(class) {
             return Err(BadName { place: start });
@@ -66,7 +69,8 @@ impl<'a> Walk<'a> {
         if !note_token(&mut self.scope, span, class, state, effect) {
             return Err(BadName { place: start });
         }
-        self.numbers.number_from(declared, &self.scope);
+        let scope = &self.scope;
+        self.numbers.number_from(declared, scope.base, &scope.roles);
         Ok(end)
     }
 }

@@ -1,30 +1,15 @@
--- The record is put, and then the indices that wait for it.
+-- By the number of its kind.
 -- Assumes nothing.
-use native.Mathlib.Omega.{arith}
-use mathlib.Core.Path.{ap}
-use lib.ListN.{length}
+use Prim.Native.Nat.{◌-◌}
+use mathlib.Core.Path.{subst}
+use mathlib.Core.List.{◌∷◌}
 use Rattle.instructions.specs.Emission.{completed}
 use Rattle.emitting.specs.Slots.{popped}
-use Rattle.emitting.proofs.AdvanceLaws.{expression-put, the_same}
-use Rattle.emitting.proofs.StepLaws.{popped-fewer}
+use Rattle.emitting.specs.Emitting.{InstructionWritten, expression_numbered}
 use Rattle.emitting.proofs.writer.Writer.put_expression.Goals as goal
-
-pub complete-requires : goal.complete-requires
-complete-requires c =
-    let fewer = popped-fewer c.args.slots c.args.self.now.stack in
-    let e = ap length c.pop.ensures in
-    let one = c.put_record-self.ensures.one_less in
-    let long = c.put_record-self.ensures.as_long in
-    let a = c.requires.sheet_long in
-    let b = c.requires.room in
-    record { sheet_long = omega arith; room = omega arith }
 
 pub returns : goal.returns
 returns c =
-    let fewer = popped-fewer c.args.slots c.args.self.now.stack in
-    let e = ap length c.pop.ensures in
-    let h = c.complete.ensures.1 in (
-      expression-put (popped c.args.slots c.args.self.now.stack) c.put_record-self.ensures
-          (λ Q. the_same (ap (completed Q c.put_record-self.result) c.pop.ensures) (c.complete.ensures.0 Q)),
-      omega arith,
-    )
+    let w = c.args.self.now in
+    subst (λ n. InstructionWritten (λ R. completed (expression_numbered n c.args.words ∷ R) (w.cursor - 1) (popped c.args.slots w.stack)) c.args.sheet.now c.put_numbered.new.sheet w c.put_numbered.new.self)
+    c.number.ensures c.put_numbered.ensures

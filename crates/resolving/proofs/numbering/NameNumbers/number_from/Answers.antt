@@ -7,7 +7,7 @@ use Rattle.resolving.proofs.numbering.NameNumbers.number_from.Goals as goal
 
 pub types_after-types-requires : goal.types_after-types-requires
 types_after-types-requires c =
-    let f = types_few (role_codes c.args.scope.now.roles) c.loop-k.k in
+    let f = types_few (role_codes c.args.roles.now) c.loop-k.k in
     let e = c.loop-k.invariant.1 in
     let t = c.loop-k-test.true in
     let h = c.requires.2 in
@@ -15,7 +15,7 @@ types_after-types-requires c =
 
 pub ranks_after-rank-requires : goal.ranks_after-rank-requires
 ranks_after-rank-requires c =
-    let f = ranks-few (role_codes c.args.scope.now.roles) c.loop-k.k in
+    let f = ranks-few (role_codes c.args.roles.now) c.loop-k.k in
     let e = c.loop-k.invariant.2 in
     let t = c.loop-k-test.true in
     let h = c.requires.2 in

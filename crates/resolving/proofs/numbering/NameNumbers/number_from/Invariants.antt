@@ -7,5 +7,5 @@ use Rattle.resolving.proofs.numbering.NameNumbers.number_from.Given as goal
 
 abbrev pub invariant-loop-k : goal.invariant-loop-k
 invariant-loop-k l =
-    Numbered (role_codes l.scope.roles) l.self.types l.self.ranks l.k × (l.types ≡ types_below (role_codes l.scope.roles) l.k)
-    × (l.rank ≡ ranks_below (role_codes l.scope.roles) l.k)
+    Numbered (role_codes l.roles) l.self.types l.self.ranks l.k × (l.types ≡ types_below (role_codes l.roles) l.k)
+    × (l.rank ≡ ranks_below (role_codes l.roles) l.k)

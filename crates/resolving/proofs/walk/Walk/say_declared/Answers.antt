@@ -7,7 +7,7 @@ use Rattle.symbols.specs.Names.{letters_at}
 use Rattle.symbols.proofs.Search.{nearest-below}
 use Rattle.instructions.specs.Instruction.{instruction_of}
 use Rattle.instructions.specs.Said.{number_of}
-use Rattle.instructions.specs.TokenOrder.{declared_op, in_constant}
+use Rattle.instructions.specs.TokenOrder.{declared_op}
 use Rattle.resolving.proofs.NameEntries.{named-said}
 use Rattle.resolving.proofs.SayingLaws.{said-as}
 use Rattle.resolving.proofs.walk.Walk.say_declared.Goals as goal
@@ -45,6 +45,6 @@ returns c =
     said-as
     (ap (λ i. i ∷ [])
     (named-said s.names.text.now s.names.spans s.named c.requires.0.numbered (letters_at s.names.text.now c.args.span) (number_of c.args.op)
-    (in_constant c.args.self.now.machine.waiting) _ _ c.find_declared-k.ensures
-    (c.declared_op.ensures ∙ ap₂ (declared_op (number_of c.args.op)) c.is_in_constant.ensures c.has_role-typed.ensures)
+    c.args.delayed _ _ c.find_declared-k.ensures
+    (c.declared_op.ensures ∙ ap (declared_op (number_of c.args.op) c.args.delayed) c.has_role-typed.ensures)
     ∙ ap₂ (instruction_of (number_of c.declared_op.result)) (sym c.entry.ensures) (sym c.entry-2.ensures))) c.say.ensures

@@ -6,7 +6,7 @@ use mathlib.Core.Path.{◌≡◌, refl, ap, ◌∙◌}
 use mathlib.Core.List.{[], ◌∷◌}
 use lib.ListN.{drop, get_or}
 use Rattle.emitting.proofs.RecordLaws.{word-put, all-put}
-use Rattle.emitting.proofs.bytes.put_record.Goals as goal
+use Rattle.emitting.proofs.bytes.put_numbered.Goals as goal
 
 pub loop-k-init : goal.loop-k-init
 loop-k-init c =
@@ -19,7 +19,7 @@ pub loop-k-preserved : goal.loop-k-preserved
 loop-k-preserved c =
     let w = c.args.words in
     let under = c.loop-k.auto.k in (
-      word-put (c.number.result ∷ get_or w 0 0 ∷ get_or w 1 0 ∷ get_or w 2 0 ∷ get_or w 3 0 ∷ get_or w 4 0 ∷ []) (12 * c.from-start.result) c.loop-k.k _ _ _
+      word-put (c.args.kind ∷ get_or w 0 0 ∷ get_or w 1 0 ∷ get_or w 2 0 ∷ get_or w 3 0 ∷ get_or w 4 0 ∷ []) (12 * c.from-start.result) c.loop-k.k _ _ _
           c.loop-k-test.true (omega arith) c.put_word.ensures.0 c.loop-k.invariant.0,
       c.put_word.ensures.1 ∙ c.loop-k.invariant.1,
     )
@@ -27,4 +27,4 @@ loop-k-preserved c =
 pub returns : goal.returns
 returns c =
     let ended = c.loop-k-test.false in
-    all-put c.args.kind c.args.words c.number.ensures (omega arith) c.from-start.ensures c.loop-k.invariant.0 c.loop-k.invariant.1
+    all-put c.args.kind c.args.words (omega arith) c.from-start.ensures c.loop-k.invariant.0 c.loop-k.invariant.1

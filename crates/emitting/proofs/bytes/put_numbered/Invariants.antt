@@ -4,7 +4,7 @@ use Prim.Native.Nat.{◌+◌, ◌*◌}
 use mathlib.Core.Path.{◌≡◌}
 use lib.ListN.{length, drop}
 use Rattle.emitting.proofs.RecordLaws.{words_then}
-use Rattle.emitting.proofs.bytes.put_record.Given as goal
+use Rattle.emitting.proofs.bytes.put_numbered.Given as goal
 
 abbrev pub invariant-loop-k : goal.invariant-loop-k
 invariant-loop-k l =
