@@ -129,7 +129,7 @@ impl<'a> NameTable<'a> {
     // The last name goes.
     pub fn pop(&mut self)
         requires { 0 < self.old.count }
-        ensures { (self.new.text.now ≡ self.old.text.now) × (self.new.count ≡ self.old.count - 1) × (self.new.spans ≡ self.old.spans) }
+        ensures { (self.new.text.now ≡ self.old.text.now) × (self.new.count ≡ self.old.count - 1) × (self.new.spans ≡ self.old.spans) × (self.new.links ≡ self.old.links) }
     {
         let last = self.count - 1;
         let spans = &self.spans;
