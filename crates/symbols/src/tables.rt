@@ -170,13 +170,10 @@ impl<'a> NameTable<'a> {
     {
         match self.find(span, self.count) {
             Some(k) if k < base => Some(k),
-            Some(k) => {
-                if roles[k].is_declared() {
-                    self.find(span, base)
-                } else {
-                    None
-                }
-            }
+            Some(k) => match roles[k] {
+                Role::TypeName | Role::Constructor => self.find(span, base),
+                _ => None,
+            },
             None => None,
         }
     }
