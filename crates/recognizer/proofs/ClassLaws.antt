@@ -16,7 +16,7 @@ use Rattle.grammar.specs.Rows.{State, Lead, a_symbol, a_keyword, a_name, Transit
 use Rattle.grammar.specs.Machine.{dead, live, no_word, begin_token, perform_found, find, fresh, further, lead_byte, alike}
 use Rattle.grammar.proofs.ByteKinds.{alike-lower, alike-upper, alike-symbol, found-kind}
 use Rattle.grammar.proofs.RowFound.{found-by}
-use Rattle.recognizer.specs.Coded.{capitals, position, symbol_class, class_number, after_byte_class, followed, word_of}
+use Rattle.recognizer.specs.Coded.{capitals, position, symbol_class, class_number, class_of, after_byte_class, followed, word_of}
 
 -- one of two by a test, with what the test says
 choose : (b n : ℕ) (P : ℕ → Type 0) (x y : ℕ) → (b ≡ n → P x) → ((b ≡ n → ⊥) → P y) → P (cond (eqb b n) x y)
@@ -70,6 +70,17 @@ position-below b [] = omega arith
 position-below b (c ∷ l) =
     let h = position-below b l in
     choose b c (λ x. x ≤ suc (length l)) 0 (suc (position b l)) (λ e. omega arith) (λ e. omega arith)
+
+-- the classes are so many
+pub class-below : (b : ℕ) → class_of b < 21
+class-below b = go (byte_class b)
+  where
+    go : (k : ByteClass) → class_number k b < 21
+    go (is_symbol s) = omega (arith, symbol-below s)
+    go is_other = omega arith
+    go is_blank = omega arith
+    go is_lower = omega arith
+    go is_upper = omega (arith, position-below b capitals)
 
 -- a byte where no word is begun, and one after a word that can end there
 module _ (b : ℕ) (q : State) (K : List State) where

@@ -49,6 +49,9 @@ module _ {w : ℕ} (few : w < 60) where
       go (yes h) = absurd (n (no-letter w h))
       go (no h) = omega (arith, h)
 
+  pub not_last : (get_or letter_table w 0 ≡ 0 → ⊥) → w + 1 < 60
+  not_last n = let h : w ≡ 59 → ⊥ = λ e. n (ap (λ x. get_or letter_table x 0) e) in omega (arith, h)
+
   pub spelled : (b c : ℕ) (q : State) (K : List State) → get_or letter_table w 0 ≡ c → (c ≡ 0 → ⊥)
       → on_byte b q K (word_of w) ≡ cond (eqb b c) (live q K (word_of (w + 1))) dead
   spelled b c q K e n =

@@ -1,5 +1,5 @@
 // The classes of bytes.
-ghost use Rattle.std.specs.Prelude.{◌≡◌, ◌+◌, ◌≤◌, ◌<◌, ◌↔◌, IsTrue};
+ghost use Rattle.std.specs.Prelude.{◌≡◌, ◌+◌, ◌≤◌, ◌<◌, ◌↔◌, IsTrue, min};
 ghost use Rattle.grammar.specs.Tokens.{unlettered};
 ghost use Rattle.recognizer.specs.Coded.{capitals, position, class_number, class_of};
 ghost use Rattle.recognizer.specs.Classes.{class_index};
@@ -136,5 +136,36 @@ impl Class {
         ensures { IsTrue result ↔ (class_index self ≡ 19) }
     {
         matches!(self, Class::Blank)
+    }
+}
+
+// By its number among the classes; a number past the last is that of any other byte.
+impl From<u8> for Class {
+    ghost from_gives = { λ number class. class_index class ≡ min number 20 };
+
+    fn from(number: u8) -> Class {
+        match number {
+            0 => Class::SymbolOpens,
+            1 => Class::SymbolCloses,
+            2 => Class::SymbolComma,
+            3 => Class::SymbolEquals,
+            4 => Class::SymbolBar,
+            5 => Class::SymbolQuery,
+            6 => Class::SymbolIndexOpens,
+            7 => Class::SymbolIndexCloses,
+            8 => Class::SymbolOne,
+            9 => Class::SymbolTwo,
+            10 => Class::SmallLetter,
+            11 => Class::CapitalT,
+            12 => Class::CapitalI,
+            13 => Class::CapitalL,
+            14 => Class::CapitalR,
+            15 => Class::CapitalM,
+            16 => Class::CapitalE,
+            17 => Class::CapitalD,
+            18 => Class::OtherCapital,
+            19 => Class::Blank,
+            _ => Class::OtherByte,
+        }
     }
 }

@@ -27,9 +27,9 @@ fn span_of(start: usize, end: usize) -> Span
 {
     let letters = end - start;
     if letters <= usize::from(NAME_LETTERS) {
-        return Span::new(start as u16, letters as u16);
+        return Span::new(start as u32, letters as u32);
     }
-    Span::new(start as u16, 0)
+    Span::new(start as u32, 0)
 }
 
 // What a token does to the names in scope, and whether it keeps to its rule.

@@ -6,13 +6,13 @@ use native.Mathlib.Numerals.{add-one}
 use mathlib.Core.Path.{◌≡◌, refl, sym, ap, ap₂, subst, ◌∙◌}
 use mathlib.Core.Bool.{Bool, true, false, cond}
 use mathlib.Core.List.{List, [], ◌∷◌}
-use lib.ListN.{get_or, set}
+use lib.ListN.{length, get_or, set}
 use lib.Seq.{get_or-set_same, get_or-set_other}
 use Rattle.name_rules.specs.Declared.{declared_as, a_type}
 use Rattle.grammar.specs.Rows.{State}
 use Rattle.name_rules.specs.TokenWalk.{NameScope, scope, declare_pending, ScopeEffect, may_take, holds_in, met_in, left_by}
 use Rattle.name_rules.specs.TokenWalk.{pends, binds, bind_pending, unbind}
-use Rattle.symbols.specs.Names.{letters_at, declared_names, bound_names, role_named}
+use Rattle.symbols.specs.Names.{letters_at, declared_names, bound_names, role_named, Hashed, Roles}
 use Rattle.symbols.specs.RoleNumbers.{role_codes}
 use Rattle.symbols.specs.declared.tables.NameTable.{NameTable}
 use Rattle.symbols.proofs.Search.{entry-read}
@@ -50,6 +50,20 @@ scoping-of s room f r = record {
   roomy = r;
 }
 
+-- the tables as they are made
+pub first-scoping : {text spans links heads roles pendings : List ℕ} → Hashed text 0 spans links heads → Roles roles 0 → length pendings ≡ 65536
+    → Scoping text 0 0 0 0 spans links heads roles pendings
+first-scoping t r l = record {
+  hashed = t;
+  named = r;
+  bound_roles = λ k h j. absurd (omega arith);
+  above = omega arith;
+  pendings_long = l;
+  pendings_inside = λ k h. absurd (omega arith);
+  few = omega arith;
+  roomy = omega arith;
+}
+
 pub after : {S : NameScope} {room : ℕ} (old new : Scope) → new.names.text.now ≡ old.names.text.now → new.names.count + new.waiting ≤ room → room ≤ 65536
     → held new ≡ S → ScopeAfter S room old new
 after {room} old new e f r h = record {
@@ -69,7 +83,7 @@ after-held {new} a =
     ap (λ t. held_scope t new.base new.names.count new.waiting new.names.spans (role_codes new.roles) new.pendings) a.same_text ∙ a.rescoped.same_scope
 
 -- the name that waits on top
-pending-top : (text pendings : List ℕ) (m : ℕ) → (m ≡ 0 → ⊥)
+pub pending-top : (text pendings : List ℕ) (m : ℕ) → (m ≡ 0 → ⊥)
     → pending_names text pendings m ≡ letters_at text (get_or pendings (m - 1) 0) ∷ pending_names text pendings (m - 1)
 pending-top text pendings m h = let e : m ≡ suc (m - 1) = omega (arith, h) in ap (pending_names text pendings) e
 

@@ -174,3 +174,21 @@ impl Effect {
         EFFECTS[usize::from(state)][usize::from(class)]
     }
 }
+
+// By the number of the rules; a number that none of them has does nothing.
+impl From<u8> for Effect {
+    ghost from_gives = { λ number effect. effect_of (effect_code effect) ≡ effect_of number };
+
+    fn from(number: u8) -> Effect {
+        match number {
+            1 => Effect::Pends,
+            2 => Effect::DeclaresFirst,
+            3 => Effect::DeclaresNext,
+            4 => Effect::Binds,
+            5 => Effect::BindsPending,
+            6 => Effect::DeclaresPending,
+            7 => Effect::Unbinds,
+            _ => Effect::KeepsScope,
+        }
+    }
+}

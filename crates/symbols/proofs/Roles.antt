@@ -167,3 +167,10 @@ not-declared Constructor h = absurd (let z : ◌≡◌ {A = ℕ} 0 1 = cc in ome
 not-declared Input h = omega arith
 not-declared Bound h = omega arith
 not-declared Unknown h = omega arith
+
+pub neither-declared : (r : TableRole) → (r ≡ TypeName → ⊥) → (r ≡ Constructor → ⊥) → 1 < role_code r
+neither-declared TypeName n m = absurd (n refl)
+neither-declared Constructor n m = absurd (m refl)
+neither-declared Input n m = omega arith
+neither-declared Bound n m = omega arith
+neither-declared Unknown n m = omega arith

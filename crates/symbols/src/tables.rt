@@ -42,6 +42,21 @@ fn hash(letters: &[u8]) -> usize
     hash
 }
 
+// Whether two names have the same letters. The search asks it of each name with the hash, so it does not call the comparison of slices.
+fn same(name: &[u8], other: &[u8]) -> bool
+    ensures { result ≡ same_name name.now other.now }
+{
+    if name.len() != other.len() {
+        return false;
+    }
+    for i in 0..name.len() {
+        if name[i] != other[i] {
+            return false;
+        }
+    }
+    true
+}
+
 // The entry of a link.
 fn linked(link: u32) -> Option<usize>
     ensures { entry_number result ≡ link }
@@ -88,7 +103,7 @@ impl<'a> NameTable<'a> {
             if k < limit {
                 let spans = &self.spans;
                 let found = spans[k];
-                if letters == found.letters(self.text) {
+                if same(letters, found.letters(self.text)) {
                     return Some(k);
                 }
             }
@@ -114,7 +129,7 @@ impl<'a> NameTable<'a> {
     // The last name goes.
     pub fn pop(&mut self)
         requires { 0 < self.old.count }
-        ensures { (self.new.text.now ≡ self.old.text.now) × (self.new.count ≡ self.old.count - 1) × (self.new.spans ≡ self.old.spans) }
+        ensures { (self.new.text.now ≡ self.old.text.now) × (self.new.count ≡ self.old.count - 1) × (self.new.spans ≡ self.old.spans) × (self.new.links ≡ self.old.links) }
     {
         let last = self.count - 1;
         let spans = &self.spans;
@@ -155,13 +170,10 @@ impl<'a> NameTable<'a> {
     {
         match self.find(span, self.count) {
             Some(k) if k < base => Some(k),
-            Some(k) => {
-                if roles[k].is_declared() {
-                    self.find(span, base)
-                } else {
-                    None
-                }
-            }
+            Some(k) => match roles[k] {
+                Role::TypeName | Role::Constructor => self.find(span, base),
+                _ => None,
+            },
             None => None,
         }
     }

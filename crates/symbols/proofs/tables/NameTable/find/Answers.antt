@@ -3,10 +3,9 @@
 use Rattle.std.proofs.Common.{sym, ap, ◌∙◌, arith, get_or}
 use Rattle.name_rules.specs.Declared.{same_name}
 use Rattle.symbols.specs.Names.{hash_of, letters_at, nearest, last_hashed}
-use Rattle.symbols.proofs.Letters.{letters-same}
 use Rattle.symbols.proofs.Search.{search-first, search-next, search-found, last-below, entry-read}
 use Rattle.symbols.proofs.tables.NameTable.find.Goals as goal
-use Rattle.symbols.proofs.tables.NameTable.find.Goals.{then-k-limit+else-eq, else-k-limit}
+use Rattle.symbols.proofs.tables.NameTable.find.Goals.{then-k-limit+else-same, else-k-limit}
 
 pub loop-k-init : goal.loop-k-init
 loop-k-init c =
@@ -35,21 +34,21 @@ loop-k-preserved c =
     let r = search-next s.text.now s.spans c.letters-letters.result.now c.args.limit s.count c.requires.1 c.loop-k.link c.in-Some.k
     (sym c.in-Some.ensures) i.passed _ l
     (λ h. elim c.if-k-limit.branch [
-      | then-k-limit+else-eq w ↦
-          sym w.if-eq.false
-          ∙ letters-same c.letters-letters.result.now w.letters.result.now w.eq.ensures
+      | then-k-limit+else-same w ↦
+          sym w.if-same.false
+          ∙ w.same.ensures
           ∙ ap (same_name c.letters-letters.result.now) (w.letters.ensures ∙ entry-read s.text.now s.spans c.in-Some.k w.index-spans-k.result (let e = c.in-Some.ensures in omega (arith, s.hashed.spans_long)))
       | else-k-limit w ↦ absurd (let g = w.if-k-limit.false in omega arith)
     ]) i.hashed (s.hashed.links_right _ (let e = c.in-Some.ensures in omega arith)) in
     record { low = r.0; hashed = r.1; passed = r.2 }
 
-pub returns-then-eq : goal.returns-then-eq
-returns-then-eq c =
+pub returns-then-same : goal.returns-then-same
+returns-then-same c =
     let s = c.args.self.now in
     search-found s.text.now s.spans c.letters-letters.result.now c.args.limit s.count c.requires.1 c.loop-k.link c.in-Some.k (sym c.in-Some.ensures)
     c.loop-k.invariant.passed c.if-k-limit.true
-    (sym c.if-eq.true
-    ∙ letters-same c.letters-letters.result.now c.letters.result.now c.eq.ensures
+    (sym c.if-same.true
+    ∙ c.same.ensures
     ∙ ap (same_name c.letters-letters.result.now)
     (c.letters.ensures ∙ entry-read s.text.now s.spans c.in-Some.k c.index-spans-k.result (let e = c.in-Some.ensures in let l = c.loop-k.invariant.low in let t = s.hashed.room in omega (arith, s.hashed.spans_long))))
     ∙ ap (λ w. nearest s.text.now s.spans w c.args.limit) c.letters-letters.ensures

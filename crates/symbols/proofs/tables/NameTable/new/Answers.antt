@@ -4,5 +4,5 @@ use Rattle.symbols.proofs.Search.{none-hashed}
 use Rattle.std.proofs.Common.{refl}
 use Rattle.symbols.proofs.tables.NameTable.new.Goals as goal
 
-pub invariant_of-result-2 : goal.invariant_of-result-2
-invariant_of-result-2 c = record { hashed = none-hashed _ _ _ refl refl }
+pub invariant_of-result : goal.invariant_of-result
+invariant_of-result c = record { hashed = none-hashed _ _ _ refl refl }
