@@ -23,7 +23,7 @@ ghost use Rattle.std.proofs.Math.Option.{none, some};
 ghost use Rattle.records.specs.Limits.{word_bound};
 
 use answers::{Answer, Code, Fault, Refusal, packed};
-use records::{Kind, Sheet, WORD_A, WORD_B, WORD_D, WORD_NEXT, offset};
+use records::{Kind, Sheet, WORD_A, WORD_B, WORD_D, WORD_NEXT, offset, overwrite};
 use verdict::check;
 
 // The labels that there are, 0 for none among them.
@@ -206,7 +206,7 @@ fn carry_accepted<'a>(old: &Sheet<'a>, new: &Sheet<'a>, next: &mut [u8]) -> Answ
             place: long as u32,
         });
     }
-    next.copy_from_slice(new.bytes());
+    overwrite(next, new.bytes());
     carry_values(old, new, next);
     Ok(0)
 }

@@ -9,7 +9,7 @@ ghost use Rattle.fired.specs.Telling.{ToldFired};
 ghost use Rattle.fired.specs.TellingCycle.{TellingFired, FiredAnswered};
 
 use answers::{Answer, Code, Refusal, packed};
-use records::{Sheet, VALUE_BYTES};
+use records::{Sheet, VALUE_BYTES, overwrite};
 use stepper::look;
 use stimulus::check_one_cycle;
 use values::Room;
@@ -35,7 +35,7 @@ fn tell_fired(checked: &Checked, input: &[u8], words: &mut [u16])
         true,
     );
     let many = words.len();
-    words.copy_from_slice(&room.fired[..many]);
+    overwrite(words, &room.fired[..many]);
 }
 
 // The call on an accepted sheet: codes 8, 9 and 16, the lowest first, and then the words.

@@ -14,7 +14,10 @@ use Rattle.records.specs.Kinds.{
   unknown,
   sort_of,
   sort_number,
+  is_flat,
   is_pair,
+  is_header,
+  is_delay,
   never,
   Row,
   row,
@@ -99,6 +102,18 @@ module _ (f : Kind → Bool) (m : ℕ) (none : f unknown ≡ false) (small : m <
       go (yes h) = beq→eq _ _ (below_at kind-test 65 t k h)
       go (no h) = rw (unknown-above k (omega arith), ne_eqb k m (omega arith)) none
 
+pub flat-number : (k : ℕ) → is_flat (kind_of k) ≡ eqb k 16
+unfolding kind_of
+flat-number = only-kind is_flat 16 refl (omega arith) tt
+
 pub pair-number : (k : ℕ) → is_pair (kind_of k) ≡ eqb k 17
 unfolding kind_of
 pair-number = only-kind is_pair 17 refl (omega arith) tt
+
+pub header-number : (k : ℕ) → is_header (kind_of k) ≡ eqb k 1
+unfolding kind_of
+header-number = only-kind is_header 1 refl (omega arith) tt
+
+pub delay-number : (k : ℕ) → is_delay (kind_of k) ≡ eqb k 40
+unfolding kind_of
+delay-number = only-kind is_delay 40 refl (omega arith) tt

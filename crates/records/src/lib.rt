@@ -61,3 +61,14 @@ pub fn no_widths() -> WidthTable
 {
     [0; RECORDS]
 }
+
+// Copies a slice over another of its length. A loop, since the library's method calls `memmove`,
+// which a host of the calls need not have.
+pub fn overwrite<T: Copy>(to: &mut [T], from: &[T])
+    requires { length to.old ≡ length from.now }
+    ensures { to.new ≡ from.now }
+{
+    for i in 0..from.len() {
+        to[i] = from[i];
+    }
+}

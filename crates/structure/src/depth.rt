@@ -31,7 +31,7 @@ fn nested(sheet: &Sheet, naming: Naming, x: u8) -> u8
 }
 
 // How deep each record lies, and in how many feedbacks' defining parts.
-#[derive(Drop)]
+#[derive(Clone, Copy)]
 pub struct Placements {
     depths: [u8; RECORDS],
     nestings: [u8; RECORDS],

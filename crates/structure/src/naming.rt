@@ -80,7 +80,7 @@ impl Named {
 }
 
 // How each record is named, in 16 bits each.
-#[derive(Drop)]
+#[derive(Clone, Copy)]
 pub struct NamingTable {
     entries: [u16; RECORDS],
 }
@@ -89,6 +89,8 @@ impl Model for NamingTable {
     ghost Value = { List ℕ };
 
     ghost view = { λ n. n.entries };
+
+    ghost inverse = { λ entries. record { entries = entries } };
 }
 
 impl NamingTable {
@@ -147,7 +149,7 @@ impl NamingTable {
 
     // The lowest record that is not well named: code 4.
     pub fn first_wrong(&self, sheet: &Sheet) -> Option<usize>
-        ensures { NamingsHeld (namings sheet.now) self.now → found result ≡ lowest (wrong_naming sheet.now) (count sheet.now) }
+        ensures { (s : List ℕ) → NamingsHeld (namings s) self.now → found result ≡ lowest (wrong_naming s) (count sheet.now) }
     {
         lowest_record(sheet, 1, |rec| self.is_wrong(rec))
     }

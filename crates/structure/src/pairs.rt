@@ -13,7 +13,7 @@ use std::marker::Model;
 // A slot for each first part, then two below each record; 0 where a slot is empty.
 const SLOTS: usize = 3 * RECORDS;
 
-#[derive(Drop)]
+#[derive(Clone, Copy)]
 pub struct PairIndex {
     slots: [u16; SLOTS],
 }
@@ -22,6 +22,8 @@ impl Model for PairIndex {
     ghost Value = { List ℕ };
 
     ghost view = { λ i. i.slots };
+
+    ghost inverse = { λ slots. record { slots = slots } };
 }
 
 // Whether record q is the pair type of a and b.

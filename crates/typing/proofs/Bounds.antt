@@ -38,6 +38,9 @@ module _ {s : List ℕ} {n : ℕ} {table : List ℕ} (g : Ground s n table) wher
   pub ground-types : TypesFit s
   ground-types = types-fit g.passes
 
+  pub below-count : (r : ℕ) → r < count s → r < n
+  below-count r h = let c = g.sized.counted in omega arith
+
   pub in_count : (r : ℕ) → r < n → r < count s
   in_count r h = let c = g.sized.counted in omega arith
 
@@ -53,6 +56,9 @@ module _ {s : List ℕ} {n : ℕ} {table : List ℕ} (g : Ground s n table) wher
     pub typed : TypeRecord s part
     pub below : at < leaves (type_at s part)
     pub same : get_or (bounds (type_at s t)) i 0 ≡ get_or (bounds (type_at s part)) at 0
+
+  pub reached-itself : (t i : ℕ) → TypeRecord s t → i < leaves (type_at s t) → LeafReached t i t i
+  reached-itself t i r h = record { typed = r; below = h; same = refl }
 
   module _ (t i part at : ℕ) (r : LeafReached t i part at) where
     module _ (e : kind_at s part ≡ type_of pair) where

@@ -15,6 +15,7 @@ use Rattle.records.specs.Kinds.{type_of, flat, pair, types, TypeKind, leafs, is_
 use Rattle.records.specs.Says.{kind_at, sort_at}
 use Rattle.records.specs.Trees.{type_at, TypeRecord, chain, follow}
 use Rattle.records.specs.Decoding.{leaf_values}
+use Rattle.records.specs.Sized.{Sized}
 use Rattle.records.specs.Written.{Written}
 use Rattle.records.proofs.Tests.{never_both}
 use Rattle.records.proofs.Table.{kind-of-sort}
@@ -31,6 +32,15 @@ follows s (suc r) h = refl
 
 misfit-from : (r : ℕ) → ◌≡◌ {A = Option ℕ} None (Some r) → ⊥
 misfit-from r e = let z : ◌≡◌ {A = ℕ} 0 1 = cc in omega arith
+
+pub type-there : {s : List ℕ} {n t : ℕ} → Sized s n → TypeRecord s t → t < n
+type-there z r = let c = z.counted in let h = r.there in omega arith
+
+pub leaf-counted : {s : List ℕ} {n r : ℕ} → Sized s n → r < n → r < count s
+leaf-counted z h = let c = z.counted in omega arith
+
+pub leaf-there : {s : List ℕ} {n leaf : ℕ} → Sized s n → LeafOrEnd s leaf → (leaf ≡ 0 → ⊥) → leaf < n
+leaf-there z l g = let c = z.counted in let h = (l.leaf (omega arith)).0 in omega arith
 
 module _ {s : List ℕ} (w : Written s) {t : ℕ} (r : TypeRecord s t) (leaf : ℕ) where
   -- of a pair type
@@ -123,3 +133,9 @@ module _ {s : List ℕ} (w : Written s) (t first : ℕ) (h : first < count s) (e
         go : (a : Option ℕ) → ((r : ℕ) → a ≡ Some r → LeafOrEnd s r) → option_eq eqb a (Some 0) ≡ remains_within s [] a
         go None g = refl
         go (Some r) g = rest-fits r (g r refl)
+
+    pub misfit-whole : answer ≡ None → false ≡ within (bounds (type_at s t)) (leaf_values s (chain s first))
+    misfit-whole m = rw m at taken-whole
+
+    pub fits_whole : {rest : ℕ} → answer ≡ Some rest → eqb rest 0 ≡ within (bounds (type_at s t)) (leaf_values s (chain s first))
+    fits_whole m = rw m at taken-whole

@@ -54,5 +54,8 @@ pub fn leaves_fit(sheet: &Sheet, t: usize, first: usize) -> bool
     requires { Passes sheet.now × TypeRecord sheet.now t × (first < count sheet.now) × (sort_at sheet.now first ≡ leafs) }
     ensures { result ≡ within (bounds (type_at sheet.now t)) (leaf_values sheet.now (chain sheet.now first)) }
 {
-    take_off(sheet, t, first) == Some(0)
+    match take_off(sheet, t, first) {
+        Some(rest) => rest == 0,
+        None => false,
+    }
 }

@@ -17,6 +17,7 @@ ghost use Rattle.records.specs.Limits.{most_records, environment_bytes, most_lea
 
 use records::{
     ENVIRONMENT, Kind, RECORDS, Sheet, VALUE_BYTES, WORD_A, WORD_B, WORD_NEXT, WidthTable,
+    overwrite,
 };
 
 // The values of the names in scope, a slot each.
@@ -102,7 +103,7 @@ pub fn put<T: Copy>(value: &[T], slot: &mut [T])
     requires { length value.now ≤ length slot.old }
     ensures { slot.new ≡ value.now ++ drop (length value.now) slot.old }
 {
-    slot[..value.len()].copy_from_slice(value);
+    overwrite(&mut slot[..value.len()], value);
 }
 
 // Whether a value is defined in every leaf.
@@ -134,7 +135,7 @@ pub fn copy_value<T: Copy>(env: &[T], level: usize, out: &mut [T])
     requires { (most_leaves * level + length out.old ≤ length env.now) × (length env.now ≤ environment_bytes) }
     ensures { out.new ≡ slot level (length out.old) env.now }
 {
-    out.copy_from_slice(look_up(env, level, out.len()));
+    overwrite(out, look_up(env, level, out.len()));
 }
 
 // Copies a part of the value of the name at this level, from the value's leaf `from` on.
@@ -142,7 +143,7 @@ pub fn copy_part<T: Copy>(env: &[T], level: usize, from: usize, out: &mut [T])
     requires { (most_leaves * level + from + length out.old ≤ length env.now) × (length env.now ≤ environment_bytes) }
     ensures { out.new ≡ take (length out.old) (drop (most_leaves * level + from) env.now) }
 {
-    out.copy_from_slice(look_up_part(env, level, from, out.len()));
+    overwrite(out, look_up_part(env, level, from, out.len()));
 }
 
 // The leaf of an undecided IF, from those of its branches: the one that both give, or 0.
@@ -296,7 +297,7 @@ pub fn choose_value(
     let answer = match_all(sheet, widths, p, tested);
     match answer {
         Match::Yes(_) => {}
-        Match::No => out.copy_from_slice(otherwise),
+        Match::No => overwrite(out, otherwise),
         Match::Undecided => undecided(otherwise, out),
     }
     answer.record()

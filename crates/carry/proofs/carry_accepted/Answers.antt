@@ -12,4 +12,4 @@ pub returns-then-next-long : goal.returns-then-next-long
 returns-then-next-long c = rw c.bytes-long.ensures (wrong_next c.requires.0 c.requires.1 c.in_ok-check_labels.ensures.done c.in_ok-check_labels-2.ensures.done (rw c.bytes-long.ensures at c.if-next-long.true))
 
 pub returns : goal.returns
-returns c = carried-done c.requires.0 c.requires.1 c.in_ok-check_labels.ensures.done c.in_ok-check_labels-2.ensures.done (rw c.bytes-long.ensures at c.if-next-long.false) (rw (c.copy_from_slice.ensures.after, c.bytes.ensures) at c.carry_values.ensures)
+returns c = carried-done c.requires.0 c.requires.1 c.in_ok-check_labels.ensures.done c.in_ok-check_labels-2.ensures.done (rw c.bytes-long.ensures at c.if-next-long.false) (rw (c.overwrite.ensures, c.bytes.ensures) at c.carry_values.ensures)

@@ -15,4 +15,4 @@ pub look-requires : goal.look-requires
 look-requires c = rw (c.of-current.ensures ∙ c.bytes.ensures) (told-looking c.requires _ _ _ c.new-room.ensures.env c.new-room.ensures.held refl)
 
 pub returns : goal.returns
-returns c = told-words c.requires _ _ _ c.new-room.ensures.fired (rw (c.of-current.ensures ∙ c.bytes.ensures) at (c.look.ensures.noted.if_whole refl)) c.copy_from_slice.ensures.after
+returns c = told-words c.requires _ _ _ c.new-room.ensures.fired (rw (c.of-current.ensures ∙ c.bytes.ensures) at (c.look.ensures.noted.if_whole refl)) c.overwrite.ensures

@@ -5,4 +5,4 @@ use Rattle.structure.proofs.Namers.{first-naming}
 use Rattle.structure.proofs.naming.NamingTable.first_wrong.Goals as goal
 
 pub returns : goal.returns
-returns c = λ held. c.lowest_record.ensures (wrong_naming c.args.sheet.now) (first-naming c.args.sheet.now, search (of_calls, held))
+returns c = λ s held. c.lowest_record.ensures (wrong_naming s) (first-naming s, search (of_calls, held))
