@@ -23,5 +23,7 @@ unfolding outputs
 changes-in = (lit≤ tt, lit≤ tt)
 
 -- and `put_changes`, `put_total` and `put_leaf_lines`
-put_report : HasRoom (record { bytes = []; room = 2 * line_bytes + line_bytes; rest = replicate (2 * line_bytes + line_bytes) 0 }) (2 * line_bytes + line_bytes)
+put_report :
+    HasRoom (record { bytes = []; room = 2 * line_bytes + line_bytes; rest = replicate (2 * line_bytes + line_bytes) 0; lender = 0 })
+    (2 * line_bytes + line_bytes)
 put_report = lit≤ tt

@@ -4,6 +4,7 @@
 ghost use Rattle.std.specs.Prelude.{◌≡◌, ◌+◌, ◌*◌, ◌/◌, ◌≤◌, ◌<◌, length};
 ghost use Rattle.listing.specs.Wrote.{line_bytes};
 ghost use Rattle.listing.specs.Texts.{HasRoom, Added};
+ghost use Rattle.listing.specs.Seen.{written};
 ghost use Rattle.changes.specs.Changes.{changes_of, changes_in, total_changes};
 ghost use Rattle.changes.specs.Places.{change_here};
 ghost use Rattle.changes.specs.ReportLines.{leaf_line, leaf_lines, total_line, report};
@@ -59,25 +60,25 @@ fn all_changes(outputs: Outputs<'_>) -> usize
 
 // The line of a leaf.
 fn put_changes(text: &mut Text<'_>, leaf: usize, changes: usize)
-    requires { HasRoom text.old line_bytes }
-    ensures { Added text.old (leaf_line leaf changes) text.new }
+    requires { HasRoom (written text.old) line_bytes }
+    ensures { Added (written text.old) (leaf_line leaf changes) (written text.new) }
 {
     text.put_numbers_line(b"leaf ", leaf as u64, b": ", changes as u64);
 }
 
 // The last line.
 fn put_total(text: &mut Text<'_>, changes: usize)
-    requires { HasRoom text.old line_bytes }
-    ensures { Added text.old (total_line changes) text.new }
+    requires { HasRoom (written text.old) line_bytes }
+    ensures { Added (written text.old) (total_line changes) (written text.new) }
 {
     text.put_word_line(b"total ", changes as u64);
 }
 
 // The lines of all leaves.
 fn put_leaf_lines(text: &mut Text<'_>, outputs: Outputs<'_>)
-    requires { HasRoom text.old (outputs.width * line_bytes) }
-    ensures lines { Added text.old (leaf_lines outputs.entry.width outputs.entry.leaves.now outputs.entry.width) text.new }
-    ensures short { length text.new.bytes ≤ length text.old.bytes + outputs.entry.width * line_bytes }
+    requires { HasRoom (written text.old) (outputs.width * line_bytes) }
+    ensures lines { Added (written text.old) (leaf_lines outputs.entry.width outputs.entry.leaves.now outputs.entry.width) (written text.new) }
+    ensures short { length (written text.new).bytes ≤ length (written text.old).bytes + outputs.entry.width * line_bytes }
 {
     for leaf in 0..outputs.width {
         put_changes(text, leaf, changes_of(outputs, leaf));
@@ -86,8 +87,8 @@ fn put_leaf_lines(text: &mut Text<'_>, outputs: Outputs<'_>)
 
 // The report of outputs.
 pub fn put_report(text: &mut Text<'_>, outputs: Outputs<'_>)
-    requires { HasRoom text.old (outputs.width * line_bytes + line_bytes) }
-    ensures { Added text.old (report outputs.entry.width outputs.entry.leaves.now) text.new }
+    requires { HasRoom (written text.old) (outputs.width * line_bytes + line_bytes) }
+    ensures { Added (written text.old) (report outputs.entry.width outputs.entry.leaves.now) (written text.new) }
 {
     put_leaf_lines(text, outputs);
     put_total(text, all_changes(outputs));

@@ -19,6 +19,7 @@ added_then {old} {text = text} {more = more} a b =
       bytes = b.bytes ∙ rw a.bytes (append_assoc old.bytes text more);
       room = b.room ∙ a.room;
       rest = b.rest ∙ rw (a.rest, length-append text more) (drop-drop (length more) (length text) old.rest);
+      lender = b.lender ∙ a.lender;
     }
 
 -- a number below 10 is one digit, and another has the digits of its tenth before the last

@@ -3,6 +3,7 @@ pub mod Digits
 pub mod Numerals
 pub mod Lengths
 pub mod Added
+pub mod Front
 pub mod Items
 pub mod Chunks
 pub mod Filling

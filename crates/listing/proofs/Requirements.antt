@@ -10,7 +10,7 @@ use Rattle.listing.specs.Texts.{Written, HasRoom}
 
 -- a text with nothing in it, in a buffer of 300 bytes
 abbrev empty : Written
-empty = record { bytes = []; room = 300; rest = replicate 300 0 }
+empty = record { bytes = []; room = 300; rest = replicate 300 0; lender = 0 }
 
 put-byte : HasRoom empty 1
 put-byte = lit≤ tt

@@ -8,4 +8,5 @@ pub mod Examples
 -- What functions ask and give, and their proofs need; `WholeListing` speaks of what `put_lines` gives:
 pub mod Wrote
 pub mod Texts
+pub mod Seen
 pub mod Fills

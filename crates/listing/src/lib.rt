@@ -10,63 +10,55 @@ ghost use Rattle.listing.specs.Wrote.{line_bytes};
 ghost use Rattle.listing.specs.Texts.{HasRoom, Added};
 ghost use Rattle.listing.specs.Fills.{LinesAdded};
 
-use std::marker::Model;
-
 // The room that a line is given.
 pub const LINE_BYTES: usize = 280;
 
 // A text in the front of a buffer. It grows at its end; what it held and what lies behind it stay.
+// It writes to the one buffer that it was made of: clauses name that by `lender`, so that who lent
+// it knows what stands in all of it afterwards.
 #[derive(Drop)]
 pub struct Text<'a> {
     buffer: &'a mut [u8],
     len: usize,
-}
-
-impl<'a> Model for Text<'a> {
-    ghost use Rattle.std.specs.Prelude.{◌≤◌, length, take, drop};
-    ghost use Rattle.listing.specs.Texts.{Written};
-
-    ghost Value = { Written };
-
-    ghost view = { λ t. record { bytes = take t.len t.buffer.now; room = length t.buffer.now; rest = drop t.len t.buffer.now } };
-
-    ghost invariant = { λ t. t.len ≤ length t.buffer.now };
+    pub ghost inside: { len ≤ length buffer.now },
 }
 
 impl<'a> Text<'a> {
+    ghost use Rattle.listing.specs.Seen.{written};
+
     // An empty text, with all of a buffer as its room.
     pub fn new(buffer: &'a mut [u8]) -> Text<'a>
-        ensures { result ≡ record { bytes = []; room = length buffer.old; rest = buffer.old } }
+        ensures { written result ≡ record { bytes = []; room = length buffer.old; rest = buffer.old; lender = buffer.entry.ghost_name } }
     {
         Text { buffer, len: 0 }
     }
 
+    // How many bytes are written.
+    pub fn len(&self) -> usize
+        ensures { result ≡ length (written self.now).bytes }
+    {
+        let Text { len, .. } = self;
+        *len
+    }
+
     // How many bytes more have room.
     pub fn left(&self) -> usize
-        ensures { length self.now.bytes + result ≡ self.now.room }
+        ensures { length (written self.now).bytes + result ≡ (written self.now).room }
     {
         self.buffer.len() - self.len
     }
 
-    // The bytes written, which keep the buffer.
-    pub fn into_bytes(self) -> &'a [u8]
-        ensures { result.now ≡ self.entry.bytes }
-    {
-        let Text { buffer, len } = self;
-        &buffer[..len]
-    }
-
     fn put_byte(&mut self, b: u8)
-        requires { HasRoom self.old 1 }
-        ensures { Added self.old (b ∷ []) self.new }
+        requires { HasRoom (written self.old) 1 }
+        ensures { Added (written self.old) (b ∷ []) (written self.new) }
     {
         self.buffer[self.len] = b;
         self.len += 1;
     }
 
     fn put_text(&mut self, text: &[u8])
-        requires { HasRoom self.old (length text.now) }
-        ensures { Added self.old text.now self.new }
+        requires { HasRoom (written self.old) (length text.now) }
+        ensures { Added (written self.old) text.now (written self.new) }
     {
         let end = self.len + text.len();
         self.buffer[self.len..end].copy_from_slice(text);
@@ -75,8 +67,8 @@ impl<'a> Text<'a> {
 
     // A number in decimal: its front digits, which are those of a tenth of it, and the last one.
     pub fn put_number(&mut self, n: u64)
-        requires { HasRoom self.old (length (digits n)) }
-        ensures { Added self.old (digits n) self.new }
+        requires { HasRoom (written self.old) (length (digits n)) }
+        ensures { Added (written self.old) (digits n) (written self.new) }
     {
         if n >= 10 {
             self.put_number(n / 10);
@@ -86,8 +78,8 @@ impl<'a> Text<'a> {
 
     // A word, a number and the line's end.
     pub fn put_word_line(&mut self, word: &[u8], n: u64)
-        requires { HasRoom self.old (length word.now + 21) }
-        ensures { Added self.old (word_line word.now n) self.new }
+        requires { HasRoom (written self.old) (length word.now + 21) }
+        ensures { Added (written self.old) (word_line word.now n) (written self.new) }
     {
         self.put_text(word);
         self.put_number(n);
@@ -96,24 +88,24 @@ impl<'a> Text<'a> {
 
     // The first line: the output type's record.
     pub fn put_type(&mut self, t: u64)
-        requires { HasRoom self.old line_bytes }
-        ensures { Added self.old (type_line t) self.new }
+        requires { HasRoom (written self.old) line_bytes }
+        ensures { Added (written self.old) (type_line t) (written self.new) }
     {
         self.put_word_line(b"type ", t);
     }
 
     // The last line: how many cycles were done.
     pub fn put_cycles(&mut self, count: usize)
-        requires { HasRoom self.old line_bytes }
-        ensures { Added self.old (cycles_line count) self.new }
+        requires { HasRoom (written self.old) line_bytes }
+        ensures { Added (written self.old) (cycles_line count) (written self.new) }
     {
         self.put_word_line(b"cycles ", count as u64);
     }
 
     // A word, a number, another word, another number and the line's end.
     pub fn put_numbers_line(&mut self, word: &[u8], n: u64, second: &[u8], m: u64)
-        requires { HasRoom self.old (length word.now + length second.now + 41) }
-        ensures { Added self.old (numbers_line word.now n second.now m) self.new }
+        requires { HasRoom (written self.old) (length word.now + length second.now + 41) }
+        ensures { Added (written self.old) (numbers_line word.now n second.now m) (written self.new) }
     {
         self.put_text(word);
         self.put_number(n);
@@ -122,23 +114,23 @@ impl<'a> Text<'a> {
 
     // The line of a refusal.
     pub fn put_refused(&mut self, code: u64, place: u64)
-        requires { HasRoom self.old line_bytes }
-        ensures { Added self.old (refused_line code place) self.new }
+        requires { HasRoom (written self.old) line_bytes }
+        ensures { Added (written self.old) (refused_line code place) (written self.new) }
     {
         self.put_numbers_line(b"refused ", code, b" at ", place);
     }
 
     fn put_leaf(&mut self, leaf: u8)
-        requires { HasRoom self.old (length (leaf_text leaf)) }
-        ensures { Added self.old (leaf_text leaf) self.new }
+        requires { HasRoom (written self.old) (length (leaf_text leaf)) }
+        ensures { Added (written self.old) (leaf_text leaf) (written self.new) }
     {
         self.put_byte(b' ');
         self.put_number(u64::from(leaf));
     }
 
     fn put_leaves(&mut self, leaves: &[u8])
-        requires { HasRoom self.old (length (leaf_texts leaves.now)) }
-        ensures { Added self.old (leaf_texts leaves.now) self.new }
+        requires { HasRoom (written self.old) (length (leaf_texts leaves.now)) }
+        ensures { Added (written self.old) (leaf_texts leaves.now) (written self.new) }
     {
         for &leaf in leaves {
             self.put_leaf(leaf);
@@ -147,8 +139,8 @@ impl<'a> Text<'a> {
 
     // The line of cycle k.
     pub fn put_cycle(&mut self, k: usize, leaves: &[u8])
-        requires { HasRoom self.old line_bytes × (length leaves.now ≤ 64) }
-        ensures { Added self.old (cycle_line k leaves.now) self.new }
+        requires { HasRoom (written self.old) line_bytes × (length leaves.now ≤ 64) }
+        ensures { Added (written self.old) (cycle_line k leaves.now) (written self.new) }
     {
         self.put_number(k as u64);
         self.put_byte(b':');
@@ -162,7 +154,7 @@ impl<'a> Text<'a> {
         requires some { 0 < w }
         requires few { w ≤ 64 }
         requires numbered { k + length leaves.now < 2 ^ 64 }
-        ensures { LinesAdded self.old k w leaves.now self.new result }
+        ensures { LinesAdded (written self.old) k w leaves.now (written self.new) result }
     {
         let mut count = 0;
         for line in leaves.chunks_exact(w) {

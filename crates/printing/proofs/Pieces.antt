@@ -4,22 +4,26 @@
 use Prim.Native.Nat.{ℕ, suc, ◌+◌, ◌*◌, ◌-◌, ◌/◌, ◌^◌, ◌≤◌, ◌<◌}
 use mathlib.Core.Path.{◌≡◌, refl, sym, ap, ◌∙◌}
 use mathlib.Core.Bool.{Bool}
-use Rattle.std.specs.Prelude.{Some, None}
+use Rattle.std.specs.Prelude.{Option, Some, None}
 use mathlib.Core.List.{List, [], ◌++◌, append_assoc, append-nil}
 use native.Mathlib.Omega.{arith}
-use native.Mathlib.Nat.{suc-mul, add-mul, le-div_iff_mul-le, div-lt_iff_lt-mul}
+use native.Mathlib.Nat.{zero-mul, sub-zero, suc-mul, add-mul, le-div_iff_mul-le, div-lt_iff_lt-mul}
 use lib.ListN.{length, take, drop, length-append, length-drop}
 use lib.Seq.{drop-drop, length-take-le}
 use native.Mathlib.Decide.{dec_le}
+use Rattle.std.specs.Borrow.{GName}
 use Rattle.listing.specs.Digits.{digits}
-use Rattle.listing.specs.Lines.{ascii, type_line, cycles_line, cycle_lines}
+use Rattle.listing.specs.Lines.{ascii, type_line, cycles_line, cycle_lines, listing}
 use Rattle.listing.specs.Texts.{Written, HasRoom, Added}
+use Rattle.listing.specs.Seen.{written}
+use Rattle.listing.specs.declared.Text.{Text}
 use Rattle.listing.specs.Fills.{LinesAdded}
 use Rattle.listing.proofs.Lengths.{number-few}
 use Rattle.listing.proofs.Filling.{lines_join}
 use Rattle.listing.proofs.Added.{added-long, added_then}
+use Rattle.listing.proofs.Front.{bytes-once, front-taken, front-inside}
 use Rattle.printing.specs.Pieces.{text_from, text_left, Pieced, PiecesLaid, last_one, then_more}
-use Rattle.printing.specs.PutLines.{PuttingLines, PutLines}
+use Rattle.printing.specs.PutLines.{PuttingLines, PutLines, text_after, IsPiece}
 
 -- a line has a byte at least
 some-cycles : (n : ℕ) → 0 < length (cycles_line n)
@@ -104,13 +108,55 @@ module _ {old : Written} {w k : ℕ} (outputs : List ℕ) {new : Written} {count
           }
 
 -- after the first line
-pub first-lines : {room w : ℕ} {outputs rest : List ℕ} (t : ℕ) {mid : Written} → Added (record { bytes = []; room = room; rest = rest }) (type_line t) mid
+pub first-lines : {room w : ℕ} {outputs rest : List ℕ} {lender : GName} (t : ℕ) {mid : Written}
+    → Added (record { bytes = []; room = room; rest = rest; lender = lender }) (type_line t) mid
     → t < 2 ^ 64 → 560 ≤ room → PuttingLines mid w 0 outputs
 first-lines t v small enough =
     let long = added-long v in
     let same = v.room in
     let short = type-short t small in
     record { room = omega arith; inside = omega arith }
+
+-- what a text ends with is a piece, in the buffer that was lent to it
+module _ {before : List ℕ} {lender : GName} {old : Written} (begun : old ≡ record { bytes = []; room = length before; rest = before; lender = lender })
+    (t : Text) {after : List ℕ} (loan : after ≡ t.buffer.now) {end : ℕ} (ends : end ≡ length (written t).bytes)
+    {w : ℕ} {outputs : List ℕ} {next : Option ℕ}
+  where
+    pub next-piece : {k : ℕ} → PutLines old w k outputs (written t) next → IsPiece (text_from w k outputs) w outputs after end next
+    next-piece l =
+        let here : take end after ≡ l.part = front-taken t loan ends ∙ bytes-once begun l.wrote in
+        let long : end ≡ length l.part = ends ∙ ap length (sym (front-taken t loan ends) ∙ here) in
+        let some = l.more in
+        record {
+          text = l.text ∙ ap (λ (part : List ℕ). part ++ text_after w outputs next) (sym here);
+          more = omega arith;
+          room = front-inside t loan ends;
+          start = refl;
+          inside = l.inside;
+        }
+
+    pub first-piece : (type_record : ℕ) {mid : Written} → Added old (type_line type_record) mid → PutLines mid w 0 outputs (written t) next
+        → IsPiece (listing type_record w outputs) w outputs after end next
+    first-piece type_record a l =
+        let line : List ℕ = type_line type_record in
+        let here : take end after ≡ line ++ l.part =
+        front-taken t loan ends ∙ l.wrote.bytes ∙ ap (λ (part : List ℕ). part ++ l.part) (bytes-once begun a)
+        in
+        let long : end ≡ length (line ++ l.part) = ends ∙ ap length (sym (front-taken t loan ends) ∙ here) in
+        let both = length-append line l.part in
+        let some = l.more in
+        let rest = rw (zero-mul w, sub-zero (length outputs / w)) at l.text in
+        record {
+          text =
+              append_assoc line (cycle_lines w (length outputs / w) 0 outputs) (cycles_line (length outputs / w))
+              ∙ ap (λ (part : List ℕ). line ++ part) rest
+              ∙ sym (append_assoc line l.part (text_after w outputs next))
+              ∙ ap (λ (part : List ℕ). part ++ text_after w outputs next) (sym here);
+          more = omega arith;
+          room = front-inside t loan ends;
+          start = refl;
+          inside = l.inside;
+        }
 
 -- each piece leaves less
 pub piece-less : {before : List ℕ} {w : ℕ} {outputs after : List ℕ} {end k first : ℕ} {last : Bool} → Pieced before w outputs after end k first last

@@ -19,7 +19,7 @@ first_piece : 560 ≤ length buffer
 first_piece = room 560 (lit≤ tt)
 
 -- from the first cycle on
-put_rest : PuttingLines (record { bytes = []; room = 600; rest = replicate 600 0 }) 1 0 (2 ∷ 1 ∷ 1 ∷ [])
+put_rest : PuttingLines (record { bytes = []; room = 600; rest = replicate 600 0; lender = 0 }) 1 0 (2 ∷ 1 ∷ 1 ∷ [])
 put_rest = record { room = lit≤ tt; inside = lit≤ tt }
 
 -- from the second on

@@ -29,7 +29,7 @@ pub record PutLines (old : Written) (w k : ℕ) (outputs : List ℕ) (new : Writ
   pub more : 0 < length part
   pub inside : next_cycle next * w ≤ length outputs
 
--- a piece of the text `before`, all of it in `text`
-abbrev pub IsPiece : (before : List ℕ) (w : ℕ) (outputs text : List ℕ) (next : Option ℕ) → Type 0
-IsPiece before w outputs text next =
-    Pieced before w outputs text (length text) (next_cycle next) (next_cycle next * w) (is_last next)
+-- a piece of the text `before`: the buffer's bytes up to `end`
+abbrev pub IsPiece : (before : List ℕ) (w : ℕ) (outputs after : List ℕ) (end : ℕ) (next : Option ℕ) → Type 0
+IsPiece before w outputs after end next =
+    Pieced before w outputs after end (next_cycle next) (next_cycle next * w) (is_last next)

@@ -68,7 +68,8 @@ fn write_no_file(out: &impl Print, place: u64, line: &[u8])
 // 1 for the first.
 pub fn refuse_file(out: &impl Print, place: u64) {
     let mut line = [0u8; LINE_BYTES];
-    write_no_file(out, place, put_no_file(&mut line, place));
+    let end = put_no_file(&mut line, place);
+    write_no_file(out, place, &line[..end]);
 }
 
 // The files of a program, by their places: one that cannot be opened is refused by its place.

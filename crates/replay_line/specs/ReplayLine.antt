@@ -1,7 +1,7 @@
 -- What `sheetreplay` prints (docs/SHEETS.md, "Replaying a record"), for the answer of the replay
 -- with a next slice of the right length: `agrees N`, the cycles done, or `cycle C leaf L`, from 0;
 -- or the one line of a refusal, as `sheetrun` does.
-use Rattle.std.specs.Prelude.{ℕ, List, length, replicate}
+use Rattle.std.specs.Prelude.{ℕ, ◌≤◌, ◌≡◌, List, length, take, replicate}
 use Rattle.answers.specs.Answers.{Answer}
 use Rattle.answers.specs.Answers.{Done, Refused}
 use Rattle.listing.specs.Lines.{ascii, word_line, numbers_line, refused_line}
@@ -20,3 +20,8 @@ replay_line (Refused c p) f = refused_line c p
 unfoldable pub replay_printed : (sheet stimulus recorded : List ℕ) → List ℕ
 replay_printed s stim recorded =
     replay_line (replay_answer s stim recorded (replicate (length s) 0)) (finding s stim recorded)
+
+-- the line stands at the buffer's front, up to `end`
+pub record LineTold (s stim recorded line' : List ℕ) (end : ℕ) : Type 0 where
+  pub text : take end line' ≡ replay_printed s stim recorded
+  pub inside : end ≤ length line'

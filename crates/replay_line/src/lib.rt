@@ -1,25 +1,25 @@
 // What sheetreplay prints of a sheet, a stimulus and recorded outputs, from their replay.
 #![tactic(auto)]
 
-ghost use Rattle.std.specs.Prelude.{◌≡◌, ◌≤◌, length};
+ghost use Rattle.std.specs.Prelude.{◌≤◌, length};
 ghost use Rattle.listing.specs.Wrote.{line_bytes};
-ghost use Rattle.replay_line.specs.ReplayLine.{replay_printed};
+ghost use Rattle.replay_line.specs.ReplayLine.{LineTold};
 
 use answers::{code_of, place_of};
 use listing::Text;
 use replay::replay;
 
-// Replays, in room for the sheet after the last cycle, and gives the line to be printed, in a
-// buffer.
-pub fn tell_replay<'b>(
+// Replays, in room for the sheet after the last cycle, and writes the line to be printed to the
+// front of a buffer. It gives the end.
+pub fn tell_replay(
     sheet: &[u8],
     stim: &[u8],
     recorded: &[u8],
     next: &mut [u8],
-    line: &'b mut [u8],
-) -> &'b [u8]
+    line: &mut [u8],
+) -> usize
     requires { (length sheet.now ≤ length next.old) × (line_bytes ≤ length line.old) }
-    ensures { result.now ≡ replay_printed sheet.now stim.now recorded.now }
+    ensures { LineTold sheet.now stim.now recorded.now line.new result }
 {
     let long = sheet.len();
     let told = replay(sheet, stim, recorded, &mut next[0..long]);
@@ -29,12 +29,12 @@ pub fn tell_replay<'b>(
         let code = code_of(result);
         let place = place_of(result);
         text.put_refused(code, place);
-        return text.into_bytes();
+        return text.len();
     }
     if told.differs != 0 {
         text.put_numbers_line(b"cycle ", told.cycle, b" leaf ", told.leaf);
-        return text.into_bytes();
+        return text.len();
     }
     text.put_word_line(b"agrees ", told.cycle);
-    text.into_bytes()
+    text.len()
 }

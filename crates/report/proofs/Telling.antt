@@ -2,9 +2,9 @@
 -- Assumes nothing.
 use Prim.Native.Nat.{ℕ, zero, suc}
 use mathlib.Core.List.{List}
-use mathlib.Core.Path.{◌≡◌, refl}
+use mathlib.Core.Path.{◌≡◌, refl, ◌∙◌}
 use mathlib.Core.Logic.{◌≢◌}
-use lib.ListN.{take}
+use lib.ListN.{length, take}
 use Rattle.picoella.specs.Language.{leaves}
 use Rattle.records.specs.Trees.{type_at}
 use Rattle.answers.specs.Answers.{code, place}
@@ -14,8 +14,11 @@ use Rattle.std.specs.Prelude.{Err}
 use Rattle.answers.specs.declared.Refusal.{Refusal}
 use Rattle.answers.specs.Results.{code_number}
 use Rattle.listing.specs.Lines.{refused_line}
+use Rattle.listing.specs.Seen.{written}
+use Rattle.listing.specs.declared.Text.{Text}
+use Rattle.listing.proofs.Front.{front-taken, front-inside}
 use Rattle.run_listing.proofs.Telling.{AsTold, some-code}
-use Rattle.report.specs.Reported.{report_text, reported}
+use Rattle.report.specs.Reported.{report_text, reported, ReportTold}
 use Rattle.report.specs.Promises.{RefusesAsRun, ReportOfListing}
 
 module _ {s stim : List ℕ} {c p t w many : ℕ} {out' next' : List ℕ} (told : RunTold s stim c p t w many out' next') where
@@ -34,6 +37,11 @@ refused-reported e told = rw c.1 (rw c.1 at (told-reported told))
   where
     c : (k : ℕ) × (code_number e.code ≡ suc k)
     c = some-code e.code
+
+-- a text that is what is reported, in the buffer that was lent to it
+pub report-told : {s stim : List ℕ} (t : Text) {after : List ℕ} → after ≡ t.buffer.now → {end : ℕ} → end ≡ length (written t).bytes
+    → (written t).bytes ≡ reported s stim → ReportTold s stim after end
+report-told t loan ends e = record { text = front-taken t loan ends ∙ e; inside = front-inside t loan ends }
 
 pub refuses_as_run : RefusesAsRun
 unfolding reported printed

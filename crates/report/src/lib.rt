@@ -1,25 +1,25 @@
 // What sheetreport prints of a sheet and a stimulus, from their run.
 #![tactic(auto)]
 
-ghost use Rattle.std.specs.Prelude.{◌≡◌, ◌≤◌, length};
+ghost use Rattle.std.specs.Prelude.{◌≤◌, length};
 ghost use Rattle.rooms.specs.Rooms.{most_output};
-ghost use Rattle.report.specs.Reported.{report_bytes, reported};
+ghost use Rattle.report.specs.Reported.{report_bytes, ReportTold};
 
 use changes::put_report;
 use listing::{Outputs, Text};
 use run_listing::tell;
 
-// Runs a sheet on a stimulus, in room for the longest outputs and for the sheet after it, and gives
-// what is to be printed, in a buffer.
-pub fn tell_report<'b>(
+// Runs a sheet on a stimulus, in room for the longest outputs and for the sheet after it, and writes
+// what is to be printed to the front of a buffer. It gives the end.
+pub fn tell_report(
     sheet: &[u8],
     stim: &[u8],
     out: &mut [u8],
     next: &mut [u8],
-    buffer: &'b mut [u8],
-) -> &'b [u8]
+    buffer: &mut [u8],
+) -> usize
     requires { (most_output ≤ length out.old) × (length sheet.now ≤ length next.old) × (report_bytes ≤ length buffer.old) }
-    ensures { result.now ≡ reported sheet.now stim.now }
+    ensures { ReportTold sheet.now stim.now buffer.new result }
 {
     let mut text = Text::new(buffer);
     match tell(sheet, stim, out, next) {
@@ -32,5 +32,5 @@ pub fn tell_report<'b>(
         }
         Err(refusal) => text.put_refused(refusal.code.number(), u64::from(refusal.place)),
     }
-    text.into_bytes()
+    text.len()
 }

@@ -26,8 +26,8 @@ fn replay_files(out: &impl Print, sheet: &[u8], stim: &[u8], recorded: &[u8])
 {
     let mut next = sheet_room();
     let mut line = [0u8; LINE_BYTES];
-    let text = tell_replay(sheet, stim, recorded, &mut next, &mut line);
-    print_line(out, sheet, stim, recorded, text);
+    let end = tell_replay(sheet, stim, recorded, &mut next, &mut line);
+    print_line(out, sheet, stim, recorded, &line[..end]);
 }
 
 // The third file, after the other two.

@@ -23,8 +23,8 @@ fn report_files(out: &impl Print, sheet: &[u8], stim: &[u8])
     let mut output = output_room();
     let mut next = sheet_room();
     let mut buffer = text_room();
-    let text = tell_report(sheet, stim, &mut output, &mut next, &mut buffer);
-    print_report(out, sheet, stim, text);
+    let end = tell_report(sheet, stim, &mut output, &mut next, &mut buffer);
+    print_report(out, sheet, stim, &buffer[..end]);
 }
 
 fn main(rt: HostRuntime) {

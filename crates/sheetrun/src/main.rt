@@ -12,7 +12,7 @@ ghost use Rattle.rooms.specs.Rooms.{sheet_room};
 
 use answers::Refusal;
 use listing::Outputs;
-use printing::{Piece, first_piece, next_piece, put_refusal};
+use printing::{first_piece, next_piece, put_refusal};
 use program_io::{read_inputs, replace};
 use rooms::{output_room, sheet_room, stimulus_room, text_room};
 use run_listing::tell;
@@ -35,17 +35,24 @@ fn keep_next(files: &impl Files<File = File>, sheet: &[u8], stim: &[u8], room: &
 }
 
 // Writes the first piece of what is printed of a sheet and a stimulus.
-fn write_first(out: &impl Print, sheet: &[u8], stim: &[u8], outputs: Outputs<'_>, piece: Piece<'_>)
-    requires { printed sheet.now stim.now ≡ piece.text.now ++ text_after outputs.width outputs.leaves.now piece.next }
+fn write_first(
+    out: &impl Print,
+    sheet: &[u8],
+    stim: &[u8],
+    outputs: Outputs<'_>,
+    text: &[u8],
+    next: Option<usize>,
+)
+    requires { printed sheet.now stim.now ≡ text.now ++ text_after outputs.width outputs.leaves.now next }
 {
-    let _ = out.write_all(piece.text);
+    let _ = out.write_all(text);
 }
 
 // Writes a piece more, of what is left from cycle k on.
-fn write_more(out: &impl Print, outputs: Outputs<'_>, k: usize, piece: Piece<'_>)
-    requires { text_from outputs.width k outputs.leaves.now ≡ piece.text.now ++ text_after outputs.width outputs.leaves.now piece.next }
+fn write_more(out: &impl Print, outputs: Outputs<'_>, k: usize, text: &[u8], next: Option<usize>)
+    requires { text_from outputs.width k outputs.leaves.now ≡ text.now ++ text_after outputs.width outputs.leaves.now next }
 {
-    let _ = out.write_all(piece.text);
+    let _ = out.write_all(text);
 }
 
 // Prints the listing of a sheet and a stimulus, piece by piece, of outputs whose type is at record t.
@@ -55,11 +62,11 @@ fn print_listing(out: &impl Print, sheet: &[u8], stim: &[u8], t: u64, outputs: O
     let mut buffer = text_room();
     let begun = first_piece(&mut buffer, t, outputs);
     let mut next = begun.next;
-    write_first(out, sheet, stim, outputs, begun);
+    write_first(out, sheet, stim, outputs, &buffer[..begun.end], next);
     while let Some(k) = next {
         let piece = next_piece(&mut buffer, outputs, k);
         next = piece.next;
-        write_more(out, outputs, k, piece);
+        write_more(out, outputs, k, &buffer[..piece.end], next);
     }
 }
 
@@ -75,8 +82,8 @@ fn print_refusal(out: &impl Print, sheet: &[u8], stim: &[u8], refusal: Refusal)
     requires { refused_line (code_number refusal.code) refusal.place ≡ printed sheet.now stim.now }
 {
     let mut buffer = text_room();
-    let line = put_refusal(&mut buffer, refusal.code.number(), u64::from(refusal.place));
-    write_line(out, sheet, stim, line);
+    let end = put_refusal(&mut buffer, refusal.code.number(), u64::from(refusal.place));
+    write_line(out, sheet, stim, &buffer[..end]);
 }
 
 // next.bin is written first, so that it is there also where nobody reads what is printed.
