@@ -197,8 +197,12 @@ assembly_new = record {
   untyped = None;
 }
 
-read-asks : (assembled assembly_new ≡ nothing_assembled) × (length (table_code 24) ≤ 65535)
-read-asks = (refl, omega arith)
+new-assembled : assembled assembly_new ≡ nothing_assembled
+new-assembled = refl
+
+-- whatever was held before
+read-asks : length (table_code 24) ≤ 65535
+read-asks = omega arith
 
 -- and after the last
 abbrev pub assembly_whole : Assembly

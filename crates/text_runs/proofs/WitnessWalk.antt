@@ -140,11 +140,17 @@ walk_x = record { machine = machine_x; scope = scope_x; numbers = numbers 3 }
 speaking-at-x : Saying walk_x
 speaking-at-x = record { narrow = omega arith; numbered = numbered-three }
 
--- so ask `say_name` and `say_declared` too
+say-pair-asks : 13 < 47
+say-pair-asks = omega arith
+
+-- so asks `say_declared` too
 say-value-asks : Saying walk_x × Inside walk_x.scope.names.text.now 3233
 say-value-asks = (speaking-at-x, inside 3233 tt)
 
-say-token-asks : Saying walk_x × Inside walk_x.scope.names.text.now 3233 × (class_index SmallLetter < 18) × (101 ≤ 65535)
+say-name-asks : Saying walk_x × Inside walk_x.scope.names.text.now 3233 × (13 < 47)
+say-name-asks = (speaking-at-x, inside 3233 tt, omega arith)
+
+say-token-asks : Saying walk_x × Inside walk_x.scope.names.text.now 3233 × (13 < 47) × (101 ≤ 65535)
 say-token-asks = (speaking-at-x, inside 3233 tt, omega arith, omega arith)
 
 span-of-asks : (101 < 102) × (102 ≤ 65535)
