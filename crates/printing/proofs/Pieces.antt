@@ -1,9 +1,9 @@
 -- The pieces: lines until the room runs out leave the text from the next cycle on; where room is left no cycle is, and the last line
 -- follows. Laid end to end the pieces are the text.
 -- Assumes nothing.
-use Prim.Native.Nat.{ℕ, suc, ◌+◌, ◌*◌, ◌-◌, ◌/◌, ◌^◌, ◌≤◌, ◌<◌}
+use Prim.Native.Nat.{ℕ, zero, suc, ◌+◌, ◌*◌, ◌-◌, ◌/◌, ◌^◌, ◌≤◌, ◌<◌}
 use mathlib.Core.Path.{◌≡◌, refl, sym, ap, ◌∙◌}
-use mathlib.Core.Bool.{Bool}
+use mathlib.Core.Bool.{Bool, true}
 use Rattle.std.specs.Prelude.{Option, Some, None}
 use mathlib.Core.List.{List, [], ◌++◌, append_assoc, append-nil}
 use native.Mathlib.Omega.{arith}
@@ -21,8 +21,10 @@ use Rattle.listing.specs.Fills.{LinesAdded}
 use Rattle.listing.proofs.Lengths.{number-few}
 use Rattle.listing.proofs.Filling.{lines_join}
 use Rattle.listing.proofs.Added.{added-long, added_then}
-use Rattle.listing.proofs.Front.{bytes-once, front-taken, front-inside}
-use Rattle.printing.specs.Pieces.{text_from, text_left, Pieced, PiecesLaid, last_one, then_more}
+use Rattle.listing.specs.Lines.{word_line, refused_line}
+use Rattle.listing.specs.Wrote.{TextPut}
+use Rattle.listing.proofs.Front.{text-front, bytes-once, front-taken, front-inside}
+use Rattle.printing.specs.Pieces.{told_text, text_from, text_left, Pieced, PiecesLaid, last_one, then_more}
 use Rattle.printing.specs.PutLines.{PuttingLines, PutLines, text_after, IsPiece}
 
 -- a line has a byte at least
@@ -157,6 +159,30 @@ module _ {before : List ℕ} {lender : GName} {old : Written} (begun : old ≡ r
           start = refl;
           inside = l.inside;
         }
+
+-- the line of a refusal is the one piece of what is told
+some-refusal : (c p : ℕ) → 0 < length (refused_line c p)
+some-refusal c p =
+    let l : length (refused_line c p) ≡ 8 + length (digits c ++ word_line (ascii " at ") p) =
+    length-append (ascii "refused ") (digits c ++ word_line (ascii " at ") p)
+    in
+    omega arith
+
+pub refusal-pieced : {buffer after : List ℕ} {end : ℕ} (c p t w : ℕ) (outputs : List ℕ) → (c ≡ 0 → ⊥) → TextPut buffer 0 (refused_line c p) after end
+    → Pieced (told_text c p t w outputs) w outputs after end 0 0 true
+refusal-pieced zero p t w outputs d v = absurd (d refl)
+refusal-pieced (suc c) p t w outputs d v =
+    let front = text-front v in
+    let place = v.place in
+    let some = some-refusal (suc c) p in
+    let room = front.1 in
+    record {
+      text = sym (rw append-nil front.0);
+      more = omega arith;
+      room = omega arith;
+      start = sym (zero-mul w);
+      inside = omega arith;
+    }
 
 -- each piece leaves less
 pub piece-less : {before : List ℕ} {w : ℕ} {outputs after : List ℕ} {end k first : ℕ} {last : Bool} → Pieced before w outputs after end k first last

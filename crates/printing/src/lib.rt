@@ -1,11 +1,11 @@
 // Text in pieces of one buffer: a call's result, and the line of a file that cannot be opened.
 #![tactic(auto)]
 
-ghost use Rattle.std.specs.Prelude.{◌≡◌, ◌≤◌, ◌*◌, length};
+ghost use Rattle.std.specs.Prelude.{◌≡◌, ℕ, List, true, ◌≤◌, ◌*◌, length};
 ghost use Rattle.listing.specs.Wrote.{TextPut, line_bytes};
 ghost use Rattle.listing.specs.Lines.{listing, refused_line};
 ghost use Rattle.listing.specs.Seen.{written};
-ghost use Rattle.printing.specs.Pieces.{no_file_line, text_from};
+ghost use Rattle.printing.specs.Pieces.{no_file_line, told_text, text_from, Pieced};
 ghost use Rattle.printing.specs.PutLines.{PuttingLines, PutLines, IsPiece};
 
 use answers::Code;
@@ -61,10 +61,11 @@ pub fn next_piece(buffer: &mut [u8], outputs: Outputs<'_>, k: usize) -> Piece
     }
 }
 
-// The line of a refusal.
+// The line of a refusal: the one piece of what is told of a refused run.
 pub fn put_refusal(buffer: &mut [u8], code: u64, place: u64) -> usize
     requires { line_bytes ≤ length buffer.old }
-    ensures { TextPut buffer.old 0 (refused_line code place) buffer.new result }
+    ensures line { TextPut buffer.old 0 (refused_line code place) buffer.new result }
+    ensures piece { (t w : ℕ) (outputs : List ℕ) → (code ≡ 0 → ⊥) → Pieced (told_text code place t w outputs) w outputs buffer.new result 0 0 true }
 {
     let mut text = Text::new(buffer);
     text.put_refused(code, place);
