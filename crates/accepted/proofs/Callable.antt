@@ -5,7 +5,7 @@
 use mathlib.Core.Path.{◌≡◌, refl}
 use mathlib.Core.Bool.{true, false≢true}
 use mathlib.Core.List.{List, [], ◌∷◌}
-use Prim.Native.Nat.{ℕ, ◌+◌, ◌*◌, ◌/◌, ◌≤◌, ◌<◌}
+use Prim.Native.Nat.{ℕ, ◌+◌, ◌*◌, ◌≤◌, ◌<◌}
 use native.Mathlib.Omega.{arith}
 use lib.ListN.{length, replicate, length-replicate}
 use Rattle.picoella.specs.Language.{leaves}
@@ -14,7 +14,7 @@ use Rattle.records.specs.Kinds.{Ask, ExpressionKind, constant, name, expression,
 use Rattle.records.specs.Says.{kind_at, sort_at, Naming, namings, well_named}
 use Rattle.records.specs.Sized.{Sized}
 use Rattle.records.specs.Trees.{type_at, TypeRecord}
-use Rattle.records.specs.Written.{Written}
+use Rattle.records.specs.Written.{Written, WellNamed}
 use Rattle.records.proofs.Asked.{past-header}
 use Rattle.structure.specs.Rules.{Passes, depth}
 use Rattle.structure.specs.NamerTable.{NamingsHeld}
@@ -30,6 +30,7 @@ use Rattle.verdict.specs.Scopes.{inputs}
 use Rattle.verdict.specs.Stages.{CheckingTypes}
 use Rattle.verdict.specs.CheckedTable.{PatternsFrom}
 use Rattle.verdict.specs.Verdict.{verdict}
+use Rattle.verdict.specs.declared.checked.Checked.{Checked}
 use Rattle.answers.specs.Answers.{Accepted}
 use Rattle.accepted.specs.Accepting.{Accepting}
 use Rattle.accepted.proofs.Requirements.{sized, fitted, counts, counts-below, none-held, namers-held, depths-placed, placing-begun, placing-at, ready, patterns-from, widths}
@@ -49,12 +50,28 @@ module _ {s : List ℕ} (p : Passes s) (full : length s ≡ 12 * count s) where
   pub bound-callable : (r : ℕ) → r < count s → r < 4096
   bound-callable r h = let f = few in omega arith
 
-  -- `Sheet::word`, by a sheet's value; the other functions of `records`, `structure` and `typing` that ask for no such record ask only
-  -- for bounds on numbers
+  -- `Sheet::word`, by a sheet's value; the other functions of `records`, `structure` and `typing` that ask for no such record, but those
+  -- below, ask only for bounds on numbers
   pub word-callable : (r k : ℕ) → r < count s → k < 6 → Sized s (count s) × (r < count s) × (k < 6)
   word-callable r k h l = (size, h, l)
 
-  -- structure: namings; `note_record` asks for the record, and `note` for bounds on it and on the word's number
+  -- structure: `lowest_record`, by the tests that it is given: those of the records, of the namings and of the depths
+  pub lowest-record-callable
+      : ((q : ℕ) → 1 ≤ q → q < count s → q < 4096 → (0 < q) × (q < count s)) × ((q : ℕ) → 1 ≤ q → q < count s → q < 4096 → (0 < q) × (q < 4096))
+      × ((depths nestings : List ℕ) → Placed s (count s) depths nestings → (q : ℕ) → 0 ≤ q → q < count s → q < 4096
+      → (q < count s) × (q < 4096) × Placed s (count s) depths nestings)
+  lowest-record-callable =
+      (λ q low h small. (omega arith, h), λ q low h small. (omega arith, small), λ d e z q low h small. (h, small, z))
+
+  -- structure: namings; `NamingTable::note_record`, and `NamingTable::note` with a word of the record. What `Named::entry` and
+  -- `Named::with` ask beside this is had in `EntriesFit` of `structure`.
+  pub note-record-callable : (q : ℕ) → q < count s → (q < count s) × (q < 4096)
+  note-record-callable q h = (h, bound-callable q h)
+
+  pub note-naming-callable : (q k : ℕ) → q < count s → k < 6 → (q < 4096) × (k < 6)
+  note-naming-callable q k h l = (bound-callable q h, l)
+
+  -- what a word of a record adds to a table of namings
   pub note-word-callable : (q k : ℕ) → q < count s → 0 < k → k < 6
       → (asks : List Ask) × (namers : List ℕ) × Sized s (count s) × (q < count s) × (asks ≡ asks_in (row_of (kind_word s q)))
       × (0 < k)
@@ -63,7 +80,7 @@ module _ {s : List ℕ} (p : Passes s) (full : length s ≡ 12 * count s) where
   note-word-callable q k h low high =
       (asks_in (row_of (kind_word s q)), replicate 4096 0, size, h, refl, low, high, none-held.long)
 
-  -- what `NamingTable::of` begins with
+  -- what `NamingTable::of` begins with; it asks for a sheet alone
   pub note-all-callable : (namers : List ℕ) × Sized s (count s) × NamingsHeld (λ _. []) namers
   note-all-callable = (replicate 4096 0, size, none-held)
 
@@ -106,7 +123,10 @@ module _ {s : List ℕ} (p : Passes s) (full : length s ≡ 12 * count s) where
   place-callable r low h =
       let f = few in let x = placing-at p full r low (omega arith) in (x.0, x.1, x.2, x.3, h)
 
-  -- `Placements::of` asks for a part of this
+  -- `Placements::of`, and what it begins with
+  pub placements-callable : (namers : List ℕ) × Written s × WellNamed s × NamingsHeld (namings s) namers
+  placements-callable = let n = namers-held p full in (n.0, w, well-named p, n.1)
+
   pub place-all-callable : (namers : List ℕ) × (depths : List ℕ) × (nestings : List ℕ) × Placing s (count s) 1 namers depths nestings
   place-all-callable = placing-begun p full
 
@@ -221,17 +241,20 @@ module _ {s : List ℕ} (p : Passes s) (full : length s ≡ 12 * count s) where
   pub note-types-callable : (none : List ℕ) × Sized s (count s) × Passes s × Indexed s (count s) index × PatternsTyped s (count s) none
   note-types-callable = let x = types-from s p full (count s) (omega arith) in (x.0, size, p, (pairs-indexed s p full).1, x.1)
 
-  -- `fits`
+  -- `fits` and `of`
+  pub fits-callable : (r : ℕ) → r < count s → (r < 4096) × (length types_noted ≡ 4096)
+  fits-callable r h = (bound-callable r h, tables-right.typed.long)
+
+  -- a pattern that `fits` is asked of, with the type that it is held against
   pub pattern-type-callable : (r t : ℕ) → r < count s → sort_at s r ≡ patterns → TypeRecord s t
       → Fitting s (count s) r t × PatternsTyped s 0 types_noted
   pattern-type-callable r t h e u = (record { sized = size; passes = p; there = h; sort = e; typed = u }, tables-right.typed)
 
   -- verdict
-  pub check-stages-callable : (none : List ℕ) × (count s ≡ length s / 12) × LeavesCounted s 0 none
-  unfolding count
-  check-stages-callable = let c = counts-below p full 0 (omega arith) in (c.0, refl, c.1)
+  pub check-stages-callable : (none : List ℕ) × Sized s (count s) × LeavesCounted s 0 none
+  check-stages-callable = let c = counts-below p full 0 (omega arith) in (c.0, size, c.1)
 
-  -- what the check of names begins with
+  -- what the stage of the namings begins with
   pub check-names-callable : (none : List ℕ) × Sized s (count s) × NamingsHeld (λ _. []) none
   check-names-callable = note-all-callable
 
@@ -255,11 +278,29 @@ module _ {s : List ℕ} (p : Passes s) (full : length s ≡ 12 * count s) where
   pub note-patterns-callable : (none : List ℕ) × Sized s (count s) × Passes s × PatternsFrom s (count s) none
   note-patterns-callable = let x = patterns-from p full (count s) (omega arith) in (x.0, size, p, x.1)
 
-  -- accepted
-  accepting_at : (t : ℕ) → verdict s ≡ Accepted t → Accepting s (count s) (widths p full).0
+  -- accepted: a checked sheet, which is what `check` gives
+  pub accepting_at : (t : ℕ) → verdict s ≡ Accepted t → Accepting s (count s) (widths p full).0
   accepting_at t e = record { sized = size; type = t; accepted = e; table = (widths p full).1 }
 
+  abbrev checked_at : (t : ℕ) → verdict s ≡ Accepted t → Checked
+  checked_at t e = record {
+    sheet = s;
+    widths = (widths p full).0;
+    output_type = t;
+    accepted = e;
+    counted = (widths p full).1;
+  }
+
+  pub checked-callable : (t : ℕ) → verdict s ≡ Accepted t → (c : Checked) × (c.sheet ≡ s)
+  checked-callable t e = (checked_at t e, refl)
+
   pub fill-bounds-callable : (t u : ℕ) → verdict s ≡ Accepted t → TypeRecord s u
-      → (out : List ℕ) × Accepting s (count s) (widths p full).0 × TypeRecord s u × (length out ≡ leaves (type_at s u))
+      → (c : Checked) × (out : List ℕ) × (c.sheet ≡ s) × TypeRecord c.sheet u × (length out ≡ leaves (type_at c.sheet u))
   fill-bounds-callable t u e h =
+      (checked_at t e, replicate (leaves (type_at s u)) 0, refl, h, length-replicate {A = ℕ} (leaves (type_at s u)) 0)
+
+  -- the facts that filling the counts of a type rests on
+  pub bounds-filled-callable : (t u : ℕ) → verdict s ≡ Accepted t → TypeRecord s u
+      → (out : List ℕ) × Accepting s (count s) (widths p full).0 × TypeRecord s u × (length out ≡ leaves (type_at s u))
+  bounds-filled-callable t u e h =
       (replicate (leaves (type_at s u)) 0, accepting_at t e, h, length-replicate {A = ℕ} (leaves (type_at s u)) 0)

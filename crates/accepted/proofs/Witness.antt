@@ -1,7 +1,7 @@
 -- The laws speak of some sheet: the sheet T of docs/SHEETS.md is accepted with type 1, by computation; so it passes codes 1 to 6,
 -- is well typed, and its root is an expression of an accepted circuit. What the functions of the check ask can be had at its
 -- records; `PairWitness` has a sheet for those of pairs, LETs and parts. Assumes nothing.
-use Prim.Native.Nat.{ℕ, ◌+◌, ◌*◌, ◌%◌, ◌/◌, ◌<◌}
+use Prim.Native.Nat.{ℕ, ◌+◌, ◌*◌, ◌%◌, ◌/◌, ◌≤◌, ◌<◌}
 use mathlib.Core.List.{List, [], ◌∷◌}
 use mathlib.Core.Path.{◌≡◌, refl}
 use Rattle.records.specs.Words.{word, count, word_b, kind_word}
@@ -35,13 +35,14 @@ use Rattle.structure.specs.Rules.{
   Passes,
 }
 use Rattle.verdict.specs.Verdict.{by_types, by_records, verdict}
+use Rattle.verdict.specs.declared.checked.Checked.{Checked}
 use Rattle.verdict.specs.Scopes.{inputs, root}
 use Rattle.verdict.specs.Promises.{WellTyped}
 use Rattle.answers.specs.Answers.{Accepted}
 use native.Mathlib.Omega.{arith}
 use lib.ListN.{length}
 use Rattle.records.specs.Sized.{Sized}
-use Rattle.records.specs.Written.{Written}
+use Rattle.records.specs.Written.{Written, WellNamed}
 use Rattle.picoella.specs.Language.{leaves}
 use Rattle.structure.specs.NamerTable.{NamingsHeld}
 use Rattle.structure.specs.LeafTable.{LeavesCounted}
@@ -170,6 +171,19 @@ one-leaf : 0 < leaves (type_at sheet 1)
 unfolding type_at type_within kind_of row_of word
 one-leaf = let e : leaves (type_at sheet 1) ≡ 1 = refl in omega arith
 
+lowest-record-there
+    : ((q : ℕ) → 1 ≤ q → q < count sheet → q < 4096 → (0 < q) × (q < count sheet))
+    × ((q : ℕ) → 1 ≤ q → q < count sheet → q < 4096 → (0 < q) × (q < 4096))
+    × ((depths nestings : List ℕ) → Placed sheet (count sheet) depths nestings → (q : ℕ) → 0 ≤ q → q < count sheet → q < 4096
+    → (q < count sheet) × (q < 4096) × Placed sheet (count sheet) depths nestings)
+lowest-record-there = Callable.lowest-record-callable passes.0 full
+
+note-record-there : (2 < count sheet) × (2 < 4096)
+note-record-there = Callable.note-record-callable passes.0 full 2 (below 2 (omega arith))
+
+note-naming-there : (2 < 4096) × (3 < 6)
+note-naming-there = Callable.note-naming-callable passes.0 full 2 3 (below 2 (omega arith)) (omega arith)
+
 note-word-there
     : (asks : List Ask) × (namers : List ℕ) × Sized sheet (count sheet) × (2 < count sheet)
     × (asks ≡ asks_in (row_of (kind_word sheet 2)))
@@ -191,6 +205,9 @@ first-wrong-type-there
     : (counted : List ℕ) × (none : List ℕ) × Sized sheet (count sheet) × LeavesCounted sheet (count sheet) counted
     × Indexed sheet 0 none
 first-wrong-type-there = Callable.first-wrong-type-callable passes.0 full
+
+placements-there : (namers : List ℕ) × Written sheet × WellNamed sheet × NamingsHeld (namings sheet) namers
+placements-there = Callable.placements-callable passes.0 full
 
 place-there
     : (namers : List ℕ) × (depths : List ℕ) × (nestings : List ℕ) × Placing sheet (count sheet) 3 namers depths nestings
@@ -250,10 +267,13 @@ note-types-there
     × PatternsTyped sheet (count sheet) none
 note-types-there = Callable.note-types-callable passes.0 full
 
+fits-there : (7 < 4096) × (length types ≡ 4096)
+fits-there = Callable.fits-callable passes.0 full 7 (below 7 (omega arith))
+
 pattern-type-there : Fitting sheet (count sheet) 7 1 × PatternsTyped sheet 0 types
 pattern-type-there = Callable.pattern-type-callable passes.0 full 7 1 (below 7 (omega arith)) sorts.3 type-there
 
-check-stages-there : (none : List ℕ) × (count sheet ≡ length sheet / 12) × LeavesCounted sheet 0 none
+check-stages-there : (none : List ℕ) × Sized sheet (count sheet) × LeavesCounted sheet 0 none
 check-stages-there = Callable.check-stages-callable passes.0 full
 
 check-names-there : (none : List ℕ) × Sized sheet (count sheet) × NamingsHeld (λ _. []) none
@@ -274,7 +294,14 @@ note-pattern-there
     : (above : List ℕ) × Sized sheet (count sheet) × Passes sheet × (7 < count sheet) × PatternsFrom sheet (7 + 1) above
 note-pattern-there = Callable.note-pattern-callable passes.0 full 7 (below 7 (omega arith))
 
+checked-there : (c : Checked) × (c.sheet ≡ sheet)
+checked-there = Callable.checked-callable passes.0 full 1 accepted
+
 fill-bounds-there
+    : (c : Checked) × (out : List ℕ) × (c.sheet ≡ sheet) × TypeRecord c.sheet 1 × (length out ≡ leaves (type_at c.sheet 1))
+fill-bounds-there = Callable.fill-bounds-callable passes.0 full 1 1 accepted type-there
+
+bounds-filled-there
     : (out : List ℕ) × Accepting sheet (count sheet) (widths passes.0 full).0 × TypeRecord sheet 1
     × (length out ≡ leaves (type_at sheet 1))
-fill-bounds-there = Callable.fill-bounds-callable passes.0 full 1 1 accepted type-there
+bounds-filled-there = Callable.bounds-filled-callable passes.0 full 1 1 accepted type-there

@@ -68,6 +68,18 @@ module _ {s : List ℕ} {n : ℕ} {W env : List ℕ} {names rec : ℕ} {out Γ :
       evaluating-at r.at_hand c env names (replicate (get_or W x 0) 0) r.at_hand.many r.at_hand.wide (zeros-long (get_or W x 0))
       r.values
 
+  -- the record is the end of its own
+  pub chain-here : (from : ℕ) → ChainIn s W Γ ρ rec from rec from
+  chain-here from =
+      record {
+        higher = omega arith;
+        scope = r.at_hand.scope;
+        inside = λ m h. h;
+        stands = λ m h. refl;
+        stored = λ h. refl;
+        noted = λ f. refl;
+      }
+
   abbrev cut : ℕ
   cut = leaves (type_at s (word_a s (type_record_of s Γ (tree_at s (word_a s rec)))))
 

@@ -69,6 +69,12 @@ module _ (level : ℕ) (v env : List ℕ) (h : 64 * level ≤ length env) where
       let e = length-take-le (64 * level) env h in
       omega arith
 
+pub from_zero : (k : ℕ) → 0 ≤ k
+from_zero k = omega arith
+
+pub to_the_end : (k : ℕ) → k ≤ k
+to_the_end k = omega arith
+
 -- a slice lent up to w, as it comes back with o there
 module _ {w : ℕ} (out o : List ℕ) (l : length o ≡ w) (h : w ≤ length out) where
   from_front : w - 0 ≡ w

@@ -22,6 +22,9 @@ module _ {s : List ℕ} {n : ℕ} {W env : List ℕ} {names rec : ℕ} {out Γ :
     pub right-scope : x ≡ word s rec 3 → Scope s x Γ
     right-scope ex = rw ex (tuple_second e r.scope)
 
+    pub pair-width-small : x ≡ word s rec 2 → get_or W x 0 ≤ 64
+    pair-width-small ex = entry-few r (left-scope ex)
+
   pub first-scope : kind_at s rec ≡ expression first → {x : ℕ} → x ≡ word s rec 2 → Scope s x Γ
   first-scope e ex = rw ex (of-first e r.scope)
 

@@ -241,6 +241,9 @@ module _ {s : List ℕ} {n : ℕ} {W env : List ℕ} {names d : ℕ} {value : Li
         ap₂ ◌∷◌ (rw around f₁.reached)
         (frames-kept s Γ env₁ env (λ k h. names-small r.at_hand r.at_hand.scope (suc k) (omega arith)) (rw around f₁.kept))
 
+    pub settled-value : {whole : Bool} → whole ≡ false → SettledIn whole s t Γ env names d held fired env₁ held₁ fired₁
+    settled-value w = rw w f₁
+
     pub settled-ready : (o : List ℕ) → length o ≡ length value → EvaluatingIn s n W env₁ (names + 1) d o (t ∷ Γ)
     settled-ready o l =
         evaluating-at r.at_hand r.at_hand.scope env₁ (names + 1) o r.at_hand.many f₁.wide (l ∙ r.at_hand.room)

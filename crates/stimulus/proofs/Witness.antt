@@ -1,6 +1,6 @@
 -- What the checks of a stimulus are called with is not contradictory, and the checks of one cycle tell: a sheet whose root is its
--- input, a pair of bits, is accepted, and there is a table for it. Of its stimuli 1 2 is one cycle, 1 2 2 1 two, and 1 3 has a byte
--- above its leaf's count. By computation.
+-- input, a pair of bits, is accepted, and there is a checked sheet of it. Of its stimuli 1 2 is one cycle, 1 2 2 1 two, and 1 3 has a
+-- byte above its leaf's count. By computation.
 -- Assumes nothing.
 use Prim.Native.Nat.{ℕ, ◌*◌}
 use mathlib.Core.List.{List, [], ◌∷◌}
@@ -38,6 +38,7 @@ use Rattle.structure.specs.Rules.{
   Passes,
 }
 use Rattle.verdict.specs.Verdict.{by_types, by_records, verdict}
+use Rattle.verdict.specs.declared.checked.Checked.{Checked}
 use Rattle.answers.specs.Answers.{Accepted}
 use Rattle.answers.specs.Answers.{first_applying}
 use Rattle.answers.specs.Answers.{Answer}
@@ -79,6 +80,19 @@ paired-accepting =
       },
     )
 
+-- what `check_stimulus` and `check_one_cycle` ask
+abbrev checked : Checked
+checked = record {
+  sheet = paired;
+  widths = paired-accepting.0;
+  output_type = 2;
+  accepted = paired-accepted;
+  counted = paired-accepting.1.table;
+}
+
+paired-checked : (c : Checked) × (c.sheet ≡ paired)
+paired-checked = (checked, refl)
+
 abbrev answered : List ℕ → Answer
 answered stim = first_applying (one_cycle_checks paired stim) (Done 1)
 
@@ -96,8 +110,13 @@ one-of-type : OfType (input_type paired) (1 ∷ 2 ∷ [])
 unfolding not_one_cycle wrong_stimulus wrong_byte type_at type_within kind_of row_of word
 one-of-type = one-cycle-typed paired (1 ∷ 2 ∷ []) (refl, (refl, tt))
 
-above-asked : (widths : List ℕ) × Accepting paired (count paired) widths × TypeRecord paired 2 × (2 ≡ leaves (type_at paired 2))
+-- what `first_above` asks, and the facts that it rests on
+above-asked : (c : Checked) × (c.sheet ≡ paired) × TypeRecord c.sheet 2 × (2 ≡ leaves (type_at c.sheet 2))
 unfolding type_at type_within kind_of row_of word count
-above-asked =
+above-asked = (checked, refl, record { past = omega arith; there = omega arith; sort = refl }, refl)
+
+above-accepting : (widths : List ℕ) × Accepting paired (count paired) widths × TypeRecord paired 2 × (2 ≡ leaves (type_at paired 2))
+unfolding type_at type_within kind_of row_of word count
+above-accepting =
     let a = paired-accepting in
     (a.0, a.1, record { past = omega arith; there = omega arith; sort = refl }, refl)

@@ -2,12 +2,16 @@
 -- Assumes nothing.
 use Prim.Native.Nat.{ℕ, zero, suc, ◌≤◌, ◌<◌}
 use mathlib.Core.List.{List, [], ◌∷◌}
-use mathlib.Core.Path.{◌≡◌, refl, sym, ap}
+use mathlib.Core.Path.{◌≡◌, refl, sym, ap, ◌∙◌}
 use mathlib.Core.Logic.{◌≢◌}
 use native.Mathlib.Omega.{arith}
 use borrow.Author.Tests.{eq-eqb, ne_eqb}
 use lib.ListN.{length, get_or}
 use Rattle.meaning.specs.Undecided.{leaf_if, agreed_leaf, agreed_leaves, undecided_rule}
+use Rattle.meaning.specs.Evaluation.{choose}
+use Rattle.values.specs.MatchAnswers.{decision_of, told}
+use Rattle.values.specs.declared.Match.{Match}
+use Rattle.values.specs.declared.Match.TheVariants as Matches
 use Rattle.values.proofs.LeafByLeaf.{JoinedTo, all-joined}
 
 pub leaf-agreed : (v w : ℕ) → v ≡ w → v ≡ agreed_leaf v w
@@ -47,3 +51,8 @@ pub all-agreed : (otherwise out₀ : List ℕ) (i : ℕ) (out : List ℕ) → le
 unfolding undecided_rule
 all-agreed otherwise out₀ i out k h c =
     all-joined agreed_leaf otherwise out₀ (agreed_leaves out₀ otherwise) (agreed-length out₀ otherwise) (agreed-at out₀ otherwise k) i out h c
+
+-- the value of an IF that is undecided
+pub undecided-chosen : (a : Match) (otherwise out out' : List ℕ) → a ≡ Matches.Undecided → out' ≡ undecided_rule out otherwise
+    → (out' ≡ choose undecided_rule (decision_of a) out otherwise) × (0 ≡ told a)
+undecided-chosen a otherwise out out' e g = (g ∙ rw e refl, rw e refl)

@@ -45,6 +45,12 @@ few-told Yes r q h k = h
 few-told No r q h k = k
 few-told Undecided r q h k = k
 
+-- and 0 where it says no yes
+pub told-alone : (a : Match) → or_after (decision_of a) (told a) 0 ≡ told a
+told-alone (Matched'.Yes r) = refl
+told-alone Matched'.No = refl
+told-alone Matched'.Undecided = refl
+
 -- after a yes the rest changes nothing
 pub yes-stays : (says : Pattern → Decision) (s : List ℕ) (m : Alternatives) → with_rest says Yes s m ≡ Yes
 yes-stays says s end = refl

@@ -9,12 +9,14 @@ use Rattle.records.specs.Trees.{end, alternatives, follow}
 use Rattle.records.specs.Decoding.{pattern_of}
 use Rattle.meaning.specs.Matching.{matches}
 use Rattle.meaning.specs.Decisions.{No, chain_decision}
-use Rattle.values.specs.Matchings.{Matching, with_rest, MatchedOne}
+use Rattle.values.specs.Matchings.{Matching, with_rest, MatchedAll, MatchedOne, Chosen}
+use Rattle.meaning.specs.Evaluation.{choose}
+use Rattle.meaning.specs.Undecided.{undecided_rule}
 use Rattle.behaviour.specs.Firing.{or_after, first_yes}
 use Rattle.values.specs.MatchAnswers.{decision_of, told}
 use Rattle.values.specs.declared.Match.{Match}
 use Rattle.values.specs.declared.Match.TheVariants as Matched'
-use Rattle.values.proofs.ChainLaws.{first-told, few-told, yes-stays}
+use Rattle.values.proofs.ChainLaws.{first-told, few-told, told-alone, yes-stays}
 use Rattle.values.proofs.Matches.{past, rest_is, taken_in}
 
 -- the whole chain from p is what was matched so far, with what is left from x
@@ -50,6 +52,14 @@ module _ {s : List ℕ} {p : ℕ} {v : List ℕ} where
       record { decides = h.decides ∙ rw e (yes-stays (λ q. matches q v) s (follow end (alternatives s) y)); tells = h.tells; few = h.few }
   up-to-yes Matched'.No h e = rw e h
   up-to-yes Matched'.Undecided h e = rw e h
+
+  pub ended : (a : Match) {x : ℕ} → Gathered s p v a x → x ≡ 0 → MatchedAll s p v a
+  ended a h e = record { decides = sym (rw e at h.decides); tells = sym (rw e at h.tells ∙ told-alone a); few = h.few }
+
+  -- the value of an IF, by the answer of its match
+  pub by-match : (a : Match) {otherwise out out' : List ℕ} {k : ℕ} → MatchedAll s p v a
+      → (out' ≡ choose undecided_rule (decision_of a) out otherwise) × (k ≡ told a) → Chosen s p v otherwise out out' k
+  by-match a e g = record { chosen = rw (← e.decides) g.0; tells = g.1 ∙ e.tells; few = rw g.1 e.few }
 
 -- what is left of the records, and nothing at the end of a chain
 abbrev pub left : ℕ → ℕ → ℕ

@@ -2,7 +2,9 @@
 pub mod LastKinds
 pub mod Leaves
 pub mod LeafByLeaf
+pub mod Standing
 pub mod Agreement
 pub mod ChainLaws
 pub mod Matches
 pub mod Gathering
+pub mod OneAnswer

@@ -127,7 +127,13 @@ pub fn stands_at(env: &[u8], level: usize, value: &[u8]) -> bool
     requires { (most_leaves * level + length value.now ≤ length env.now) × (length env.now ≤ environment_bytes) }
     ensures { ValuesCompared value.now (slot level (length value.now) env.now) result }
 {
-    look_up(env, level, value.len()) == value
+    let slot = look_up(env, level, value.len());
+    for i in 0..value.len() {
+        if slot[i] != value[i] {
+            return false;
+        }
+    }
+    true
 }
 
 // Copies the value of the name at this level.

@@ -60,8 +60,10 @@ fn check_rules(sheet: &Sheet, index: &PairIndex, widths: &mut WidthTable) -> Ver
     ensures { RulesChecked sheet.now (by_types sheet.now) (verdict_of result) widths.old widths.new }
 {
     let scope = Scope::of_input(sheet.word(0, WORD_A));
-    let output_type = judge_root(sheet, index, &scope, sheet.word(0, WORD_B), widths)?;
-    Ok(output_type)
+    match judge_root(sheet, index, &scope, sheet.word(0, WORD_B), widths) {
+        Ok(output_type) => Ok(output_type),
+        Err(broken) => Err(Fault::IllTyped(broken.record)),
+    }
 }
 
 // The stages of the check after the length, in order: header, records, namings, types, depths, type
@@ -123,7 +125,10 @@ fn sheet_of(bytes: &[u8]) -> Result<Sheet<'_>, Fault>
     ensures ok { IfOk result (λ sheet. (sheet ≡ bytes.now) × Sized bytes.now (count bytes.now)) }
     ensures err { IfErr result (λ fault. (fault ≡ WrongLength) × (wrong_length bytes.now ≡ true)) }
 {
-    Sheet::new(bytes).ok_or(Fault::WrongLength)
+    match Sheet::new(bytes) {
+        Some(sheet) => Ok(sheet),
+        None => Err(Fault::WrongLength),
+    }
 }
 
 // The check of bytes of the right length, with the leaf counts of the types of expressions, patterns
