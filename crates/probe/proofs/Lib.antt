@@ -3,3 +3,4 @@ pub mod Inputs
 pub mod Settled
 pub mod Rooms
 pub mod Shown
+pub mod Witness

@@ -7,11 +7,12 @@ use mathlib.Core.List.{List}
 use mathlib.Core.Option.{none}
 use mathlib.Core.Path.{◌≡◌, refl, sym, ap, subst, ◌∙◌}
 use native.Mathlib.Omega.{arith}
+use native.Mathlib.Nat.{mul-le-mul_left}
 use lib.ListN.{length, get_or}
 use Rattle.picoella.specs.Language.{leaves}
 use Rattle.records.specs.Words.{word}
 use Rattle.records.specs.Trees.{type_at}
-use Rattle.answers.specs.Answers.{first_applying, SaysOf, lowest}
+use Rattle.answers.specs.Answers.{place, first_applying, SaysOf, lowest}
 use Rattle.answers.specs.Answers.{Answer}
 use Rattle.answers.specs.Answers.{Done}
 use Rattle.answers.proofs.First.{when-none, first_says}
@@ -53,6 +54,13 @@ module _ {s : List ℕ} {n : ℕ} {W : List ℕ} {t : ℕ} (g : Accepting s n W)
 
     pub stimulus-done : first_applying (stimulus_checks s stim) (Done (cycle_count s stim)) ≡ Done (cycle_count s stim)
     stimulus-done = sym h.answered ∙ e ∙ ap Done cycles-done
+
+    pub count-few : count ≤ 65535
+    count-few = let f = h.small in let z = ap place e in omega arith
+
+    pub needed-few : count * get_or W t 0 ≤ 4194240
+    needed-few =
+        let m : count * get_or W t 0 ≤ count * 64 = mul-le-mul_left count output-few in let l = count-few in omega arith
 
     pub needed : count * get_or W t 0 ≡ output_needed s t stim
     needed = rw (cycles-done, output-width) refl
