@@ -62,6 +62,11 @@ pub fn tell(sheet: &[u8], stim: &[u8], out: &mut [u8], next: &mut [u8]) -> Resul
     requires { (most_output ≤ length out.old) × (length sheet.now ≤ length next.old) }
     ensures { RunTold sheet.now stim.now (told_code result) (told_place result) (told_type result) (told_width result) (told_length result) out.new next.new }
 {
-    let checked = check(sheet)?;
-    tell_accepted(&checked, stim, out, next)
+    match check(sheet) {
+        Ok(checked) => tell_accepted(&checked, stim, out, next),
+        Err(fault) => {
+            let refusal = Refusal::from(fault);
+            Err(refusal)
+        }
+    }
 }
