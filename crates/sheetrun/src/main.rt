@@ -4,13 +4,11 @@
 
 ghost use Rattle.std.specs.Prelude.{◌≤◌, ◌≡◌, ◌++◌, length, take};
 ghost use Rattle.listing.specs.Lines.{listing, refused_line};
-ghost use Rattle.answers.specs.Results.{code_number};
 ghost use Rattle.printing.specs.Pieces.{text_from};
 ghost use Rattle.printing.specs.PutLines.{text_after};
 ghost use Rattle.run_listing.specs.Printout.{printed, run_sheet};
 ghost use Rattle.rooms.specs.Rooms.{sheet_room};
 
-use answers::Refusal;
 use listing::Outputs;
 use printing::{first_piece, next_piece, put_refusal};
 use program_io::{read_inputs, replace};
@@ -78,11 +76,11 @@ fn write_line(out: &impl Print, sheet: &[u8], stim: &[u8], line: &[u8])
 }
 
 // Prints the line of a refused run.
-fn print_refusal(out: &impl Print, sheet: &[u8], stim: &[u8], refusal: Refusal)
-    requires { refused_line (code_number refusal.code) refusal.place ≡ printed sheet.now stim.now }
+fn print_refusal(out: &impl Print, sheet: &[u8], stim: &[u8], code: u64, place: u64)
+    requires { refused_line code place ≡ printed sheet.now stim.now }
 {
     let mut buffer = text_room();
-    let end = put_refusal(&mut buffer, refusal.code.number(), u64::from(refusal.place));
+    let end = put_refusal(&mut buffer, code, place);
     write_line(out, sheet, stim, &buffer[..end]);
 }
 
@@ -101,7 +99,10 @@ fn run_files(rt: &(impl Files<File = File> + Print), sheet: &[u8], stim: &[u8])
             };
             print_listing(rt, sheet, stim, listed.output_type, outputs);
         }
-        Err(refusal) => print_refusal(rt, sheet, stim, refusal),
+        Err(refusal) => {
+            let place = u64::from(refusal.place);
+            print_refusal(rt, sheet, stim, refusal.code.number(), place);
+        }
     }
 }
 

@@ -6,4 +6,4 @@ pub print_listing-requires : goal.print_listing-requires
 print_listing-requires g c = told-printed c.in-Ok.ensures
 
 pub print_refusal-requires : goal.print_refusal-requires
-print_refusal-requires g c = refused-printed _ c.in-Err.ensures
+print_refusal-requires g c = rw (c.number.ensures, c.from-place.ensures) (refused-printed _ c.in-Err.ensures)
