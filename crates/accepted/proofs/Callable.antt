@@ -27,7 +27,7 @@ use Rattle.typing.specs.Judging.{Ground, Judging, Closing, Fitting, PartAt, at_f
 use Rattle.typing.specs.LeafChains.{LeafOrEnd}
 use Rattle.typing.specs.PatternTable.{PatternsTyped, TypingPattern, TypeTables}
 use Rattle.verdict.specs.Scopes.{inputs}
-use Rattle.verdict.specs.Stages.{CheckingTypes}
+use Rattle.verdict.specs.Stages.{CheckingNamings, CheckingTypes}
 use Rattle.verdict.specs.CheckedTable.{PatternsFrom}
 use Rattle.verdict.specs.Verdict.{verdict}
 use Rattle.verdict.specs.declared.checked.Checked.{Checked}
@@ -80,7 +80,7 @@ module _ {s : List ℕ} (p : Passes s) (full : length s ≡ 12 * count s) where
   note-word-callable q k h low high =
       (asks_in (row_of (kind_word s q)), replicate 4096 0, size, h, refl, low, high, none-held.long)
 
-  -- what `NamingTable::of` begins with; it asks for a sheet alone
+  -- `NamingTable::note_all`
   pub note-all-callable : (namers : List ℕ) × Sized s (count s) × NamingsHeld (λ _. []) namers
   note-all-callable = (replicate 4096 0, size, none-held)
 
@@ -123,12 +123,15 @@ module _ {s : List ℕ} (p : Passes s) (full : length s ≡ 12 * count s) where
   place-callable r low h =
       let f = few in let x = placing-at p full r low (omega arith) in (x.0, x.1, x.2, x.3, h)
 
-  -- `Placements::of`, and what it begins with
+  -- `Placements::of`, and `place_all`
   pub placements-callable : (namers : List ℕ) × Written s × WellNamed s × NamingsHeld (namings s) namers
   placements-callable = let n = namers-held p full in (n.0, w, well-named p, n.1)
 
-  pub place-all-callable : (namers : List ℕ) × (depths : List ℕ) × (nestings : List ℕ) × Placing s (count s) 1 namers depths nestings
-  place-all-callable = placing-begun p full
+  pub place-all-callable : (namers : List ℕ) × (depths : List ℕ) × (nestings : List ℕ)
+      × Written s × WellNamed s × NamingsHeld (namings s) namers × Placed s 1 depths nestings
+  place-all-callable =
+      let x = placing-begun p full in
+      (x.0, x.1, x.2, x.3.written, x.3.well, x.3.named, x.3.placed)
 
   pub too-deep-callable : (r : ℕ) → r < count s
       → (depths : List ℕ) × (nestings : List ℕ) × Sized s (count s) × (r < count s) × Placed s (count s) depths nestings
@@ -250,11 +253,14 @@ module _ {s : List ℕ} (p : Passes s) (full : length s ≡ 12 * count s) where
       → Fitting s (count s) r t × PatternsTyped s 0 types_noted
   pattern-type-callable r t h e u = (record { sized = size; passes = p; there = h; sort = e; typed = u }, tables-right.typed)
 
-  -- verdict
+  -- verdict: `check_stages` and `check_filling`
   pub check-stages-callable : (none : List ℕ) × Sized s (count s) × LeavesCounted s 0 none
   check-stages-callable = let c = counts-below p full 0 (omega arith) in (c.0, size, c.1)
 
-  -- what the stage of the namings begins with
+  -- `check_namings`, and what its table begins with
+  pub check-namings-callable : CheckingNamings s (count s)
+  check-namings-callable = (fitted p full).named.recorded
+
   pub check-names-callable : (none : List ℕ) × Sized s (count s) × NamingsHeld (λ _. []) none
   check-names-callable = note-all-callable
 

@@ -1,5 +1,5 @@
 // How deep each expression lies, and in how many feedbacks' defining parts: code 6.
-ghost use Rattle.std.specs.Prelude.{◌≡◌, cond, ◌+◌, min, ◌≤◌, ◌<◌};
+ghost use Rattle.std.specs.Prelude.{◌≡◌, ℕ, List, cond, ◌+◌, min, ◌≤◌, ◌<◌};
 ghost use Rattle.records.specs.Words.{count};
 ghost use Rattle.records.specs.Limits.{most_records};
 ghost use Rattle.records.specs.Says.{namings};
@@ -38,17 +38,33 @@ pub struct Placements {
 }
 
 impl Placements {
+    // Only the header is placed.
+    pub fn new() -> Placements
+        ensures { (s : List ℕ) → Placed s 1 result.depths result.nestings }
+    {
+        Placements {
+            depths: [0; RECORDS],
+            nestings: [0; RECORDS],
+        }
+    }
+
+    // Places all records after the header. The tables are filled in their place, as a `NamingTable` is.
+    pub fn place_all(&mut self, sheet: &Sheet, table: &NamingTable)
+        requires { Written sheet.now × WellNamed sheet.now × NamingsHeld (namings sheet.now) table.now × Placed sheet.now 1 self.old.depths self.old.nestings }
+        ensures { Placed sheet.now (count sheet.now) self.new.depths self.new.nestings }
+    {
+        for rec in 1..sheet.records() {
+            self.place(sheet, rec, table);
+        }
+    }
+
+    // Where all records of a sheet lie.
     pub fn of(sheet: &Sheet, table: &NamingTable) -> Placements
         requires { Written sheet.now × WellNamed sheet.now × NamingsHeld (namings sheet.now) table.now }
         ensures { Placed sheet.now (count sheet.now) result.depths result.nestings }
     {
-        let mut placed = Placements {
-            depths: [0; RECORDS],
-            nestings: [0; RECORDS],
-        };
-        for rec in 1..sheet.records() {
-            placed.place(sheet, rec, table);
-        }
+        let mut placed = Placements::new();
+        placed.place_all(sheet, table);
         placed
     }
 

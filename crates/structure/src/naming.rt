@@ -94,16 +94,32 @@ impl Model for NamingTable {
 }
 
 impl NamingTable {
+    // Nothing is named.
+    pub fn new() -> NamingTable
+        ensures { NamingsHeld (λ _. []) result }
+    {
+        NamingTable {
+            entries: [0; RECORDS],
+        }
+    }
+
+    // Fills an empty table with what the records of a sheet name. It is filled in its place: one that
+    // is handed back filled stands on the stack twice.
+    pub fn note_all(&mut self, sheet: &Sheet)
+        requires { NamingsHeld (λ _. []) self.old }
+        ensures { NamingsHeld (namings sheet.now) self.new }
+    {
+        for q in 0..sheet.records() {
+            self.note_record(sheet, q);
+        }
+    }
+
     // What the records of a sheet name.
     pub fn of(sheet: &Sheet) -> NamingTable
         ensures { NamingsHeld (namings sheet.now) result }
     {
-        let mut table = NamingTable {
-            entries: [0; RECORDS],
-        };
-        for q in 0..sheet.records() {
-            table.note_record(sheet, q);
-        }
+        let mut table = NamingTable::new();
+        table.note_all(sheet);
         table
     }
 

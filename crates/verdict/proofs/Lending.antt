@@ -73,6 +73,12 @@ pub length-checked : (s : List ℕ) {f : Fault} (r : Result CheckedSheet Fault) 
 length-checked s (Ok x) p h = absurd p
 length-checked s (Err e) p h = rw p (length-verdict s h)
 
+-- a stage's fault, handed on
+pub stages-refused : {s after : List ℕ} {n : ℕ} (f : Fault) (r : Result ℕ Fault) → IsErrAnd r (λ e. e ≡ f)
+    → StagesChecked s n (verdict_of (Err f)) after → StagesChecked s n (verdict_of r) after
+stages-refused f (Ok x) p h = absurd p
+stages-refused f (Err e) p h = rw p h
+
 module _ {s : List ℕ} {t : ℕ} {after : List ℕ} (c : StagesChecked s (count s) (Accepted t) after) where
   pub passes-accepted : Passes s
   passes-accepted = ((exact s t).0 (sym c.answered)).0

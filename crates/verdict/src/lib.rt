@@ -1,7 +1,7 @@
 // The check: whether a sheet is accepted, and with which type, or the number and the place of its first fault.
 #![tactic(auto)]
 
-ghost use Rattle.std.specs.Prelude.{◌≡◌, ◌+◌, ◌<◌, length, IfOk, IfErr, true};
+ghost use Rattle.std.specs.Prelude.{◌≡◌, ℕ, List, ◌+◌, ◌<◌, length, IfOk, IfErr, true};
 ghost use Rattle.records.specs.Sized.{Sized};
 ghost use Rattle.records.specs.Words.{count};
 ghost use Rattle.records.specs.Says.{namings};
@@ -12,7 +12,7 @@ ghost use Rattle.structure.specs.LeafTable.{LeavesCounted};
 ghost use Rattle.structure.specs.PairIndex.{Indexed};
 ghost use Rattle.typing.specs.Judging.{Ground};
 ghost use Rattle.verdict.specs.Verdict.{verdict, by_types};
-ghost use Rattle.verdict.specs.Stages.{TypesChecked, RulesChecked, StagesChecked, CheckingTypes};
+ghost use Rattle.verdict.specs.Stages.{TypesChecked, RulesChecked, StagesChecked, CheckingNamings, CheckingTypes};
 ghost use Rattle.answers.specs.Answers.{packed, verdict_answer, lowest};
 ghost use Rattle.answers.specs.Searches.{found};
 ghost use Rattle.verdict.specs.Widths.{Widths};
@@ -24,7 +24,7 @@ ghost use Rattle.answers.specs.declared.Fault.TheVariants.{WrongLength};
 ghost use Rattle.records.specs.Limits.{most_records};
 
 use answers::{Answer, Fault, Verdict, packed};
-use records::{Kind, Sheet, WORD_A, WORD_B, WidthTable, no_widths};
+use records::{Kind, Sheet, WORD_A, WORD_B, WidthTable};
 use structure::{
     NamingTable, PairIndex, Placements, capped_sum, count_types, first_wrong_record,
     first_wrong_type, no_leaves, wrong_header,
@@ -45,12 +45,32 @@ fn check_types(sheet: &Sheet, widths: &mut WidthTable, index: &mut PairIndex) ->
     first_wrong_type(sheet, widths, index)
 }
 
-// The lowest expression that lies too deep: code 6.
+// The lowest expression that lies too deep: code 6. It is not inlined, so that its tables are gone
+// before the type rules are judged.
+#[inline(never)]
 fn check_depths(sheet: &Sheet, table: &NamingTable) -> Option<usize>
     requires { CheckingTypes sheet.now (count sheet.now) × NamingsHeld (namings sheet.now) table.now }
     ensures { found result ≡ lowest (too_deep sheet.now) (count sheet.now) }
 {
-    Placements::of(sheet, table).first_too_deep(sheet)
+    let mut placed = Placements::new();
+    placed.place_all(sheet, table);
+    placed.first_too_deep(sheet)
+}
+
+// The first record that is not well named, as a fault: code 4. Where there is none, the lowest
+// expression that lies too deep, for code 6. It is looked for here, before code 5, so that the table
+// of namings is gone when types are judged.
+fn check_namings(sheet: &Sheet) -> Result<Option<usize>, Fault>
+    requires { CheckingNamings sheet.now (count sheet.now) }
+    ensures named { IfOk result (λ deep. CheckingTypes sheet.now (count sheet.now) × (found deep ≡ lowest (too_deep sheet.now) (count sheet.now))) }
+    ensures misnamed { IfErr result (λ fault. (widths : List ℕ) → StagesChecked sheet.now (count sheet.now) (verdict_of (Err fault)) widths) }
+{
+    let mut table = NamingTable::new();
+    table.note_all(sheet);
+    match table.first_wrong(sheet) {
+        Some(rec) => Err(Fault::WrongNaming(rec as u32)),
+        None => Ok(check_depths(sheet, &table)),
+    }
 }
 
 // The verdict by the type rules, the last stage: code 7 or 0. The table, which has the leaf counts
@@ -67,7 +87,7 @@ fn check_rules(sheet: &Sheet, index: &PairIndex, widths: &mut WidthTable) -> Ver
 }
 
 // The stages of the check after the length, in order: header, records, namings, types, depths, type
-// rules. The first that finds a fault gives the verdict. An empty table gets the leaf counts of
+// rules. The first that finds a fault gives the verdict; what lies too deep is told with the namings. An empty table gets the leaf counts of
 // types, and where the sheet is accepted those of expressions.
 fn check_stages(sheet: &Sheet, widths: &mut WidthTable) -> Verdict
     requires { Sized sheet.now (count sheet.now) × LeavesCounted sheet.now 0 widths.old }
@@ -79,15 +99,12 @@ fn check_stages(sheet: &Sheet, widths: &mut WidthTable) -> Verdict
     if let Some(rec) = first_wrong_record(sheet) {
         return Err(Fault::WrongRecord(rec as u32));
     }
-    let table = NamingTable::of(sheet);
-    if let Some(rec) = table.first_wrong(sheet) {
-        return Err(Fault::WrongNaming(rec as u32));
-    }
+    let deep = check_namings(sheet)?;
     let mut index = PairIndex::new();
     if let Some(rec) = check_types(sheet, widths, &mut index) {
         return Err(Fault::WrongType(rec as u32));
     }
-    if let Some(rec) = check_depths(sheet, &table) {
+    if let Some(rec) = deep {
         return Err(Fault::TooDeep(rec as u32));
     }
     check_rules(sheet, &index, widths)
@@ -131,15 +148,25 @@ fn sheet_of(bytes: &[u8]) -> Result<Sheet<'_>, Fault>
     }
 }
 
-// The check of bytes of the right length, with the leaf counts of the types of expressions, patterns
-// and types for an accepted sheet.
+// The check of bytes of the right length. An empty table gets the leaf counts of the types of
+// expressions, patterns and types where the sheet is accepted.
+fn check_filling(sheet: &Sheet, widths: &mut WidthTable) -> Verdict
+    requires { Sized sheet.now (count sheet.now) × LeavesCounted sheet.now 0 widths.old }
+    ensures judged { verdict_of result ≡ verdict sheet.now }
+    ensures filled { IfOk result (λ output_type. Widths sheet.now widths.new) }
+{
+    let output_type = check_stages(sheet, widths)?;
+    note_patterns(sheet, widths);
+    Ok(output_type)
+}
+
+// The same check into a lent table, which a refusal leaves as it was.
 fn check_whole(sheet: &Sheet, table: &mut WidthTable) -> Verdict
     requires { Sized sheet.now (count sheet.now) }
     ensures { CheckedInto sheet.now (verdict_of result) table.old table.new }
 {
     let mut widths = no_leaves();
-    let output_type = check_stages(sheet, &mut widths)?;
-    note_patterns(sheet, &mut widths);
+    let output_type = check_filling(sheet, &mut widths)?;
     *table = widths;
     Ok(output_type)
 }
@@ -152,14 +179,17 @@ pub fn check_into(bytes: &[u8], table: &mut WidthTable) -> Verdict
     check_whole(&sheet, table)
 }
 
-// The check of a sheet: the accepted sheet with what was found of it, or its first fault.
+// The check of a sheet: the accepted sheet with what was found of it, or its first fault. It is
+// inlined, since a result of this size that is handed back is cleared before the call, and copied
+// whole after it, on a refusal too.
+#[inline(always)]
 pub fn check(bytes: &[u8]) -> Result<Checked<'_>, Fault>
     ensures verdict { checked_verdict result ≡ verdict bytes.now }
     ensures same { IfOk result (λ checked. checked.sheet ≡ bytes.now) }
 {
     let sheet = sheet_of(bytes)?;
-    let mut widths = no_widths();
-    let output_type = check_whole(&sheet, &mut widths)?;
+    let mut widths = no_leaves();
+    let output_type = check_filling(&sheet, &mut widths)?;
     Ok(Checked {
         sheet,
         widths,

@@ -1,40 +1,5 @@
 -- At first only the header is placed. Assumes nothing.
-use native.Mathlib.Omega.{arith}
-use Prim.Native.Nat.{ℕ}
-use mathlib.Core.Path.{◌≡◌, subst}
-use Rattle.records.specs.Words.{count}
-use Rattle.records.specs.Sized.{Sized}
-use Rattle.structure.specs.DepthTable.{Placed}
-use Rattle.structure.specs.Rules.{depth, nesting}
-use Rattle.structure.proofs.DepthCounts.{capped-none, depth-of-header, nesting-of-header}
 use Rattle.structure.proofs.depth.Placements.of.Goals as goal
 
-pub loop-rec-init : goal.loop-rec-init
-loop-rec-init c = record {
-  deep = capped-none 65 (depth c.args.sheet.now) (depth-of-header c.args.sheet.now);
-  nested = capped-none 4 (nesting c.args.sheet.now) (nesting-of-header c.args.sheet.now);
-}
-
-pub place-requires : goal.place-requires
-place-requires c =
-    let s = c.args.sheet.now in
-    let n = c.records-rec-end.ensures.counted in (
-      record {
-        sized = subst (λ (m : ℕ). Sized s m) n c.records-rec-end.ensures.sized;
-        written = c.requires.0;
-        well = c.requires.1;
-        named = c.requires.2;
-        some = c.loop-rec.auto.rec;
-        placed = c.loop-rec.invariant;
-      },
-      omega arith,
-    )
-
-pub returns : goal.returns
-returns c =
-    let s = c.args.sheet.now in
-    let n = c.records-rec-end.ensures.counted in
-    let some = c.records-rec-end.ensures.sized.some in
-    let high = c.loop-rec.auto.rec-end (omega arith) in
-    let e : c.loop-rec.rec ≡ count s = omega arith in
-    subst (λ (m : ℕ). Placed s m c.loop-rec.placed.depths c.loop-rec.placed.nestings) e c.loop-rec.invariant
+pub place_all-requires : goal.place_all-requires
+place_all-requires c = (c.requires.0, c.requires.1, c.requires.2, c.new-placed.ensures _)

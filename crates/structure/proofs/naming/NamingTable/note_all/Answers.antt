@@ -1,13 +1,12 @@
--- At first the table holds no naming. Assumes nothing.
-use Prim.Native.Nat.{ℕ, ◌+◌}
+-- Each record adds what its words name. Assumes nothing.
+use Prim.Native.Nat.{◌+◌}
 use native.Mathlib.Omega.{arith}
-use lib.ListN.{length-replicate, get_or-replicate}
 use Rattle.records.specs.Says.{namings_below, namings_in}
 use Rattle.structure.proofs.Namers.{adds-to, words-below, one-record-more, all-records}
-use Rattle.structure.proofs.naming.NamingTable.of.Goals as goal
+use Rattle.structure.proofs.naming.NamingTable.note_all.Goals as goal
 
 pub loop-q-init : goal.loop-q-init
-loop-q-init c = record { long = length-replicate {A = ℕ} 4096 0; entries = λ r h. get_or-replicate {A = ℕ} 4096 r 0 0 h }
+loop-q-init c = c.requires
 
 pub loop-q-preserved : goal.loop-q-preserved
 loop-q-preserved c =
