@@ -137,13 +137,13 @@ prints() { # TEXT [COMMAND..]
 }
 
 # The stack that docs/SHEETS.md says is enough, with no more of an environment than it allows for;
-# and what it says that the program needs on T and 1 2 1, in KiB, and 40 KiB, since where a stack
-# begins is not the same in all runs.
+# and what it says that the program needs on T and 1 2 1, in KiB, and 10 KiB, since where a stack
+# begins differs by up to 8 KiB from run to run.
 stated_stack() { # TEXT NEED
     begin 'the stated stack'
     prints "$1" env -i bash -c 'ulimit -S -s 4608; exec "$0"'
     begin 'the stack that T needs'
-    prints "$1" env -i bash -c "ulimit -S -s $(($2 + 40)); exec \"\$0\""
+    prints "$1" env -i bash -c "ulimit -S -s $(($2 + 10)); exec \"\$0\""
 }
 
 # Runs the program into a pipe that nobody reads. It ends by that signal, unless it was started with

@@ -48,7 +48,7 @@ impl Placements {
         }
     }
 
-    // Places all records after the header. The tables are filled in their place, as a `NamingTable` is.
+    // Places all records after the header. The tables are filled in place, as a `NamingTable` is.
     pub fn place_all(&mut self, sheet: &Sheet, table: &NamingTable)
         requires { Written sheet.now × WellNamed sheet.now × NamingsHeld (namings sheet.now) table.now × Placed sheet.now 1 self.old.depths self.old.nestings }
         ensures { Placed sheet.now (count sheet.now) self.new.depths self.new.nestings }

@@ -103,7 +103,7 @@ impl NamingTable {
         }
     }
 
-    // Fills an empty table with what the records of a sheet name. It is filled in its place: one that
+    // Fills an empty table with what the records of a sheet name. It is filled in place: one that
     // is handed back filled stands on the stack twice.
     pub fn note_all(&mut self, sheet: &Sheet)
         requires { NamingsHeld (λ _. []) self.old }

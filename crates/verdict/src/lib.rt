@@ -87,7 +87,7 @@ fn check_rules(sheet: &Sheet, index: &PairIndex, widths: &mut WidthTable) -> Ver
 }
 
 // The stages of the check after the length, in order: header, records, namings, types, depths, type
-// rules. The first that finds a fault gives the verdict; what lies too deep is told with the namings. An empty table gets the leaf counts of
+// rules. The first that finds a fault gives the verdict. An empty table gets the leaf counts of
 // types, and where the sheet is accepted those of expressions.
 fn check_stages(sheet: &Sheet, widths: &mut WidthTable) -> Verdict
     requires { Sized sheet.now (count sheet.now) × LeavesCounted sheet.now 0 widths.old }
