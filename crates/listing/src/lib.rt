@@ -48,6 +48,14 @@ impl<'a> Text<'a> {
         self.buffer.len() - self.len
     }
 
+    // The bytes written, which keep the buffer.
+    pub fn into_bytes(self) -> &'a [u8]
+        ensures { result.now ≡ (written self.entry).bytes }
+    {
+        let Text { buffer, len, .. } = self;
+        &buffer[..len]
+    }
+
     fn put_byte(&mut self, b: u8)
         requires { HasRoom (written self.old) 1 }
         ensures { Added (written self.old) (b ∷ []) (written self.new) }
@@ -192,5 +200,19 @@ impl<'a> Outputs<'a> {
         ensures { result.now ≡ drop (k * self.entry.width) self.entry.leaves.now }
     {
         &self.leaves[k * self.width..]
+    }
+}
+
+#[cfg(test)]
+mod tests {
+    use super::*;
+
+    // A line of docs/SHEETS.md, "Listing": `refused CODE at PLACE` and the line's end.
+    #[test]
+    fn bytes_of_a_text(rt: HostRuntime) {
+        let mut buffer = [b'#'; LINE_BYTES];
+        let mut text = Text::new(&mut buffer);
+        text.put_refused(12, 1);
+        assert_eq!(rt; text.into_bytes(), b"refused 12 at 1\n".as_slice());
     }
 }
