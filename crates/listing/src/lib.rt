@@ -48,7 +48,8 @@ impl<'a> Text<'a> {
         self.buffer.len() - self.len
     }
 
-    // The bytes written, which keep the buffer.
+    // The bytes written, which keep the buffer: for one who holds the text alone. Who lent the buffer
+    // knows all of it afterwards by `len`.
     pub fn into_bytes(self) -> &'a [u8]
         ensures { result.now ≡ (written self.entry).bytes }
     {
