@@ -130,6 +130,13 @@ said-by-row state byte class place {q} K delayed w B D o told e waits s =
     s
 
 -- what any other token says
+pub other-said-as : (row place : ℕ) {q : State} (class : ℕ) (delayed : Bool) (w : List ℕ) (B : List (List ℕ)) (D : List DeclaredName) (o : Option Op)
+    → (class ≡ 10 → ⊥) → state_of row ≡ q → op_said o ≡ op_by (state_of row) (get_or lead_bytes class 0)
+    → class_said class place q (op_by q (get_or lead_bytes class 0)) delayed w B D ≡ other_said (op_said o) place
+other-said-as row place {q} class delayed w B D o n told e =
+    class-other (op_by q (get_or lead_bytes class 0)) delayed w B D class place q n
+    ∙ ap (λ x. other_said x place) (sym (e ∙ ap (λ s. op_by s (get_or lead_bytes class 0)) told))
+
 pub silent-other : (o : Option Op) (place : ℕ) → o ≡ None → other_said (op_said o) place ≡ []
 silent-other o place e = ap (λ x. other_said (op_said x) place) e
 
